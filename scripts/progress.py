@@ -23,6 +23,12 @@ def processors() -> int:
     return len(os.sched_getaffinity(0))
 
 
+def free_memory() -> int:
+    """The memory that is free, in bytes."""
+    rows = Path("/proc/meminfo").read_text(encoding="utf-8").splitlines()
+    return next(int(row.split()[1]) * 1024 for row in rows if row.startswith("MemAvailable:"))
+
+
 def minutes(seconds: float) -> str:
     """A time in words: '40 s', '9 min' or '1 h 5 min'."""
     if seconds < 60:

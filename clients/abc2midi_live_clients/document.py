@@ -36,7 +36,7 @@ class Document:
         try:
             return question(self.book)
         except ProgramEnded as ended:
-            print(f"language_server: {ended}; it is started again", file=sys.stderr)
+            print(f"language_server: {ended}; restarting it", file=sys.stderr)
         self.close()
         try:
             self.begin("\n".join(self.lines))

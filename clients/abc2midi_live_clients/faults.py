@@ -7,12 +7,15 @@ from .program import PACKAGE
 
 
 class FaultMeaning(NamedTuple):
-    """A fault: its name, whether the program or the clients find it, what is wrong, and what to write instead."""
+    """A fault: its name, whether the program or the clients find it, what is wrong, what to write instead, and, for the program's,
+    a text with the fault and one without it: the lines of a tune, or of its body."""
 
     name: str
     of: str
     wrong: str
     instead: str
+    before: str = ""
+    after: str = ""
 
 
 def meanings() -> list[FaultMeaning]:

@@ -1,4 +1,4 @@
-"""abc2midi_live behind the Language Server Protocol, on standard input and output."""
+"""Shows the faults and tunes of tune books in an editor, by the Language Server Protocol on standard input and output."""
 
 import argparse
 import json
@@ -95,7 +95,7 @@ class Server:
         except ProgramEnded as ended:
             self.refuse(identifier, REQUEST_FAILED, str(ended))
         except (KeyError, TypeError, AttributeError, IndexError, BadChange) as error:
-            self.refuse(identifier, INVALID_PARAMS, f"the parameters of {method} are not as they must be: {error}")
+            self.refuse(identifier, INVALID_PARAMS, f"the parameters of {method} are wrong: {error}")
 
     def may_ask(self, method: str) -> None:
         """Fails where a request comes at a wrong time, or is not known."""
@@ -116,7 +116,7 @@ class Server:
             except ProgramEnded as ended:
                 self.notify("window/showMessage", {"type": ERROR, "message": f"abc2midi_live: {ended}"})
             except (KeyError, TypeError, AttributeError, IndexError) as error:
-                print(f"language_server: a {method} that is not as it must be: {error}", file=sys.stderr)
+                print(f"language_server: ignored a wrong {method}: {error}", file=sys.stderr)
 
     def send(self, message: Json) -> None:
         """Sends a message."""
@@ -195,7 +195,7 @@ class Server:
             self.publish(params["textDocument"])
 
     def lose(self, uri: str, why: str) -> None:
-        """The text of a book is not known any more: asks once for the whole text."""
+        """The text of a book is unknown: asks once for the whole text."""
         if self.documents[uri].is_lost:
             return
         self.documents[uri].is_lost = True
@@ -204,7 +204,7 @@ class Server:
             options = {"documentSelector": [{"pattern": "**/*"}], "syncKind": WHOLE}
             asked = {"id": "whole", "method": "textDocument/didChange", "registerOptions": options}
             self.send({"id": f"whole {uri}", "method": "client/registerCapability", "params": {"registrations": [asked]}})
-        text = f"abc2midi_live: the text of {os.path.basename(uri)} is not known any more: {why}. Save it, or open it again."
+        text = f"abc2midi_live: the text of {os.path.basename(uri)} is unknown: {why}. Save it, or open it again."
         self.notify("window/showMessage", {"type": ERROR, "message": text})
 
     def save(self, params: Json) -> None:
@@ -235,7 +235,7 @@ class Server:
         if uri not in self.documents:
             raise Failure(INVALID_PARAMS, f"{uri} is not open")
         if self.documents[uri].is_lost:
-            raise Failure(REQUEST_FAILED, f"the text of {uri} is not known any more; save it, or open it again")
+            raise Failure(REQUEST_FAILED, f"the text of {uri} is unknown; save it, or open it again")
         return self.documents[uri]
 
     def symbols(self, params: Json) -> list[Json]:
@@ -319,10 +319,10 @@ def arguments() -> argparse.Namespace:
     """What the command line says."""
     parser = argparse.ArgumentParser(description=__doc__)
     parser.add_argument(
-        "--play", metavar="COMMAND", type=shlex.split, help="the player that the command 'play' runs on the file it names"
+        "--play", metavar="COMMAND", type=shlex.split, help="the player for the action Play"
     )
     add_common_options(parser)
-    parser.add_argument("--no-hints", action="store_true", help="publish faults alone")
+    parser.add_argument("--no-hints", action="store_true", help="show no hints")
     return parser.parse_args()
 
 

@@ -1,4 +1,4 @@
-"""A page in the browser over a tune book: type a line, see its faults, hear the tune."""
+"""Serves a page in the browser over a tune book: type a line, see its faults, hear the tune."""
 
 import argparse
 import os
@@ -37,8 +37,8 @@ def arguments() -> argparse.Namespace:
     """What the command line says."""
     parser = argparse.ArgumentParser(description=__doc__)
     parser.add_argument("book", metavar="BOOK", nargs="?", help="the tune book; if it is missing, the first save makes it")
-    parser.add_argument("--port", metavar="N", type=int, help="the port, instead of one that goes by the book's name")
-    parser.add_argument("--no-hints", action="store_true", help="show faults alone")
+    parser.add_argument("--port", metavar="N", type=int, help="the port; without it the port depends on the book's name")
+    parser.add_argument("--no-hints", action="store_true", help="show no hints")
     add_common_options(parser)
     return parser.parse_args()
 

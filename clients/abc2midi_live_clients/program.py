@@ -96,7 +96,7 @@ class ShowVersion(argparse.Action):
 
 def add_common_options(parser: argparse.ArgumentParser) -> None:
     """Adds the options that all clients have."""
-    parser.add_argument("--program", metavar="FILE", help="start this program instead of the one that was installed or built")
+    parser.add_argument("--program", metavar="FILE", help="start this program instead of the installed or built one")
     parser.add_argument("--version", action=ShowVersion, nargs=0, help="print the version and end")
 
 

@@ -58,7 +58,7 @@ class TextReport:
         too_many = change.is_opening and len(change.hints) > MOST_HINTS and not self.in_full
         parts = [named("written", change.written), named("removed", change.removed)]
         if change.failed is not None:
-            parts.append(f"failed {change.failed}.mid; the next build tries it and the later ones again")
+            parts.append(f"failed {change.failed}.mid; the next build retries it and the later ones")
         parts = [part for part in parts if part] or ["no file changed"]
         parts += [numbered("fault", [is_new for _, is_new in change.faults])]
         parts += [numbered("hint", [is_new for _, is_new in change.hints]) + (" (--all prints them)" if too_many else "")]

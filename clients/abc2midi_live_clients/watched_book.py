@@ -94,11 +94,11 @@ class WatchedBook:
             except ProgramEnded as ended:
                 self.is_down, why = True, str(ended)
                 if is_first:
-                    self.report.message(f"{why}; it is started again")
+                    self.report.message(f"{why}; restarting it")
             except ProgramMissing as missing:
                 self.wait(str(missing), "waiting for it")
                 return False
-        self.wait(f"{why}, again", "the next save tries once more")
+        self.wait(f"{why}, again", "the next save tries again")
         return True
 
     def start_again(self) -> None:
@@ -186,7 +186,7 @@ def prepare(folder: MidiFolder, report: Report) -> None:
     """Makes the folder if only the last part of its path is missing, and locks it. Raises FolderTaken, and OSError if
     there is no folder then."""
     if folder.make():
-        report.message(f"{folder.path}: the folder is made")
+        report.message(f"{folder.path}: folder created")
     try:
         folder.take()
     except OSError as error:

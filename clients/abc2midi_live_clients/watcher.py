@@ -45,10 +45,10 @@ def arguments() -> argparse.Namespace:
     parser.add_argument("--dir", required=True, help="the folder for the MIDI files; it is made if it is missing")
     parser.add_argument("--once", action="store_true", help="build the files once and end")
     parser.add_argument("--all", action="store_true", help="print all faults and hints after each save, not only the new ones")
-    parser.add_argument("--no-hints", action="store_true", help="print no hints on music that may not be what was meant")
+    parser.add_argument("--no-hints", action="store_true", help="print no hints")
     parser.add_argument("--json", action="store_true", help="print one JSON object a line, for other programs")
-    parser.add_argument("--clean", action="store_true", help="at the start remove files N.mid that no tune of the book has")
-    parser.add_argument("--play", metavar="COMMAND", type=command, help="after each save play the last changed file by this player")
+    parser.add_argument("--clean", action="store_true", help="at the start, remove files N.mid that no tune of the book has")
+    parser.add_argument("--play", metavar="COMMAND", type=command, help="play the last changed file after each save")
     add_common_options(parser)
     words = parser.parse_args()
     if words.once and words.play:
@@ -74,7 +74,7 @@ def begun(words: argparse.Namespace, folder: MidiFolder, report: Report) -> Watc
     """The book that the command line names, with its program."""
     player = Player(words.play) if words.play else None
     if player and not shutil.which(player.words[0]):
-        report.message(f"{player.words[0]}: there is no such player; each save tries it again")
+        report.message(f"{player.words[0]}: no such player; each save tries it again")
 
     def start() -> LiveBook:
         return LiveBook(words.program or find_program(), words.dir)

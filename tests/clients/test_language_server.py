@@ -490,7 +490,7 @@ class Programs(Editor):
         self.assertEqual([symbol["name"] for symbol in symbols], ["9", "1 Kesh", "2"])
         self.ask("shutdown")
         self.notify("exit")
-        told = b"language_server: the program ended with status -9; it is started again\n"
+        told = b"language_server: the program ended with status -9; restarting it\n"
         self.assertEqual((self.server.wait(trial.SECONDS), self.server.stderr.read(), len(self.programs())), (0, 2 * told, 4))
 
     def test_no_program_for_a_while(self):

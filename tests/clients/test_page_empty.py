@@ -85,7 +85,7 @@ class FaultList(test_page_in_browser.Browser):
     def test_place_sign_problem_and_remedy(self):
         """In this order; equal ones are one, with their count."""
         self.type("X:1\nK:C\nC - D -\nE - &")
-        problem, remedy = "This tie does not stand directly behind a note or chord; it has no effect.", "Write it after the length, with nothing between, as in C2-C or C2-|C."
+        problem, remedy = "This tie is not directly after a note or chord. It has no effect.", "Write it after the length, with nothing between, as in C2-C or C2-|C."
         self.wait(lambda: self.text("count") == "4 faults")
         tie = [["B", "Line 4"], ["CODE", "-"], ["SPAN", problem], ["SPAN", remedy], ["SMALL", " 3 times"]]
         self.wait(lambda: self.run_script(TOLD)[0] == tie)

@@ -273,7 +273,7 @@ class Editing(Browser):
         self.assertEqual(self.run_script(FAULTS), [])
         self.type("C -")
         self.wait(lambda: self.run_script(FAULTS) == [[7, 2, 3, "LooseTie"]])
-        self.assertIn("Line 8- This tie does not stand directly behind a note", self.text("told"))
+        self.assertIn("Line 8- This tie is not directly after a note", self.text("told"))
         self.type(3 * BACKSPACE)
         self.wait(lambda: self.text("count") == "No faults" and not self.run_script(FAULTS))
         self.roll("2 bars, 0:01", "from C4 to C5")

@@ -104,7 +104,7 @@ class Saves(Looks):
     def test_a_file_that_fails(self):
         (self.files / "1.mid").mkdir()
         self.path.write_bytes(TUNE + OTHER)
-        told = "failed 1.mid; the next build tries it and the later ones again"
+        told = "failed 1.mid; the next build retries it and the later ones"
         self.assertEqual(self.look(), [told])
         (self.files / "1.mid").rmdir()
         self.assertEqual(self.save(TUNE + OTHER + b"%"), ["written 1.mid (Kesh), 2.mid"])
@@ -208,7 +208,7 @@ class Restarts(Looks):
         self.kill_program()
         self.assertEqual(
             self.save(TUNE.replace(b"X:1", b"X:3")),
-            ["the program ended with status -9; it is started again", "written 3.mid (Kesh); removed 1.mid (Kesh), 2.mid"],
+            ["the program ended with status -9; restarting it", "written 3.mid (Kesh); removed 1.mid (Kesh), 2.mid"],
         )
         self.assertEqual(self.save(TUNE), ["written 1.mid (Kesh); removed 3.mid (Kesh)"])
 
@@ -226,7 +226,7 @@ class Restarts(Looks):
         self.save(TUNE)
         self.path.write_bytes(TUNE.replace(b"Kesh", b"Crash"))
         ended = "the program ended with status -9"
-        self.assertEqual(self.look(), [f"{ended}; it is started again", f"{ended}, again; the next save tries once more"])
+        self.assertEqual(self.look(), [f"{ended}; restarting it", f"{ended}, again; the next save tries again"])
         self.assertEqual((self.look(), trial.files_in(self.files)), ([], trial.fresh(TUNE).files))
         self.assertEqual(self.save(TUNE + OTHER), ["written 2.mid"])
 
@@ -235,7 +235,7 @@ class Restarts(Looks):
         self.kill_program()
         (self.folder / "away").touch()
         self.path.write_bytes(OTHER)
-        ended = "the program ended with status -9; it is started again"
+        ended = "the program ended with status -9; restarting it"
         self.assertEqual(self.look(), [ended, "program: No such file or directory; waiting for it"])
         self.assertEqual(self.look(), [])
         (self.folder / "away").unlink()
@@ -336,7 +336,7 @@ class Running(Process):
         killed = self.pid()
         os.kill(killed, signal.SIGKILL)
         self.path.write_bytes(TUNE + OTHER)
-        self.assertEqual(self.line(), "the program ended with status -9; it is started again\n")
+        self.assertEqual(self.line(), "the program ended with status -9; restarting it\n")
         self.assertRegex(self.line(), r"^written 2\.mid; \d+ ms\n$")
         self.assertNotEqual(self.pid(), killed)
         self.interrupt()
@@ -350,7 +350,7 @@ class Running(Process):
     def test_a_player_that_is_not_there(self):
         self.path.write_bytes(TUNE)
         self.start("--play", "no-such-player -q")
-        self.assertEqual(self.line(), "no-such-player: there is no such player; each save tries it again\n")
+        self.assertEqual(self.line(), "no-such-player: no such player; each save tries it again\n")
         self.assertRegex(self.line(), r"^written 1\.mid")
         self.path.write_bytes(TUNE + OTHER)
         self.assertRegex(self.line(), r"^written 2\.mid")

@@ -29,7 +29,7 @@ class Files(Looks):
         self.save(TUNE + OTHER)
         shutil.rmtree(self.files)
         self.path.write_bytes(TUNE + OTHER + b"% words\n")
-        self.assertEqual(self.look(), ["/files: the folder is made", "written 1.mid (Kesh), 2.mid"])
+        self.assertEqual(self.look(), ["/files: folder created", "written 1.mid (Kesh), 2.mid"])
         wanted = trial.fresh(TUNE + OTHER).files
         self.assertEqual({name: data for name, data in trial.files_in(self.files).items() if name in wanted}, wanted)
 
@@ -85,7 +85,7 @@ class Folders(Process):
         new = self.folder / "new"
         self.start("--once", files=new)
         output, errors, status = self.end()
-        self.assertEqual((output.splitlines()[0], errors, status), (f"{new}: the folder is made", "", 0))
+        self.assertEqual((output.splitlines()[0], errors, status), (f"{new}: folder created", "", 0))
         self.assertEqual(trial.files_in(new), trial.fresh(TUNE).files)
 
     def test_folders_that_cannot_be_made(self):

@@ -35,7 +35,7 @@ class Once(Process):
         self.assertEqual((output.partition(";")[0], status), ("failed 1.mid", 1))
         (self.folder / "program").write_text("#!/bin/sh\nexit 3\n")
         ended = "the program ended with status 3"
-        self.assertEqual(self.run_once(), (f"{ended}; it is started again\n{ended}, again\n", "", 1))
+        self.assertEqual(self.run_once(), (f"{ended}; restarting it\n{ended}, again\n", "", 1))
         (self.folder / "program").unlink()
         self.assertEqual(self.run_once()[2], 127)
 
@@ -85,7 +85,7 @@ class Json(Process):
         self.assertEqual(self.event(), {"event": "message", "text": f"{self.path}: No such file or directory; waiting for it"})
         os.kill(self.pid(), signal.SIGKILL)
         self.path.write_bytes(OTHER)
-        self.assertEqual(self.event(), {"event": "message", "text": "the program ended with status -9; it is started again"})
+        self.assertEqual(self.event(), {"event": "message", "text": "the program ended with status -9; restarting it"})
         change = self.change()
         self.assertEqual((change["written"], change["removed"]), (written[1:], written[:1]))
         self.interrupt()

@@ -60,7 +60,8 @@ class Finder:
         others = same_numbers(tunes, faults) if tunes else list(no_tune(lines))
         if len(tunes) > MOST_TUNES:
             end = tunes[MOST_TUNES].line
-            others.append(Hint(end, 1, "ManyTunes", f"from this tune on only numbers are looked at: {MOST_TUNES} precede it"))
+            text = f"from this tune on the clients compare only numbers: {MOST_TUNES} tunes precede it"
+            others.append(Hint(end, 1, "ManyTunes", text))
             lines, tunes = lines[: end - 1], tunes[:MOST_TUNES]
         lines = list(lines)
         starts = [tune.line - 1 for tune in tunes]

@@ -1,4 +1,4 @@
-"""What a line of a tune book is, and what of it is read, by the rules of docs/profile.md."""
+"""What a line of a tune book is, and what of it is read, by the rules of docs/rules.md."""
 
 from __future__ import annotations
 

@@ -1,4 +1,4 @@
-"""The tokens of music, by the table of docs/profile.md."""
+"""The tokens of music, by the table of docs/rules.md."""
 
 from __future__ import annotations
 

@@ -1,4 +1,4 @@
-"""Lengths, meters and keys: what their texts mean, by the rules of docs/profile.md."""
+"""Lengths, meters and keys: what their texts mean, by the rules of docs/rules.md."""
 
 from __future__ import annotations
 

@@ -1,4 +1,4 @@
-// The values of fields of ABC, by docs/profile.md. A value that is refused is undefined.
+// The values of fields of ABC, by docs/rules.md. A value that is refused is undefined.
 
 /** What is too long for the page to follow. */
 export class TooLong extends Error {}

@@ -1,5 +1,5 @@
 // A written tune in the order in which it is played: repeats, endings and parts unrolled, ties joined, moments in ticks.
-// The rules are those of docs/profile.md.
+// The rules are those of docs/rules.md.
 
 import { TooLong } from "./fields.js";
 import { WHOLE } from "./written_tune.js";

@@ -1,4 +1,4 @@
-// The tokens of a line of ABC, by the tables of docs/profile.md.
+// The tokens of a line of ABC, by the tables of docs/rules.md.
 
 const NUMBER = "[0-9]{1,9}";
 const LENGTH = "[0-9]*(?:/[0-9]+|/+)?";

@@ -1,5 +1,5 @@
 // A tune as it is written: what each voice plays in each section, with the place of each note in the text. Read by the rules of
-// docs/profile.md, so that it can be compared with the tune's file.
+// docs/rules.md, so that it can be compared with the tune's file.
 
 import { NATURAL, TooLong, keyOf, meterOf, orderOf, partOf, unitOf, voiceOf } from "./fields.js";
 import { barOf, chordOf, contentOf, kindOf, noteOf, passesOf, tokensOf, tupletOf, valueOf } from "./tokens.js";

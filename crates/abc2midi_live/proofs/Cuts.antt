@@ -1,5 +1,6 @@
 -- Laws of a text cut at a byte.
-use Rattle.std.proofs.Common.{◌≡◌, ℕ, ◌+◌, ◌<◌, Bool, true, false, ◌==◌, List, ◌∷◌, ◌++◌, length, slice_index, take, drop, All, Some, None, refl, sym, ap, ◌∙◌, arith, add-one, length-take}
+use Rattle.std.proofs.Common.{◌≡◌, ℕ, ◌+◌, ◌<◌, Bool, true, false, ◌==◌, List, ◌∷◌, ◌++◌, length, slice_index, take, drop, All}
+use Rattle.std.proofs.Common.{Some, None, refl, sym, ap, ◌∙◌, arith, add-one, length-take}
 use Rattle.std.proofs.lemmas.List.{get_or-take, take-append-drop}
 use Rattle.std.proofs.lemmas.Grind.{get_or_default_zero}
 use Rattle.std.proofs.Math.Seq.{drop-cons}
@@ -21,7 +22,7 @@ clean byte at text before = λ k d below.
     ap (λ b. b == byte) (get_or-take at text k d inside ∙ get_or_default_zero text k d within)
     ∙ not_true (slice_index text k == byte) (before k (omega arith) inside)
 
--- the byte stands in the text
+-- the byte is in the text
 pub cut_found : (byte at : ℕ) (text : List ℕ) → IsFirstByte (is_byte byte) text (Some at) → IsCut byte text (take at text) (Some (drop (at + 1) text))
 cut_found byte at text is = record {
   clean = clean byte at text is.0.before;

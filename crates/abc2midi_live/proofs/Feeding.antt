@@ -1,5 +1,7 @@
 -- Laws of a machine that is fed pieces of an input.
-use Rattle.std.proofs.Common.{◌≡◌, ℕ, ◌+◌, ◌<◌, ◌≤◌, Bool, true, false, List, [], ◌∷◌, ◌++◌, length, take, Option, Some, None, inl, inr, refl, sym, ap, ◌∙◌, subst, arith, append_assoc, append-nil, length-append, length-take, if◌then◌else◌, ◌==◌, Result, Ok, Err, MatchResult, option_map}
+use Rattle.std.proofs.Common.{◌≡◌, ℕ, ◌+◌, ◌<◌, ◌≤◌, Bool, true, false, List, [], ◌∷◌, ◌++◌, length, take, Option, Some, None}
+use Rattle.std.proofs.Common.{inl, inr, refl, sym, ap, ◌∙◌, subst, arith, append_assoc, append-nil, length-append, length-take}
+use Rattle.std.proofs.Common.{if◌then◌else◌, ◌==◌, Result, Ok, Err, MatchResult, option_map}
 use Rattle.std.specs.Prelude.{IsErr, IsErrAnd, IfSome}
 use Rattle.std.specs.Borrow.{Bor}
 use Rattle.std.proofs.lemmas.Grind.{common_steps}
@@ -10,17 +12,22 @@ use Rattle.std.proofs.lemmas.List.Elements.{All-append, All-nil}
 use Rattle.abc_fold.specs.Work.{raised}
 use Rattle.abc_publish.specs.Publisher.{Directory}
 use Rattle.abc2midi_live.specs.Cut.{IsCut}
-use Rattle.abc2midi_live.specs.Machine.{Future, telling, IsClean, Answers, AsksNothing, CarriesOut, EndsOneAtMost, ahead}
-use Rattle.abc2midi_live.specs.Outcome.{Ends, Outlets, outlets, Serves, Tells, TellsFirst, BrokenOff, Unserved, EndUnserved, Ended, Turn, Leaves, Within, AtTheEnd, InHand, LastInHand, read_counts, Reads, Failed, read_faults}
+use Rattle.abc2midi_live.specs.Machine.{Future, future_change, IsClean, Answers, AsksNothing, CarriesOut, EndsOneAtMost}
+use Rattle.abc2midi_live.specs.Machine.{future_of_bytes}
+use Rattle.abc2midi_live.specs.Outcome.{RunEnds, Outlets, outlets, Serves, Tells, TellsFirst, FailsToFeed, FailsToServe, FailsAtEnd}
+use Rattle.abc2midi_live.specs.Outcome.{AnswersInput, Turn, Leaves, Within, AtTheEnd, InHand, LastInHand, read_counts, Reads}
+use Rattle.abc2midi_live.specs.Outcome.{Failed, read_faults}
 use Rattle.abc2midi_live.specs.Storing.{StoreAnswer, StoreSeen, Follows}
-use Rattle.abc2midi_live.specs.Told.{Extent, Whole, SoFar, Stopped, Told, told, behind, is_whole, nothing_more}
+use Rattle.abc2midi_live.specs.RunOutput.{Extent, Whole, SoFar, Stopped, RunOutput, run_output, with_text_before, is_whole}
+use Rattle.abc2midi_live.specs.RunOutput.{nothing_more}
 use Rattle.abc2midi_live.specs.Transcript.{input_lines, most_kept}
 use Rattle.abc2midi_live.specs.declared.fault.RunFault.{RunFault}
 use Rattle.abc2midi_live.specs.declared.fault.RunFault.TheVariants.{Read, Write, Memory}
 use Rattle.abc2midi_live.proofs.Counts.{raised_none, raised_twice}
-use Rattle.abc2midi_live.proofs.InputLines.{input_lines-line, input_lines-kept, input_lines-begun, input_lines-last, input_lines-nil}
+use Rattle.abc2midi_live.proofs.InputLines.{input_lines-line, input_lines-kept, input_lines-begun, input_lines-last}
+use Rattle.abc2midi_live.proofs.InputLines.{input_lines-nil}
 use Rattle.abc2midi_live.proofs.Storing.{follows_none, follows_same, follows_both}
-use Rattle.abc2midi_live.proofs.Told.{behind_none, answers_both, answers_none, ended_with, continued_with}
+use Rattle.abc2midi_live.proofs.RunOutputs.{behind_none, answers_both, answers_none, ended_with, continued_with}
 
 abbrev OfLines : Type 0
 OfLines = Future (List ℕ)
@@ -28,9 +35,10 @@ OfLines = Future (List ℕ)
 abbrev Ahead : Type 0
 Ahead = Future ℕ
 
--- what is to be told to bytes, by the lines behind those that have begun
-ahead_is : (future : OfLines) (begun : List ℕ) (extent : Extent) (bytes line : List ℕ) (stored : List StoreAnswer) → begun ++ bytes ≡ line → ahead future begun extent bytes stored ≡ future extent (input_lines (is_whole extent) line) stored
-unfolding ahead
+-- what is to be written to bytes, by the lines after those that have begun
+ahead_is : (future : OfLines) (begun : List ℕ) (extent : Extent) (bytes line : List ℕ) (stored : List StoreAnswer)
+    → begun ++ bytes ≡ line → future_of_bytes future begun extent bytes stored ≡ future extent (input_lines (is_whole extent) line) stored
+unfolding future_of_bytes
 ahead_is future begun extent bytes line stored e = ap (λ l. future extent (input_lines (is_whole extent) l) stored) e
 
 take_short : (n : ℕ) (line : List ℕ) → length line ≤ n → take n line ≡ line
@@ -42,20 +50,20 @@ no_length (b ∷ bytes) h = absurd (omega arith)
 
 -- a line that a piece ends is served
 line_ended : (before after : OfLines) (d : Directory) (begun piece line begun' : List ℕ) (stored : List StoreAnswer) (text : List ℕ) (goes_on : Bool) → IsClean begun → IsClean piece
-    → line ≡ take most_kept (begun ++ piece) → begun' ≡ [] → Answers (telling before after d) (line ∷ []) stored text goes_on
-    → Answers (telling (ahead before begun) (ahead after begun') d) (piece ++ 10 ∷ []) stored text goes_on
+    → line ≡ take most_kept (begun ++ piece) → begun' ≡ [] → Answers (future_change before after d) (line ∷ []) stored text goes_on
+    → Answers (future_change (future_of_bytes before begun) (future_of_bytes after begun') d) (piece ++ 10 ∷ []) stored text goes_on
 line_ended before after d begun piece line begun' stored text goes_on clean clean_piece e none served extent rest later =
     let whole : begun ++ ((piece ++ 10 ∷ []) ++ rest) ≡ (begun ++ piece) ++ 10 ∷ rest = ap (λ l. begun ++ l) (append_assoc piece (10 ∷ []) rest) ∙ sym (append_assoc begun piece (10 ∷ rest)) in
-    let next : ahead after begun' extent rest later ≡ after extent (input_lines (is_whole extent) rest) later = ahead_is after begun' extent rest rest later (ap (λ b. b ++ rest) none) in
+    let next : future_of_bytes after begun' extent rest later ≡ after extent (input_lines (is_whole extent) rest) later = ahead_is after begun' extent rest rest later (ap (λ b. b ++ rest) none) in
     ahead_is before begun extent ((piece ++ 10 ∷ []) ++ rest) ((begun ++ piece) ++ 10 ∷ rest) (stored ++ later) whole
     ∙ ap (λ l. before extent l (stored ++ later)) (input_lines-line (is_whole extent) (begun ++ piece) rest (All-append (λ b. (b == 10) ≡ false) begun piece clean clean_piece))
     ∙ ap (λ l. before extent (l ∷ input_lines (is_whole extent) rest) (stored ++ later)) (sym e)
     ∙ served extent (input_lines (is_whole extent) rest) later
     ∙ ap (λ t. behind text (if goes_on then t else nothing_more d later)) (sym next)
 
--- what is told to a line that a piece ends, where nothing comes behind it
+-- what is answered to a line that a piece ends, where nothing comes after it
 line_alone : (future : OfLines) (begun piece line : List ℕ) (extent : Extent) (stored : List StoreAnswer) → IsClean begun → IsClean piece → line ≡ take most_kept (begun ++ piece)
-    → ahead future begun extent (piece ++ 10 ∷ []) stored ≡ future extent (line ∷ []) stored
+    → future_of_bytes future begun extent (piece ++ 10 ∷ []) stored ≡ future extent (line ∷ []) stored
 line_alone future begun piece line extent stored clean clean_piece e =
     ahead_is future begun extent (piece ++ 10 ∷ []) ((begun ++ piece) ++ 10 ∷ []) stored (sym (append_assoc begun piece (10 ∷ [])))
     ∙ ap (λ l. future extent l stored) (input_lines-line (is_whole extent) (begun ++ piece) [] (All-append (λ b. (b == 10) ≡ false) begun piece clean clean_piece))
@@ -64,49 +72,54 @@ line_alone future begun piece line extent stored clean clean_piece e =
 
 -- a piece without the end of a line is kept
 pub piece_kept : (future : OfLines) (d : Directory) (begun piece begun' : List ℕ) → IsClean begun → IsClean piece → begun' ≡ take most_kept (begun ++ piece)
-    → Answers (telling (ahead future begun) (ahead future begun') d) piece [] [] true
+    → Answers (future_change (future_of_bytes future begun) (future_of_bytes future begun') d) piece [] [] true
 piece_kept future d begun piece begun' clean clean_piece e extent rest later =
     ahead_is future begun extent (piece ++ rest) ((begun ++ piece) ++ rest) later (sym (append_assoc begun piece rest))
     ∙ sym (ap (λ l. future extent l later) (input_lines-kept (is_whole extent) (begun ++ piece) rest (All-append (λ b. (b == 10) ≡ false) begun piece clean clean_piece)))
     ∙ sym (ahead_is future begun' extent rest (take most_kept (begun ++ piece) ++ rest) later (ap (λ b. b ++ rest) e))
-    ∙ sym (behind_none (ahead future begun' extent rest later))
+    ∙ sym (behind_none (future_of_bytes future begun' extent rest later))
 
 -- nothing is asked for before the store answers
-pub unasked_ahead : (future : OfLines) (d : Directory) (begun bytes : List ℕ) (s : StoreSeen) → ((lines : List (List ℕ)) → AsksNothing d (future Stopped lines)) → CarriesOut d (ahead future begun Stopped bytes) s s
-unfolding ahead
+pub unasked_ahead : (future : OfLines) (d : Directory) (begun bytes : List ℕ) (s : StoreSeen)
+    → ((lines : List (List ℕ)) → AsksNothing d (future Stopped lines)) → CarriesOut d (future_of_bytes future begun Stopped bytes) s s
+unfolding future_of_bytes
 unasked_ahead future d begun bytes s none =
     let t = none (input_lines false (begun ++ bytes)) in
     ([], t.0, t.1, follows_same s d t.0.directory t.2)
 
--- nothing is told to a line that has only begun
-pub nothing_ahead : (future : OfLines) (d : Directory) (begun : List ℕ) → IsClean begun → future SoFar [] [] ≡ Some (told [] d) → ahead future begun SoFar [] [] ≡ Some (told [] d)
+-- nothing is written to a line that has only begun
+pub nothing_ahead : (future : OfLines) (d : Directory) (begun : List ℕ) → IsClean begun
+    → future SoFar [] [] ≡ Some (run_output [] d) → future_of_bytes future begun SoFar [] [] ≡ Some (run_output [] d)
 nothing_ahead future d begun clean waits =
     ahead_is future begun SoFar [] begun [] (append-nil begun) ∙ ap (λ l. future SoFar l []) (input_lines-begun begun clean) ∙ waits
 
 -- the end of the input ends a line that has begun
-last_ahead : (future : OfLines) (begun : List ℕ) (stored : List StoreAnswer) → IsClean begun → 0 < length begun → length begun ≤ most_kept → ahead future begun Whole [] stored ≡ future Whole (begun ∷ []) stored
+last_ahead : (future : OfLines) (begun : List ℕ) (stored : List StoreAnswer) → IsClean begun → 0 < length begun
+    → length begun ≤ most_kept → future_of_bytes future begun Whole [] stored ≡ future Whole (begun ∷ []) stored
 last_ahead future begun stored clean some short =
-    ahead_is future begun Whole [] begun stored (append-nil begun) ∙ ap (λ l. future Whole l stored) (input_lines-last begun clean some) ∙ ap (λ l. future Whole (l ∷ []) stored) (take_short most_kept begun short)
+    ahead_is future begun Whole [] begun stored (append-nil begun)
+    ∙ ap (λ l. future Whole l stored) (input_lines-last begun clean some) ∙ ap (λ l. future Whole (l ∷ []) stored) (take_short most_kept begun short)
 
 -- it ends that line as a line feed does
-last_alone : (future : OfLines) (begun line : List ℕ) (extent : Extent) (stored : List StoreAnswer) → IsClean begun → length begun ≤ most_kept → line ≡ begun → ahead future begun extent (10 ∷ []) stored ≡ future extent (line ∷ []) stored
+last_alone : (future : OfLines) (begun line : List ℕ) (extent : Extent) (stored : List StoreAnswer) → IsClean begun
+    → length begun ≤ most_kept → line ≡ begun → future_of_bytes future begun extent (10 ∷ []) stored ≡ future extent (line ∷ []) stored
 last_alone future begun line extent stored clean short e =
     ahead_is future begun extent (10 ∷ []) (begun ++ 10 ∷ []) stored refl
     ∙ ap (λ l. future extent l stored) (input_lines-line (is_whole extent) begun [] clean)
     ∙ ap (λ l. future extent (take most_kept begun ∷ l) stored) (input_lines-nil (is_whole extent))
     ∙ ap (λ l. future extent (l ∷ []) stored) (take_short most_kept begun short ∙ sym e)
 
-none_ahead : (future : OfLines) (begun : List ℕ) (stored : List StoreAnswer) → length begun ≤ 0 → ahead future begun Whole [] stored ≡ future Whole [] stored
+none_ahead : (future : OfLines) (begun : List ℕ) (stored : List StoreAnswer) → length begun ≤ 0 → future_of_bytes future begun Whole [] stored ≡ future Whole [] stored
 none_ahead future begun stored none = ahead_is future begun Whole [] [] stored (append-nil begun ∙ no_length begun none) ∙ ap (λ l. future Whole l stored) (input_lines-nil true)
 
 -- what serving a line says, as clauses have it
 abbrev pub Served : OfLines → OfLines → Directory → Directory → List ℕ → Outlets → Outlets → Bool → Type 0
-Served before after d e line old new goes_on = Serves d (telling before after e) (line ∷ []) old new goes_on
+Served before after d e line old new goes_on = Serves d (future_change before after e) (line ∷ []) old new goes_on
 
 -- two pieces are served
 serves_both : {X : Type 0} (before mid after : Future X) (d e f : Directory) (a b : List X) (old w new : Outlets) (goes_on : Bool)
-    → Serves d (telling before mid e) a old w true → Serves e (telling mid after f) b w new goes_on
-    → Serves d (telling before after f) (a ++ b) old new goes_on
+    → Serves d (future_change before mid e) a old w true → Serves e (future_change mid after f) b w new goes_on
+    → Serves d (future_change before after f) (a ++ b) old new goes_on
 serves_both before mid after d e f a b old w new goes_on (text, stored, wrote, says, follows) (text', stored', wrote', says', follows') = (
   text ++ text',
   stored ++ stored',
@@ -116,55 +129,56 @@ serves_both before mid after d e f a b old w new goes_on (text, stored, wrote, s
 )
 
 -- nothing is served
-serves_none : {X : Type 0} (before after : Future X) (d : Directory) (w : Outlets) → after ≡ before → Serves d (telling before after d) [] w w true
+serves_none : {X : Type 0} (before after : Future X) (d : Directory) (w : Outlets) → after ≡ before → Serves d (future_change before after d) [] w w true
 serves_none before after d w same = ([], [], Appends-nil w.output, answers_none before after d same, follows_none w.store d)
 
--- what is told behind a piece that is served
+-- what is written after a piece that is served
 tells_behind : {X : Type 0} (before mid : Future X) (d e : Directory) (piece : List X) (extent : Extent) (rest : List X) (old w new : Outlets)
-    → Serves d (telling before mid e) piece old w true → Tells e (mid extent rest) w new → Tells d (before extent (piece ++ rest)) old new
+    → Serves d (future_change before mid e) piece old w true → Tells e (mid extent rest) w new → Tells d (before extent (piece ++ rest)) old new
 tells_behind before mid d e piece extent rest old w new (text, stored, wrote, says, follows) (stored', t, is, wrote', follows') = (
   stored ++ stored',
-  told (text ++ t.text) t.directory,
+  run_output (text ++ t.text) t.directory,
   continued_with before mid e piece stored stored' text t extent rest says is,
   Appends-trans old.output w.output new.output text t.text wrote wrote',
   follows_both old.store w.store new.store stored stored' d e t.directory follows follows',
 )
 
--- what is told where the machine ends with a piece
+-- what is written where the machine ends with a piece
 tells_ended : {X : Type 0} (before after : Future X) (d e : Directory) (piece : List X) (extent : Extent) (rest : List X) (old new : Outlets)
-    → Serves d (telling before after e) piece old new false → Tells d (before extent (piece ++ rest)) old new
+    → Serves d (future_change before after e) piece old new false → Tells d (before extent (piece ++ rest)) old new
 tells_ended before after d e piece extent rest old new (text, stored, wrote, says, follows) = (
   stored,
-  told text e,
+  run_output text e,
   ended_with before after e piece stored text extent rest says,
   wrote,
   follows,
 )
 
--- what is told to a piece, where nothing is to be told yet behind it
+-- what is answered to a piece, where nothing is to be written yet after it
 tells_all : {X : Type 0} (before mid : Future X) (d e : Directory) (piece : List X) (old new : Outlets)
-    → Serves d (telling before mid e) piece old new true → mid SoFar [] [] ≡ Some (told [] e) → Tells d (before SoFar piece) old new
+    → Serves d (future_change before mid e) piece old new true → mid SoFar [] [] ≡ Some (run_output [] e) → Tells d (before SoFar piece) old new
 tells_all before mid d e piece old new served none =
     subst (λ p. Tells d (before SoFar p) old new) (append-nil piece)
-    (tells_behind before mid d e piece SoFar [] old new new served ([], told [] e, none, Appends-nil new.output, follows_none new.store e))
+    (tells_behind before mid d e piece SoFar [] old new new served ([], run_output [] e, none, Appends-nil new.output, follows_none new.store e))
 
--- a piece that the store has answered is carried out, where nothing is to be told yet behind it
+-- a piece that the store has answered is carried out, where nothing is to be written yet after it
 pub carried_all : {X : Type 0} (before after : Future X) (d e : Directory) (piece : List X) (stored : List StoreAnswer) (text : List ℕ) (old new : StoreSeen)
-    → Answers (telling before after e) piece stored text true → Follows old new stored d e → after SoFar [] [] ≡ Some (told [] e) → CarriesOut d (before SoFar piece) old new
+    → Answers (future_change before after e) piece stored text true → Follows old new stored d e → after SoFar [] [] ≡ Some (run_output [] e) → CarriesOut d (before SoFar piece) old new
 carried_all before after d e piece stored text old new says follows none =
     subst (λ p. CarriesOut d (before SoFar p) old new) (append-nil piece) (
       stored ++ [],
-      told (text ++ []) e,
-      continued_with before after e piece stored [] text (told [] e) SoFar [] says none,
+      run_output (text ++ []) e,
+      continued_with before after e piece stored [] text (run_output [] e) SoFar [] says none,
       follows_both old new new stored [] d e e follows (follows_none new e),
     )
 
--- a piece behind one that is served is carried out
-carried_behind : {X : Type 0} (before mid : Future X) (d e : Directory) (piece rest : List X) (old w new : Outlets) → Serves d (telling before mid e) piece old w true → CarriesOut e (mid SoFar rest) w.store new.store
+-- a piece after one that is served is carried out
+carried_behind : {X : Type 0} (before mid : Future X) (d e : Directory) (piece rest : List X) (old w new : Outlets)
+    → Serves d (future_change before mid e) piece old w true → CarriesOut e (mid SoFar rest) w.store new.store
     → CarriesOut d (before SoFar (piece ++ rest)) old.store new.store
 carried_behind before mid d e piece rest old w new (text, stored, wrote, says, follows) (stored', t, is, follows') = (
   stored ++ stored',
-  told (text ++ t.text) t.directory,
+  run_output (text ++ t.text) t.directory,
   continued_with before mid e piece stored stored' text t SoFar rest says is,
   follows_both old.store w.store new.store stored stored' d e t.directory follows follows',
 )
@@ -173,7 +187,7 @@ carried_behind before mid d e piece rest old w new (text, stored, wrote, says, f
 pub record Fed (before now : Ahead) (d e : Directory) (piece rest : List ℕ) (old new : Outlets) : Type 0 where
   pub front : List ℕ
   pub split : piece ≡ front ++ rest
-  pub served : Serves d (telling before now e) front old new true
+  pub served : Serves d (future_change before now e) front old new true
 
 pub fed_none : (before : Ahead) (d : Directory) (piece : List ℕ) (w : Outlets) → Fed before before d d piece piece w w
 fed_none before d piece w = record { front = []; split = refl; served = serves_none before before d w refl }
@@ -183,7 +197,7 @@ fed_split : (piece front rest line behind : List ℕ) → piece ≡ front ++ res
 fed_split piece front rest line behind split e = split ∙ ap (λ l. front ++ l) (e ∙ sym (append_assoc line (10 ∷ []) behind)) ∙ sym (append_assoc front (line ++ 10 ∷ []) behind)
 
 pub fed_more : (before mid after : Ahead) (d e f : Directory) (piece rest line behind : List ℕ) (old w new : Outlets) → Fed before mid d e piece rest old w → rest ≡ line ++ 10 ∷ behind
-    → Serves e (telling mid after f) (line ++ 10 ∷ []) w new true → Fed before after d f piece behind old new
+    → Serves e (future_change mid after f) (line ++ 10 ∷ []) w new true → Fed before after d f piece behind old new
 fed_more before mid after d e f piece rest line behind old w new fed is served = record {
   front = fed.front ++ (line ++ 10 ∷ []);
   split = fed_split piece fed.front rest line behind fed.split is;
@@ -192,7 +206,7 @@ fed_more before mid after d e f piece rest line behind old w new fed is served =
 
 -- the machine ends
 pub fed_end : (before mid after : Ahead) (d e f : Directory) (piece rest line behind : List ℕ) (old w new : Outlets) → Fed before mid d e piece rest old w → rest ≡ line ++ 10 ∷ behind
-    → Serves e (telling mid after f) (line ++ 10 ∷ []) w new false → Serves d (telling before after f) piece old new false
+    → Serves e (future_change mid after f) (line ++ 10 ∷ []) w new false → Serves d (future_change before after f) piece old new false
 fed_end before mid after d e f piece rest line behind old w new fed is served =
     let front = fed.front ++ (line ++ 10 ∷ []) in
     let all = serves_both before mid after d e f fed.front (line ++ 10 ∷ []) old w new false fed.served served in (
@@ -206,24 +220,24 @@ fed_end before mid after d e f piece rest line behind old w new fed is served =
 
 -- the rest of the piece is kept
 pub fed_all : (before mid after : Ahead) (d e : Directory) (piece rest line : List ℕ) (old new : Outlets) → Fed before mid d e piece rest old new → rest ≡ line
-    → Answers (telling mid after e) line [] [] true → Serves d (telling before after e) piece old new true
+    → Answers (future_change mid after e) line [] [] true → Serves d (future_change before after e) piece old new true
 fed_all before mid after d e piece rest line old new fed is says =
-    subst (λ p. Serves d (telling before after e) p old new true) (sym (fed.split ∙ ap (λ l. fed.front ++ l) is))
+    subst (λ p. Serves d (future_change before after e) p old new true) (sym (fed.split ∙ ap (λ l. fed.front ++ l) is))
     (serves_both before mid after d e e fed.front line old new new true fed.served ([], [], Appends-nil new.output, says, follows_none new.store e))
 
--- what is told first, behind a piece that is served
-pub first_behind : (before mid : Ahead) (d e : Directory) (piece front next : List ℕ) (old w new : Outlets) → Serves d (telling before mid e) piece old w true
+-- what is written first, after a piece that is served
+pub first_behind : (before mid : Ahead) (d e : Directory) (piece front next : List ℕ) (old w new : Outlets) → Serves d (future_change before mid e) piece old w true
     → TellsFirst e (mid SoFar front) (mid Stopped (front ++ next)) w new → TellsFirst d (before SoFar (piece ++ front)) (before Stopped ((piece ++ front) ++ next)) old new
 first_behind before mid d e piece front next old w new (text, stored, wrote, says, follows) (stored', t, between, is, wrote', follows', (more, t', is', follows'')) = (
   stored ++ stored',
-  told (text ++ t.text) t.directory,
+  run_output (text ++ t.text) t.directory,
   between,
   continued_with before mid e piece stored stored' text t SoFar front says is,
   Appends-trans old.output w.output new.output text t.text wrote wrote',
   follows_both old.store w.store between stored stored' d e t.directory follows follows',
   (
     more,
-    told (text ++ t'.text) t'.directory,
+    run_output (text ++ t'.text) t'.directory,
     ap (λ p. before Stopped p ((stored ++ stored') ++ more)) (append_assoc piece front next)
         ∙ ap (before Stopped (piece ++ (front ++ next))) (append_assoc stored stored' more)
         ∙ continued_with before mid e piece stored (stored' ++ more) text t' Stopped (front ++ next) says is',
@@ -232,17 +246,18 @@ first_behind before mid d e piece front next old w new (text, stored, wrote, say
 )
 
 -- nothing is written of what comes next
-kept_first : (future : Ahead) (d : Directory) (next : List ℕ) (w new : Outlets) → Keeps w.output new.output → CarriesOut d (future Stopped next) w.store new.store → future SoFar [] [] ≡ Some (told [] d)
+kept_first : (future : Ahead) (d : Directory) (next : List ℕ) (w new : Outlets) → Keeps w.output new.output
+    → CarriesOut d (future Stopped next) w.store new.store → future SoFar [] [] ≡ Some (run_output [] d)
     → TellsFirst d (future SoFar []) (future Stopped ([] ++ next)) w new
 kept_first future d next w new kept asked none =
-    ([], told [] d, w.store, none, Appends-kept w.output w.output new.output [] (Appends-nil w.output) kept, follows_none w.store d, asked)
+    ([], run_output [] d, w.store, none, Appends-kept w.output w.output new.output [] (Appends-nil w.output) kept, follows_none w.store d, asked)
 
 pub none_ends : EndsOneAtMost []
 none_ends = ([], All-nil (λ b. (b == 10) ≡ false), inl refl)
 
 -- memory is short
 pub fed_broken : (before mid : Ahead) (d e : Directory) (piece rest next behind : List ℕ) (old w new : Outlets) → Fed before mid d e piece rest old w → rest ≡ next ++ behind → EndsOneAtMost next
-    → Keeps w.output new.output → CarriesOut e (mid Stopped next) w.store new.store → mid SoFar [] [] ≡ Some (told [] e) → BrokenOff d before piece old new Memory
+    → Keeps w.output new.output → CarriesOut e (mid Stopped next) w.store new.store → mid SoFar [] [] ≡ Some (run_output [] e) → FailsToFeed d before piece old new Memory
 fed_broken before mid d e piece rest next behind old w new fed is one kept asked none = (
   fed.front,
   next,
@@ -254,8 +269,9 @@ fed_broken before mid d e piece rest next behind old w new fed is one kept asked
 )
 
 -- a line that a piece ends is carried out, or so far as the run goes
-line_carried : (before before' : OfLines) (d d' : Directory) (begun piece line : List ℕ) (extent : Extent) (old new : StoreSeen) → before' ≡ before → d' ≡ d → IsClean begun → IsClean piece → line ≡ take most_kept (begun ++ piece)
-    → CarriesOut d' (before' extent (line ∷ [])) old new → CarriesOut d (ahead before begun extent (piece ++ 10 ∷ [])) old new
+line_carried : (before before' : OfLines) (d d' : Directory) (begun piece line : List ℕ) (extent : Extent) (old new : StoreSeen)
+    → before' ≡ before → d' ≡ d → IsClean begun → IsClean piece → line ≡ take most_kept (begun ++ piece)
+    → CarriesOut d' (before' extent (line ∷ [])) old new → CarriesOut d (future_of_bytes before begun extent (piece ++ 10 ∷ [])) old new
 line_carried before before' d d' begun piece line extent old new same same' clean clean_piece is (stored, t, says, follows) = (
   stored,
   t,
@@ -264,15 +280,17 @@ line_carried before before' d d' begun piece line extent old new same same' clea
 )
 
 -- a line that a piece ends is served, or a fault comes
-pub serve_line : (r : Result Bool RunFault) (before before' after : OfLines) (d d' e : Directory) (begun piece line begun' : List ℕ) (old new : Outlets) → before' ≡ before → d' ≡ d → IsClean begun → IsClean piece
+pub serve_line : (r : Result Bool RunFault) (before before' after : OfLines) (d d' e : Directory) (begun piece line begun' : List ℕ)
+    (old new : Outlets) → before' ≡ before → d' ≡ d → IsClean begun → IsClean piece
     → line ≡ take most_kept (begun ++ piece) → begun' ≡ []
-    → MatchResult r (Served before' after d' e line old new) (Unserved d' (λ x. before' x (line ∷ [])) old new)
-    → MatchResult r (Serves d (telling (ahead before begun) (ahead after begun') e) (piece ++ 10 ∷ []) old new) (Unserved d (λ x. ahead before begun x (piece ++ 10 ∷ [])) old new)
+    → MatchResult r (Served before' after d' e line old new) (FailsToServe d' (λ x. before' x (line ∷ [])) old new)
+    → MatchResult r (Serves d (future_change (future_of_bytes before begun) (future_of_bytes after begun') e)
+    (piece ++ 10 ∷ []) old new) (FailsToServe d (λ x. future_of_bytes before begun x (piece ++ 10 ∷ [])) old new)
 serve_line (Ok goes_on) before before' after d d' e begun piece line begun' old new same same' clean clean_piece is none (text, stored, wrote, says, follows) = (
   text,
   stored,
   wrote,
-  line_ended before after e begun piece line begun' stored text goes_on clean clean_piece is none (subst (λ f. Answers (telling f after e) (line ∷ []) stored text goes_on) same says),
+  line_ended before after e begun piece line begun' stored text goes_on clean clean_piece is none (subst (λ f. Answers (future_change f after e) (line ∷ []) stored text goes_on) same says),
   subst (λ d. Follows old.store new.store stored d e) same' follows,
 )
 serve_line (Err Read) before before' after d d' e begun piece line begun' old new same same' clean clean_piece is none h = absurd h
@@ -281,9 +299,10 @@ serve_line (Err Write) before before' after d d' e begun piece line begun' old n
 serve_line (Err Memory) before before' after d d' e begun piece line begun' old new same same' clean clean_piece is none h =
     (h.0, line_carried before before' d d' begun piece line Stopped old.store new.store same same' clean clean_piece is h.1)
 
--- the last line is served: what is then told is what is told behind the line that has begun
-last_line : (before before' : OfLines) (d d' : Directory) (begun line : List ℕ) (old new : Outlets) → before' ≡ before → d' ≡ d → line ≡ begun → IsClean begun → 0 < length begun → length begun ≤ most_kept
-    → Tells d' (before' Whole (line ∷ [])) old new → Tells d (ahead before begun Whole []) old new
+-- the last line is served: what is then told is what is written after the line that has begun
+last_line : (before before' : OfLines) (d d' : Directory) (begun line : List ℕ) (old new : Outlets) → before' ≡ before → d' ≡ d
+    → line ≡ begun → IsClean begun → 0 < length begun → length begun ≤ most_kept
+    → Tells d' (before' Whole (line ∷ [])) old new → Tells d (future_of_bytes before begun Whole []) old new
 last_line before before' d d' begun line old new same same' e clean some short (stored, t, is, wrote, follows) = (
   stored,
   t,
@@ -293,17 +312,19 @@ last_line before before' d d' begun line old new same same' e clean some short (
 )
 
 -- the last line, where the machine ends with it
-pub last_served : (before before' after : OfLines) (d d' e : Directory) (begun line : List ℕ) (old new : Outlets) → before' ≡ before → d' ≡ d → line ≡ begun → IsClean begun → 0 < length begun → length begun ≤ most_kept
-    → Served before' after d' e line old new false → Tells d (ahead before begun Whole []) old new
+pub last_served : (before before' after : OfLines) (d d' e : Directory) (begun line : List ℕ) (old new : Outlets) → before' ≡ before
+    → d' ≡ d → line ≡ begun → IsClean begun → 0 < length begun → length begun ≤ most_kept
+    → Served before' after d' e line old new false → Tells d (future_of_bytes before begun Whole []) old new
 last_served before before' after d d' e begun line old new same same' is clean some short served =
     last_line before before' d d' begun line old new same same' is clean some short (tells_ended before' after d' e (line ∷ []) Whole [] old new served)
 
 -- the last line, and then the last words
-last_said : (before before' after : OfLines) (d d' e : Directory) (begun line words : List ℕ) (old w : Outlets) (new : Option (List ℕ)) → before' ≡ before → d' ≡ d → line ≡ begun → IsClean begun → 0 < length begun → length begun ≤ most_kept
-    → Served before' after d' e line old w true → after Whole [] [] ≡ Some (told words e) → Appends w.output new words → Tells d (ahead before begun Whole []) old (outlets new w.store)
+last_said : (before before' after : OfLines) (d d' e : Directory) (begun line words : List ℕ) (old w : Outlets)
+    (new : Option (List ℕ)) → before' ≡ before → d' ≡ d → line ≡ begun → IsClean begun → 0 < length begun → length begun ≤ most_kept
+    → Served before' after d' e line old w true → after Whole [] [] ≡ Some (run_output words e) → Appends w.output new words → Tells d (future_of_bytes before begun Whole []) old (outlets new w.store)
 last_said before before' after d d' e begun line words old w new same same' is clean some short served words_are said =
     last_line before before' d d' begun line old (outlets new w.store) same same' is clean some short
-    (tells_behind before' after d' e (line ∷ []) Whole [] old w (outlets new w.store) served ([], told words e, words_are, said, follows_none w.store e))
+    (tells_behind before' after d' e (line ∷ []) Whole [] old w (outlets new w.store) served ([], run_output words e, words_are, said, follows_none w.store e))
 
 -- the exit of a `?`, by the fault that it passes on
 pub fault_exit : {T : Type 0} (r : Result T RunFault) (P : T → Type 0) (Q : RunFault → Type 0) (fault : RunFault) → IsErr r × IsErrAnd r (λ e. e ≡ fault) → Q fault → MatchResult r P Q
@@ -321,7 +342,7 @@ cut_none text front (Some b) c e = cc
 
 -- a fault while a line is served breaks the piece off
 pub fed_fault : (before mid : Ahead) (d e : Directory) (piece rest line behind : List ℕ) (old w new : Outlets) (fault : RunFault) → Fed before mid d e piece rest old w → rest ≡ line ++ 10 ∷ behind
-    → IsClean line → Unserved e (λ x. mid x (line ++ 10 ∷ [])) w new fault → mid SoFar [] [] ≡ Some (told [] e) → BrokenOff d before piece old new fault
+    → IsClean line → FailsToServe e (λ x. mid x (line ++ 10 ∷ [])) w new fault → mid SoFar [] [] ≡ Some (run_output [] e) → FailsToFeed d before piece old new fault
 fed_fault before mid d e piece rest line behind old w new Read fed is clean h none = h
 fed_fault before mid d e piece rest line behind old w new Write fed is clean h none = (
   fed.front ++ (line ++ 10 ∷ []),
@@ -333,8 +354,9 @@ fed_fault before mid d e piece rest line behind old w new Memory fed is clean h 
     fed_broken before mid d e piece rest (line ++ 10 ∷ []) behind old w new fed (is ∙ sym (append_assoc line (10 ∷ []) behind)) (line, clean, inr refl) h.0 h.1 none
 
 -- the last line is carried out, or so far as the run goes
-last_carried : (before before' : OfLines) (d d' : Directory) (begun line : List ℕ) (extent : Extent) (old new : StoreSeen) → before' ≡ before → d' ≡ d → line ≡ begun → IsClean begun → length begun ≤ most_kept
-    → CarriesOut d' (before' extent (line ∷ [])) old new → CarriesOut d (ahead before begun extent (10 ∷ [])) old new
+last_carried : (before before' : OfLines) (d d' : Directory) (begun line : List ℕ) (extent : Extent) (old new : StoreSeen)
+    → before' ≡ before → d' ≡ d → line ≡ begun → IsClean begun → length begun ≤ most_kept
+    → CarriesOut d' (before' extent (line ∷ [])) old new → CarriesOut d (future_of_bytes before begun extent (10 ∷ [])) old new
 last_carried before before' d d' begun line extent old new same same' is clean short (stored, t, says, follows) = (
   stored,
   t,
@@ -343,8 +365,9 @@ last_carried before before' d d' begun line extent old new same same' is clean s
 )
 
 -- a fault while the last line is served leaves the end of the input unserved
-pub last_fault : (fault : RunFault) (before before' : OfLines) (d d' : Directory) (begun line : List ℕ) (old new : Outlets) → before' ≡ before → d' ≡ d → line ≡ begun → IsClean begun → length begun ≤ most_kept
-    → Unserved d' (λ x. before' x (line ∷ [])) old new fault → EndUnserved d (ahead before begun) old new fault
+pub last_fault : (fault : RunFault) (before before' : OfLines) (d d' : Directory) (begun line : List ℕ) (old new : Outlets)
+    → before' ≡ before → d' ≡ d → line ≡ begun → IsClean begun → length begun ≤ most_kept
+    → FailsToServe d' (λ x. before' x (line ∷ [])) old new fault → FailsAtEnd d (future_of_bytes before begun) old new fault
 last_fault Read before before' d d' begun line old new same same' is clean short h = h
 last_fault Write before before' d d' begun line old new same same' is clean short h =
     inr (last_carried before before' d d' begun line SoFar old.store new.store same same' is clean short h)
@@ -352,22 +375,24 @@ last_fault Memory before before' d d' begun line old new same same' is clean sho
     (h.0, last_carried before before' d d' begun line Stopped old.store new.store same same' is clean short h.1)
 
 -- where nothing has come of a last line, the last words are written
-pub finish_none : (r : Result (Unit {0}) RunFault) (future : OfLines) (d : Directory) (begun words : List ℕ) (old : Outlets) (new : Option (List ℕ)) → length begun ≤ 0 → future Whole [] [] ≡ Some (told words d)
-    → ahead future begun SoFar [] [] ≡ Some (told [] d) → MatchResult r (λ _. Appends old.output new words) (λ fault. fault ≡ Write)
-    → MatchResult r (λ _. Tells d (ahead future begun Whole []) old (outlets new old.store)) (EndUnserved d (ahead future begun) old (outlets new old.store))
-finish_none (Ok x) future d begun words old new none e waits said = ([], told words d, none_ahead future begun [] none ∙ e, said, follows_none old.store d)
+pub finish_none : (r : Result (Unit {0}) RunFault) (future : OfLines) (d : Directory) (begun words : List ℕ) (old : Outlets)
+    (new : Option (List ℕ)) → length begun ≤ 0 → future Whole [] [] ≡ Some (run_output words d)
+    → future_of_bytes future begun SoFar [] [] ≡ Some (run_output [] d) → MatchResult r (λ _. Appends old.output new words) (λ fault. fault ≡ Write)
+    → MatchResult r (λ _. Tells d (future_of_bytes future begun Whole []) old (outlets new old.store)) (FailsAtEnd d (future_of_bytes future begun) old (outlets new old.store))
+finish_none (Ok x) future d begun words old new none e waits said = ([], run_output words d, none_ahead future begun [] none ∙ e, said, follows_none old.store d)
 finish_none (Err fault) future d begun words old new none e waits said =
-    subst (EndUnserved d (ahead future begun) old (outlets new old.store)) (sym said) (inl ([], told [] d, waits, follows_none old.store d))
+    subst (FailsAtEnd d (future_of_bytes future begun) old (outlets new old.store)) (sym said) (inl ([], run_output [] d, waits, follows_none old.store d))
 
--- else they are written behind the answer to the last line
-pub finish_said : (r : Result (Unit {0}) RunFault) (before before' after : OfLines) (d d' e : Directory) (begun line words : List ℕ) (old w : Outlets) (new : Option (List ℕ)) → before' ≡ before → d' ≡ d → line ≡ begun → IsClean begun → 0 < length begun → length begun ≤ most_kept
-    → Served before' after d' e line old w true → after Whole [] [] ≡ Some (told words e) → after SoFar [] [] ≡ Some (told [] e)
+-- else they are written after the answer to the last line
+pub finish_said : (r : Result (Unit {0}) RunFault) (before before' after : OfLines) (d d' e : Directory) (begun line words : List ℕ)
+    (old w : Outlets) (new : Option (List ℕ)) → before' ≡ before → d' ≡ d → line ≡ begun → IsClean begun → 0 < length begun → length begun ≤ most_kept
+    → Served before' after d' e line old w true → after Whole [] [] ≡ Some (run_output words e) → after SoFar [] [] ≡ Some (run_output [] e)
     → MatchResult r (λ _. Appends w.output new words) (λ fault. fault ≡ Write)
-    → MatchResult r (λ _. Tells d (ahead before begun Whole []) old (outlets new w.store)) (EndUnserved d (ahead before begun) old (outlets new w.store))
+    → MatchResult r (λ _. Tells d (future_of_bytes before begun Whole []) old (outlets new w.store)) (FailsAtEnd d (future_of_bytes before begun) old (outlets new w.store))
 finish_said (Ok x) before before' after d d' e begun line words old w new same same' is clean some short served are waits said =
     last_said before before' after d d' e begun line words old w new same same' is clean some short served are said
 finish_said (Err fault) before before' after d d' e begun line words old w new same same' is clean some short served are waits said =
-    subst (EndUnserved d (ahead before begun) old (outlets new w.store)) (sym said)
+    subst (FailsAtEnd d (future_of_bytes before begun) old (outlets new w.store)) (sym said)
     (last_fault Write before before' d d' begun line old (outlets new w.store) same same' is clean short
     (carried_all before' after d' e (line ∷ []) served.1 served.0 old.store w.store served.3 served.4 waits))
 
@@ -379,7 +404,7 @@ pub not_empty : (begun : List ℕ) (len : ℕ) → len ≡ length begun → (len
 not_empty begun len e h = grind (arith, nat_tests)
 
 -- an end of a run
-abbrev at : Option (List ℕ) → Outlets → Ends
+abbrev at : Option (List ℕ) → Outlets → RunEnds
 at input out = record { input = input; out = out }
 
 -- What has been read of an input has been served: the bytes, at least as many as reads were made, and what they led
@@ -388,18 +413,18 @@ pub record Heard (made : ℕ) (before now : Ahead) (d e : Directory) (input left
   pub taken : List ℕ
   pub enough : made ≤ length taken
   pub took : Consumes input left taken
-  pub served : Serves d (telling before now e) taken old new true
+  pub served : Serves d (future_change before now e) taken old new true
 
 pub heard_none : (before now : Ahead) (d e : Directory) (input : Option (List ℕ)) (w : Outlets) → now ≡ before → e ≡ d → Heard 0 before now d e input input w w
 heard_none before now d e input w same same' = record {
   taken = [];
   enough = omega arith;
   took = Consumes-nil input;
-  served = subst (λ e. Serves d (telling before now e) [] w w true) (sym same') (serves_none before now d w same);
+  served = subst (λ e. Serves d (future_change before now e) [] w w true) (sym same') (serves_none before now d w same);
 }
 
 pub heard_turn : (made : ℕ) (before mid after : Ahead) (d e f : Directory) (input left left' : Option (List ℕ)) (old w new : Outlets) → Heard made before mid d e input left old w
-    → Turn e (telling mid after f) (at left w) (at left' new) true → Heard (made + 1) before after d f input left' old new
+    → Turn e (future_change mid after f) (at left w) (at left' new) true → Heard (made + 1) before after d f input left' old new
 heard_turn made before mid after d e f input left left' old w new h (taken, some, took, served) = record {
   taken = h.taken ++ taken;
   enough = omega (arith, h.enough, some, length-append h.taken taken);
@@ -408,24 +433,26 @@ heard_turn made before mid after d e f input left left' old w new h (taken, some
 }
 
 -- all of the input is answered
-heard_text : (before mid : Ahead) (taken : List ℕ) (first second : List StoreAnswer) (text : List ℕ) (t : Told) (input left old w new : Option (List ℕ)) → Consumes input left taken → Appends old w text
-    → ((rest : List ℕ) → mid Whole rest second ≡ Some t → before Whole (taken ++ rest) (first ++ second) ≡ Some (told (text ++ t.text) t.directory))
+heard_text : (before mid : Ahead) (taken : List ℕ) (first second : List StoreAnswer) (text : List ℕ) (t : RunOutput)
+    (input left old w new : Option (List ℕ)) → Consumes input left taken → Appends old w text
+    → ((rest : List ℕ) → mid Whole rest second ≡ Some t → before Whole (taken ++ rest) (first ++ second) ≡ Some (run_output (text ++ t.text) t.directory))
     → IfSome left (λ rest. (mid Whole rest second ≡ Some t) × Appends w new t.text)
-    → IfSome input (λ bytes. (before Whole bytes (first ++ second) ≡ Some (told (text ++ t.text) t.directory)) × Appends old new (text ++ t.text))
+    → IfSome input (λ bytes. (before Whole bytes (first ++ second) ≡ Some (run_output (text ++ t.text) t.directory)) × Appends old new (text ++ t.text))
 heard_text before mid taken first second text t None left old w new took wrote says h = tt
 heard_text before mid taken first second text t (Some bytes) None old w new took wrote says h = absurd took
 heard_text before mid taken first second text t (Some bytes) (Some rest) old w new took wrote says h =
     (ap (λ b. before Whole b (first ++ second)) took ∙ says rest h.0, Appends-trans old w new text t.text wrote h.1)
 
 pub heard_end : {made : ℕ} (before mid after : Ahead) (d e f : Directory) (input left left' : Option (List ℕ)) (old w new : Outlets) → Heard made before mid d e input left old w
-    → Turn e (telling mid after f) (at left w) (at left' new) false → Ended d before (at input old) (at left' new)
+    → Turn e (future_change mid after f) (at left w) (at left' new) false → AnswersInput d before (at input old) (at left' new)
 heard_end before mid after d e f input left left' old w new h (stored', t, follows', rest) =
     let stored = h.served.1 in
     let text = h.served.0 in (
       stored ++ stored',
-      told (text ++ t.text) t.directory,
+      run_output (text ++ t.text) t.directory,
       follows_both old.store w.store new.store stored stored' d e t.directory h.served.4 follows',
-      heard_text before mid h.taken stored stored' text t input left old.output w.output new.output h.took h.served.2 (λ more is. continued_with before mid e h.taken stored stored' text t Whole more h.served.3 is) rest,
+      heard_text before mid h.taken stored stored' text t input left old.output w.output new.output h.took h.served.2
+          (λ more is. continued_with before mid e h.taken stored stored' text t Whole more h.served.3 is) rest,
     )
 
 -- a fault leaves what it leaves of the rest
@@ -451,25 +478,28 @@ heard_left before mid d e input left left' old w new Memory h (LastInHand taken 
 
 -- so many reads were made
 pub heard_so_far : {made : ℕ} (before mid : Ahead) (d e : Directory) (input left : Option (List ℕ)) (old new : Outlets) → Heard made before mid d e input left old new
-    → mid SoFar [] [] ≡ Some (told [] e) → Leaves d before (at input old) (at left new) Read
+    → mid SoFar [] [] ≡ Some (run_output [] e) → Leaves d before (at input old) (at left new) Read
 heard_so_far before mid d e input left old new h none = (h.taken, h.took, tells_all before mid d e h.taken old new h.served none)
 
 -- each of the reads took a byte or more of the input
-pub heard_enough : (made : ℕ) (before now : Ahead) (d e : Directory) (input left : Option (List ℕ)) (old new : Outlets) → Heard made before now d e input left old new → IfSome input (λ bytes. made ≤ length bytes)
+pub heard_enough : (made : ℕ) (before now : Ahead) (d e : Directory) (input left : Option (List ℕ)) (old new : Outlets)
+    → Heard made before now d e input left old new → IfSome input (λ bytes. made ≤ length bytes)
 heard_enough made before now d e None left old new h = tt
 heard_enough made before now d e (Some bytes) None old new h = absurd h.took
 heard_enough made before now d e (Some bytes) (Some rest) old new h = omega (arith, h.enough, ap length h.took, length-append h.taken rest)
 
 -- a read failed
-pub turn_failed : (before : Ahead) (d : Directory) (input left : Option (List ℕ)) (w : Outlets) → Keeps input left → before SoFar [] [] ≡ Some (told [] d) → Leaves d before (at input w) (at left w) Read
-turn_failed before d input left w kept none = ([], Consumes-kept input input left [] (Consumes-nil input) kept, ([], told [] d, none, Appends-nil w.output, follows_none w.store d))
+pub turn_failed : (before : Ahead) (d : Directory) (input left : Option (List ℕ)) (w : Outlets) → Keeps input left
+    → before SoFar [] [] ≡ Some (run_output [] d) → Leaves d before (at input w) (at left w) Read
+turn_failed before d input left w kept none = ([], Consumes-kept input input left [] (Consumes-nil input) kept, ([], run_output [] d, none, Appends-nil w.output, follows_none w.store d))
 
 -- bytes were read
 pub some_read : (count : ℕ) (buffer : List ℕ) → 0 < count → count ≤ length buffer → 0 < length (take count buffer)
 some_read count buffer some within = omega (arith, length-take count buffer)
 
 -- the machine extent with a piece
-all_told : (future : List ℕ → Option Told) (piece : List ℕ) (t : Told) (input left old new : Option (List ℕ)) → Consumes input left piece → Appends old new t.text → ((rest : List ℕ) → future (piece ++ rest) ≡ Some t)
+all_told : (future : List ℕ → Option RunOutput) (piece : List ℕ) (t : RunOutput) (input left old new : Option (List ℕ))
+    → Consumes input left piece → Appends old new t.text → ((rest : List ℕ) → future (piece ++ rest) ≡ Some t)
     → IfSome input (λ bytes. (future bytes ≡ Some t) × Appends old new t.text)
 all_told future piece t None left old new took wrote says = tt
 all_told future piece t (Some bytes) None old new took wrote says = absurd took
@@ -477,14 +507,14 @@ all_told future piece t (Some bytes) (Some rest) old new took wrote says = (ap f
 
 -- a piece was fed
 pub turn_fed : (r : Result Bool RunFault) (before after : Ahead) (d e : Directory) (piece : List ℕ) (input left : Option (List ℕ)) (old new : Outlets) → 0 < length piece → Consumes input left piece
-    → MatchResult r (Serves d (telling before after e) piece old new) (BrokenOff d before piece old new)
-    → MatchResult r (Turn d (telling before after e) (at input old) (at left new)) (Leaves d before (at input old) (at left new))
+    → MatchResult r (Serves d (future_change before after e) piece old new) (FailsToFeed d before piece old new)
+    → MatchResult r (Turn d (future_change before after e) (at input old) (at left new)) (Leaves d before (at input old) (at left new))
 turn_fed (Ok true) before after d e piece input left old new some took served = (piece, some, took, served)
 turn_fed (Ok false) before after d e piece input left old new some took (text, stored, wrote, says, follows) = (
   stored,
-  told text e,
+  run_output text e,
   follows,
-  all_told (λ bytes. before Whole bytes stored) piece (told text e) input left old.output new.output took wrote (λ rest. ended_with before after e piece stored text Whole rest says),
+  all_told (λ bytes. before Whole bytes stored) piece (run_output text e) input left old.output new.output took wrote (λ rest. ended_with before after e piece stored text Whole rest says),
 )
 turn_fed (Err Read) before after d e piece input left old new some took h = absurd h
 turn_fed (Err Write) before after d e piece input left old new some took (front, back, split, carried) =
@@ -493,18 +523,20 @@ turn_fed (Err Memory) before after d e piece input left old new some took (front
     InHand front next back (subst (Consumes input left) split took) one first
 
 -- the end of the input came
-end_told : (future : List ℕ → Option Told) (t : Told) (input left old new : Option (List ℕ)) → Consumes input left [] → IsAtEnd left → Appends old new t.text → future [] ≡ Some t
+end_told : (future : List ℕ → Option RunOutput) (t : RunOutput) (input left old new : Option (List ℕ)) → Consumes input left [] → IsAtEnd left → Appends old new t.text → future [] ≡ Some t
     → IfSome input (λ bytes. (future bytes ≡ Some t) × Appends old new t.text)
 end_told future t None left old new took end wrote is = tt
 end_told future t (Some bytes) None old new took end wrote is = absurd took
 end_told future t (Some bytes) (Some rest) old new took end wrote is = (ap future (took ∙ end) ∙ is, wrote)
 
-pub turn_ended : (before : Ahead) (d : Directory) (input left : Option (List ℕ)) (old new : Outlets) → Consumes input left [] → IsAtEnd left → Tells d (before Whole []) old new → Ended d before (at input old) (at left new)
+pub turn_ended : (before : Ahead) (d : Directory) (input left : Option (List ℕ)) (old new : Outlets) → Consumes input left []
+    → IsAtEnd left → Tells d (before Whole []) old new → AnswersInput d before (at input old) (at left new)
 turn_ended before d input left old new took end (stored, t, is, wrote, follows) =
     (stored, t, follows, end_told (λ bytes. before Whole bytes stored) t input left old.output new.output took end wrote is)
 
-pub turn_unserved : (before : Ahead) (d : Directory) (input left : Option (List ℕ)) (old new : Outlets) (fault : RunFault) → Consumes input left [] → IsAtEnd left → before SoFar [] [] ≡ Some (told [] d)
-    → EndUnserved d before old new fault → Leaves d before (at input old) (at left new) fault
+pub turn_unserved : (before : Ahead) (d : Directory) (input left : Option (List ℕ)) (old new : Outlets) (fault : RunFault)
+    → Consumes input left [] → IsAtEnd left → before SoFar [] [] ≡ Some (run_output [] d)
+    → FailsAtEnd d before old new fault → Leaves d before (at input old) (at left new) fault
 turn_unserved before d input left old new Read took end none h = absurd h
 turn_unserved before d input left old new Write took end none (inl carried) = Within [] [] took carried
 turn_unserved before d input left old new Write took end none (inr carried) = AtTheEnd [] took end carried
@@ -520,7 +552,8 @@ fault_is (Ok x) fault h = let e = h.0 in cc
 fault_is (Err e) fault h = ap Err h.1
 
 -- what a read's counts say of a run that ends with its fault
-pub reads_exit : (fault : RunFault) (input : Option (List ℕ)) (failures failures' calls calls' : ℕ) → failures' ≡ raised failures (read_faults {T = Unit {0}} (Err fault)) → Reads {T = Unit {0}} input (read_counts failures calls) (read_counts failures' calls') (Err fault)
+pub reads_exit : (fault : RunFault) (input : Option (List ℕ)) (failures failures' calls calls' : ℕ)
+    → failures' ≡ raised failures (read_faults {T = Unit {0}} (Err fault)) → Reads {T = Unit {0}} input (read_counts failures calls) (read_counts failures' calls') (Err fault)
 reads_exit Read input failures failures' calls calls' e = Failed e
 reads_exit Write input failures failures' calls calls' e = e ∙ raised_none failures
 reads_exit Memory input failures failures' calls calls' e = e ∙ raised_none failures

@@ -1,5 +1,7 @@
 -- Laws of the lines of an input that comes in pieces.
-use Rattle.std.proofs.Common.{◌≡◌, ◌≢◌, ℕ, zero, suc, ◌+◌, ◌-◌, ◌<◌, ◌≤◌, ◌&&◌, ◌==◌, min, Bool, true, false, cond, leb, List, [], ◌∷◌, ◌++◌, length, take, map, refl, sym, ap, ◌∙◌, arith, Result, Ok, Err, OnOk, is_ok, if◌then◌else◌}
+use Rattle.std.proofs.Common.{◌≡◌, ◌≢◌, ℕ, zero, suc, ◌+◌, ◌-◌, ◌<◌, ◌≤◌, ◌&&◌, ◌==◌, min, Bool, true, false, cond, leb, List, []}
+use Rattle.std.proofs.Common.{◌∷◌, ◌++◌, length, take, map, refl, sym, ap, ◌∙◌, arith, Result, Ok, Err, OnOk, is_ok}
+use Rattle.std.proofs.Common.{if◌then◌else◌}
 use Rattle.std.specs.List.{slice_split, onto_first}
 use Rattle.std.proofs.lemmas.List.Splits.{slice_split_at, slice_split_none, slice_split-cons_no}
 use Rattle.std.proofs.lemmas.List.Elements.{All-tail, All-head, All-take}
@@ -26,7 +28,7 @@ whole_lines-more : (ended : Bool) (line : List ℕ) (parts : List (List ℕ)) �
 whole_lines-more ended line [] some = absurd (some refl)
 whole_lines-more ended line (next ∷ more) some = refl
 
--- a line that has ended, before what comes behind its line feed
+-- a line that has ended, before what comes after its line feed
 pub input_lines-line : (ended : Bool) (line rest : List ℕ) → IsClean line → input_lines ended (line ++ 10 ∷ rest) ≡ take most_kept line ∷ input_lines ended rest
 unfolding input_lines
 input_lines-line ended line rest clean =
@@ -69,10 +71,12 @@ last_if : (b : Bool) (x y : List ℕ) (n : ℕ) → take n x ≡ take n y → ma
 last_if true x y n e = ap (λ l. l ∷ []) e
 last_if false x y n e = refl
 
-whole_last : (ended : Bool) (a b : List ℕ) (n : ℕ) → leb 1 (length a) ≡ leb 1 (length b) → take n a ≡ take n b → map (take n) (cond (ended && leb 1 (length a)) (a ∷ []) []) ≡ map (take n) (cond (ended && leb 1 (length b)) (b ∷ []) [])
+whole_last : (ended : Bool) (a b : List ℕ) (n : ℕ) → leb 1 (length a) ≡ leb 1 (length b) → take n a ≡ take n b
+    → map (take n) (cond (ended && leb 1 (length a)) (a ∷ []) []) ≡ map (take n) (cond (ended && leb 1 (length b)) (b ∷ []) [])
 whole_last ended a b n same kept = ap (λ t. map (take n) (cond (ended && t) (a ∷ []) [])) same ∙ last_if (ended && leb 1 (length b)) a b n kept
 
-kept-onto : (ended : Bool) (n : ℕ) (line : List ℕ) (parts : List (List ℕ)) → parts ≢ [] → map (take (suc n)) (whole_lines ended (onto (take (suc n) line) parts)) ≡ map (take (suc n)) (whole_lines ended (onto line parts))
+kept-onto : (ended : Bool) (n : ℕ) (line : List ℕ) (parts : List (List ℕ)) → parts ≢ []
+    → map (take (suc n)) (whole_lines ended (onto (take (suc n) line) parts)) ≡ map (take (suc n)) (whole_lines ended (onto line parts))
 kept-onto ended n line [] some = absurd (some refl)
 kept-onto ended n line (first ∷ []) some = whole_last ended _ _ (suc n) (some_kept n line first) (take_kept (suc n) line first)
 kept-onto ended n line (first ∷ next ∷ more) some = ap (λ l. l ∷ map (take (suc n)) (whole_lines ended (next ∷ more))) (take_kept (suc n) line first)
@@ -96,7 +100,8 @@ input_lines-begun line clean = ap (λ parts. map (take most_kept) (whole_lines f
 -- where the input ends it is one, if it is not empty
 pub input_lines-last : (line : List ℕ) → IsClean line → 0 < length line → input_lines true line ≡ take most_kept line ∷ []
 unfolding input_lines
-input_lines-last line clean some = ap (λ parts. map (take most_kept) (whole_lines true parts)) (slice_split_none is_feed line clean) ∙ ap (λ b. map (take most_kept) (cond b (line ∷ []) [])) (let e : leb 1 (length line) ≡ true = grind (arith, nat_tests) in e)
+input_lines-last line clean some = ap (λ parts. map (take most_kept) (whole_lines true parts)) (slice_split_none is_feed line clean)
+    ∙ ap (λ b. map (take most_kept) (cond b (line ∷ []) [])) (let e : leb 1 (length line) ≡ true = grind (arith, nat_tests) in e)
 
 pub input_lines-nil : (ended : Bool) → input_lines ended [] ≡ []
 unfolding input_lines
@@ -120,7 +125,7 @@ on_ok_branch (Err v) x y z e = tt
 abbrev pub lines_in : List ℕ → List (List ℕ)
 lines_in bytes = whole_lines true (slice_split is_feed bytes)
 
--- a line that ends, and those behind it
+-- a line that ends, and those after it
 pub lines_in-more : (bytes line rest : List ℕ) → IsClean line → bytes ≡ line ++ 10 ∷ rest → lines_in bytes ≡ line ∷ lines_in rest
 lines_in-more bytes line rest clean e =
     ap lines_in e ∙ ap (whole_lines true) (slice_split_at is_feed line 10 rest clean refl) ∙ whole_lines-more true line (slice_split is_feed rest) (split_some rest)

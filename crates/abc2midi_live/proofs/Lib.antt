@@ -8,5 +8,5 @@ pub mod Refusals
 pub mod Requests
 pub mod Runs
 pub mod Storing
-pub mod Told
+pub mod RunOutputs
 pub mod Words

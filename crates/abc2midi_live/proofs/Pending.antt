@@ -1,24 +1,30 @@
 -- Laws of bringing a directory up to date.
-use Rattle.std.proofs.Common.{◌≡◌, ℕ, zero, suc, ◌+◌, ◌-◌, ◌^◌, ◌<◌, ◌≤◌, ◌&&◌, Bool, true, false, cond, List, [], ◌∷◌, ◌++◌, length, Option, Some, None, MatchOption, Result, Ok, Err, MatchResult, ◌≢◌, ◌⊎◌, inl, inr, ⊎_elim, refl, sym, ap, ◌∙◌, subst, arith, append_assoc, append-nil}
+use Rattle.std.proofs.Common.{◌≡◌, ℕ, zero, suc, ◌+◌, ◌-◌, ◌^◌, ◌<◌, ◌≤◌, ◌&&◌, Bool, true, false, cond, List, [], ◌∷◌, ◌++◌}
+use Rattle.std.proofs.Common.{length, Option, Some, None, MatchOption, Result, Ok, Err, MatchResult, ◌≢◌, ◌⊎◌, inl, inr, ⊎_elim}
+use Rattle.std.proofs.Common.{refl, sym, ap, ◌∙◌, subst, arith, append_assoc, append-nil}
 use Rattle.std.specs.Prelude.{filter, is_none, is_ok, SomeIff, IfOk, IfSome, OnErr}
 use Rattle.std.specs.declared.alloc.AllocError.{AllocError}
 use Rattle.std.specs.Result.{result_unwrap_or}
 use Rattle.std.proofs.lemmas.Bool.{cases_eq, false≢true, true≢false}
 use Rattle.std.proofs.lemmas.Bool.Decides.{nat_tests}
 use Rattle.abc_lines.specs.Text.{Text}
-use Rattle.abc_publish.specs.Publisher.{Directory, Jobs, Publishing, Slots, maps_of, begun, differs, ended, is_pending, is_wanted, stored_as, with_entry, HasNone, IsNext}
+use Rattle.abc_publish.specs.Publisher.{Directory, Jobs, Publishing, Slots, maps_of, with_job, differs, without_job, is_pending}
+use Rattle.abc_publish.specs.Publisher.{is_wanted, stored_as, with_entry, HasNone, IsNext}
 use Rattle.abc_publish.specs.declared.slot.Stored.{Stored}
 use Rattle.abc_publish.specs.declared.slot.Stored.TheVariants.{Unknown}
-use Rattle.abc_tunebook.specs.Files.{Files, file_at}
+use Rattle.abc_tune_compiler.specs.Files.{Files, file_at}
 use Rattle.abc2midi_live.specs.Answer.{end_line, failed_line, stored_line}
 use Rattle.abc2midi_live.specs.Book.{files_of}
-use Rattle.abc2midi_live.specs.Building.{answer_line, answer_of, entry_behind, numbers_from, pending_from, pending_numbers, stage, storing, storing_at, Builds, BuildStops, Stage, IsIdle, StopsAtOnce, StopsBy, Stores, StoresOneAtMost}
+use Rattle.abc2midi_live.specs.Building.{answer_line, answer_of, entry_behind, numbers_from, pending_from, pending_numbers, stage}
+use Rattle.abc2midi_live.specs.Building.{build_outcome, build_outcome_at, Builds, BuildStops, Stage, IsIdle, StopsAtOnce, StopsBy}
+use Rattle.abc2midi_live.specs.Building.{Stores}
+use Rattle.abc2midi_live.specs.Building.{StoresOneAtMost}
 use Rattle.abc2midi_live.specs.Storing.{StoreAnswer, Done, Fault, StoreSeen, Follows, file_name}
 use Rattle.abc2midi_live.specs.Streams.{Puts, TakesOut, KeepsOthers, faults}
 use Rattle.abc2midi_live.specs.declared.streams.StoreFault.{StoreFault}
 use Rattle.abc2midi_live.proofs.Storing.{follows_put, follows_removed, follows_fault, follows_none, follows_same, follows_both}
 use Rattle.abc_fold.specs.Work.{raised}
-use Rattle.abc2midi_live.specs.Told.{Answered, Stopped, answered_by, line_before}
+use Rattle.abc2midi_live.specs.RunOutput.{RequestOutcome, Stopped, request_outcome, line_before}
 use Rattle.abc2midi_live.specs.Waiting.{storing_unasked}
 
 -- a number that passes a test, or does not, before others
@@ -66,7 +72,7 @@ same_kept p q first (suc count) same =
     ap (λ b. cond b (first ∷ filter p rest) (filter p rest)) (same first (omega arith))
     ∙ ap (λ r. cond (q first) (first ∷ r) r) (same_kept p q (first + 1) count (λ n from. same n (omega arith)))
 
--- an entry leaves what is pending behind its number
+-- an entry leaves what is pending after its number
 pending_behind : (d : Directory) (files : Files) (m : ℕ) (entry : Option Stored) (n : ℕ) → m + 1 ≤ n → is_pending d files n ≡ is_pending (with_entry d m entry) files n
 pending_behind d files m entry n h =
     let e : with_entry d m entry n ≡ d n = grind (arith, nat_tests) in
@@ -82,7 +88,7 @@ wanted_idle p files n idle = ap (λ j. is_pending p.directory files n && is_none
 fits_or_not : (m : ℕ) → (m + 1 < 2 ^ 32) ⊎ ((m + 1 < 2 ^ 32) → ⊥)
 fits_or_not m = grind arith
 
--- the number to go on from behind one
+-- the number to go on from after one
 abbrev pub IsBehind : ℕ → Option ℕ → Type 0
 IsBehind m next = SomeIff next (m + 1 < 2 ^ 32) (m + 1)
 
@@ -90,7 +96,8 @@ no_numbers : (first : ℕ) → numbers_from first 0 ≡ []
 unfolding numbers_from
 no_numbers first = refl
 
-pending_next : (d : Directory) (files : Files) (m : ℕ) (next : Option ℕ) → m < 2 ^ 32 → IsBehind m next → filter (is_pending d files) (numbers_from (m + 1) (2 ^ 32 - (m + 1))) ≡ pending_from d files next
+pending_next : (d : Directory) (files : Files) (m : ℕ) (next : Option ℕ) → m < 2 ^ 32 → IsBehind m next
+    → filter (is_pending d files) (numbers_from (m + 1) (2 ^ 32 - (m + 1))) ≡ pending_from d files next
 unfolding pending_from
 pending_next d files m None small h =
     let all : 2 ^ 32 - (m + 1) ≡ 0 = omega arith in
@@ -115,21 +122,23 @@ unfolding pending_from
 none_pending p files from small idle none = none_kept (is_pending p.directory files) from (2 ^ 32 - from) (λ n above below. sym (wanted_idle p files n idle) ∙ none n above (omega arith))
 
 -- none is pending, and the build ends
-pub stores_none : (text : Text) (p : Publishing) (files : Files) (from : ℕ) → files ≡ files_of text → from < 2 ^ 32 → IsIdle p → HasNone p files from → Stores text (stage p.directory (Some from)) [] [] (stage p.directory None)
-unfolding storing pending_from
+pub stores_none : (text : Text) (p : Publishing) (files : Files) (from : ℕ) → files ≡ files_of text → from < 2 ^ 32 → IsIdle p
+    → HasNone p files from → Stores text (stage p.directory (Some from)) [] [] (stage p.directory None)
+unfolding build_outcome pending_from
 stores_none text p files from e small idle none = λ extent later.
-    ap (λ ns. storing extent text p.directory ns later) (none_pending p (files_of text) from small idle (subst (λ fs. HasNone p fs from) e none))
+    ap (λ ns. build_outcome extent text p.directory ns later) (none_pending p (files_of text) from small idle (subst (λ fs. HasNone p fs from) e none))
 
--- the file of the least number is stored, and the build goes on behind it
+-- the file of the least number is stored, and the build goes on after it
 pub stores_done : (text : Text) (p : Publishing) (files : Files) (from m : ℕ) (bytes : Option (List ℕ)) (next : Option ℕ) → files ≡ files_of text → m < 2 ^ 32 → IsIdle p → IsNext p files from m
     → bytes ≡ file_at files m → IsBehind m next
     → Stores text (stage p.directory (Some from)) (Done ∷ []) (stored_line m bytes) (stage (with_entry p.directory m (stored_as bytes)) next)
-unfolding storing
+unfolding build_outcome
 stores_done text p files from m bytes next e small idle is file behind = λ extent later.
     let d = p.directory in
     let same : file_at (files_of text) m ≡ bytes = sym (file ∙ ap (λ fs. file_at fs m) e) in
-    ap (λ ns. storing extent text d ns (Done ∷ later)) (first_pending p (files_of text) from m next (stored_as (file_at (files_of text) m)) idle (subst (λ fs. IsNext p fs from m) e is) small behind)
-    ∙ ap (λ b. line_before (stored_line m b) (storing extent text (with_entry d m (stored_as b)) (pending_from (with_entry d m (stored_as b)) (files_of text) next) later)) same
+    ap (λ ns. build_outcome extent text d ns (Done ∷ later))
+    (first_pending p (files_of text) from m next (stored_as (file_at (files_of text) m)) idle (subst (λ fs. IsNext p fs from m) e is) small behind)
+    ∙ ap (λ b. line_before (stored_line m b) (build_outcome extent text (with_entry d m (stored_as b)) (pending_from (with_entry d m (stored_as b)) (files_of text) next) later)) same
 
 some_next : (m : ℕ) → (next : Option ℕ) × IsBehind m next
 some_next m = ⊎_elim (λ fits. (Some (m + 1), (fits, refl))) (λ not. (None, not)) (fits_or_not m)
@@ -137,39 +146,41 @@ some_next m = ⊎_elim (λ fits. (Some (m + 1), (fits, refl))) (λ not. (None, n
 -- the store failed, and the build ends
 pub stores_fault : (text : Text) (p : Publishing) (files : Files) (from m : ℕ) → files ≡ files_of text → m < 2 ^ 32 → IsIdle p → IsNext p files from m
     → Stores text (stage p.directory (Some from)) (Fault ∷ []) (failed_line m) (stage (with_entry p.directory m (Some Unknown)) None)
-unfolding storing pending_from
+unfolding build_outcome pending_from
 stores_fault text p files from m e small idle is = λ extent later.
     let d = p.directory in
     let some : (next : Option ℕ) × IsBehind m next = some_next m in
-    ap (λ ns. storing extent text d ns (Fault ∷ later)) (first_pending p (files_of text) from m some.0 (Some Unknown) idle (subst (λ fs. IsNext p fs from m) e is) small some.1)
+    ap (λ ns. build_outcome extent text d ns (Fault ∷ later)) (first_pending p (files_of text) from m some.0 (Some Unknown) idle (subst (λ fs. IsNext p fs from m) e is) small some.1)
 
-line_before_both : (a b : List ℕ) (rest : Option Answered) → line_before a (line_before b rest) ≡ line_before (a ++ b) rest
+line_before_both : (a b : List ℕ) (rest : Option RequestOutcome) → line_before a (line_before b rest) ≡ line_before (a ++ b) rest
 line_before_both a b None = refl
-line_before_both a b (Some r) = ap (λ t. Some (answered_by t r.after r.left)) (sym (append_assoc a b r.text))
+line_before_both a b (Some r) = ap (λ t. Some (request_outcome t r.after r.left)) (sym (append_assoc a b r.text))
 
-line_before_none : (rest : Option Answered) → rest ≡ line_before [] rest
+line_before_none : (rest : Option RequestOutcome) → rest ≡ line_before [] rest
 line_before_none None = refl
 line_before_none (Some r) = refl
 
 -- nothing is stored yet
 pub stores_first : (text : Text) (d : Directory) (from : Option ℕ) → Stores text (stage d from) [] [] (stage d from)
-stores_first text d from = λ extent later. line_before_none (storing_at extent text (stage d from) later)
+stores_first text d from = λ extent later. line_before_none (build_outcome_at extent text (stage d from) later)
 
--- what is stored behind what was stored
-pub stores_both : (text : Text) (d e f : Directory) (at from next : Option ℕ) (a b : List StoreAnswer) (x y : List ℕ) → Stores text (stage d at) a x (stage e from) → Stores text (stage e from) b y (stage f next)
+-- what is stored after what was stored
+pub stores_both : (text : Text) (d e f : Directory) (at from next : Option ℕ) (a b : List StoreAnswer) (x y : List ℕ)
+    → Stores text (stage d at) a x (stage e from) → Stores text (stage e from) b y (stage f next)
     → Stores text (stage d at) (a ++ b) (x ++ y) (stage f next)
 stores_both text d e f at from next a b x y first second = λ extent later.
-    ap (storing extent text d (pending_from d (files_of text) at)) (append_assoc a b later) ∙ first extent (b ++ later) ∙ ap (line_before x) (second extent later)
-    ∙ line_before_both x y (storing_at extent text (stage f next) later)
+    ap (build_outcome extent text d (pending_from d (files_of text) at)) (append_assoc a b later) ∙ first extent (b ++ later) ∙ ap (line_before x) (second extent later)
+    ∙ line_before_both x y (build_outcome_at extent text (stage f next) later)
 
 -- no number is left
-pub builds_all : (text : Text) (d e : Directory) (now : List StoreAnswer) (told : List ℕ) → Stores text (stage d (Some 0)) now told (stage e None) → Builds text d now (told ++ end_line) e
-unfolding pending_from pending_numbers storing
-builds_all text d e now told stores = λ extent later. stores extent later
+pub builds_all : (text : Text) (d e : Directory) (now : List StoreAnswer) (run_output : List ℕ)
+    → Stores text (stage d (Some 0)) now run_output (stage e None) → Builds text d now (run_output ++ end_line) e
+unfolding pending_from pending_numbers build_outcome
+builds_all text d e now run_output stores = λ extent later. stores extent later
 
 -- a build that stops, and the answers that the store has given
 abbrev pub StopsWith : Text → Stage → List StoreAnswer → StoreSeen → StoreSeen → Type 0
-StopsWith text at now old new = (stopped : StopsBy at.directory (storing_at Stopped text at) old new) × (stopped.0 ≡ now)
+StopsWith text at now old new = (stopped : StopsBy at.directory (build_outcome_at Stopped text at) old new) × (stopped.0 ≡ now)
 
 -- it stops before the store gives an answer
 pub stops_first : (text : Text) (at : Stage) (s : StoreSeen) → StopsWith text at [] s s
@@ -178,14 +189,15 @@ stops_first text at s =
     let none = storing_unasked text d (pending_from d (files_of text) at.from) in
     (([], none.0, none.1, none.2, follows_same s d none.0.after.directory none.3), refl)
 
--- it stops behind what was stored
-pub stops_behind : (text : Text) (d e : Directory) (at next : Option ℕ) (now more : List StoreAnswer) (told : List ℕ) (old mid new : StoreSeen) → Stores text (stage d at) now told (stage e next) → Follows old mid now d e
+-- it stops after what was stored
+pub stops_behind : (text : Text) (d e : Directory) (at next : Option ℕ) (now more : List StoreAnswer) (run_output : List ℕ)
+    (old mid new : StoreSeen) → Stores text (stage d at) now run_output (stage e next) → Follows old mid now d e
     → StopsWith text (stage e next) more mid new → StopsWith text (stage d at) (now ++ more) old new
-stops_behind text d e at next now more told old mid new stores follows ((later, a, is, left, follows'), same) = (
+stops_behind text d e at next now more run_output old mid new stores follows ((later, a, is, left, follows'), same) = (
   (
     now ++ later,
-    answered_by (told ++ a.text) a.after a.left,
-    stores Stopped later ∙ ap (line_before told) is,
+    request_outcome (run_output ++ a.text) a.after a.left,
+    stores Stopped later ∙ ap (line_before run_output) is,
     left,
     follows_both old mid new now later d e a.after.directory follows follows',
   ),
@@ -204,7 +216,8 @@ stops_called text at answer old new h =
     (h.0, omega arith)
 
 -- It was called for the least number, if it was called.
-pub stops_once : (text : Text) (p : Publishing) (from m : ℕ) (bytes : Option (List ℕ)) (old new : StoreSeen) → m < 2 ^ 32 → IsIdle p → IsNext p (files_of text) from m → bytes ≡ file_at (files_of text) m
+pub stops_once : (text : Text) (p : Publishing) (from m : ℕ) (bytes : Option (List ℕ)) (old new : StoreSeen) → m < 2 ^ 32 → IsIdle p
+    → IsNext p (files_of text) from m → bytes ≡ file_at (files_of text) m
     → StoresOneAtMost old new m bytes → StopsAtOnce text (stage p.directory (Some from)) old new
 stops_once text p from m bytes old new small idle least file (inl same) =
     let at = stage p.directory (Some from) in
@@ -241,7 +254,7 @@ pub left_small : (next : Option ℕ) (from : ℕ) → IfSome next (λ n. (from <
 left_small None from h = tt
 left_small (Some n) from h = h.1
 
--- the number to go on from lies behind
+-- the number to go on from lies after
 pub onward : (from m : ℕ) (next : Option ℕ) → from ≤ m → IsBehind m next → IfSome next (λ n. (from < n) × (n < 2 ^ 32))
 onward from m None low h = tt
 onward from m (Some n) low h = let e : n ≡ m + 1 = h.1 in (omega arith, let fits : m + 1 < 2 ^ 32 = h.0 in omega arith)
@@ -269,16 +282,16 @@ follows_job old new d n m done stored bytes file e f s h =
     (subst (λ (b : Option (List ℕ)). Follows old new (answer_of stored ∷ []) d (with_entry d m (entry_behind (answer_of stored) b))) f
     (subst (λ (k : ℕ). Follows old new (answer_of stored ∷ []) d (with_entry d k (entry_behind (answer_of stored) bytes))) e h))
 
--- what a publisher knows behind a job that was done
-pub ends_done : (r : Result Bool AllocError) (p q : Publishing) (n : ℕ) (bytes : Option (List ℕ)) → result_unwrap_or r false ≡ true → q ≡ ended p n (stored_as bytes)
-    → IfOk r (λ stored. q ≡ ended p n (entry_behind (answer_of stored) bytes))
+-- what a publisher knows after a job that was done
+pub ends_done : (r : Result Bool AllocError) (p q : Publishing) (n : ℕ) (bytes : Option (List ℕ)) → result_unwrap_or r false ≡ true → q ≡ without_job p n (stored_as bytes)
+    → IfOk r (λ stored. q ≡ without_job p n (entry_behind (answer_of stored) bytes))
 ends_done (Ok true) p q n bytes is e = e
 ends_done (Ok false) p q n bytes is e = absurd (false≢true is)
 ends_done (Err x) p q n bytes is e = tt
 
--- and behind one that failed
-pub ends_failed : (r : Result Bool AllocError) (p q : Publishing) (n : ℕ) (bytes : Option (List ℕ)) → result_unwrap_or r false ≡ false → q ≡ ended p n (Some Unknown)
-    → IfOk r (λ stored. q ≡ ended p n (entry_behind (answer_of stored) bytes))
+-- and after one that failed
+pub ends_failed : (r : Result Bool AllocError) (p q : Publishing) (n : ℕ) (bytes : Option (List ℕ)) → result_unwrap_or r false ≡ false → q ≡ without_job p n (Some Unknown)
+    → IfOk r (λ stored. q ≡ without_job p n (entry_behind (answer_of stored) bytes))
 ends_failed (Ok true) p q n bytes is e = absurd (true≢false is)
 ends_failed (Ok false) p q n bytes is e = e
 ends_failed (Err x) p q n bytes is e = tt
@@ -288,33 +301,35 @@ pub no_error : (r : Result Bool AllocError) (P : Type 0) → result_unwrap_or r 
 no_error (Ok stored) P is = tt
 no_error (Err x) P is = absurd (false≢true is)
 
--- what holds in any case holds behind an error
+-- what holds in any case holds after an error
 pub in_error : (r : Result Bool AllocError) (P : Type 0) → P → OnErr r P
 in_error (Ok stored) P p = tt
 in_error (Err x) P p = p
 
 -- the directory that a store follows is that of the publisher
-pub follows_ended : (r : Result Bool AllocError) (old new : StoreSeen) (p q : Publishing) (n : ℕ) (bytes : Option (List ℕ)) → IfOk r (λ stored. q ≡ ended p n (entry_behind (answer_of stored) bytes))
+pub follows_ended : (r : Result Bool AllocError) (old new : StoreSeen) (p q : Publishing) (n : ℕ) (bytes : Option (List ℕ))
+    → IfOk r (λ stored. q ≡ without_job p n (entry_behind (answer_of stored) bytes))
     → IfOk r (λ stored. (d : Directory) → Follows old new (answer_of stored ∷ []) d (with_entry d n (entry_behind (answer_of stored) bytes)))
     → IfOk r (λ stored. Follows old new (answer_of stored ∷ []) p.directory q.directory)
 follows_ended (Ok stored) old new p q n bytes e h = subst (λ (q : Publishing). Follows old new (answer_of stored ∷ []) p.directory q.directory) (sym e) (h p.directory)
 follows_ended (Err x) old new p q n bytes e h = tt
 
--- no job is under way behind the end of the only one
-pub idle_again : (p q r : Publishing) (n : ℕ) (bytes : Option (List ℕ)) → IsIdle p → q ≡ begun p n bytes → r.jobs ≡ with_entry q.jobs n None → IsIdle r
+-- no job is under way after the end of the only one
+pub idle_again : (p q r : Publishing) (n : ℕ) (bytes : Option (List ℕ)) → IsIdle p → q ≡ with_job p n bytes → r.jobs ≡ with_entry q.jobs n None → IsIdle r
 idle_again p q r n bytes idle e f = λ k. ap (λ (j : Jobs). j k) f ∙ ap (λ (q : Publishing). with_entry q.jobs n None k) e ∙ none k (cases_eq k n) where
   none : (k : ℕ) → (k ≡ n) ⊎ (k ≢ n) → with_entry (with_entry p.jobs n (Some bytes)) n None k ≡ None
   none k (inl same) = grind (arith, nat_tests)
   none k (inr other) = let i : p.jobs k ≡ None = idle k in grind (arith, nat_tests)
 
 -- a job is under way once it has begun
-pub under_way : (p q : Publishing) (n : ℕ) (bytes : Option (List ℕ)) → q ≡ begun p n bytes → q.jobs n ≡ Some bytes
+pub under_way : (p q : Publishing) (n : ℕ) (bytes : Option (List ℕ)) → q ≡ with_job p n bytes → q.jobs n ≡ Some bytes
 under_way p q n bytes e = ap (λ (q : Publishing). q.jobs n) e ∙ here where
   here : with_entry p.jobs n (Some bytes) n ≡ Some bytes
   here = grind (arith, nat_tests)
 
--- the directory behind the job that was begun
-pub directory_behind : (p q r : Publishing) (n : ℕ) (bytes : Option (List ℕ)) (entry : Option Stored) → q ≡ begun p n bytes → r ≡ ended q n entry → r.directory ≡ with_entry p.directory n entry
+-- the directory after the job that was begun
+pub directory_behind : (p q r : Publishing) (n : ℕ) (bytes : Option (List ℕ)) (entry : Option Stored) → q ≡ with_job p n bytes
+    → r ≡ without_job q n entry → r.directory ≡ with_entry p.directory n entry
 directory_behind p q r n bytes entry e f = ap (λ (r : Publishing). r.directory) f ∙ ap (λ (q : Publishing). with_entry q.directory n entry) e
 
 pub at_none : {T : Type 0} (o : Option T) (A : Type 0) (B : T → Type 0) → o ≡ None → MatchOption o A B → A
@@ -334,7 +349,7 @@ build_seen text store = record { text = text; store = store }
 -- what one file more leads to
 abbrev pub Advances : Text → Stage → Stage → BuildSeen → BuildSeen → Type 0
 Advances text before after old new =
-    (now : List StoreAnswer) × (told : List ℕ) × (new.text ≡ old.text ++ told) × Stores text before now told after
+    (now : List StoreAnswer) × (run_output : List ℕ) × (new.text ≡ old.text ++ run_output) × Stores text before now run_output after
     × Follows old.store new.store now before.directory after.directory
 
 pub next_none : (text : Text) (p q : Slots) (s : StoreSeen) (from : ℕ) (old : List ℕ) → from < 2 ^ 32 → IsIdle (maps_of p) → HasNone (maps_of p) (files_of text) from → q ≡ p
@@ -344,32 +359,34 @@ next_none text p q s from old small idle none e =
     ([], [], sym (append-nil old), stores_none text (maps_of p) (files_of text) from refl small idle none, follows_none s (maps_of p).directory)
 
 pub next_done : (text : Text) (p q r : Slots) (s t : StoreSeen) (from m : ℕ) (bytes : Option (List ℕ)) (next : Option ℕ) (old new : List ℕ) (done : Bool) → done ≡ true → m < 2 ^ 32
-    → IsIdle (maps_of p) → IsNext (maps_of p) (files_of text) from m → bytes ≡ file_at (files_of text) m → IsBehind m next → maps_of q ≡ begun (maps_of p) m bytes
-    → maps_of r ≡ ended (maps_of q) m (entry_behind (answer_of done) bytes) → new ≡ old ++ answer_line (answer_of done) m bytes → Follows s t (answer_of done ∷ []) (maps_of q).directory (maps_of r).directory
+    → IsIdle (maps_of p) → IsNext (maps_of p) (files_of text) from m → bytes ≡ file_at (files_of text) m → IsBehind m next → maps_of q ≡ with_job (maps_of p) m bytes
+    → maps_of r ≡ without_job (maps_of q) m (entry_behind (answer_of done) bytes)
+    → new ≡ old ++ answer_line (answer_of done) m bytes → Follows s t (answer_of done ∷ []) (maps_of q).directory (maps_of r).directory
     → Advances text (stage (maps_of p).directory (Some from)) (stage (maps_of r).directory next) (build_seen old s) (build_seen new t)
-next_done text p q r s t from m bytes next old new done is small idle least file behind taken over told follows =
+next_done text p q r s t from m bytes next old new done is small idle least file behind taken over run_output follows =
     let before : (maps_of q).directory ≡ (maps_of p).directory = ap (λ (x : Publishing). x.directory) taken in
-    let over : maps_of r ≡ ended (maps_of q) m (stored_as bytes) = subst (λ b. maps_of r ≡ ended (maps_of q) m (entry_behind (answer_of b) bytes)) is over in
+    let over : maps_of r ≡ without_job (maps_of q) m (stored_as bytes) = subst (λ b. maps_of r ≡ without_job (maps_of q) m (entry_behind (answer_of b) bytes)) is over in
     let after : (maps_of r).directory ≡ with_entry (maps_of p).directory m (stored_as bytes) = directory_behind (maps_of p) (maps_of q) (maps_of r) m bytes (stored_as bytes) taken over in (
       Done ∷ [],
       stored_line m bytes,
-      subst (λ b. new ≡ old ++ answer_line (answer_of b) m bytes) is told,
+      subst (λ b. new ≡ old ++ answer_line (answer_of b) m bytes) is run_output,
       subst (λ (d : Directory). Stores text (stage (maps_of p).directory (Some from)) (Done ∷ []) (stored_line m bytes) (stage d next)) (sym after)
           (stores_done text (maps_of p) (files_of text) from m bytes next refl small idle least file behind),
       subst (λ (d : Directory). Follows s t (Done ∷ []) d (maps_of r).directory) before (subst (λ b. Follows s t (answer_of b ∷ []) (maps_of q).directory (maps_of r).directory) is follows),
     )
 
 pub next_fault : (text : Text) (p q r : Slots) (s t : StoreSeen) (from m : ℕ) (bytes : Option (List ℕ)) (old new : List ℕ) (done : Bool) → done ≡ false → m < 2 ^ 32
-    → IsIdle (maps_of p) → IsNext (maps_of p) (files_of text) from m → maps_of q ≡ begun (maps_of p) m bytes
-    → maps_of r ≡ ended (maps_of q) m (entry_behind (answer_of done) bytes) → new ≡ old ++ answer_line (answer_of done) m bytes → Follows s t (answer_of done ∷ []) (maps_of q).directory (maps_of r).directory
+    → IsIdle (maps_of p) → IsNext (maps_of p) (files_of text) from m → maps_of q ≡ with_job (maps_of p) m bytes
+    → maps_of r ≡ without_job (maps_of q) m (entry_behind (answer_of done) bytes)
+    → new ≡ old ++ answer_line (answer_of done) m bytes → Follows s t (answer_of done ∷ []) (maps_of q).directory (maps_of r).directory
     → Advances text (stage (maps_of p).directory (Some from)) (stage (maps_of r).directory None) (build_seen old s) (build_seen new t)
-next_fault text p q r s t from m bytes old new done is small idle least taken over told follows =
+next_fault text p q r s t from m bytes old new done is small idle least taken over run_output follows =
     let before : (maps_of q).directory ≡ (maps_of p).directory = ap (λ (x : Publishing). x.directory) taken in
-    let over : maps_of r ≡ ended (maps_of q) m (Some Unknown) = subst (λ b. maps_of r ≡ ended (maps_of q) m (entry_behind (answer_of b) bytes)) is over in
+    let over : maps_of r ≡ without_job (maps_of q) m (Some Unknown) = subst (λ b. maps_of r ≡ without_job (maps_of q) m (entry_behind (answer_of b) bytes)) is over in
     let after : (maps_of r).directory ≡ with_entry (maps_of p).directory m (Some Unknown) = directory_behind (maps_of p) (maps_of q) (maps_of r) m bytes (Some Unknown) taken over in (
       Fault ∷ [],
       failed_line m,
-      subst (λ b. new ≡ old ++ answer_line (answer_of b) m bytes) is told,
+      subst (λ b. new ≡ old ++ answer_line (answer_of b) m bytes) is run_output,
       subst (λ (d : Directory). Stores text (stage (maps_of p).directory (Some from)) (Fault ∷ []) (failed_line m) (stage d None)) (sym after)
           (stores_fault text (maps_of p) (files_of text) from m refl small idle least),
       subst (λ (d : Directory). Follows s t (Fault ∷ []) d (maps_of r).directory) before (subst (λ b. Follows s t (answer_of b ∷ []) (maps_of q).directory (maps_of r).directory) is follows),
@@ -389,20 +406,22 @@ pub so_far_more : (text : Text) (first : Directory) (p r : Publishing) (old new 
 so_far_more text first p r old new start s t at from next is h step =
     let stores : Stores text (stage first (Some 0)) h.0 old (stage p.directory (Some from)) = subst (λ o. Stores text (stage first (Some 0)) h.0 old (stage p.directory o)) is h.1 in (
       h.0 ++ step.0,
-      subst (λ (x : List ℕ). Stores text (stage first (Some 0)) (h.0 ++ step.0) x (stage r.directory next)) (sym step.2) (stores_both text first p.directory r.directory (Some 0) (Some from) next h.0 step.0 old step.1 stores step.3),
+      subst (λ (x : List ℕ). Stores text (stage first (Some 0)) (h.0 ++ step.0) x (stage r.directory next)) (sym step.2)
+          (stores_both text first p.directory r.directory (Some 0) (Some from) next h.0 step.0 old step.1 stores step.3),
       follows_both start s t h.0 step.0 first p.directory r.directory h.2 step.4,
     )
 
-pub so_far_all : (text : Text) (first after : Directory) (told answer : List ℕ) (start s : StoreSeen) (at : Option ℕ) → at ≡ None → answer ≡ told ++ end_line
-    → StoresSoFar text first start (stage after at) (build_seen told s) → (now : List StoreAnswer) × Builds text first now answer after × Follows start s now first after
-so_far_all text first after told answer start s at is e h = (
+pub so_far_all : (text : Text) (first after : Directory) (run_output answer : List ℕ) (start s : StoreSeen) (at : Option ℕ) → at ≡ None → answer ≡ run_output ++ end_line
+    → StoresSoFar text first start (stage after at) (build_seen run_output s) → (now : List StoreAnswer) × Builds text first now answer after × Follows start s now first after
+so_far_all text first after run_output answer start s at is e h = (
   h.0,
-  subst (λ (x : List ℕ). Builds text first h.0 x after) (sym e) (builds_all text first after h.0 told (subst (λ o. Stores text (stage first (Some 0)) h.0 told (stage after o)) is h.1)),
+  subst (λ (x : List ℕ). Builds text first h.0 x after) (sym e) (builds_all text first after h.0 run_output (subst (λ o. Stores text (stage first (Some 0)) h.0 run_output (stage after o)) is h.1)),
   h.2,
 )
 
 -- a build that stops
-pub so_far_stops : (text : Text) (first d : Directory) (told : List ℕ) (start s t : StoreSeen) (at : Option ℕ) → StoresSoFar text first start (stage d at) (build_seen told s) → StopsBy d (storing_at Stopped text (stage d at)) s t
+pub so_far_stops : (text : Text) (first d : Directory) (run_output : List ℕ) (start s t : StoreSeen) (at : Option ℕ)
+    → StoresSoFar text first start (stage d at) (build_seen run_output s) → StopsBy d (build_outcome_at Stopped text (stage d at)) s t
     → BuildStops text first start t
 unfolding pending_from pending_numbers
-so_far_stops text first d told start s t at h stops = (stops_behind text first d (Some 0) at h.0 stops.0 told start s t h.1 h.2 (stops, refl)).0
+so_far_stops text first d run_output start s t at h stops = (stops_behind text first d (Some 0) at h.0 stops.0 run_output start s t h.1 h.2 (stops, refl)).0

@@ -1,5 +1,7 @@
 -- Laws of requests and of their answers.
-use Rattle.std.proofs.Common.{◌≡◌, ℕ, ◌+◌, ◌-◌, ◌<◌, ◌≤◌, Bool, true, false, cond, leb, List, [], ◌∷◌, ◌++◌, length, take, map, Option, Some, None, Result, Ok, Err, ◌⊎◌, inl, inr, refl, sym, ap, ◌∙◌, subst, arith, append_assoc, append-nil, ◌≢◌, if◌then◌else◌, add-one, length-append}
+use Rattle.std.proofs.Common.{◌≡◌, ℕ, ◌+◌, ◌-◌, ◌<◌, ◌≤◌, Bool, true, false, cond, leb, List, [], ◌∷◌, ◌++◌, length, take, map}
+use Rattle.std.proofs.Common.{Option, Some, None, Result, Ok, Err, ◌⊎◌, inl, inr, refl, sym, ap, ◌∙◌, subst, arith, append_assoc}
+use Rattle.std.proofs.Common.{append-nil, ◌≢◌, if◌then◌else◌, add-one, length-append}
 use Rattle.std.proofs.lemmas.List.{take_all, take-append-le, map-append}
 use Rattle.std.specs.Global.{Vec}
 use Rattle.std.specs.Prelude.{IfOk, IsErr, OnOk, is_ok, option_and_then}
@@ -10,34 +12,36 @@ use Rattle.std.specs.Result.{result_unwrap_or}
 use Rattle.abc_lines.specs.Text.{Text, Splice, text_of}
 use Rattle.abc_lines.specs.Edits.{insertion, replacement, deletion, edited, Refuses}
 use Rattle.abc2midi_live.specs.Book.{files_of, faults_of, titles_of}
-use Rattle.abc_tunebook.specs.Files.{file_at, written, removed}
+use Rattle.abc_tune_compiler.specs.Files.{file_at, written_numbers, removed_numbers}
 use Rattle.abc2midi_live.specs.Answer.{report_line, refusal}
 use Rattle.abc2midi_live.specs.Command.{line_count, command_of}
 use Rattle.abc_publish.specs.Publisher.{Directory}
 use Rattle.abc2midi_live.specs.Building.{Builds, BuildStops, StopsBy}
 use Rattle.abc2midi_live.specs.Storing.{StoreAnswer, StoreSeen}
-use Rattle.abc2midi_live.specs.Told.{Answered, Extent, Whole, Stopped, Holding, Told, answered_by, behind, holding, nothing_more, told}
-use Rattle.abc2midi_live.specs.Transcript.{edit_answer, Request, Edits, CutOff, request_of, requests, answered, answers, goes_on}
+use Rattle.abc2midi_live.specs.RunOutput.{RequestOutcome, Extent, Whole, Stopped, DialogueView, RunOutput, request_outcome}
+use Rattle.abc2midi_live.specs.RunOutput.{with_text_before, dialogue_view, nothing_more, run_output}
+use Rattle.abc2midi_live.specs.Transcript.{edit_answer, Request, Edits, CutOff, request_of, requests, outcome_of, answers, goes_on}
 use Rattle.abc2midi_live.specs.Answer.{fault_list, title_list, hex_line, unknown_line, truncated_line}
 use Rattle.abc2midi_live.specs.declared.command.Command.{Command}
 use Rattle.abc2midi_live.specs.declared.command.Command.TheVariants.{Faults, Titles, Hex, Build, Quit, Unknown}
 use Rattle.abc2midi_live.specs.declared.command.Command.TheVariants as commands
 use Rattle.abc2midi_live.specs.Waiting.{request_unasked}
 use Rattle.abc2midi_live.proofs.Storing.{follows_same}
-use Rattle.abc2midi_live.specs.Dialogue.{Begun, awaited, is_taken, AnswersWith, Says, Responds}
-use Rattle.abc2midi_live.specs.Machine.{AsksNothing, CarriesOut, Future, Replies, telling}
-use Rattle.abc_tunebook.specs.declared.fault.Fault.{Fault}
-use Rattle.abc_tunebook.specs.declared.title.Title.{Title}
+use Rattle.abc2midi_live.specs.Dialogue.{BegunCommand, dialogue_future, is_taken, AnswersWith, Says, Responds}
+use Rattle.abc2midi_live.specs.Machine.{AsksNothing, CarriesOut, Future, Replies, future_change}
+use Rattle.abc_tune_compiler.specs.declared.fault.Fault.{Fault}
+use Rattle.abc_tune_compiler.specs.declared.title.Title.{Title}
 use Rattle.abc2midi_live.specs.declared.machine.Reply.{Reply}
 use Rattle.abc2midi_live.specs.declared.machine.Reply.TheVariants.{Nothing, Answer, End}
 use Rattle.abc_lines.specs.declared.edit_error.EditError.{EditError}
 use Rattle.abc_lines.specs.declared.edit_error.EditError.TheVariants.{OutOfMemory}
 
 -- the answer to an accepted edit
-pub answer_accepted : (old new : Text) (change : Result Text EditError) (text writes removes : List ℕ) → change ≡ Ok new → writes ≡ written (files_of old) (files_of new) → removes ≡ removed (files_of old) (files_of new)
+pub answer_accepted : (old new : Text) (change : Result Text EditError) (text writes removes : List ℕ) → change ≡ Ok new
+    → writes ≡ written_numbers (files_of old) (files_of new) → removes ≡ removed_numbers (files_of old) (files_of new)
     → text ≡ report_line writes removes → text ≡ edit_answer old change
 unfolding edit_answer
-answer_accepted old new change text writes removes e w r h = h ∙ ap (λ x. report_line x removes) w ∙ ap (report_line (written (files_of old) (files_of new))) r ∙ sym (ap (edit_answer old) e)
+answer_accepted old new change text writes removes e w r h = h ∙ ap (λ x. report_line x removes) w ∙ ap (report_line (written_numbers (files_of old) (files_of new))) r ∙ sym (ap (edit_answer old) e)
 
 -- the answer to a refused one
 pub answer_refused : (old : Text) (change : Result Text EditError) (error : EditError) (text : List ℕ) → change ≡ Err error → text ≡ refusal error → text ≡ edit_answer old change
@@ -59,24 +63,27 @@ refusal_answer (Ok text) old change error refused is other = answer_refused old 
 refusal_answer (Err e) old change error refused is other = tt
 
 -- a request as answered, for answers of the store, where the run goes on
-abbrev pub Carried : Holding → Holding → Request → List StoreAnswer → List ℕ → Type 0
+abbrev pub Carried : DialogueView → DialogueView → Request → List StoreAnswer → List ℕ → Type 0
 Carried old new request now text = AnswersWith old request now text new × (goes_on request ≡ true)
 
 edited_answer : (old new : Text) (d : Directory) (splice : Option Splice) (text : List ℕ) → text ≡ edit_answer old (edited old splice) → new ≡ result_unwrap_or (edited old splice) old
-    → Carried (holding old d) (holding new d) (Edits splice) [] text
-unfolding answered
-edited_answer old new d splice text t n =
-    (λ extent later. ap (λ x. Some (answered_by x (holding (result_unwrap_or (edited old splice) old) d) later)) (sym t) ∙ ap (λ x. Some (answered_by text (holding x d) later)) (sym n), refl)
+    → Carried (dialogue_view old d) (dialogue_view new d) (Edits splice) [] text
+unfolding outcome_of
+edited_answer old new d splice text t n = (
+  λ extent later. ap (λ x. Some (request_outcome x (dialogue_view (result_unwrap_or (edited old splice) old) d) later)) (sym t)
+      ∙ ap (λ x. Some (request_outcome text (dialogue_view x d) later)) (sym n),
+  refl,
+)
 
 responds_edit : (old new : Text) (d : Directory) (request : Request) (splice : Option Splice) (text : List ℕ) → request ≡ Edits splice → text ≡ edit_answer old (edited old splice)
-    → new ≡ result_unwrap_or (edited old splice) old → Carried (holding old d) (holding new d) request [] text
-responds_edit old new d request splice text is t n = subst (λ r. Carried (holding old d) (holding new d) r [] text) (sym is) (edited_answer old new d splice text t n)
+    → new ≡ result_unwrap_or (edited old splice) old → Carried (dialogue_view old d) (dialogue_view new d) request [] text
+responds_edit old new d request splice text is t n = subst (λ r. Carried (dialogue_view old d) (dialogue_view new d) r [] text) (sym is) (edited_answer old new d splice text t n)
 
--- the same where the directory behind it is known to be the one before it
+-- the same where the directory after it is known to be the one before it
 pub responds_change : (old new : Text) (d after : Directory) (request : Request) (splice : Option Splice) (text : List ℕ) → request ≡ Edits splice → text ≡ edit_answer old (edited old splice)
-    → new ≡ result_unwrap_or (edited old splice) old → after ≡ d → Carried (holding old d) (holding new after) request [] text
+    → new ≡ result_unwrap_or (edited old splice) old → after ≡ d → Carried (dialogue_view old d) (dialogue_view new after) request [] text
 responds_change old new d after request splice text is t n same =
-    subst (λ e. Carried (holding old d) (holding new e) request [] text) (sym same) (responds_edit old new d request splice text is t n)
+    subst (λ e. Carried (dialogue_view old d) (dialogue_view new e) request [] text) (sym same) (responds_edit old new d request splice text is t n)
 
 not_ok : (r : Result Text EditError) → is_ok r ≡ false → IsErr r
 not_ok (Ok text) e = absurd (true≢false e)
@@ -95,13 +102,15 @@ more_if count n m request e h = ap (λ b. cond b request CutOff) (let b : leb co
 take_whole : (count : ℕ) (lines : Text) → length lines ≡ count → take count lines ≡ lines
 take_whole count lines e = take_all count lines (omega arith)
 
-pub request_of-insert : (command : Command) (at count : ℕ) (lines : Text) → length lines ≡ line_count command → command ≡ commands.Insert at count → request_of command lines ≡ Edits (insertion at lines)
+pub request_of-insert : (command : Command) (at count : ℕ) (lines : Text) → length lines ≡ line_count command
+    → command ≡ commands.Insert at count → request_of command lines ≡ Edits (insertion at lines)
 unfolding request_of
 request_of-insert command at count lines whole is =
     let e : length lines ≡ count = whole ∙ ap line_count is in
     ap (λ c. request_of c lines) is ∙ whole_if count (length lines) (Edits (insertion at (take count lines))) e ∙ ap (λ ls. Edits (insertion at ls)) (take_whole count lines e)
 
-pub request_of-replace : (command : Command) (from to count : ℕ) (lines : Text) → length lines ≡ line_count command → command ≡ commands.Replace from to count → request_of command lines ≡ Edits (replacement from to lines)
+pub request_of-replace : (command : Command) (from to count : ℕ) (lines : Text) → length lines ≡ line_count command
+    → command ≡ commands.Replace from to count → request_of command lines ≡ Edits (replacement from to lines)
 unfolding request_of
 request_of-replace command from to count lines whole is =
     let e : length lines ≡ count = whole ∙ ap line_count is in
@@ -111,40 +120,41 @@ pub request_of-delete : (command : Command) (from to : ℕ) (lines : Text) → c
 unfolding request_of
 request_of-delete command from to lines is = ap (λ c. request_of c lines) is
 
-pub responds_faults : (h : Holding) (command : Command) (lines : Text) (faults : List Fault) (text : List ℕ) → command ≡ Faults → faults ≡ faults_of h.text → text ≡ fault_list faults
+pub responds_faults : (h : DialogueView) (command : Command) (lines : Text) (faults : List Fault) (text : List ℕ) → command ≡ Faults → faults ≡ faults_of h.text → text ≡ fault_list faults
     → Carried h h (request_of command lines) [] text
-unfolding request_of answered
+unfolding request_of outcome_of
 responds_faults h command lines faults text is f t =
-    subst (λ c. Carried h h (request_of c lines) [] text) (sym is) (λ extent later. ap (λ x. Some (answered_by x h later)) (sym (t ∙ ap fault_list f)), refl)
+    subst (λ c. Carried h h (request_of c lines) [] text) (sym is) (λ extent later. ap (λ x. Some (request_outcome x h later)) (sym (t ∙ ap fault_list f)), refl)
 
-pub responds_titles : (h : Holding) (command : Command) (lines : Text) (titles : List Title) (text : List ℕ) → command ≡ Titles → titles ≡ titles_of h.text → text ≡ title_list titles
+pub responds_titles : (h : DialogueView) (command : Command) (lines : Text) (titles : List Title) (text : List ℕ) → command ≡ Titles → titles ≡ titles_of h.text → text ≡ title_list titles
     → Carried h h (request_of command lines) [] text
-unfolding request_of answered
+unfolding request_of outcome_of
 responds_titles h command lines titles text is f t =
-    subst (λ c. Carried h h (request_of c lines) [] text) (sym is) (λ extent later. ap (λ x. Some (answered_by x h later)) (sym (t ∙ ap title_list f)), refl)
+    subst (λ c. Carried h h (request_of c lines) [] text) (sym is) (λ extent later. ap (λ x. Some (request_outcome x h later)) (sym (t ∙ ap title_list f)), refl)
 
-pub responds_hex : (h : Holding) (command : Command) (number : ℕ) (lines : Text) (file : Option (List ℕ)) (text : List ℕ) → command ≡ Hex number → file ≡ file_at (files_of h.text) number → text ≡ hex_line file
+pub responds_hex : (h : DialogueView) (command : Command) (number : ℕ) (lines : Text) (file : Option (List ℕ)) (text : List ℕ)
+    → command ≡ Hex number → file ≡ file_at (files_of h.text) number → text ≡ hex_line file
     → Carried h h (request_of command lines) [] text
-unfolding request_of answered
+unfolding request_of outcome_of
 responds_hex h command number lines file text is f t =
-    subst (λ c. Carried h h (request_of c lines) [] text) (sym is) (λ extent later. ap (λ x. Some (answered_by x h later)) (sym (t ∙ ap hex_line f)), refl)
+    subst (λ c. Carried h h (request_of c lines) [] text) (sym is) (λ extent later. ap (λ x. Some (request_outcome x h later)) (sym (t ∙ ap hex_line f)), refl)
 
 pub responds_build : (text : Text) (before after : Directory) (command : Command) (lines : Text) (now : List StoreAnswer) (answer : List ℕ) → command ≡ Build → Builds text before now answer after
-    → Carried (holding text before) (holding text after) (request_of command lines) now answer
-unfolding request_of answered
+    → Carried (dialogue_view text before) (dialogue_view text after) (request_of command lines) now answer
+unfolding request_of outcome_of
 responds_build text before after command lines now answer is builds =
-    subst (λ c. Carried (holding text before) (holding text after) (request_of c lines) now answer) (sym is) (λ extent later. builds extent later, refl)
+    subst (λ c. Carried (dialogue_view text before) (dialogue_view text after) (request_of c lines) now answer) (sym is) (λ extent later. builds extent later, refl)
 
-pub responds_unknown : (h : Holding) (command : Command) (lines : Text) (text : List ℕ) → command ≡ Unknown → text ≡ unknown_line → Carried h h (request_of command lines) [] text
-unfolding request_of answered
+pub responds_unknown : (h : DialogueView) (command : Command) (lines : Text) (text : List ℕ) → command ≡ Unknown → text ≡ unknown_line → Carried h h (request_of command lines) [] text
+unfolding request_of outcome_of
 responds_unknown h command lines text is t =
-    subst (λ c. Carried h h (request_of c lines) [] text) (sym is) (λ extent later. ap (λ x. Some (answered_by x h later)) (sym t), refl)
+    subst (λ c. Carried h h (request_of c lines) [] text) (sym is) (λ extent later. ap (λ x. Some (request_outcome x h later)) (sym t), refl)
 
-pub responds_quit : (h : Holding) (command : Command) (lines : Text) → command ≡ Quit → AnswersWith h (request_of command lines) [] [] h × (goes_on (request_of command lines) ≡ false)
-unfolding request_of answered
+pub responds_quit : (h : DialogueView) (command : Command) (lines : Text) → command ≡ Quit → AnswersWith h (request_of command lines) [] [] h × (goes_on (request_of command lines) ≡ false)
+unfolding request_of outcome_of
 responds_quit h command lines is = subst (λ c. AnswersWith h (request_of c lines) [] [] h × (goes_on (request_of c lines) ≡ false)) (sym is) (λ extent later. refl, refl)
 
--- lines behind those of a command are none of its own
+-- lines after those of a command are none of its own
 pub request_of-append : (command : Command) (lines more : Text) → length lines ≡ line_count command → request_of command (lines ++ more) ≡ request_of command lines
 unfolding request_of
 request_of-append (commands.Insert at count) lines more whole =
@@ -165,42 +175,43 @@ request_of-append Build lines more whole = refl
 request_of-append Quit lines more whole = refl
 request_of-append Unknown lines more whole = refl
 
--- what is told behind the answer to a request
-told_on : Extent → Request → List Request → Answered → Option Told
-told_on extent request rest a = behind a.text (if goes_on request then answers extent a.after rest a.left else nothing_more a.after.directory a.left)
+-- what is written after the answer to a request
+told_on : Extent → Request → List Request → RequestOutcome → Option RunOutput
+told_on extent request rest a = with_text_before a.text (if goes_on request then answers extent a.after rest a.left else nothing_more a.after.directory a.left)
 
-awaited_whole : (old : Holding) (command : Command) (lines more : Text) (extent : Extent) (stored : List StoreAnswer) → length lines ≡ line_count command
-    → awaited old (Some (record { command = command; lines = lines })) extent more stored
-    ≡ option_and_then (told_on extent (request_of command lines) (requests 0 more)) (answered extent old (request_of command lines) stored)
-unfolding awaited answers told_on
+awaited_whole : (old : DialogueView) (command : Command) (lines more : Text) (extent : Extent) (stored : List StoreAnswer) → length lines ≡ line_count command
+    → dialogue_future old (Some (record { command = command; lines = lines })) extent more stored
+    ≡ option_and_then (told_on extent (request_of command lines) (requests 0 more)) (outcome_of extent old (request_of command lines) stored)
+unfolding dialogue_future answers told_on
 awaited_whole old command lines more extent stored whole =
     let none : line_count command - length lines ≡ 0 = omega arith in
     ap (λ k. answers extent old (request_of command (lines ++ more) ∷ requests k more) stored) none
     ∙ ap (λ r. answers extent old (r ∷ requests 0 more) stored) (request_of-append command lines more whole)
 
-pub behind_nothing : (rest : Option Told) → behind [] rest ≡ rest
+pub behind_nothing : (rest : Option RunOutput) → with_text_before [] rest ≡ rest
 behind_nothing None = refl
 behind_nothing (Some t) = refl
 
 -- a command with all its lines is carried out
-pub says_whole : (old new : Holding) (command : Command) (lines : Text) (now : List StoreAnswer) (reply : Reply) → length lines ≡ line_count command → Responds old new (request_of command lines) now reply
-    → Says (telling (awaited old (Some (record { command = command; lines = lines }))) (awaited new None) new.directory) now reply
-unfolding awaited told_on
+pub says_whole : (old new : DialogueView) (command : Command) (lines : Text) (now : List StoreAnswer) (reply : Reply)
+    → length lines ≡ line_count command → Responds old new (request_of command lines) now reply
+    → Says (future_change (dialogue_future old (Some (record { command = command; lines = lines }))) (dialogue_future new None) new.directory) now reply
+unfolding dialogue_future told_on
 says_whole old new command lines now Nothing whole h = absurd h
 says_whole old new command lines now (Answer text) whole h =
     λ extent more later. awaited_whole old command lines more extent (now ++ later) whole
     ∙ ap (option_and_then (told_on extent (request_of command lines) (requests 0 more))) (h.0 extent later)
-    ∙ ap (λ b. behind text.items (cond b (answers extent new (requests 0 more) later) (nothing_more new.directory later))) h.1
+    ∙ ap (λ b. with_text_before text.items (cond b (answers extent new (requests 0 more) later) (nothing_more new.directory later))) h.1
 says_whole old new command lines now End whole h =
     λ extent more later. awaited_whole old command lines more extent (now ++ later) whole
     ∙ ap (option_and_then (told_on extent (request_of command lines) (requests 0 more))) (h.0 extent later)
-    ∙ ap (λ b. behind [] (cond b (answers extent new (requests 0 more) later) (nothing_more new.directory later))) h.1
+    ∙ ap (λ b. with_text_before [] (cond b (answers extent new (requests 0 more) later) (nothing_more new.directory later))) h.1
     ∙ behind_nothing (nothing_more new.directory later)
 
 -- a line that is a command begins it
-pub awaited_command : (h : Holding) (line : List ℕ) (command : Command) (extent : Extent) (more : Text) (stored : List StoreAnswer) → command ≡ command_of line
-    → awaited h None extent (line ∷ more) stored ≡ awaited h (Some (record { command = command; lines = [] })) extent more stored
-unfolding awaited requests
+pub awaited_command : (h : DialogueView) (line : List ℕ) (command : Command) (extent : Extent) (more : Text) (stored : List StoreAnswer) → command ≡ command_of line
+    → dialogue_future h None extent (line ∷ more) stored ≡ dialogue_future h (Some (record { command = command; lines = [] })) extent more stored
+unfolding dialogue_future requests
 awaited_command h line command extent more stored is =
     let same : line_count command - 0 ≡ line_count command = omega arith in
     ap (λ c. answers extent h (request_of c more ∷ requests (line_count c) more) stored) (sym is)
@@ -211,9 +222,10 @@ unfolding requests
 skip_one k line more = rw add-one refl
 
 -- a line that belongs to a command is one more of its lines
-pub awaited_line : (h : Holding) (command : Command) (lines : Text) (line : List ℕ) (extent : Extent) (more : Text) (stored : List StoreAnswer) → length lines < line_count command
-    → awaited h (Some (record { command = command; lines = lines })) extent (line ∷ more) stored ≡ awaited h (Some (record { command = command; lines = lines ++ line ∷ [] })) extent more stored
-unfolding awaited
+pub awaited_line : (h : DialogueView) (command : Command) (lines : Text) (line : List ℕ) (extent : Extent) (more : Text) (stored : List StoreAnswer) → length lines < line_count command
+    → dialogue_future h (Some (record { command = command; lines = lines })) extent (line ∷ more) stored
+    ≡ dialogue_future h (Some (record { command = command; lines = lines ++ line ∷ [] })) extent more stored
+unfolding dialogue_future
 awaited_line h command lines line extent more stored few =
     let left = line_count command - length (lines ++ line ∷ []) in
     let count : line_count command - length lines ≡ left + 1 = omega (arith, length-append lines (line ∷ [])) in
@@ -223,21 +235,21 @@ awaited_line h command lines line extent more stored few =
 
 -- the reply to a line
 pub replies : (before mid after : Future (List ℕ)) (directory : Directory) (line : List ℕ) (now : List StoreAnswer) (reply : Reply)
-    → ((extent : Extent) (more : List (List ℕ)) (stored : List StoreAnswer) → before extent (line ∷ more) stored ≡ mid extent more stored) → Says (telling mid after directory) now reply
-    → Replies (telling before after directory) line now reply
+    → ((extent : Extent) (more : List (List ℕ)) (stored : List StoreAnswer) → before extent (line ∷ more) stored ≡ mid extent more stored) → Says (future_change mid after directory) now reply
+    → Replies (future_change before after directory) line now reply
 replies before mid after directory line now Nothing step says = λ extent more later. step extent more (now ++ later) ∙ says extent more later ∙ sym (behind_nothing (after extent more later))
 replies before mid after directory line now (Answer text) step says = λ extent more later. step extent more (now ++ later) ∙ says extent more later
 replies before mid after directory line now End step says = λ extent more later. step extent more (now ++ later) ∙ says extent more later ∙ sym (behind_nothing (nothing_more directory later))
 
 -- the last words, where lines are missing and where not
-pub last_cut : (h : Holding) (begun : Begun) → request_of begun.command begun.lines ≡ CutOff → awaited h (Some begun) Whole [] [] ≡ Some (told truncated_line h.directory)
-unfolding awaited answers answered requests
+pub last_cut : (h : DialogueView) (begun : BegunCommand) → request_of begun.command begun.lines ≡ CutOff → dialogue_future h (Some begun) Whole [] [] ≡ Some (run_output truncated_line h.directory)
+unfolding dialogue_future answers outcome_of requests
 last_cut h begun cut =
     ap (λ ls. answers Whole h (request_of begun.command ls ∷ []) []) (append-nil begun.lines) ∙ ap (λ r. answers Whole h (r ∷ []) []) cut
-    ∙ ap (λ t. Some (told t h.directory)) (append-nil truncated_line)
+    ∙ ap (λ t. Some (run_output t h.directory)) (append-nil truncated_line)
 
-pub last_none : (h : Holding) → awaited h None Whole [] [] ≡ Some (told [] h.directory)
-unfolding awaited answers requests
+pub last_none : (h : DialogueView) → dialogue_future h None Whole [] [] ≡ Some (run_output [] h.directory)
+unfolding dialogue_future answers requests
 last_none h = refl
 
 -- the lines after one more came
@@ -249,38 +261,41 @@ pub few_lines : (command : Command) (lines : Text) → leb (line_count command) 
 few_lines command lines e = grind (arith, nat_tests)
 
 -- a request that stops before the store is called
-pub stops_unasked : (h : Holding) (request : Request) (s : StoreSeen) → StopsBy h.directory (answered Stopped h request) s s
+pub stops_unasked : (h : DialogueView) (request : Request) (s : StoreSeen) → StopsBy h.directory (outcome_of Stopped h request) s s
 stops_unasked h request s = let none = request_unasked h request in ([], none.0, none.1, none.2, follows_same s h.directory none.0.after.directory none.3)
 
 -- a build that stops
-pub stops_build : (h : Holding) (command : Command) (lines : Text) (old new : StoreSeen) → command ≡ Build → BuildStops h.text h.directory old new → StopsBy h.directory (answered Stopped h (request_of command lines)) old new
-unfolding request_of answered
-stops_build h command lines old new is stops = subst (λ c. StopsBy h.directory (answered Stopped h (request_of c lines)) old new) (sym is) stops
+pub stops_build : (h : DialogueView) (command : Command) (lines : Text) (old new : StoreSeen) → command ≡ Build
+    → BuildStops h.text h.directory old new → StopsBy h.directory (outcome_of Stopped h (request_of command lines)) old new
+unfolding request_of outcome_of
+stops_build h command lines old new is stops = subst (λ c. StopsBy h.directory (outcome_of Stopped h (request_of c lines)) old new) (sym is) stops
 
-nothing_behind : (h : Holding) (b : Bool) → cond b (answers Stopped h (requests 0 []) []) (nothing_more h.directory []) ≡ Some (told [] h.directory)
+nothing_behind : (h : DialogueView) (b : Bool) → cond b (answers Stopped h (requests 0 []) []) (nothing_more h.directory []) ≡ Some (run_output [] h.directory)
 unfolding answers requests
 nothing_behind h true = refl
 nothing_behind h false = refl
 
 -- a command with all its lines that stops
-pub stops_whole : (h : Holding) (command : Command) (lines : Text) (old new : StoreSeen) → length lines ≡ line_count command → StopsBy h.directory (answered Stopped h (request_of command lines)) old new
-    → CarriesOut h.directory (awaited h (Some (record { command = command; lines = lines })) Stopped []) old new
+pub stops_whole : (h : DialogueView) (command : Command) (lines : Text) (old new : StoreSeen) → length lines ≡ line_count command
+    → StopsBy h.directory (outcome_of Stopped h (request_of command lines)) old new
+    → CarriesOut h.directory (dialogue_future h (Some (record { command = command; lines = lines })) Stopped []) old new
 unfolding told_on
 stops_whole h command lines old new whole (stored, a, is, left, follows) =
     let request = request_of command lines in (
       stored,
-      told (a.text ++ []) a.after.directory,
+      run_output (a.text ++ []) a.after.directory,
       awaited_whole h command lines [] Stopped stored whole
           ∙ ap (option_and_then (told_on Stopped request (requests 0 []))) is
-          ∙ ap (λ l. behind a.text (cond (goes_on request) (answers Stopped a.after (requests 0 []) l) (nothing_more a.after.directory l))) left
-          ∙ ap (behind a.text) (nothing_behind a.after (goes_on request)),
+          ∙ ap (λ l. with_text_before a.text (cond (goes_on request) (answers Stopped a.after (requests 0 []) l) (nothing_more a.after.directory l))) left
+          ∙ ap (with_text_before a.text) (nothing_behind a.after (goes_on request)),
       follows,
     )
 
 -- where nothing has been asked of a store
-pub carried_none : (d : Directory) (told_to : List StoreAnswer → Option Told) (s : StoreSeen) → AsksNothing d told_to → CarriesOut d told_to s s
+pub carried_none : (d : Directory) (told_to : List StoreAnswer → Option RunOutput) (s : StoreSeen) → AsksNothing d told_to → CarriesOut d told_to s s
 carried_none d told_to s (t, is, same) = ([], t, is, follows_same s d t.directory same)
 
--- what is told in the same words is carried out
-pub carried_as : (d : Directory) (f g : List StoreAnswer → Option Told) (old new : StoreSeen) → ((stored : List StoreAnswer) → f stored ≡ g stored) → CarriesOut d g old new → CarriesOut d f old new
+-- what is written in the same words is carried out
+pub carried_as : (d : Directory) (f g : List StoreAnswer → Option RunOutput) (old new : StoreSeen)
+    → ((stored : List StoreAnswer) → f stored ≡ g stored) → CarriesOut d g old new → CarriesOut d f old new
 carried_as d f g old new same (stored, t, is, follows) = (stored, t, same stored ∙ is, follows)

@@ -1,5 +1,6 @@
 -- Laws of whole runs.
-use Rattle.std.proofs.Common.{◌≡◌, ℕ, true, false, List, [], ◌∷◌, ◌++◌, Option, Some, None, Result, Ok, Err, MatchResult, inl, inr, refl, sym, ap, ◌∙◌, subst}
+use Rattle.std.proofs.Common.{◌≡◌, ℕ, true, false, List, [], ◌∷◌, ◌++◌, Option, Some, None, Result, Ok, Err, MatchResult, inl}
+use Rattle.std.proofs.Common.{inr, refl, sym, ap, ◌∙◌, subst}
 use Rattle.std.specs.Prelude.{IfSome}
 use Rattle.std.specs.Io.KnownBytes.{Appends, Keeps}
 use Rattle.std.specs.Result.{result_unwrap_or}
@@ -7,112 +8,120 @@ use Rattle.std.proofs.KnownBytes.{Appends-nil, Appends-trans, Appends-kept, Cons
 use Rattle.abc_lines.specs.Text.{Text}
 use Rattle.abc_lines.specs.Edits.{edited, insertion}
 use Rattle.abc_publish.specs.Publisher.{Directory}
-use Rattle.abc2midi_live.specs.Transcript.{book_lines, input_lines, requests, answered, answers, edit_answer, no_directory, transcript, transcript_of}
-use Rattle.abc2midi_live.specs.Dialogue.{Begun, awaited, Opens}
-use Rattle.abc2midi_live.specs.Outcome.{Ends, Outlets, outlets, Completes, Ended, InHand, LastInHand, Leaves, LeavesRun, TellsFirst, Unopened, Within, AtTheEnd}
+use Rattle.abc2midi_live.specs.Transcript.{book_lines, input_lines, requests, outcome_of, answers, edit_answer, no_directory}
+use Rattle.abc2midi_live.specs.Transcript.{transcript, transcript_of}
+use Rattle.abc2midi_live.specs.Dialogue.{BegunCommand, dialogue_future, Opens}
+use Rattle.abc2midi_live.specs.Outcome.{RunEnds, Outlets, outlets, Completes, AnswersInput, InHand, LastInHand, Leaves, LeavesRun}
+use Rattle.abc2midi_live.specs.Outcome.{TellsFirst, FailsToOpen, Within, AtTheEnd}
 use Rattle.abc2midi_live.specs.Machine.{CarriesOut}
 use Rattle.abc2midi_live.specs.Storing.{StoreAnswer, StoreSeen, Follows}
-use Rattle.abc2midi_live.specs.Told.{Extent, Whole, SoFar, Stopped, holding, is_whole, Told, told, behind}
+use Rattle.abc2midi_live.specs.RunOutput.{Extent, Whole, SoFar, Stopped, dialogue_view, is_whole, RunOutput, run_output}
+use Rattle.abc2midi_live.specs.RunOutput.{with_text_before}
 use Rattle.abc2midi_live.specs.declared.fault.RunFault.{RunFault}
 use Rattle.abc2midi_live.specs.declared.fault.RunFault.TheVariants.{Read, Write, Memory}
 use Rattle.abc2midi_live.proofs.Storing.{mirrors_first, follows_none}
 use Rattle.abc2midi_live.proofs.Feeding.{none_ends}
-use Rattle.abc2midi_live.proofs.Told.{behind_none}
+use Rattle.abc2midi_live.proofs.RunOutputs.{behind_none}
 
--- before any command, where there is no tune book
-pub opens_none : (session : Text) (directory : Directory) (begun : Option Begun) → session ≡ [] → directory ≡ no_directory → begun ≡ None → Opens None [] (holding session directory) begun
-unfolding awaited
+-- before any command, if there is no tune book
+pub opens_none : (session : Text) (directory : Directory) (begun : Option BegunCommand) → session ≡ [] → directory ≡ no_directory → begun ≡ None → Opens None [] (dialogue_view session directory) begun
+unfolding dialogue_future
 opens_none session directory begun e empty none extent lines stored =
-    let now = awaited (holding session directory) begun extent lines stored in
-    let same : behind [] now ≡ answers extent (holding [] no_directory) (requests 0 lines) stored =
+    let now = dialogue_future (dialogue_view session directory) begun extent lines stored in
+    let same : with_text_before [] now ≡ answers extent (dialogue_view [] no_directory) (requests 0 lines) stored =
     behind_none now
-    ∙ ap (λ g. awaited (holding session directory) g extent lines stored) none
-    ∙ ap (λ t. answers extent (holding t directory) (requests 0 lines) stored) e
-    ∙ ap (λ d. answers extent (holding [] d) (requests 0 lines) stored) empty in
+    ∙ ap (λ g. dialogue_future (dialogue_view session directory) g extent lines stored) none
+    ∙ ap (λ t. answers extent (dialogue_view t directory) (requests 0 lines) stored) e
+    ∙ ap (λ d. answers extent (dialogue_view [] d) (requests 0 lines) stored) empty in
     sym same
 
 -- before any command, where a tune book was taken
-pub opens_some : (bytes text : List ℕ) (first session : Text) (directory : Directory) (begun : Option Begun) → first ≡ [] → text ≡ edit_answer first (edited first (insertion 1 (book_lines bytes)))
-    → session ≡ result_unwrap_or (edited first (insertion 1 (book_lines bytes))) first → directory ≡ no_directory → begun ≡ None → Opens (Some bytes) text (holding session directory) begun
-unfolding awaited answers answered
+pub opens_some : (bytes text : List ℕ) (first session : Text) (directory : Directory) (begun : Option BegunCommand) → first ≡ []
+    → text ≡ edit_answer first (edited first (insertion 1 (book_lines bytes)))
+    → session ≡ result_unwrap_or (edited first (insertion 1 (book_lines bytes))) first → directory ≡ no_directory → begun ≡ None → Opens (Some bytes) text (dialogue_view session directory) begun
+unfolding dialogue_future answers outcome_of
 opens_some bytes text first session directory begun e says now empty none extent lines stored =
     let made : Text → Text = λ t. result_unwrap_or (edited t (insertion 1 (book_lines bytes))) t in
     let said : Text → List ℕ = λ t. edit_answer t (edited t (insertion 1 (book_lines bytes))) in
     sym (
-    ap (λ g. behind text (awaited (holding session directory) g extent lines stored)) none
-    ∙ ap (λ t. behind t (answers extent (holding session directory) (requests 0 lines) stored)) (says ∙ ap said e)
-    ∙ ap (λ t. behind (said []) (answers extent (holding t directory) (requests 0 lines) stored)) (now ∙ ap made e)
-    ∙ ap (λ d. behind (said []) (answers extent (holding (made []) d) (requests 0 lines) stored)) empty
+    ap (λ g. with_text_before text (dialogue_future (dialogue_view session directory) g extent lines stored)) none
+    ∙ ap (λ t. with_text_before t (answers extent (dialogue_view session directory) (requests 0 lines) stored)) (says ∙ ap said e)
+    ∙ ap (λ t. with_text_before (said []) (answers extent (dialogue_view t directory) (requests 0 lines) stored)) (now ∙ ap made e)
+    ∙ ap (λ d. with_text_before (said []) (answers extent (dialogue_view (made []) d) (requests 0 lines) stored)) empty
     )
 
 -- an end of a run
-abbrev at : Option (List ℕ) → Outlets → Ends
+abbrev at : Option (List ℕ) → Outlets → RunEnds
 at input out = record { input = input; out = out }
 
--- what is told for all of an input, behind what was written for the tune book
-module _ (book : Option (List ℕ)) (text : List ℕ) (session : Text) (directory : Directory) (begun : Option Begun) (opens : Opens book text (holding session directory) begun) (empty : directory ≡ no_directory) where
-  whole : (input : List ℕ) (stored : List StoreAnswer) → behind text (awaited (holding session directory) begun Whole (input_lines true input) stored) ≡ transcript book input stored
+-- what is written for all of an input, after what was written for the tune book
+module _ (book : Option (List ℕ)) (text : List ℕ) (session : Text) (directory : Directory) (begun : Option BegunCommand)
+    (opens : Opens book text (dialogue_view session directory) begun) (empty : directory ≡ no_directory) where
+  whole : (input : List ℕ) (stored : List StoreAnswer) → with_text_before text
+      (dialogue_future (dialogue_view session directory) begun Whole (input_lines true input) stored) ≡ transcript book input stored
   unfolding transcript
   whole input stored = sym (opens Whole (input_lines true input) stored)
 
-  so_far : (extent : Extent) (input : List ℕ) (stored : List StoreAnswer) → behind text (awaited (holding session directory) begun extent (input_lines (is_whole extent) input) stored) ≡ transcript_of book extent input stored
+  so_far : (extent : Extent) (input : List ℕ) (stored : List StoreAnswer)
+      → with_text_before text (dialogue_future (dialogue_view session directory) begun extent (input_lines (is_whole extent) input) stored) ≡ transcript_of book extent input stored
   unfolding transcript_of
   so_far extent input stored = sym (opens extent (input_lines (is_whole extent) input) stored)
 
-  told_whole : (stored : List StoreAnswer) (t : Told) (input old mid new : Option (List ℕ)) → Appends old mid text
-      → IfSome input (λ bytes. (awaited (holding session directory) begun Whole (input_lines true bytes) stored ≡ Some t) × Appends mid new t.text)
-      → IfSome input (λ bytes. (transcript book bytes stored ≡ Some (told (text ++ t.text) t.directory)) × Appends old new (text ++ t.text))
+  told_whole : (stored : List StoreAnswer) (t : RunOutput) (input old mid new : Option (List ℕ)) → Appends old mid text
+      → IfSome input (λ bytes. (dialogue_future (dialogue_view session directory) begun Whole (input_lines true bytes) stored ≡ Some t) × Appends mid new t.text)
+      → IfSome input (λ bytes. (transcript book bytes stored ≡ Some (run_output (text ++ t.text) t.directory)) × Appends old new (text ++ t.text))
   told_whole stored t None old mid new wrote h = tt
-  told_whole stored t (Some bytes) old mid new wrote h = (sym (whole bytes stored) ∙ ap (behind text) h.0, Appends-trans old mid new text t.text wrote h.1)
+  told_whole stored t (Some bytes) old mid new wrote h = (sym (whole bytes stored) ∙ ap (with_text_before text) h.0, Appends-trans old mid new text t.text wrote h.1)
 
   -- what the store gave follows from the empty directory
   from_empty : (old new : StoreSeen) (stored : List StoreAnswer) (after : Directory) → Follows old new stored directory after → Follows old new stored no_directory after
   from_empty old new stored after follows = subst (λ d. Follows old new stored d after) empty follows
 
   told_all : (input left : Option (List ℕ)) (old new : Outlets) (mid : Option (List ℕ)) → Appends old.output mid text
-      → Ended directory (λ extent bytes. awaited (holding session directory) begun extent (input_lines (is_whole extent) bytes)) (at input (outlets mid old.store)) (at left new)
+      → AnswersInput directory (λ extent bytes. dialogue_future (dialogue_view session directory) begun extent (input_lines (is_whole extent) bytes)) (at input (outlets mid old.store)) (at left new)
       → Completes (transcript book) (at input old) (at left new)
   told_all input left old new mid wrote (stored, t, follows, h) =
       let tied = from_empty old.store new.store stored t.directory follows in
       record {
         stored = stored;
-        told = told (text ++ t.text) t.directory;
+        run_output = run_output (text ++ t.text) t.directory;
         text = told_whole stored t input old.output mid new.output wrote h;
         failures = tied.failures;
         calls = tied.calls;
         contents = λ none. tied.contents old.store.contents (mirrors_first old.store.contents none);
       }
 
-  -- what is carried out, behind the tune book
-  carried_run : (bytes : List ℕ) (old new : StoreSeen) → CarriesOut directory (awaited (holding session directory) begun SoFar (input_lines false bytes)) old new
+  -- what is carried out, after the tune book
+  carried_run : (bytes : List ℕ) (old new : StoreSeen) → CarriesOut directory (dialogue_future (dialogue_view session directory) begun SoFar (input_lines false bytes)) old new
       → CarriesOut no_directory (transcript_of book SoFar bytes) old new
   carried_run bytes old new (stored, t, is, follows) =
-      (stored, told (text ++ t.text) t.directory, sym (so_far SoFar bytes stored) ∙ ap (behind text) is, from_empty old new stored t.directory follows)
+      (stored, run_output (text ++ t.text) t.directory, sym (so_far SoFar bytes stored) ∙ ap (with_text_before text) is, from_empty old new stored t.directory follows)
 
-  -- what is told first, behind the tune book
+  -- what is written first, after the tune book
   first_run : (front more : List ℕ) (old new : Outlets) (mid : Option (List ℕ)) → Appends old.output mid text
-      → TellsFirst directory (awaited (holding session directory) begun SoFar (input_lines false front)) (awaited (holding session directory) begun Stopped (input_lines false more)) (outlets mid old.store) new
+      → TellsFirst directory (dialogue_future (dialogue_view session directory) begun SoFar (input_lines false front))
+      (dialogue_future (dialogue_view session directory) begun Stopped (input_lines false more)) (outlets mid old.store) new
       → TellsFirst no_directory (transcript_of book SoFar front) (transcript_of book Stopped more) old new
   first_run front more old new mid wrote (stored, t, between, is, wrote', follows, (later, t', is', follows')) = (
     stored,
-    told (text ++ t.text) t.directory,
+    run_output (text ++ t.text) t.directory,
     between,
-    sym (so_far SoFar front stored) ∙ ap (behind text) is,
+    sym (so_far SoFar front stored) ∙ ap (with_text_before text) is,
     Appends-trans old.output mid new.output text t.text wrote wrote',
     from_empty old.store between stored t.directory follows,
-    (later, told (text ++ t'.text) t'.directory, sym (so_far Stopped more (stored ++ later)) ∙ ap (behind text) is', follows'),
+    (later, run_output (text ++ t'.text) t'.directory, sym (so_far Stopped more (stored ++ later)) ∙ ap (with_text_before text) is', follows'),
   )
 
   told_fault : (fault : RunFault) (input left : Option (List ℕ)) (old new : Outlets) (mid : Option (List ℕ)) → Appends old.output mid text
-      → Leaves directory (λ extent bytes. awaited (holding session directory) begun extent (input_lines (is_whole extent) bytes)) (at input (outlets mid old.store)) (at left new) fault
+      → Leaves directory (λ extent bytes. dialogue_future (dialogue_view session directory) begun extent (input_lines (is_whole extent) bytes)) (at input (outlets mid old.store)) (at left new) fault
       → LeavesRun book (transcript_of book) (at input old) (at left new) fault
   told_fault Read input left old new mid wrote (taken, took, (stored, t, is, wrote', follows)) = (
     taken,
     took,
     (
       stored,
-      told (text ++ t.text) t.directory,
-      sym (so_far SoFar taken stored) ∙ ap (behind text) is,
+      run_output (text ++ t.text) t.directory,
+      sym (so_far SoFar taken stored) ∙ ap (with_text_before text) is,
       Appends-trans old.output mid new.output text t.text wrote wrote',
       from_empty old.store new.store stored t.directory follows,
     ),
@@ -124,13 +133,14 @@ module _ (book : Option (List ℕ)) (text : List ℕ) (session : Text) (director
 
   -- what is written, from the answer to the tune book on
   pub told_run : {T : Type 0} (result : Result T RunFault) (input left : Option (List ℕ)) (old new : Outlets) (mid : Option (List ℕ)) → Appends old.output mid text
-      → MatchResult result (λ _. Ended directory (λ extent bytes. awaited (holding session directory) begun extent (input_lines (is_whole extent) bytes)) (at input (outlets mid old.store)) (at left new))
-      (Leaves directory (λ extent bytes. awaited (holding session directory) begun extent (input_lines (is_whole extent) bytes)) (at input (outlets mid old.store)) (at left new))
+      → MatchResult result (λ _. AnswersInput directory (λ extent bytes. dialogue_future (dialogue_view session directory) begun extent
+      (input_lines (is_whole extent) bytes)) (at input (outlets mid old.store)) (at left new))
+      (Leaves directory (λ extent bytes. dialogue_future (dialogue_view session directory) begun extent (input_lines (is_whole extent) bytes)) (at input (outlets mid old.store)) (at left new))
       → MatchResult result (λ _. Completes (transcript book) (at input old) (at left new)) (LeavesRun book (transcript_of book) (at input old) (at left new))
   told_run (Ok x) input left old new mid wrote h = told_all input left old new mid wrote h
   told_run (Err fault) input left old new mid wrote h = told_fault fault input left old new mid wrote h
 
-transcript_of-nil : (extent : Extent) → transcript_of None extent [] [] ≡ Some (told [] no_directory)
+transcript_of-nil : (extent : Extent) → transcript_of None extent [] [] ≡ Some (run_output [] no_directory)
 unfolding transcript_of input_lines requests answers
 transcript_of-nil Whole = refl
 transcript_of-nil SoFar = refl
@@ -140,23 +150,23 @@ transcript_of-nil Stopped = refl
 not_begun : (book input : Option (List ℕ)) (old : Outlets) (new : Option (List ℕ)) → Keeps old.output new → LeavesRun book (transcript_of book) (at input old) (at input (outlets new old.store)) Memory
 not_begun None input old new kept = inl (InHand [] [] [] (Consumes-nil input) none_ends (
   [],
-  told [] no_directory,
+  run_output [] no_directory,
   old.store,
   transcript_of-nil SoFar,
   Appends-kept old.output old.output new [] (Appends-nil old.output) kept,
   follows_none old.store no_directory,
-  ([], told [] no_directory, transcript_of-nil Stopped, follows_none old.store no_directory),
+  ([], run_output [] no_directory, transcript_of-nil Stopped, follows_none old.store no_directory),
 ))
 not_begun (Some bytes) input old new kept = inr (refl, Keeps-refl input, kept, refl)
 
 -- a tune book asks the store for nothing
 book_carried : (book : Option (List ℕ)) (s : StoreSeen) → CarriesOut no_directory (transcript_of book SoFar []) s s
-unfolding transcript_of input_lines requests answers answered
-book_carried None s = ([], told [] no_directory, refl, follows_none s no_directory)
-book_carried (Some bytes) s = ([], told (edit_answer [] (edited [] (insertion 1 (book_lines bytes))) ++ []) no_directory, refl, follows_none s no_directory)
+unfolding transcript_of input_lines requests answers outcome_of
+book_carried None s = ([], run_output [] no_directory, refl, follows_none s no_directory)
+book_carried (Some bytes) s = ([], run_output (edit_answer [] (edited [] (insertion 1 (book_lines bytes))) ++ []) no_directory, refl, follows_none s no_directory)
 
 -- a run that cannot answer the tune book
-pub not_opened : (fault : RunFault) (book input : Option (List ℕ)) (old : Outlets) (new : Option (List ℕ)) → Unopened old.output new fault
+pub not_opened : (fault : RunFault) (book input : Option (List ℕ)) (old : Outlets) (new : Option (List ℕ)) → FailsToOpen old.output new fault
     → LeavesRun book (transcript_of book) (at input old) (at input (outlets new old.store)) fault
 not_opened Read book input old new h = absurd h
 not_opened Write book input old new h = Within [] [] (Consumes-nil input) (book_carried book old.store)

@@ -1,5 +1,6 @@
 -- Laws of a store that is followed.
-use Rattle.std.proofs.Common.{◌≡◌, ◌≢◌, ℕ, ◌+◌, ◌<◌, ◌^◌, true, false, cond, codes, List, [], ◌∷◌, ◌++◌, length, length-append, Option, Some, None, Result, Ok, Err, inl, inr, refl, sym, ap, ◌∙◌, subst, arith}
+use Rattle.std.proofs.Common.{◌≡◌, ◌≢◌, ℕ, ◌+◌, ◌<◌, ◌^◌, true, false, cond, codes, List, [], ◌∷◌, ◌++◌, length, length-append}
+use Rattle.std.proofs.Common.{Option, Some, None, Result, Ok, Err, inl, inr, refl, sym, ap, ◌∙◌, subst, arith}
 use Rattle.std.specs.Prelude.{decimal, OnErr}
 use Rattle.std.specs.Str.{bytes_eq}
 use Rattle.std.specs.Ordering.{eq_by_cmp, nat_cmp}
@@ -17,7 +18,8 @@ use Rattle.abc_publish.specs.Publisher.{Directory, stored_as, with_entry}
 use Rattle.abc_publish.specs.declared.slot.Stored.{Stored}
 use Rattle.abc_publish.specs.declared.slot.Stored.TheVariants.{Unknown}
 use Rattle.abc2midi_live.specs.Streams.{Contents, Puts, TakesOut, KeepsOthers}
-use Rattle.abc2midi_live.specs.Storing.{StoreAnswer, Done, Fault, faults_among, file_name, IsStored, Mirrors, MirrorsWhereTold, HasNoFiles, StoreSeen, Follows}
+use Rattle.abc2midi_live.specs.Storing.{StoreAnswer, Done, Fault, faults_among, file_name, IsStored, Mirrors, MirrorsWhereTold}
+use Rattle.abc2midi_live.specs.Storing.{HasNoFiles, StoreSeen, Follows}
 use Rattle.abc2midi_live.specs.Transcript.{no_directory}
 use Rattle.abc2midi_live.proofs.Counts.{raised_none, raised_twice}
 
@@ -138,7 +140,7 @@ follows_both old mid new a b d e f first second = record {
       ∙ ap (raised old.failures) (sym (faults_among-append a b));
   calls = second.calls ∙ ap (λ c. raised c (length b)) first.calls ∙ raised_twice old.calls (length a) (length b)
       ∙ ap (raised old.calls) (sym (length-append a b));
-  contents = λ at_first m. second.contents at_first (first.contents at_first m);
+  contents = λ empty_dialogue m. second.contents empty_dialogue (first.contents empty_dialogue m);
 }
 
 -- A store without files of numbers mirrors a directory without files.

@@ -1,5 +1,7 @@
--- Laws of command lines: numbers, and words behind one another.
-use Rattle.std.proofs.Common.{◌≡◌, ℕ, ◌<◌, ◌≤◌, Bool, true, false, cond, ◌==◌, List, [], ◌∷◌, length, Option, Some, None, refl, sym, ap, ⊎_elim, ◌∙◌, subst, arith, rules, option_map, ◌++◌, append_assoc, append-nil, length-append}
+-- Laws of command lines: numbers, and words after one another.
+use Rattle.std.proofs.Common.{◌≡◌, ℕ, ◌<◌, ◌≤◌, Bool, true, false, cond, ◌==◌, List, [], ◌∷◌, length, Option, Some, None, refl}
+use Rattle.std.proofs.Common.{sym, ap, ⊎_elim, ◌∙◌, subst, arith, rules, option_map, ◌++◌, append_assoc, append-nil}
+use Rattle.std.proofs.Common.{length-append}
 use Rattle.std.specs.Option.{option_map_or}
 use Rattle.std.specs.Prelude.{codes}
 use Rattle.std.proofs.lemmas.Str.{IsUtf8-from_ascii}
@@ -13,10 +15,12 @@ use Rattle.std.proofs.lemmas.Slice.Eq.{bytes_eq-Decides}
 use Rattle.abc_lines.specs.declared.limits.TheConstants.{LONGEST_LINE}
 use Rattle.abc2midi_live.specs.Cut.{IsCut}
 use Rattle.abc_text.specs.Number.{number_of}
-use Rattle.abc2midi_live.specs.Command.{numbers_of, both, with_numbers, words_of, words_behind, command_named, command_of_words, command_of, IsUseless, insertion, replacement, deletion, hex_dump, without_numbers}
+use Rattle.abc2midi_live.specs.Command.{numbers_of, number_and_rest, with_numbers, words_of, words_behind, command_named}
+use Rattle.abc2midi_live.specs.Command.{command_of_words, command_of, IsUseless, insertion, replacement, deletion, hex_dump}
+use Rattle.abc2midi_live.specs.Command.{without_numbers}
 use Rattle.abc2midi_live.specs.declared.command.Command.TheVariants.{Faults, Titles, Build, Quit, Unknown}
 
--- the words behind a cut
+-- the words after a cut
 pub words_of-cut : (text front : List ℕ) (rest : Option (Bor (List ℕ))) → IsCut 32 text front (option_map (λ r. r.now) rest) → words_of text ≡ front ∷ words_behind rest
 unfolding words_of words_behind
 words_of-cut text front None c = ap words_of c.joined ∙ slice_split_none (λ b. b == 32) front c.clean
@@ -31,18 +35,18 @@ pub command_of-long : (line : List ℕ) → LONGEST_LINE < length line → Unkno
 unfolding command_of
 command_of-long line h = grind (arith, nat_tests)
 
--- the numbers so far, and those that the words behind them spell
+-- the numbers so far, and those that the words after them spell
 pub numbers_behind : List ℕ → List (List ℕ) → Option (List ℕ)
 numbers_behind numbers words = option_map (λ more. numbers ++ more) (numbers_of words)
 
-front : (words : List (List ℕ)) (word : List ℕ) (rest : List (List ℕ)) (n : Option ℕ) → words ≡ word ∷ rest → n ≡ number_of word → numbers_of words ≡ both n (numbers_of rest)
+front : (words : List (List ℕ)) (word : List ℕ) (rest : List (List ℕ)) (n : Option ℕ) → words ≡ word ∷ rest → n ≡ number_of word → numbers_of words ≡ number_and_rest n (numbers_of rest)
 unfolding numbers_of
-front words word rest n e f = ap numbers_of e ∙ ap (λ o. both o (numbers_of rest)) (sym f)
+front words word rest n e f = ap numbers_of e ∙ ap (λ o. number_and_rest o (numbers_of rest)) (sym f)
 
 none_mapped : (numbers : List ℕ) → option_map (λ more. numbers ++ more) None ≡ None
 none_mapped numbers = refl
 
-moved : (numbers : List ℕ) (n : ℕ) (more : Option (List ℕ)) → option_map (λ more. numbers ++ more) (both (Some n) more) ≡ option_map (λ more. (numbers ++ n ∷ []) ++ more) more
+moved : (numbers : List ℕ) (n : ℕ) (more : Option (List ℕ)) → option_map (λ more. numbers ++ more) (number_and_rest (Some n) more) ≡ option_map (λ more. (numbers ++ n ∷ []) ++ more) more
 moved numbers n None = refl
 moved numbers n (Some more) = ap Some (sym (append_assoc numbers (n ∷ []) more))
 
@@ -55,7 +59,8 @@ numbers_behind-first words = go (numbers_of words) where
   go (Some more) = refl
 
 -- a word that spells a number
-pub numbers_behind-more : (numbers : List ℕ) (words : List (List ℕ)) (word : List ℕ) (rest : List (List ℕ)) (n : ℕ) → words ≡ word ∷ rest → Some n ≡ number_of word → numbers_behind (numbers ++ n ∷ []) rest ≡ numbers_behind numbers words
+pub numbers_behind-more : (numbers : List ℕ) (words : List (List ℕ)) (word : List ℕ) (rest : List (List ℕ)) (n : ℕ)
+    → words ≡ word ∷ rest → Some n ≡ number_of word → numbers_behind (numbers ++ n ∷ []) rest ≡ numbers_behind numbers words
 unfolding numbers_behind
 numbers_behind-more numbers words word rest n e f = sym (ap (option_map (λ more. numbers ++ more)) (front words word rest (Some n) e f) ∙ moved numbers n (numbers_of rest))
 
@@ -64,14 +69,16 @@ pub numbers_behind-other : (numbers : List ℕ) (words : List (List ℕ)) (word 
 unfolding numbers_behind
 numbers_behind-other numbers words word rest e f = subst IsUseless (sym (ap (option_map (λ more. numbers ++ more)) (front words word rest None e f))) tt
 
-longer : (numbers : List ℕ) (n : ℕ) (more : Option (List ℕ)) → 3 ≤ length numbers → IsUseless (option_map (λ more. numbers ++ more) (both (Some n) more))
+longer : (numbers : List ℕ) (n : ℕ) (more : Option (List ℕ)) → 3 ≤ length numbers → IsUseless (option_map (λ more. numbers ++ more) (number_and_rest (Some n) more))
 longer numbers n None full = tt
 longer numbers n (Some more) full = let e = length-append numbers (n ∷ more) in omega (arith, e)
 
 -- a fourth number
-pub numbers_behind-full : (numbers : List ℕ) (words : List (List ℕ)) (word : List ℕ) (rest : List (List ℕ)) (n : ℕ) → words ≡ word ∷ rest → Some n ≡ number_of word → 3 ≤ length numbers → IsUseless (numbers_behind numbers words)
+pub numbers_behind-full : (numbers : List ℕ) (words : List (List ℕ)) (word : List ℕ) (rest : List (List ℕ)) (n : ℕ)
+    → words ≡ word ∷ rest → Some n ≡ number_of word → 3 ≤ length numbers → IsUseless (numbers_behind numbers words)
 unfolding numbers_behind
-numbers_behind-full numbers words word rest n e f full = subst IsUseless (sym (ap (option_map (λ more. numbers ++ more)) (front words word rest (Some n) e f))) (longer numbers n (numbers_of rest) full)
+numbers_behind-full numbers words word rest n e f full = subst IsUseless
+    (sym (ap (option_map (λ more. numbers ++ more)) (front words word rest (Some n) e f))) (longer numbers n (numbers_of rest) full)
 
 -- no word is left
 pub numbers_behind-none : (numbers : List ℕ) (words : List (List ℕ)) → words ≡ [] → numbers_behind numbers words ≡ Some numbers
@@ -101,7 +108,8 @@ command_named-other name numbers h =
     ) refl
 
 unused : (b c d e f g h k : Bool) (x y z w : ℕ) (more : List ℕ)
-    → cond b insertion (cond c replacement (cond d deletion (cond e (without_numbers Faults) (cond f (without_numbers Titles) (cond g hex_dump (cond h (without_numbers Build) (cond k (without_numbers Quit) (λ numbers. Unknown)))))))) (x ∷ y ∷ z ∷ w ∷ more) ≡ Unknown
+    → cond b insertion (cond c replacement (cond d deletion (cond e (without_numbers Faults)
+    (cond f (without_numbers Titles) (cond g hex_dump (cond h (without_numbers Build) (cond k (without_numbers Quit) (λ numbers. Unknown)))))))) (x ∷ y ∷ z ∷ w ∷ more) ≡ Unknown
 unfolding insertion replacement deletion hex_dump without_numbers
 unused true c d e f g h k x y z w more = refl
 unused false true d e f g h k x y z w more = refl
@@ -120,7 +128,9 @@ many_named name [] h = absurd (omega arith)
 many_named name (x ∷ []) h = absurd (omega arith)
 many_named name (x ∷ y ∷ []) h = absurd (omega arith)
 many_named name (x ∷ y ∷ z ∷ []) h = absurd (omega arith)
-many_named name (x ∷ y ∷ z ∷ w ∷ more) h = unused (bytes_eq name (codes "insert")) (bytes_eq name (codes "replace")) (bytes_eq name (codes "delete")) (bytes_eq name (codes "faults")) (bytes_eq name (codes "titles")) (bytes_eq name (codes "hex")) (bytes_eq name (codes "build")) (bytes_eq name (codes "quit")) x y z w more
+many_named name (x ∷ y ∷ z ∷ w ∷ more) h = unused (bytes_eq name (codes "insert")) (bytes_eq name (codes "replace"))
+    (bytes_eq name (codes "delete")) (bytes_eq name (codes "faults")) (bytes_eq name (codes "titles")) (bytes_eq name (codes "hex"))
+    (bytes_eq name (codes "build")) (bytes_eq name (codes "quit")) x y z w more
 
 useless_named : (name : List ℕ) (numbers : Option (List ℕ)) → IsUseless numbers → option_map_or (command_named name) numbers Unknown ≡ Unknown
 useless_named name None h = refl
@@ -132,6 +142,7 @@ unfolding command_of_words with_numbers
 command_of_words-useless words name rest e h = sym (ap command_of_words e ∙ useless_named name (numbers_of rest) h)
 
 -- a name and numbers
-pub command_of_words-cut : (words : List (List ℕ)) (name : List ℕ) (rest : List (List ℕ)) (numbers : List ℕ) → words ≡ name ∷ rest → numbers_of rest ≡ Some numbers → command_named name numbers ≡ command_of_words words
+pub command_of_words-cut : (words : List (List ℕ)) (name : List ℕ) (rest : List (List ℕ)) (numbers : List ℕ) → words ≡ name ∷ rest
+    → numbers_of rest ≡ Some numbers → command_named name numbers ≡ command_of_words words
 unfolding command_of_words with_numbers
 command_of_words-cut words name rest numbers e f = sym (ap command_of_words e ∙ ap (λ o. option_map_or (command_named name) o Unknown) f)

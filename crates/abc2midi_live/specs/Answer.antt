@@ -1,25 +1,25 @@
--- What the program answers to a command. Our own.
+-- What the program answers to a command. Not in ABC 2.1.
 use Rattle.std.specs.Prelude.{ℕ, List, ◌∷◌, ◌++◌, codes, decimal, flat_map, Option, Some, None}
 use Rattle.hex.specs.Hex.{encode_upper}
 use Rattle.abc_text.specs.Byte.{space}
 use Rattle.abc_lines.specs.EditError.{name_of}
 use Rattle.abc_fields.specs.Fault as fault_codes
 use Rattle.abc_lines.specs.declared.edit_error.EditError.{EditError}
-use Rattle.abc_tunebook.specs.Files.{Files, written, removed}
-use Rattle.abc_tunebook.specs.declared.fault.Fault.{Fault}
-use Rattle.abc_tunebook.specs.declared.title.Title.{Title}
+use Rattle.abc_tune_compiler.specs.Files.{Files, written_numbers, removed_numbers}
+use Rattle.abc_tune_compiler.specs.declared.fault.Fault.{Fault}
+use Rattle.abc_tune_compiler.specs.declared.title.Title.{Title}
 
 -- numbers, each with a space before it
-unfoldable pub listed : List ℕ → List ℕ
-listed numbers = flat_map (λ n. space ∷ decimal n) numbers
+unfoldable pub number_list : List ℕ → List ℕ
+number_list numbers = flat_map (λ n. space ∷ decimal n) numbers
 
 -- an accepted edit: the numbers whose files it wrote and removed
 unfoldable pub report_line : List ℕ → List ℕ → List ℕ
-report_line written removed = codes "ok written" ++ listed written ++ codes " removed" ++ listed removed ++ codes "\n"
+report_line written removed = codes "ok written" ++ number_list written ++ codes " removed" ++ number_list removed ++ codes "\n"
 
 -- the report of an edit between the files before it and those after it
 abbrev pub report : Files → Files → List ℕ
-report before after = report_line (written before after) (removed before after)
+report before after = report_line (written_numbers before after) (removed_numbers before after)
 
 -- a refused edit
 unfoldable pub refusal : EditError → List ℕ
@@ -27,7 +27,8 @@ refusal error = codes "error " ++ name_of error ++ codes "\n"
 
 -- a fault: its line, its column and its name
 unfoldable pub fault_line : Fault → List ℕ
-fault_line fault = decimal fault.line ++ codes ":" ++ decimal fault.column ++ codes " " ++ fault_codes.name_of fault.code ++ codes "\n"
+fault_line fault = decimal fault.line ++ codes ":" ++ decimal fault.column ++ codes " " ++ fault_codes.name_of fault.code
+    ++ codes "\n"
 
 -- a line for each fault, and the end of the list
 unfoldable pub fault_list : List Fault → List ℕ

@@ -1,11 +1,11 @@
--- What the program shows of a text: its files, its titles and its faults, by the compiler of ABC. Our own.
+-- What the program shows of a text: its files, its titles and its faults, by the compiler of ABC. Not in ABC 2.1.
 use Rattle.std.specs.Prelude.{List}
 use Rattle.abc_lines.specs.Text.{Text}
 use Rattle.abc_tune.specs.Abc.{rules_of_abc, steps_of_abc}
-use Rattle.abc_tunebook.specs.Book.{Book, book_of}
-use Rattle.abc_tunebook.specs.Files.{Files}
-use Rattle.abc_tunebook.specs.declared.fault.Fault.{Fault}
-use Rattle.abc_tunebook.specs.declared.title.Title.{Title}
+use Rattle.abc_tune_compiler.specs.Book.{Book, book_of}
+use Rattle.abc_tune_compiler.specs.Files.{Files}
+use Rattle.abc_tune_compiler.specs.declared.fault.Fault.{Fault}
+use Rattle.abc_tune_compiler.specs.declared.title.Title.{Title}
 
 -- the book of a text
 abbrev pub abc_book : Text → Book

@@ -1,14 +1,16 @@
--- Bringing the directory up to date with the text. Our own.
-use Rattle.std.specs.Prelude.{◌≡◌, ℕ, ◌≤◌, zero, suc, ◌+◌, ◌-◌, ◌^◌, Bool, true, false, List, [], ◌∷◌, ◌++◌, filter, length, Option, Some, None, ◌⊎◌}
+-- Bringing the directory up to date with the text. Not in ABC 2.1.
+use Rattle.std.specs.Prelude.{◌≡◌, ℕ, ◌≤◌, zero, suc, ◌+◌, ◌-◌, ◌^◌, Bool, true, false, List, [], ◌∷◌, ◌++◌, filter, length}
+use Rattle.std.specs.Prelude.{Option, Some, None, ◌⊎◌}
 use Rattle.abc_lines.specs.Text.{Text}
 use Rattle.abc_publish.specs.Publisher.{Directory, Publishing, Slots, is_pending, maps_of, stored_as, with_entry}
 use Rattle.abc_publish.specs.declared.slot.Stored.{Stored}
 use Rattle.abc_publish.specs.declared.slot.Stored.TheVariants.{Unknown}
-use Rattle.abc_tunebook.specs.Files.{Files, file_at}
+use Rattle.abc_tune_compiler.specs.Files.{Files, file_at}
 use Rattle.abc2midi_live.specs.Answer.{end_line, failed_line, stored_line}
 use Rattle.abc2midi_live.specs.Book.{files_of}
 use Rattle.abc2midi_live.specs.Storing.{StoreAnswer, StoreSeen, Follows, Done, Fault}
-use Rattle.abc2midi_live.specs.Told.{Answered, Extent, Stopped, answered_by, holding, line_before, unanswered}
+use Rattle.abc2midi_live.specs.RunOutput.{RequestOutcome, Extent, Stopped, request_outcome, dialogue_view, line_before}
+use Rattle.abc2midi_live.specs.RunOutput.{outcome_if_stopped}
 
 -- so many numbers, rising, the first of which is this one
 unfoldable pub numbers_from : ℕ → ℕ → List ℕ
@@ -21,15 +23,16 @@ pending_numbers directory files = filter (is_pending directory files) (numbers_f
 
 -- The files of numbers are put or removed one after another, up to the first fault of the store. Of a text whose
 -- files are to be stored, what is known of the directory, the numbers, and what the store answers.
-unfoldable pub storing : Extent → Text → Directory → List ℕ → List StoreAnswer → Option Answered
-storing extent text directory [] answers = Some (answered_by end_line (holding text directory) answers)
-storing extent text directory (n ∷ numbers) [] = unanswered extent (holding text directory)
-storing extent text directory (n ∷ numbers) (Done ∷ answers) =
-    line_before (stored_line n (file_at (files_of text) n)) (storing extent text (with_entry directory n (stored_as (file_at (files_of text) n))) numbers answers)
-storing extent text directory (n ∷ numbers) (Fault ∷ answers) =
-    Some (answered_by (failed_line n ++ end_line) (holding text (with_entry directory n (Some Unknown))) answers)
+unfoldable pub build_outcome : Extent → Text → Directory → List ℕ → List StoreAnswer → Option RequestOutcome
+build_outcome extent text directory [] answers = Some (request_outcome end_line (dialogue_view text directory) answers)
+build_outcome extent text directory (n ∷ numbers) [] = outcome_if_stopped extent (dialogue_view text directory)
+build_outcome extent text directory (n ∷ numbers) (Done ∷ answers) =
+    line_before (stored_line n (file_at (files_of text) n))
+    (build_outcome extent text (with_entry directory n (stored_as (file_at (files_of text) n))) numbers answers)
+build_outcome extent text directory (n ∷ numbers) (Fault ∷ answers) =
+    Some (request_outcome (failed_line n ++ end_line) (dialogue_view text (with_entry directory n (Some Unknown))) answers)
 
--- The numbers that are pending from one on, where there is one.
+-- The numbers that are pending from one on, if there is one.
 unfoldable pub pending_from : Directory → Files → Option ℕ → List ℕ
 pending_from directory files None = []
 pending_from directory files (Some first) = filter (is_pending directory files) (numbers_from first (2 ^ 32 - first))
@@ -39,7 +42,7 @@ abbrev pub answer_of : Bool → StoreAnswer
 answer_of true = Done
 answer_of false = Fault
 
--- what is told of a file behind the answer of the store
+-- what is written of a file after the answer of the store
 abbrev pub answer_line : StoreAnswer → ℕ → Option (List ℕ) → List ℕ
 answer_line Done number bytes = stored_line number bytes
 answer_line Fault number bytes = failed_line number
@@ -62,7 +65,7 @@ StoresOneAtMost old new number bytes = (new ≡ old) ⊎ ((answer : StoreAnswer)
 abbrev pub IsIdle : Publishing → Type 0
 IsIdle p = (n : ℕ) → p.jobs n ≡ None
 
--- A stage of a build: what is known of the directory, and the number to go on from, where there is one.
+-- A stage of a build: what is known of the directory, and the number to go on from, if there is one.
 pub record Stage : Type 0 where
   pub directory : Directory
   pub from : Option ℕ
@@ -75,44 +78,51 @@ stage_of publisher from = stage (maps_of publisher).directory from
 
 -- A text is an old one, and then this.
 abbrev pub Extends : List ℕ → List ℕ → List ℕ → Type 0
-Extends old new told = new ≡ old ++ told
+Extends old new run_output = new ≡ old ++ run_output
 
--- what is told of the numbers that are pending at a stage, for what the store answers
-abbrev pub storing_at : Extent → Text → Stage → List StoreAnswer → Option Answered
-storing_at extent text at answers = storing extent text at.directory (pending_from at.directory (files_of text) at.from) answers
+-- what is written of the numbers that are pending at a stage, for what the store answers
+abbrev pub build_outcome_at : Extent → Text → Stage → List StoreAnswer → Option RequestOutcome
+build_outcome_at extent text at answers =
+    build_outcome extent text at.directory (pending_from at.directory (files_of text) at.from) answers
 
--- Whatever the store answers behind these answers: what is told of the numbers pending at one stage is the text, and
--- then what is told of those pending at another.
+-- Whatever the store answers after these answers: what is written of the numbers pending at one stage is the text, and
+-- then what is written of those pending at another.
 abbrev pub Stores : Text → Stage → List StoreAnswer → List ℕ → Stage → Type 0
-Stores text before now told after =
-    (extent : Extent) (later : List StoreAnswer) → storing_at extent text before (now ++ later) ≡ line_before told (storing_at extent text after later)
+Stores text before now run_output after =
+    (extent : Extent) (later : List StoreAnswer) → build_outcome_at extent text before (now ++ later)
+    ≡ line_before run_output (build_outcome_at extent text after later)
 
--- Whatever the store answers behind these answers: bringing the directory up to date tells this text, and leads to
--- this directory.
+-- Whatever the store answers after these answers: bringing the directory up to date tells this text, and leads to this
+-- directory.
 abbrev pub Builds : Text → Directory → List StoreAnswer → List ℕ → Directory → Type 0
-Builds text before now told after =
+Builds text before now run_output after =
     (extent : Extent) (later : List StoreAnswer)
-    → storing extent text before (pending_numbers before (files_of text)) (now ++ later) ≡ Some (answered_by told (holding text after) later)
+    → build_outcome extent text before (pending_numbers before (files_of text)) (now ++ later)
+    ≡ Some (request_outcome run_output (dialogue_view text after) later)
 
 -- What a store answered led from one stage of a build to another, and such a text was told of it.
 abbrev pub StoresBy : Text → Stage → Stage → (List ℕ → Type 0) → StoreSeen → StoreSeen → Type 0
 StoresBy text before after Tells old new =
-    (now : List StoreAnswer) × (told : List ℕ) × Tells told × Stores text before now told after × Follows old new now before.directory after.directory
+    (now : List StoreAnswer) × (run_output : List ℕ) × Tells run_output × Stores text before now run_output after
+    × Follows old new now before.directory after.directory
 
--- Want of memory stops what a request leads to: the store gave these answers, each to what the request asks for, and was
--- called for nothing else.
-abbrev pub StopsBy : Directory → (List StoreAnswer → Option Answered) → StoreSeen → StoreSeen → Type 0
+-- A failed allocation stops what a request leads to: the store gave these answers, each to what the request asks for,
+-- and was called for nothing else.
+abbrev pub StopsBy : Directory → (List StoreAnswer → Option RequestOutcome) → StoreSeen → StoreSeen → Type 0
 StopsBy before answered old new =
-    (stored : List StoreAnswer) × (a : Answered) × (answered stored ≡ Some a) × (a.left ≡ []) × Follows old new stored before a.after.directory
+    (stored : List StoreAnswer) × (a : RequestOutcome) × (answered stored ≡ Some a) × (a.left ≡ [])
+    × Follows old new stored before a.after.directory
 
 -- A build stops: the store was called for the first of the files of the numbers that are pending.
 abbrev pub BuildStops : Text → Directory → StoreSeen → StoreSeen → Type 0
-BuildStops text directory old new = StopsBy directory (storing Stopped text directory (pending_numbers directory (files_of text))) old new
+BuildStops text directory old new =
+    StopsBy directory (build_outcome Stopped text directory (pending_numbers directory (files_of text))) old new
 
 -- A build stops at a stage: the store was called for the first of the files that are pending there, if for any.
 abbrev pub StopsAtOnce : Text → Stage → StoreSeen → StoreSeen → Type 0
-StopsAtOnce text at old new = (stopped : StopsBy at.directory (storing_at Stopped text at) old new) × (length stopped.0 ≤ 1)
+StopsAtOnce text at old new = (stopped : StopsBy at.directory (build_outcome_at Stopped text at) old new) × (length stopped.0 ≤ 1)
 
 -- What a store answered brought the directory up to date, and this was told of it.
 abbrev pub BuildsBy : Text → Directory → Directory → List ℕ → StoreSeen → StoreSeen → Type 0
-BuildsBy text before after told old new = (now : List StoreAnswer) × Builds text before now told after × Follows old new now before after
+BuildsBy text before after run_output old new = (now : List StoreAnswer) × Builds text before now run_output after
+    × Follows old new now before after

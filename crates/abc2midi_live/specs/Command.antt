@@ -1,4 +1,4 @@
--- The commands of the program, one on a line of its input. Our own.
+-- The commands of the program, one on a line of its input. Not in ABC 2.1.
 use Rattle.std.specs.Prelude.{ℕ, ◌<◌, ◌==◌, nat_le, if◌then◌else◌, List, [], ◌∷◌, length, codes, Option, Some, None}
 use Rattle.std.specs.Borrow.{Bor}
 use Rattle.std.specs.List.{slice_split}
@@ -9,18 +9,19 @@ use Rattle.abc_text.specs.LineEnd.{without_return}
 use Rattle.abc_text.specs.Number.{number_of}
 use Rattle.abc_lines.specs.declared.limits.TheConstants.{LONGEST_LINE, MOST_LINES}
 use Rattle.abc2midi_live.specs.declared.command.Command.{Command}
-use Rattle.abc2midi_live.specs.declared.command.Command.TheVariants.{Insert, Replace, Delete, Faults, Titles, Hex, Build, Quit, Unknown}
+use Rattle.abc2midi_live.specs.declared.command.Command.TheVariants.{Insert, Replace, Delete, Faults, Titles, Hex, Build, Quit}
+use Rattle.abc2midi_live.specs.declared.command.Command.TheVariants.{Unknown}
 
--- a number and those after it, where there are such
-abbrev pub both : Option ℕ → Option (List ℕ) → Option (List ℕ)
-both None numbers = None
-both (Some n) None = None
-both (Some n) (Some numbers) = Some (n ∷ numbers)
+-- a number and those after it, if there are such
+abbrev pub number_and_rest : Option ℕ → Option (List ℕ) → Option (List ℕ)
+number_and_rest None numbers = None
+number_and_rest (Some n) None = None
+number_and_rest (Some n) (Some numbers) = Some (n ∷ numbers)
 
 -- the numbers that words spell, if each of them spells one
 unfoldable pub numbers_of : List (List ℕ) → Option (List ℕ)
 numbers_of [] = Some []
-numbers_of (word ∷ words) = both (number_of word) (numbers_of words)
+numbers_of (word ∷ words) = number_and_rest (number_of word) (numbers_of words)
 
 -- no command takes what words spell: a word is no number, or there are more than three
 abbrev pub IsUseless : Option (List ℕ) → Type 0
@@ -28,17 +29,17 @@ IsUseless None = Unit {0}
 IsUseless (Some numbers) = 3 < length numbers
 
 -- A command takes no more lines than a text may have.
-unfoldable pub if_few : ℕ → Command → Command
-if_few count command = if nat_le count MOST_LINES then command else Unknown
+unfoldable pub within_line_limit : ℕ → Command → Command
+within_line_limit count command = if nat_le count MOST_LINES then command else Unknown
 
 -- insert L K
 unfoldable pub insertion : List ℕ → Command
-insertion (at ∷ count ∷ []) = if_few count (Insert at count)
+insertion (at ∷ count ∷ []) = within_line_limit count (Insert at count)
 insertion _ = Unknown
 
 -- replace L M K
 unfoldable pub replacement : List ℕ → Command
-replacement (from ∷ to ∷ count ∷ []) = if_few count (Replace from to count)
+replacement (from ∷ to ∷ count ∷ []) = within_line_limit count (Replace from to count)
 replacement _ = Unknown
 
 -- delete L M
@@ -82,7 +83,7 @@ command_of_words (name ∷ words) = with_numbers words (command_named name)
 unfoldable pub words_of : List ℕ → List (List ℕ)
 words_of line = slice_split (λ b. b == space) line
 
--- the words behind a space, where there is one
+-- the words after a space, if there is one
 unfoldable pub words_behind : Option (Bor (List ℕ)) → List (List ℕ)
 words_behind None = []
 words_behind (Some rest) = words_of rest.now

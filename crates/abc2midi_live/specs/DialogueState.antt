@@ -1,26 +1,28 @@
--- What contracts see of a dialogue, without where it lies in memory. Our own.
+-- What contracts see of a dialogue, without where it lies in memory. Not in ABC 2.1.
 use Rattle.std.specs.Prelude.{ℕ, List, Option, MatchResult, Result}
 use Rattle.std.specs.Io.KnownBytes.{Appends}
 use Rattle.abc_publish.specs.Publisher.{maps_of}
-use Rattle.abc2midi_live.specs.Dialogue.{Begun, Opens, SaysBy, proceeding}
-use Rattle.abc2midi_live.specs.Gathering.{begun_of}
-use Rattle.abc2midi_live.specs.Outcome.{Unopened}
+use Rattle.abc2midi_live.specs.Dialogue.{BegunCommand, Opens, SaysBy, dialogue_change}
+use Rattle.abc2midi_live.specs.PendingCommand.{begun_command}
+use Rattle.abc2midi_live.specs.Outcome.{FailsToOpen}
 use Rattle.abc2midi_live.specs.Storing.{StoreSeen}
-use Rattle.abc2midi_live.specs.Told.{Holding, holding}
+use Rattle.abc2midi_live.specs.RunOutput.{DialogueView, dialogue_view}
 use Rattle.abc2midi_live.specs.declared.dialogue.Dialogue.{Dialogue}
 use Rattle.abc2midi_live.specs.declared.fault.RunFault.{RunFault}
 use Rattle.abc2midi_live.specs.declared.machine.Reply.{Reply}
 
 -- What holds between two commands.
-abbrev pub holding_of : Dialogue → Holding
-holding_of d = holding d.session.text (maps_of d.publisher).directory
+abbrev pub view_of : Dialogue → DialogueView
+view_of d = dialogue_view d.session.text (maps_of d.publisher).directory
 
 -- A dialogue replies to a command that has the first of its lines, for what a store answered.
-abbrev pub ProceedsBy : Dialogue → Dialogue → Begun → Reply → StoreSeen → StoreSeen → Type 0
+abbrev pub ProceedsBy : Dialogue → Dialogue → BegunCommand → Reply → StoreSeen → StoreSeen → Type 0
 ProceedsBy before after begun reply old new =
-    SaysBy (proceeding (holding_of before) begun (holding_of after) (begun_of after.gathering)) (holding_of before).directory reply old new
+    SaysBy (dialogue_change (view_of before) begun (view_of after) (begun_command after.pending))
+    (view_of before).directory reply old new
 
 -- The answer to a tune book is written, if there is one, and a dialogue goes on from there, or what a fault leaves.
 abbrev pub OpensOrFails : Option (List ℕ) → Option (List ℕ) → Option (List ℕ) → Result Dialogue RunFault → Type 0
 OpensOrFails book old new result =
-    MatchResult result (λ d. (text : List ℕ) × Appends old new text × Opens book text (holding_of d) (begun_of d.gathering)) (Unopened old new)
+    MatchResult result (λ d. (text : List ℕ) × Appends old new text × Opens book text (view_of d) (begun_command d.pending))
+    (FailsToOpen old new)

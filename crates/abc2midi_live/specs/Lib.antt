@@ -5,7 +5,7 @@ pub mod Command
 pub mod Cut
 pub mod Dialogue
 pub mod DialogueState
-pub mod Gathering
+pub mod PendingCommand
 pub mod Listener
 pub mod Machine
 pub mod Outcome
@@ -13,7 +13,7 @@ pub mod Piped
 pub mod Refusal
 pub mod Storing
 pub mod Streams
-pub mod Told
+pub mod RunOutput
 pub mod Transcript
 pub mod Waiting
 -- The definitions of the crates below that public clauses cite: a caller needs only this crate.

@@ -1,25 +1,26 @@
--- How a run ends, and what it leaves. Our own.
-use Rattle.std.specs.Prelude.{◌≡◌, ℕ, ◌<◌, ◌≤◌, Bool, true, false, List, [], ◌∷◌, ◌++◌, length, Option, Some, Result, Ok, Err, ⊤, ◌⊎◌, IfSome, IsSome, MatchResult}
+-- How a run ends, and what it leaves. Not in ABC 2.1.
+use Rattle.std.specs.Prelude.{◌≡◌, ℕ, ◌<◌, ◌≤◌, Bool, true, false, List, [], ◌∷◌, ◌++◌, length, Option, Some, Result, Ok, Err, ⊤}
+use Rattle.std.specs.Prelude.{◌⊎◌, IfSome, IsSome, MatchResult}
 use Rattle.std.specs.Io.KnownBytes.{Appends, Consumes, IsAtEnd, Keeps}
 use Rattle.abc_publish.specs.Publisher.{Directory}
 use Rattle.abc_text.specs.Byte.{line_feed}
-use Rattle.abc2midi_live.specs.Machine.{between, Answers, CarriesOut, EndsOneAtMost, Future, Standing, Telling}
+use Rattle.abc2midi_live.specs.Machine.{between, Answers, CarriesOut, EndsOneAtMost, Future, MachineState, FutureChange}
 use Rattle.abc2midi_live.specs.Storing.{Follows, HasNoFiles, MirrorsWhereTold, StoreAnswer, StoreSeen, faults_among}
-use Rattle.abc2midi_live.specs.Told.{Extent, Whole, SoFar, Stopped, Told, is_whole}
+use Rattle.abc2midi_live.specs.RunOutput.{Extent, Whole, SoFar, Stopped, RunOutput, is_whole}
 use Rattle.abc2midi_live.specs.Transcript.{input_lines, no_directory, transcript, transcript_of}
 use Rattle.abc_fold.specs.Work.{raised}
 use Rattle.abc2midi_live.specs.declared.reading.TheConstants.{MOST_READS}
 use Rattle.abc2midi_live.specs.declared.fault.RunFault.{RunFault}
 use Rattle.abc2midi_live.specs.declared.fault.RunFault.TheVariants.{Read, Write, Memory}
 
--- how many faults of the writer a result tells of
+-- how many faults of the writer a result reports
 abbrev pub write_faults : {T : Type 0} → Result T RunFault → ℕ
 write_faults (Ok x) = 0
 write_faults (Err Read) = 0
 write_faults (Err Write) = 1
 write_faults (Err Memory) = 0
 
--- What is seen of a writer and of a store: the bytes written, where they are told, and the store.
+-- What is seen of a writer and of a store: the bytes written, if they are known, and the store.
 pub record Outlets : Type 0 where
   pub output : Option (List ℕ)
   pub store : StoreSeen
@@ -30,173 +31,190 @@ outlets output store = record { output = output; store = store }
 abbrev pub outlets_of : {W S : Type 0} → (W → Option (List ℕ)) → (S → StoreSeen) → W → S → Outlets
 outlets_of contents seen writer store = outlets (contents writer) (seen store)
 
--- What a fault leaves where a tune book is taken: want of memory comes before anything is written of its answer.
-abbrev pub Unopened : Option (List ℕ) → Option (List ℕ) → RunFault → Type 0
-Unopened old new Read = ⊥
-Unopened old new Write = ⊤
-Unopened old new Memory = Keeps old new
+-- What a fault leaves where a tune book is taken: an allocation fails before anything is written of its answer.
+abbrev pub FailsToOpen : Option (List ℕ) → Option (List ℕ) → RunFault → Type 0
+FailsToOpen old new Read = ⊥
+FailsToOpen old new Write = ⊤
+FailsToOpen old new Memory = Keeps old new
 
--- What a fault leaves where a line is served, of what is told to it: where its answer cannot be written, it is carried
--- out; want of memory comes before anything is written of its answer, and the run stops within it. Of what the directory
--- was known to hold before it.
-abbrev pub Unserved : Directory → (Extent → List StoreAnswer → Option Told) → Outlets → Outlets → RunFault → Type 0
-Unserved before answered old new Read = ⊥
-Unserved before answered old new Write = CarriesOut before (answered SoFar) old.store new.store
-Unserved before answered old new Memory = Keeps old.output new.output × CarriesOut before (answered Stopped) old.store new.store
-
--- A piece is served: a text is written and the store gives answers, which are what is told to the piece. Of what the
+-- What a fault leaves where a line is served, of what is answered to it: where its answer cannot be written, it is
+-- carried out; an allocation fails before anything is written of its answer, and the run stops within it. Of what the
 -- directory was known to hold before it.
-abbrev pub Serves : {X : Type 0} → Directory → Telling X → List X → Outlets → Outlets → Bool → Type 0
+abbrev pub FailsToServe : Directory → (Extent → List StoreAnswer → Option RunOutput) → Outlets → Outlets → RunFault → Type 0
+FailsToServe before answered old new Read = ⊥
+FailsToServe before answered old new Write = CarriesOut before (answered SoFar) old.store new.store
+FailsToServe before answered old new Memory = Keeps old.output new.output × CarriesOut before (answered Stopped) old.store new.store
+
+-- A piece is served: a text is written and the store gives answers, which are what is answered to the piece. Of what
+-- the directory was known to hold before it.
+abbrev pub Serves : {X : Type 0} → Directory → FutureChange X → List X → Outlets → Outlets → Bool → Type 0
 Serves before t piece old new goes_on =
     (text : List ℕ) × (stored : List StoreAnswer) × Appends old.output new.output text × Answers t piece stored text goes_on
     × Follows old.store new.store stored before t.directory
 
 -- What comes of a piece that is served, or of the fault that it ends in.
-abbrev pub ServesOrFails : {X : Type 0} → Standing X → Standing X → List X → Outlets → Outlets → Result Bool RunFault → Type 0
+abbrev pub ServesOrFails : {X : Type 0} → MachineState X → MachineState X → List X → Outlets → Outlets → Result Bool RunFault
+    → Type 0
 ServesOrFails before after piece old new result =
     MatchResult result (Serves before.directory (between before after) piece old new)
-    (Unserved before.directory (λ extent. before.future extent piece) old new)
+    (FailsToServe before.directory (λ extent. before.future extent piece) old new)
 
--- What is told for the answers of a store is written, and these are its answers.
-abbrev pub Tells : Directory → (List StoreAnswer → Option Told) → Outlets → Outlets → Type 0
+-- What is written for the answers of a store is written, and these are its answers.
+abbrev pub Tells : Directory → (List StoreAnswer → Option RunOutput) → Outlets → Outlets → Type 0
 Tells before answered old new =
-    (stored : List StoreAnswer) × (told : Told) × (answered stored ≡ Some told) × Appends old.output new.output told.text
-    × Follows old.store new.store stored before told.directory
+    (stored : List StoreAnswer) × (run_output : RunOutput) × (answered stored ≡ Some run_output)
+    × Appends old.output new.output run_output.text
+    × Follows old.store new.store stored before run_output.directory
 
 -- What a fault leaves where the end of the input is served, which ends a line that has begun as a line feed does: where
--- something cannot be written, that line is carried out, where there is one; for want of memory the run stops within it.
-abbrev pub EndUnserved : Directory → Future ℕ → Outlets → Outlets → RunFault → Type 0
-EndUnserved before future old new Read = ⊥
-EndUnserved before future old new Write =
+-- something cannot be written, that line is carried out, if there is one; if an allocation fails, the run stops within
+-- it.
+abbrev pub FailsAtEnd : Directory → Future ℕ → Outlets → Outlets → RunFault → Type 0
+FailsAtEnd before future old new Read = ⊥
+FailsAtEnd before future old new Write =
     CarriesOut before (future SoFar []) old.store new.store ⊎ CarriesOut before (future SoFar (line_feed ∷ [])) old.store new.store
-EndUnserved before future old new Memory = Keeps old.output new.output × CarriesOut before (future Stopped (line_feed ∷ [])) old.store new.store
+FailsAtEnd before future old new Memory = Keeps old.output new.output
+    × CarriesOut before (future Stopped (line_feed ∷ [])) old.store new.store
 
 -- What comes of the end of the input, or of the fault that serving it ends in.
-abbrev pub TellsOrFails : Standing ℕ → Outlets → Outlets → Result Unit RunFault → Type 0
+abbrev pub TellsOrFails : MachineState ℕ → Outlets → Outlets → Result Unit RunFault → Type 0
 TellsOrFails before old new result =
-    MatchResult result (λ _. Tells before.directory (before.future Whole []) old new) (EndUnserved before.directory before.future old new)
+    MatchResult result (λ _. Tells before.directory (before.future Whole []) old new)
+    (FailsAtEnd before.directory before.future old new)
 
--- What is told for answers of a store is written, and these are the answers that it gave first. Those that it gave since
--- are to what the command in hand asks for, within which the run stops: `in_hand` is what is told to that one too, and
--- nothing of it is written.
-abbrev pub TellsFirst : Directory → (List StoreAnswer → Option Told) → (List StoreAnswer → Option Told) → Outlets → Outlets → Type 0
+-- What is written for answers of a store is written, and these are the answers that it gave first. Those that it gave
+-- since are to what the command in hand asks for, within which the run stops: `in_hand` is what is answered to that one
+-- too, and nothing of it is written.
+abbrev pub TellsFirst : Directory → (List StoreAnswer → Option RunOutput) → (List StoreAnswer → Option RunOutput) → Outlets
+    → Outlets → Type 0
 TellsFirst before answered in_hand old new =
-    (stored : List StoreAnswer) × (told : Told) × (between : StoreSeen) × (answered stored ≡ Some told) × Appends old.output new.output told.text
-    × Follows old.store between stored before told.directory × CarriesOut told.directory (λ more. in_hand (stored ++ more)) between new.store
+    (stored : List StoreAnswer) × (run_output : RunOutput) × (between : StoreSeen) × (answered stored ≡ Some run_output)
+    × Appends old.output new.output run_output.text
+    × Follows old.store between stored before run_output.directory
+    × CarriesOut run_output.directory (λ more. in_hand (stored ++ more)) between new.store
 
 -- What a fault leaves where a piece of the input is served: where an answer cannot be written, a front of it is carried
--- out; for want of memory a front of it is answered, and the run stops within the command of the next line.
-abbrev pub BrokenOff : Directory → Future ℕ → List ℕ → Outlets → Outlets → RunFault → Type 0
-BrokenOff before future piece old new Read = ⊥
-BrokenOff before future piece old new Write =
+-- out; if an allocation fails, a front of it is answered, and the run stops within the command of the next line.
+abbrev pub FailsToFeed : Directory → Future ℕ → List ℕ → Outlets → Outlets → RunFault → Type 0
+FailsToFeed before future piece old new Read = ⊥
+FailsToFeed before future piece old new Write =
     (front : List ℕ) × (back : List ℕ) × (piece ≡ front ++ back) × CarriesOut before (future SoFar front) old.store new.store
-BrokenOff before future piece old new Memory =
+FailsToFeed before future piece old new Memory =
     (front : List ℕ) × (next : List ℕ) × (back : List ℕ) × (piece ≡ front ++ (next ++ back)) × EndsOneAtMost next
     × TellsFirst before (future SoFar front) (future Stopped (front ++ next)) old new
 
 -- What comes of a piece of the input that is served, or of the fault within it.
-abbrev pub FeedsOrBreaks : Standing ℕ → Standing ℕ → List ℕ → Outlets → Outlets → Result Bool RunFault → Type 0
+abbrev pub FeedsOrBreaks : MachineState ℕ → MachineState ℕ → List ℕ → Outlets → Outlets → Result Bool RunFault → Type 0
 FeedsOrBreaks before after piece old new result =
-    MatchResult result (Serves before.directory (between before after) piece old new) (BrokenOff before.directory before.future piece old new)
+    MatchResult result (Serves before.directory (between before after) piece old new)
+    (FailsToFeed before.directory before.future piece old new)
 
--- The ends of a run, where they are told: what the reader has to give, what the writer holds, and what is seen of the
+-- The ends of a run, if they are known: what the reader has to give, what the writer holds, and what is seen of the
 -- store.
-pub record Ends : Type 0 where
+pub record RunEnds : Type 0 where
   pub input : Option (List ℕ)
   pub out : Outlets
 
-abbrev pub ends : Option (List ℕ) → Option (List ℕ) → StoreSeen → Ends
-ends input output store = record { input = input; out = outlets output store }
+abbrev pub run_ends : Option (List ℕ) → Option (List ℕ) → StoreSeen → RunEnds
+run_ends input output store = record { input = input; out = outlets output store }
 
-abbrev pub ends_of : {R W S : Type 0} → (R → Option (List ℕ)) → (W → Option (List ℕ)) → (S → StoreSeen) → R → W → S → Ends
-ends_of remaining contents seen reader writer store = ends (remaining reader) (contents writer) (seen store)
+abbrev pub run_ends_of : {R W S : Type 0} → (R → Option (List ℕ)) → (W → Option (List ℕ)) → (S → StoreSeen) → R → W → S → RunEnds
+run_ends_of remaining contents seen reader writer store = run_ends (remaining reader) (contents writer) (seen store)
 
 -- Which commands were carried out where an answer could not be written, the one in hand among them: the store was asked
 -- for what these ask for, and for nothing else. Nothing is said of what was written.
-pub data Unwritten (before : Directory) (answered : List ℕ → List StoreAnswer → Option Told) (old new : Ends) : Type 0 where
-  -- those that stand wholly within a front of what was read
+pub data WriteFailure (before : Directory) (answered : List ℕ → List StoreAnswer → Option RunOutput)
+    (old new : RunEnds) : Type 0 where
+  -- those that are wholly within a front of what was read
   Within :
       (front : List ℕ) → (behind : List ℕ) → Consumes old.input new.input (front ++ behind)
-      → CarriesOut before (answered front) old.out.store new.out.store → Unwritten before answered old new
+      → CarriesOut before (answered front) old.out.store new.out.store → WriteFailure before answered old new
   -- those of the whole input, whose end ends its last line as a line feed does
   AtTheEnd :
       (taken : List ℕ) → Consumes old.input new.input taken → IsAtEnd new.input
-      → CarriesOut before (answered (taken ++ line_feed ∷ [])) old.out.store new.out.store → Unwritten before answered old new
+      → CarriesOut before (answered (taken ++ line_feed ∷ [])) old.out.store new.out.store → WriteFailure before answered old new
 
--- Which commands were answered before the one in hand, for which memory was wanting: for these and for the first of what
--- that one asks for, if for anything, the store was called, and for nothing else.
-pub data Unfinished (before : Directory) (answered : Future ℕ) (old new : Ends) : Type 0 where
+-- Which commands were answered before the one in hand, for which an allocation failed: for these and for the first of
+-- what that one asks for, if for anything, the store was called, and for nothing else.
+pub data MemoryFailure (before : Directory) (answered : Future ℕ) (old new : RunEnds) : Type 0 where
   -- those before one that ends within what was read, or that had not ended yet
   InHand :
       (front next behind : List ℕ) → Consumes old.input new.input (front ++ (next ++ behind)) → EndsOneAtMost next
-      → TellsFirst before (answered SoFar front) (answered Stopped (front ++ next)) old.out new.out → Unfinished before answered old new
+      → TellsFirst before (answered SoFar front) (answered Stopped (front ++ next)) old.out new.out
+      → MemoryFailure before answered old new
   -- those before the last, which the end of the input ends as a line feed does
   LastInHand :
       (taken : List ℕ) → Consumes old.input new.input taken → IsAtEnd new.input
-      → TellsFirst before (answered SoFar taken) (answered Stopped (taken ++ line_feed ∷ [])) old.out new.out → Unfinished before answered old new
+      → TellsFirst before (answered SoFar taken) (answered Stopped (taken ++ line_feed ∷ [])) old.out new.out
+      → MemoryFailure before answered old new
 
--- What a fault leaves of a run, from its ends at first to those at last; `answered` is what is to be told for so much of
--- an input and answers of the store, and `before` what the directory is known to hold at first.
-abbrev pub Leaves : Directory → Future ℕ → Ends → Ends → RunFault → Type 0
+-- What a fault leaves of a run, from its ends at first to those at last; `answered` is what is to be written for so
+-- much of an input and answers of the store, and `before` what the directory is known to hold at first.
+abbrev pub Leaves : Directory → Future ℕ → RunEnds → RunEnds → RunFault → Type 0
 -- the answers to the commands wholly read
-Leaves before answered old new Read = (taken : List ℕ) × Consumes old.input new.input taken × Tells before (answered SoFar taken) old.out new.out
+Leaves before answered old new Read = (taken : List ℕ) × Consumes old.input new.input taken
+    × Tells before (answered SoFar taken) old.out new.out
 -- the store as the commands up to the one in hand leave it
-Leaves before answered old new Write = Unwritten before (answered SoFar) old new
+Leaves before answered old new Write = WriteFailure before (answered SoFar) old new
 -- the answers to the commands before the one in hand, and the store as it was asked for some of what this asks for
-Leaves before answered old new Memory = Unfinished before answered old new
+Leaves before answered old new Memory = MemoryFailure before answered old new
 
 -- What a fault leaves of a run that a tune book came before. The book counts as a command: where its answer cannot be
--- written, no other command is carried out; for want of memory its answer may not come, and then nothing is read or
--- written, and the store is not called.
-abbrev pub LeavesRun : Option (List ℕ) → Future ℕ → Ends → Ends → RunFault → Type 0
+-- written, no other command is carried out; if an allocation fails, its answer may not come, and then nothing is read
+-- or written, and the store is not called.
+abbrev pub LeavesRun : Option (List ℕ) → Future ℕ → RunEnds → RunEnds → RunFault → Type 0
 LeavesRun book answered old new Read = Leaves no_directory answered old new Read
 LeavesRun book answered old new Write = Leaves no_directory answered old new Write
 LeavesRun book answered old new Memory =
     Leaves no_directory answered old new Memory
     ⊎ (IsSome book × Keeps old.input new.input × Keeps old.out.output new.out.output × (new.out.store ≡ old.out.store))
 
--- All of an input is answered, where it is told; what the store gave are answers that a directory follows from, in
--- any case.
-abbrev pub Ended : Directory → Future ℕ → Ends → Ends → Type 0
-Ended before future old new =
-    (stored : List StoreAnswer) × (told : Told) × Follows old.out.store new.out.store stored before told.directory
-    × IfSome old.input (λ bytes. (future Whole bytes stored ≡ Some told) × Appends old.out.output new.out.output told.text)
+-- All of an input is answered, if it is known; what the store gave are answers that a directory follows from, in any
+-- case.
+abbrev pub AnswersInput : Directory → Future ℕ → RunEnds → RunEnds → Type 0
+AnswersInput before future old new =
+    (stored : List StoreAnswer) × (run_output : RunOutput) × Follows old.out.store new.out.store stored before run_output.directory
+    × IfSome old.input (λ bytes. (future Whole bytes stored ≡ Some run_output)
+    × Appends old.out.output new.out.output run_output.text)
 
 -- What one read leads to, from what the directory was known to hold before it: where the run goes on, it took bytes,
 -- and these are answered so far as they can be; else all that there was to read is.
-abbrev pub Turn : Directory → Telling ℕ → Ends → Ends → Bool → Type 0
+abbrev pub Turn : Directory → FutureChange ℕ → RunEnds → RunEnds → Bool → Type 0
 Turn before t old new true =
     (taken : List ℕ) × (0 < length taken) × Consumes old.input new.input taken × Serves before t taken old.out new.out true
-Turn before t old new false = Ended before t.before old new
+Turn before t old new false = AnswersInput before t.before old new
 
 -- What comes of one read, or of the fault that it ends in.
-abbrev pub TurnsOrFails : Standing ℕ → Standing ℕ → Ends → Ends → Result Bool RunFault → Type 0
+abbrev pub TurnsOrFails : MachineState ℕ → MachineState ℕ → RunEnds → RunEnds → Result Bool RunFault → Type 0
 TurnsOrFails before after old new result =
     MatchResult result (Turn before.directory (between before after) old new) (Leaves before.directory before.future old new)
 
 -- All of an input is answered by a machine that stands so at first, or what a fault leaves of that.
-abbrev pub AnswersAll : {T : Type 0} → Standing (List ℕ) → Ends → Ends → Result T RunFault → Type 0
+abbrev pub AnswersAll : {T : Type 0} → MachineState (List ℕ) → RunEnds → RunEnds → Result T RunFault → Type 0
 AnswersAll before old new result =
-    MatchResult result (λ _. Ended before.directory (λ extent input. before.future extent (input_lines (is_whole extent) input)) old new)
+    MatchResult result (λ _. AnswersInput before.directory
+    (λ extent input. before.future extent (input_lines (is_whole extent) input)) old new)
     (Leaves before.directory (λ extent input. before.future extent (input_lines (is_whole extent) input)) old new)
 
--- What was written is what is told for all of an input and the answers that the store gave; it was called once for
+-- What was written is what is written for all of an input and the answers that the store gave; it was called once for
 -- each of these, and they are its only faults; and where none of the files stood there at first, it holds what the
 -- directory is known to hold, and nothing else of that kind.
-pub record Completes (answered : List ℕ → List StoreAnswer → Option Told) (old new : Ends) : Type 0 where
+pub record Completes (answered : List ℕ → List StoreAnswer → Option RunOutput) (old new : RunEnds) : Type 0 where
   pub stored : List StoreAnswer
-  pub told : Told
-  pub text : IfSome old.input (λ bytes. (answered bytes stored ≡ Some told) × Appends old.out.output new.out.output told.text)
+  pub run_output : RunOutput
+  pub text : IfSome old.input (λ bytes. (answered bytes stored ≡ Some run_output)
+      × Appends old.out.output new.out.output run_output.text)
   pub failures : new.out.store.failures ≡ raised old.out.store.failures (faults_among stored)
   pub calls : new.out.store.calls ≡ raised old.out.store.calls (length stored)
-  pub contents : HasNoFiles old.out.store.contents → MirrorsWhereTold old.out.store.contents new.out.store.contents told.directory
+  pub contents : HasNoFiles old.out.store.contents
+      → MirrorsWhereTold old.out.store.contents new.out.store.contents run_output.directory
 
 -- The transcript of a tune book, if there is one, and of an input is complete, or what a fault leaves of it.
-abbrev pub Transcribes : {T : Type 0} → Option (List ℕ) → Ends → Ends → Result T RunFault → Type 0
+abbrev pub Transcribes : {T : Type 0} → Option (List ℕ) → RunEnds → RunEnds → Result T RunFault → Type 0
 Transcribes book old new result =
     MatchResult result (λ _. Completes (transcript book) old new) (LeavesRun book (transcript_of book) old new)
 
--- how many faults of the reader a read tells of
+-- how many faults of the reader a read reports
 abbrev pub read_faults : {T : Type 0} → Result T RunFault → ℕ
 read_faults (Ok x) = 0
 read_faults (Err Read) = 1
@@ -218,7 +236,8 @@ pub data ReadCause (input : Option (List ℕ)) (old new : ReadCounts) : Type 0 w
   Failed : new.failures ≡ raised old.failures 1 → ReadCause input old new
   -- none failed, but as many were made as a run makes, and each took a byte or more
   Exhausted :
-      new.failures ≡ old.failures → new.calls ≡ raised old.calls MOST_READS → IfSome input (λ bytes. MOST_READS ≤ length bytes) → ReadCause input old new
+      new.failures ≡ old.failures → new.calls ≡ raised old.calls MOST_READS → IfSome input (λ bytes. MOST_READS ≤ length bytes)
+      → ReadCause input old new
 
 -- what a result says of the reader's counts
 abbrev pub Reads : {T : Type 0} → Option (List ℕ) → ReadCounts → ReadCounts → Result T RunFault → Type 0

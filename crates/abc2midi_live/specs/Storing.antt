@@ -1,4 +1,4 @@
--- The answers of a store, and what it then contains. Our own.
+-- The answers of a store, and what it then contains. Not in ABC 2.1.
 use Rattle.std.specs.Prelude.{◌≡◌, ◌≢◌, ℕ, ◌+◌, ◌<◌, ◌^◌, List, [], ◌∷◌, ◌++◌, length, codes, decimal, Option, Some, None, ⊤}
 use Rattle.std.specs.FinMap.{get}
 use Rattle.abc_fold.specs.Work.{raised}
@@ -34,7 +34,7 @@ pub record Mirrors (first now : Contents) (directory : Directory) : Type 0 where
   pub files : (n : ℕ) → n < 2 ^ 32 → IsStored (get now (file_name n)) (directory n)
   pub others : (name : List ℕ) → ((n : ℕ) → n < 2 ^ 32 → name ≢ file_name n) → get now name ≡ get first name
 
--- the same of a store that may tell its contents
+-- the same of a store that may give its contents
 abbrev pub MirrorsWhereTold : Option Contents → Option Contents → Directory → Type 0
 MirrorsWhereTold None now directory = ⊤
 MirrorsWhereTold (Some first) None directory = ⊥
@@ -45,7 +45,7 @@ abbrev pub HasNoFiles : Option Contents → Type 0
 HasNoFiles None = ⊤
 HasNoFiles (Some contents) = (n : ℕ) → n < 2 ^ 32 → get contents (file_name n) ≡ None
 
--- What is seen of a store: how often it failed, how often it was called, and its contents, where they are told.
+-- What is seen of a store: how often it failed, how often it was called, and its contents, if they are known.
 pub record StoreSeen : Type 0 where
   pub failures : ℕ
   pub calls : ℕ

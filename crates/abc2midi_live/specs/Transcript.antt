@@ -1,5 +1,6 @@
--- What the program writes for an input: the answers to its commands, in order. Our own.
-use Rattle.std.specs.Prelude.{ℕ, zero, suc, ◌+◌, ◌&&◌, ◌==◌, nat_le, Bool, true, false, if◌then◌else◌, List, [], ◌∷◌, ◌++◌, length, take, drop, map, Option, Some, None, option_and_then, Result, Ok, Err}
+-- What the program writes for an input: the answers to its commands, in order. Not in ABC 2.1.
+use Rattle.std.specs.Prelude.{ℕ, zero, suc, ◌+◌, ◌&&◌, ◌==◌, nat_le, Bool, true, false, if◌then◌else◌, List, [], ◌∷◌, ◌++◌}
+use Rattle.std.specs.Prelude.{length, take, drop, map, Option, Some, None, option_and_then, Result, Ok, Err}
 use Rattle.std.specs.List.{slice_split}
 use Rattle.std.specs.Result.{result_unwrap_or}
 use Rattle.std.specs.Str.{bytes_eq}
@@ -8,19 +9,21 @@ use Rattle.abc_text.specs.Byte.{line_feed}
 use Rattle.abc_lines.specs.Text.{Text, Splice}
 use Rattle.abc_lines.specs.Edits.{insertion, replacement, deletion, edited}
 use Rattle.abc_publish.specs.Publisher.{Directory}
-use Rattle.abc_tunebook.specs.Files.{file_at}
+use Rattle.abc_tune_compiler.specs.Files.{file_at}
 use Rattle.abc2midi_live.specs.Book.{files_of, faults_of, titles_of}
 use Rattle.abc2midi_live.specs.Command.{command_of, line_count}
 use Rattle.abc2midi_live.specs.Answer.{report, refusal, fault_list, title_list, hex_line, unknown_line, truncated_line}
-use Rattle.abc2midi_live.specs.Building.{pending_numbers, storing}
+use Rattle.abc2midi_live.specs.Building.{pending_numbers, build_outcome}
 use Rattle.abc2midi_live.specs.Storing.{StoreAnswer}
-use Rattle.abc2midi_live.specs.Told.{Extent, Whole, is_whole, Holding, holding, Told, behind, nothing_more, Answered, answered_by}
+use Rattle.abc2midi_live.specs.RunOutput.{Extent, Whole, is_whole, DialogueView, dialogue_view, RunOutput, with_text_before}
+use Rattle.abc2midi_live.specs.RunOutput.{nothing_more, RequestOutcome, request_outcome}
 use Rattle.abc_lines.specs.declared.edit_error.EditError.{EditError}
 use Rattle.abc2midi_live.specs.declared.command.Command.{Command}
-use Rattle.abc2midi_live.specs.declared.command.Command.TheVariants.{Insert, Replace, Delete, Faults, Titles, Hex, Build, Quit, Unknown}
+use Rattle.abc2midi_live.specs.declared.command.Command.TheVariants.{Insert, Replace, Delete, Faults, Titles, Hex, Build, Quit}
+use Rattle.abc2midi_live.specs.declared.command.Command.TheVariants.{Unknown}
 
--- The parts of an input between line feeds are its lines. Behind the last line feed stands a line only where it is
--- not empty and the input has ended; before that, more of it may come.
+-- The parts of an input between line feeds are its lines. After the last line feed stands a line only if it is not
+-- empty and the input has ended; before that, more of it may come.
 abbrev pub whole_lines : Bool → List (List ℕ) → List (List ℕ)
 whole_lines ended [] = []
 whole_lines ended (line ∷ []) = if ended && nat_le 1 (length line) then line ∷ [] else []
@@ -42,7 +45,7 @@ byte_order_mark = 239 ∷ 187 ∷ 191 ∷ []
 unfoldable pub without_mark : List ℕ → List ℕ
 without_mark bytes = if bytes_eq (take 3 bytes) byte_order_mark then drop 3 bytes else bytes
 
--- The lines of a tune book that is handed in as a whole. A carriage return stays in its line.
+-- The lines of a tune book. A carriage return stays in its line.
 unfoldable pub book_lines : List ℕ → Text
 book_lines bytes = whole_lines true (slice_split (λ b. b == line_feed) (without_mark bytes))
 
@@ -60,7 +63,8 @@ pub data Request : Type 0 where
 -- A command takes its lines from those that follow it.
 unfoldable pub request_of : Command → List (List ℕ) → Request
 request_of (Insert at count) lines = if nat_le count (length lines) then Edits (insertion at (take count lines)) else CutOff
-request_of (Replace from to count) lines = if nat_le count (length lines) then Edits (replacement from to (take count lines)) else CutOff
+request_of (Replace from to count) lines =
+    if nat_le count (length lines) then Edits (replacement from to (take count lines)) else CutOff
 request_of (Delete from to) lines = Edits (deletion from to)
 request_of Faults lines = ListsFaults
 request_of Titles lines = ListsTitles
@@ -82,16 +86,17 @@ edit_answer before (Err error) = refusal error
 
 -- The answer to a request. One that is cut off has its answer where the input has ended. There is none where the
 -- store gives fewer answers than are asked for, unless the run stops within the request.
-unfoldable pub answered : Extent → Holding → Request → List StoreAnswer → Option Answered
-answered extent h (Edits splice) answers =
-    Some (answered_by (edit_answer h.text (edited h.text splice)) (holding (result_unwrap_or (edited h.text splice) h.text) h.directory) answers)
-answered extent h ListsFaults answers = Some (answered_by (fault_list (faults_of h.text)) h answers)
-answered extent h ListsTitles answers = Some (answered_by (title_list (titles_of h.text)) h answers)
-answered extent h (Shows number) answers = Some (answered_by (hex_line (file_at (files_of h.text) number)) h answers)
-answered extent h Builds answers = storing extent h.text h.directory (pending_numbers h.directory (files_of h.text)) answers
-answered extent h Misspelled answers = Some (answered_by unknown_line h answers)
-answered extent h CutOff answers = Some (answered_by (if is_whole extent then truncated_line else []) h answers)
-answered extent h Ends answers = Some (answered_by [] h answers)
+unfoldable pub outcome_of : Extent → DialogueView → Request → List StoreAnswer → Option RequestOutcome
+outcome_of extent h (Edits splice) answers =
+    Some (request_outcome (edit_answer h.text (edited h.text splice))
+    (dialogue_view (result_unwrap_or (edited h.text splice) h.text) h.directory) answers)
+outcome_of extent h ListsFaults answers = Some (request_outcome (fault_list (faults_of h.text)) h answers)
+outcome_of extent h ListsTitles answers = Some (request_outcome (title_list (titles_of h.text)) h answers)
+outcome_of extent h (Shows number) answers = Some (request_outcome (hex_line (file_at (files_of h.text) number)) h answers)
+outcome_of extent h Builds answers = build_outcome extent h.text h.directory (pending_numbers h.directory (files_of h.text)) answers
+outcome_of extent h Misspelled answers = Some (request_outcome unknown_line h answers)
+outcome_of extent h CutOff answers = Some (request_outcome (if is_whole extent then truncated_line else []) h answers)
+outcome_of extent h Ends answers = Some (request_outcome [] h answers)
 
 -- whether the run goes on after a request
 abbrev pub goes_on : Request → Bool
@@ -104,13 +109,14 @@ goes_on Misspelled = true
 goes_on CutOff = false
 goes_on Ends = false
 
--- What is told in answer to requests, for these answers of a store, neither more nor fewer. No request has an answer
+-- What is written in answer to requests, for these answers of a store, neither more nor fewer. No request has an answer
 -- after `quit`.
-unfoldable pub answers : Extent → Holding → List Request → List StoreAnswer → Option Told
+unfoldable pub answers : Extent → DialogueView → List Request → List StoreAnswer → Option RunOutput
 answers extent h [] stored = nothing_more h.directory stored
 answers extent h (request ∷ rest) stored =
-    option_and_then (λ a. behind a.text (if goes_on request then answers extent a.after rest a.left else nothing_more a.after.directory a.left))
-    (answered extent h request stored)
+    option_and_then (λ a. with_text_before a.text
+    (if goes_on request then answers extent a.after rest a.left else nothing_more a.after.directory a.left))
+    (outcome_of extent h request stored)
 
 -- A tune book comes before the commands, and is an insertion before line 1.
 abbrev pub book_requests : Option (List ℕ) → List Request
@@ -122,15 +128,16 @@ abbrev pub no_directory : Directory
 no_directory n = None
 
 -- what holds at first: no lines, and no file
-abbrev pub at_first : Holding
-at_first = holding [] no_directory
+abbrev pub empty_dialogue : DialogueView
+empty_dialogue = dialogue_view [] no_directory
 
--- What is told for a tune book, if there is one, the whole of an input, and all the answers of a store; None where
--- a store would give more of them, or fewer.
-unfoldable pub transcript : Option (List ℕ) → List ℕ → List StoreAnswer → Option Told
-transcript book input stored = answers Whole at_first (book_requests book ++ requests 0 (input_lines true input)) stored
+-- What is written for a tune book, if there is one, the whole of an input, and all the answers of a store; None where a
+-- store would give more of them, or fewer.
+unfoldable pub transcript : Option (List ℕ) → List ℕ → List StoreAnswer → Option RunOutput
+transcript book input stored = answers Whole empty_dialogue (book_requests book ++ requests 0 (input_lines true input)) stored
 
--- The same for a tune book and so much of an input: where that is not all of it, the answers to the commands that stand
+-- The same for a tune book and so much of an input: if that is not all of it, the answers to the commands that are
 -- wholly in it.
-unfoldable pub transcript_of : Option (List ℕ) → Extent → List ℕ → List StoreAnswer → Option Told
-transcript_of book extent input stored = answers extent at_first (book_requests book ++ requests 0 (input_lines (is_whole extent) input)) stored
+unfoldable pub transcript_of : Option (List ℕ) → Extent → List ℕ → List StoreAnswer → Option RunOutput
+transcript_of book extent input stored =
+    answers extent empty_dialogue (book_requests book ++ requests 0 (input_lines (is_whole extent) input)) stored

@@ -1,6 +1,7 @@
--- Why nothing is told before a line comes, and nothing is asked for before a store answers. It stands here and not among the
--- proofs since the laws `waits` and `unasked` of the machine name it, and a law names nothing of those.
-use Rattle.std.specs.Prelude.{◌≡◌, ℕ, ◌-◌, Bool, true, false, nat_le, cond, List, [], ◌∷◌, ◌++◌, length, take, Option, Some, None, option_and_then, refl}
+-- Why nothing is written before a line comes, and nothing is asked for before a store answers. It stands here and not
+-- among the proofs since the laws `waits` and `unasked` of the machine name it, and a law names nothing of those.
+use Rattle.std.specs.Prelude.{◌≡◌, ℕ, ◌-◌, Bool, true, false, nat_le, cond, List, [], ◌∷◌, ◌++◌, length, take, Option, Some, None}
+use Rattle.std.specs.Prelude.{option_and_then, refl}
 use Rattle.std.specs.Result.{result_unwrap_or}
 use Rattle.std.proofs.Common.{sym, ap, ◌∙◌, append-nil}
 use Rattle.std.proofs.lemmas.List.{length-map}
@@ -9,23 +10,27 @@ use Rattle.std.proofs.Math.Dec.{leb-zero}
 use Rattle.abc_lines.specs.Text.{Text, text_of}
 use Rattle.abc_lines.specs.Edits.{edited, insertion, replacement}
 use Rattle.abc_publish.specs.Publisher.{Directory}
-use Rattle.abc_tunebook.specs.Files.{file_at}
+use Rattle.abc_tune_compiler.specs.Files.{file_at}
 use Rattle.abc2midi_live.specs.Answer.{end_line, fault_list, hex_line, title_list, unknown_line}
 use Rattle.abc2midi_live.specs.Book.{faults_of, files_of, titles_of}
-use Rattle.abc2midi_live.specs.Building.{pending_numbers, storing}
+use Rattle.abc2midi_live.specs.Building.{pending_numbers, build_outcome}
 use Rattle.abc2midi_live.specs.Command.{line_count}
 use Rattle.abc2midi_live.specs.Machine.{AsksNothing}
 use Rattle.abc2midi_live.specs.Storing.{StoreAnswer}
-use Rattle.abc2midi_live.specs.Told.{Answered, Holding, SoFar, Stopped, Told, answered_by, behind, holding, nothing_more, told}
-use Rattle.abc2midi_live.specs.Transcript.{Request, Edits, ListsFaults, ListsTitles, Shows, Builds, Misspelled, CutOff, Ends, answers, answered, edit_answer, goes_on, request_of, requests}
-use Rattle.abc2midi_live.specs.Dialogue.{Begun, awaited}
-use Rattle.abc2midi_live.specs.Gathering.{begun_of}
-use Rattle.abc2midi_live.specs.declared.dialogue.Gathering.{Gathering}
+use Rattle.abc2midi_live.specs.RunOutput.{RequestOutcome, DialogueView, SoFar, Stopped, RunOutput, request_outcome}
+use Rattle.abc2midi_live.specs.RunOutput.{with_text_before, dialogue_view, nothing_more, run_output}
+use Rattle.abc2midi_live.specs.Transcript.{Request, Edits, ListsFaults, ListsTitles, Shows, Builds, Misspelled, CutOff, Ends}
+use Rattle.abc2midi_live.specs.Transcript.{answers, outcome_of, edit_answer, goes_on, request_of, requests}
+use Rattle.abc2midi_live.specs.Dialogue.{BegunCommand, dialogue_future}
+use Rattle.abc2midi_live.specs.PendingCommand.{begun_command}
+use Rattle.abc2midi_live.specs.declared.dialogue.PendingCommand.{PendingCommand}
 use Rattle.abc2midi_live.specs.declared.command.Command.{Command}
-use Rattle.abc2midi_live.specs.declared.command.Command.TheVariants.{Insert, Replace, Delete, Faults, Titles, Hex, Build, Quit, Unknown}
+use Rattle.abc2midi_live.specs.declared.command.Command.TheVariants.{Insert, Replace, Delete, Faults, Titles, Hex, Build, Quit}
+use Rattle.abc2midi_live.specs.declared.command.Command.TheVariants.{Unknown}
 
 -- a command without all its lines is cut off
-pub request_of-cut : (command : Command) (lines : Text) → nat_le (line_count command) (length lines) ≡ false → request_of command lines ≡ CutOff
+pub request_of-cut : (command : Command) (lines : Text) → nat_le (line_count command) (length lines) ≡ false
+    → request_of command lines ≡ CutOff
 unfolding request_of
 request_of-cut (Insert at count) lines e = ap (λ b. cond b (Edits (insertion at (take count lines))) CutOff) e
 request_of-cut (Replace from to count) lines e = ap (λ b. cond b (Edits (replacement from to (take count lines))) CutOff) e
@@ -38,63 +43,75 @@ request_of-cut Quit lines e = absurd (false≢true (sym e ∙ leb-zero (length l
 request_of-cut Unknown lines e = absurd (false≢true (sym e ∙ leb-zero (length lines)))
 
 -- the same of one that is gathering its lines
-pub gathering_few : (g : Gathering) → nat_le (line_count g.command) (length (text_of g.lines)) ≡ false
-gathering_few g = ap (nat_le (line_count g.command)) (length-map g.lines.items (λ line. line.items)) ∙ g.incomplete
+pub pending_few : (g : PendingCommand) → nat_le (line_count g.command) (length (text_of g.lines)) ≡ false
+pending_few g = ap (nat_le (line_count g.command)) (length-map g.lines.items (λ line. line.items)) ∙ g.incomplete
 
-pub request_of-gathering : (g : Gathering) → request_of g.command (text_of g.lines) ≡ CutOff
-request_of-gathering g = request_of-cut g.command (text_of g.lines) (gathering_few g)
+pub request_of-pending : (g : PendingCommand) → request_of g.command (text_of g.lines) ≡ CutOff
+request_of-pending g = request_of-cut g.command (text_of g.lines) (pending_few g)
 
--- nothing is told before a line comes
-pub dialogue_waits : (h : Holding) (gathering : Option Gathering) → awaited h (begun_of gathering) SoFar [] [] ≡ Some (told [] h.directory)
-unfolding awaited answers answered requests
+-- nothing is written before a line comes
+pub dialogue_waits : (h : DialogueView) (pending : Option PendingCommand)
+    → dialogue_future h (begun_command pending) SoFar [] [] ≡ Some (run_output [] h.directory)
+unfolding dialogue_future answers outcome_of requests
 dialogue_waits h None = refl
 dialogue_waits h (Some g) =
     ap (λ ls. answers SoFar h (request_of g.command ls ∷ []) []) (append-nil (text_of g.lines))
-    ∙ ap (λ r. answers SoFar h (r ∷ []) []) (request_of-gathering g)
+    ∙ ap (λ r. answers SoFar h (r ∷ []) []) (request_of-pending g)
 
 -- What a request leads to where the run stops before the store gives an answer.
-abbrev pub Unasked : Holding → Option Answered → Type 0
-Unasked h answered = (a : Answered) × (answered ≡ Some a) × (a.left ≡ []) × (a.after.directory ≡ h.directory)
+abbrev pub AsksForNothing : DialogueView → Option RequestOutcome → Type 0
+AsksForNothing h outcome_of = (a : RequestOutcome) × (outcome_of ≡ Some a) × (a.left ≡ []) × (a.after.directory ≡ h.directory)
 
-pub storing_unasked : (text : Text) (d : Directory) (numbers : List ℕ) → Unasked (holding text d) (storing Stopped text d numbers [])
-unfolding storing
-storing_unasked text d [] = (answered_by end_line (holding text d) [], refl, refl, refl)
-storing_unasked text d (n ∷ numbers) = (answered_by [] (holding text d) [], refl, refl, refl)
+pub storing_unasked : (text : Text) (d : Directory) (numbers : List ℕ)
+    → AsksForNothing (dialogue_view text d) (build_outcome Stopped text d numbers [])
+unfolding build_outcome
+storing_unasked text d [] = (request_outcome end_line (dialogue_view text d) [], refl, refl, refl)
+storing_unasked text d (n ∷ numbers) = (request_outcome [] (dialogue_view text d) [], refl, refl, refl)
 
-pub request_unasked : (h : Holding) (request : Request) → Unasked h (answered Stopped h request [])
-unfolding answered
-request_unasked h (Edits splice) =
-    (answered_by (edit_answer h.text (edited h.text splice)) (holding (result_unwrap_or (edited h.text splice) h.text) h.directory) [], refl, refl, refl)
-request_unasked h ListsFaults = (answered_by (fault_list (faults_of h.text)) h [], refl, refl, refl)
-request_unasked h ListsTitles = (answered_by (title_list (titles_of h.text)) h [], refl, refl, refl)
-request_unasked h (Shows number) = (answered_by (hex_line (file_at (files_of h.text) number)) h [], refl, refl, refl)
+pub request_unasked : (h : DialogueView) (request : Request) → AsksForNothing h (outcome_of Stopped h request [])
+unfolding outcome_of
+request_unasked h (Edits splice) = (
+  request_outcome (edit_answer h.text (edited h.text splice))
+      (dialogue_view (result_unwrap_or (edited h.text splice) h.text) h.directory) [],
+  refl,
+  refl,
+  refl,
+)
+request_unasked h ListsFaults = (request_outcome (fault_list (faults_of h.text)) h [], refl, refl, refl)
+request_unasked h ListsTitles = (request_outcome (title_list (titles_of h.text)) h [], refl, refl, refl)
+request_unasked h (Shows number) = (request_outcome (hex_line (file_at (files_of h.text) number)) h [], refl, refl, refl)
 request_unasked h Builds = storing_unasked h.text h.directory (pending_numbers h.directory (files_of h.text))
-request_unasked h Misspelled = (answered_by unknown_line h [], refl, refl, refl)
-request_unasked h CutOff = (answered_by [] h [], refl, refl, refl)
-request_unasked h Ends = (answered_by [] h [], refl, refl, refl)
+request_unasked h Misspelled = (request_outcome unknown_line h [], refl, refl, refl)
+request_unasked h CutOff = (request_outcome [] h [], refl, refl, refl)
+request_unasked h Ends = (request_outcome [] h [], refl, refl, refl)
 
--- what is told behind an answer, where nothing is asked for behind it
-behind_unasked : (text : List ℕ) (d : Directory) (b : Bool) (rest : List StoreAnswer → Option Told) → AsksNothing d rest
-    → (t : Told) × (behind text (cond b (rest []) (nothing_more d [])) ≡ Some t) × (t.directory ≡ d)
-behind_unasked text d true rest (t, is, same) = (told (text ++ t.text) t.directory, ap (behind text) is, same)
-behind_unasked text d false rest h = (told (text ++ []) d, refl, refl)
+-- what is written after an answer, where nothing is asked for after it
+behind_unasked : (text : List ℕ) (d : Directory) (b : Bool) (rest : List StoreAnswer → Option RunOutput) → AsksNothing d rest
+    → (t : RunOutput) × (with_text_before text (cond b (rest []) (nothing_more d [])) ≡ Some t) × (t.directory ≡ d)
+behind_unasked text d true rest (t, is, same) = (run_output (text ++ t.text) t.directory, ap (with_text_before text) is, same)
+behind_unasked text d false rest h = (run_output (text ++ []) d, refl, refl)
 
 -- the same of all the requests that come
-pub answers_unasked : (h : Holding) (requests : List Request) → AsksNothing h.directory (answers Stopped h requests)
+pub answers_unasked : (h : DialogueView) (requests : List Request) → AsksNothing h.directory (answers Stopped h requests)
 unfolding answers
-answers_unasked h [] = (told [] h.directory, refl, refl)
+answers_unasked h [] = (run_output [] h.directory, refl, refl)
 answers_unasked h (request ∷ rest) =
-    let one : Unasked h (answered Stopped h request []) = request_unasked h request in
-    let a : Answered = one.0 in
-    let all = behind_unasked a.text a.after.directory (goes_on request) (answers Stopped a.after rest) (answers_unasked a.after rest) in (
+    let one : AsksForNothing h (outcome_of Stopped h request []) = request_unasked h request in
+    let a : RequestOutcome = one.0 in
+    let all = behind_unasked a.text a.after.directory (goes_on request) (answers Stopped a.after rest)
+    (answers_unasked a.after rest) in (
       all.0,
-      ap (option_and_then (λ b. behind b.text (cond (goes_on request) (answers Stopped b.after rest b.left) (nothing_more b.after.directory b.left)))) one.1
-          ∙ ap (λ left. behind a.text (cond (goes_on request) (answers Stopped a.after rest left) (nothing_more a.after.directory left))) one.2
+      ap (option_and_then (λ b. with_text_before b.text (cond (goes_on request) (answers Stopped b.after rest b.left)
+          (nothing_more b.after.directory b.left)))) one.1
+          ∙ ap (λ left. with_text_before a.text (cond (goes_on request) (answers Stopped a.after rest left)
+          (nothing_more a.after.directory left))) one.2
           ∙ all.1,
       all.2 ∙ one.3,
     )
 
-pub dialogue_unasked : (h : Holding) (begun : Option Begun) (lines : List (List ℕ)) → AsksNothing h.directory (awaited h begun Stopped lines)
-unfolding awaited
+pub dialogue_unasked : (h : DialogueView) (begun : Option BegunCommand) (lines : List (List ℕ))
+    → AsksNothing h.directory (dialogue_future h begun Stopped lines)
+unfolding dialogue_future
 dialogue_unasked h None lines = answers_unasked h (requests 0 lines)
-dialogue_unasked h (Some begun) lines = answers_unasked h (request_of begun.command (begun.lines ++ lines) ∷ requests (line_count begun.command - length begun.lines) lines)
+dialogue_unasked h (Some begun) lines = answers_unasked h (request_of begun.command (begun.lines ++ lines)
+    ∷ requests (line_count begun.command - length begun.lines) lines)

@@ -1,10 +1,11 @@
 //! The texts of answers.
 
 ghost use Rattle.std.specs.Prelude.{◌≡◌, ◌≢◌, ◌++◌, decimal, option_copied, option_map, IfOk, OnOk};
-ghost use Rattle.abc2midi_live.specs.Answer.{listed, report_line, refusal, fault_line, fault_list, title_line, title_list, hex_line, stored_line, failed_line};
+ghost use Rattle.abc2midi_live.specs.Answer.{number_list, report_line, refusal, fault_line, fault_list, title_line, title_list};
+ghost use Rattle.abc2midi_live.specs.Answer.{hex_line, stored_line, failed_line};
 
 use abc_lines::EditError;
-use abc_tunebook::{Fault, Report, Title};
+use abc_tune_compiler::{Fault, Report, Title};
 use itoa::Buffer;
 use std::alloc::{AllocError, Global};
 
@@ -15,7 +16,7 @@ fn put_number(text: &mut Vec<u8>, number: u32) -> Result<(), AllocError>
 }
 
 fn put_numbers(text: &mut Vec<u8>, numbers: &[u32]) -> Result<(), AllocError>
-    ensures { OnOk result (text.new.items ≡ text.old.items ++ listed numbers.now) }
+    ensures { OnOk result (text.new.items ≡ text.old.items ++ number_list numbers.now) }
 {
     let mut digits = Buffer::new();
     for number in numbers {
@@ -38,7 +39,7 @@ pub fn report_line(alloc: Global, report: &Report) -> Result<Vec<u8>, AllocError
     Ok(text)
 }
 
-/// The answer to a refused edit; there is none for want of memory.
+/// The answer to a refused edit; there is none if an allocation fails.
 #[tactic(auto, unfolding(crate::specs::Answer::refusal))]
 pub fn refusal(alloc: Global, error: EditError) -> Result<Vec<u8>, AllocError>
     ensures text { IfOk result (λ text. text.items ≡ refusal error) }
@@ -105,7 +106,7 @@ pub fn title_list(alloc: Global, titles: &[Title]) -> Result<Vec<u8>, AllocError
     Ok(text)
 }
 
-/// The bytes of a file, where there is one.
+/// The bytes of a file, if there is one.
 #[tactic(auto, unfolding(crate::specs::Answer::hex_line))]
 pub fn hex_line(alloc: Global, bytes: Option<&[u8]>) -> Result<Vec<u8>, AllocError>
     ensures { IfOk result (λ text. text.items ≡ hex_line (option_map (λ b. b.now) bytes.entry)) }
@@ -120,7 +121,7 @@ pub fn hex_line(alloc: Global, bytes: Option<&[u8]>) -> Result<Vec<u8>, AllocErr
     }
 }
 
-/// Puts the line of a file that was written, or removed, behind the text.
+/// Appends the line of a file that was written or removed.
 #[tactic(auto, unfolding(crate::specs::Answer::stored_line))]
 pub fn put_stored(text: &mut Vec<u8>, number: u32, bytes: Option<&[u8]>) -> Result<(), AllocError>
     ensures { OnOk result (text.new.items ≡ text.old.items ++ stored_line number (option_copied bytes.entry)) }
@@ -133,7 +134,7 @@ pub fn put_stored(text: &mut Vec<u8>, number: u32, bytes: Option<&[u8]>) -> Resu
     text.extend_from_slice(b".mid\n")
 }
 
-/// Puts the line of a file that could not be behind the text.
+/// Appends the line of a file that could not be written or removed.
 #[tactic(auto, unfolding(crate::specs::Answer::failed_line))]
 pub fn put_failed(text: &mut Vec<u8>, number: u32) -> Result<(), AllocError>
     ensures { OnOk result (text.new.items ≡ text.old.items ++ failed_line number) }

@@ -1,4 +1,4 @@
-//! A tune book that is handed in as a whole, cut into lines.
+//! A tune book, cut into lines.
 
 ghost use Rattle.std.specs.Prelude.{◌≡◌, true, [], ◌∷◌, ◌++◌, IfOk};
 ghost use Rattle.abc_lines.specs.Text.{text_of};
@@ -7,7 +7,7 @@ ghost use Rattle.abc2midi_live.specs.Transcript.{book_lines, whole_lines, withou
 use crate::cut::cut;
 use std::alloc::{AllocError, Global};
 
-/// The bytes by which a text says that it is UTF-8.
+/// The byte order mark of a UTF-8 text.
 const BYTE_ORDER_MARK: &[u8] = &[0xEF, 0xBB, 0xBF];
 
 /// The bytes without one mark at their start.
@@ -21,8 +21,8 @@ pub fn without_mark(bytes: &[u8]) -> &[u8]
     }
 }
 
-/// The lines, and behind them a last one that no line feed ends, where it is not empty.
-fn with_last(
+/// The lines and, if it is not empty, a last one that no line feed ends.
+fn lines_with_last(
     alloc: Global,
     mut lines: Vec<Vec<u8>>,
     last: &[u8],
@@ -48,7 +48,7 @@ pub fn book_lines(alloc: Global, book: &[u8]) -> Result<Vec<Vec<u8>>, AllocError
                 lines.push(Vec::from_slice(alloc, line)?)?;
                 rest = behind;
             }
-            (line, None) => return with_last(alloc, lines, line),
+            (line, None) => return lines_with_last(alloc, lines, line),
         }
     }
 }

@@ -1,9 +1,11 @@
 //! Bringing the files of a store up to date with a session.
 
-ghost use Rattle.std.specs.Prelude.{◌≡◌, string_bytes, ◌<◌, ◌^◌, ◌++◌, ◌∷◌, [], None, Some, IfOk, IfSome, OnErr, is_ok, option_copied};
-ghost use Rattle.abc_publish.specs.Publisher.{ended, maps_of, with_entry};
+ghost use Rattle.std.specs.Prelude.{◌≡◌, string_bytes, ◌<◌, ◌^◌, ◌++◌, ◌∷◌, [], None, Some, IfOk, IfSome, OnErr, is_ok};
+ghost use Rattle.std.specs.Prelude.{option_copied};
+ghost use Rattle.abc_publish.specs.Publisher.{without_job, maps_of, with_entry};
 ghost use Rattle.abc_publish.specs.declared.slot.Stored.TheVariants.{Unknown};
-ghost use Rattle.abc2midi_live.specs.Building.{answer_line, answer_of, entry_behind, stage_of, BuildsBy, BuildStops, Extends, IsIdle, StopsAtOnce, StoresBy, StoresOne, StoresOneAtMost};
+ghost use Rattle.abc2midi_live.specs.Building.{answer_line, answer_of, entry_behind, stage_of, BuildsBy, BuildStops, Extends};
+ghost use Rattle.abc2midi_live.specs.Building.{IsIdle, StopsAtOnce, StoresBy, StoresOne, StoresOneAtMost};
 ghost use Rattle.abc2midi_live.specs.Storing.{file_name, Follows};
 
 use crate::answer::{put_failed, put_stored};
@@ -20,7 +22,7 @@ fn file_name(alloc: Global, number: u32) -> Result<String, AllocError>
     format!(in alloc; "{number}.mid")
 }
 
-/// Puts the bytes of a number's file into the store, or takes the file out.
+/// Puts the bytes of a number's file into the store, or removes the file.
 fn put_or_remove<S: Store>(
     store: &mut S,
     number: u32,
@@ -36,15 +38,17 @@ fn put_or_remove<S: Store>(
     }
 }
 
-/// Stores the file of a job, says behind the text what came of it, and answers whether that was done.
+/// Stores the file of a job, appends its answer line to the text, and returns whether it was stored.
 fn store_file<S: Store>(
     alloc: Global,
     job: &Job,
     store: &mut S,
     text: &mut Vec<u8>,
 ) -> Result<bool, AllocError>
-    ensures text { IfOk result (λ stored. text.new.items ≡ text.old.items ++ answer_line (answer_of stored) job.now.number job.now.bytes) }
-    ensures store { IfOk result (λ stored. StoresOne (S.seen store.old) (S.seen store.new) (answer_of stored) job.now.number job.now.bytes) }
+    ensures text { IfOk result (λ stored. text.new.items ≡ text.old.items
+        ++ answer_line (answer_of stored) job.now.number job.now.bytes) }
+    ensures store { IfOk result (λ stored. StoresOne (S.seen store.old) (S.seen store.new)
+        (answer_of stored) job.now.number job.now.bytes) }
     ensures unchanged { OnErr result (StoresOneAtMost (S.seen store.old) (S.seen store.new) job.now.number job.now.bytes) }
 {
     let number = job.number();
@@ -59,7 +63,7 @@ fn store_file<S: Store>(
     Ok(stored)
 }
 
-/// Carries out a job and ends it, and answers whether its file was stored. For want of memory that is unknown.
+/// Carries out a job and ends it, and returns whether its file was stored. If an allocation fails, the file is unknown.
 fn carry_out<S: Store>(
     alloc: Global,
     publisher: &mut Publisher,
@@ -69,8 +73,9 @@ fn carry_out<S: Store>(
 ) -> Result<bool, AllocError>
     requires { (maps_of publisher.old).jobs job.number ≡ Some job.bytes }
     ensures text { IfOk result (λ stored. text.new.items ≡ text.old.items ++ answer_line (answer_of stored) job.number job.bytes) }
-    ensures publisher { IfOk result (λ stored. maps_of publisher.new ≡ ended (maps_of publisher.old) job.number (entry_behind (answer_of stored) job.bytes)) }
-    ensures err { OnErr result (maps_of publisher.new ≡ ended (maps_of publisher.old) job.number (Some Unknown)) }
+    ensures publisher { IfOk result (λ stored. maps_of publisher.new
+        ≡ without_job (maps_of publisher.old) job.number (entry_behind (answer_of stored) job.bytes)) }
+    ensures unknown { OnErr result (maps_of publisher.new ≡ without_job (maps_of publisher.old) job.number (Some Unknown)) }
     ensures store { IfOk result (λ stored. Follows (S.seen store.old) (S.seen store.new)
         (answer_of stored ∷ []) (maps_of publisher.old).directory (maps_of publisher.new).directory) }
     ensures unchanged { OnErr result (StoresOneAtMost (S.seen store.old) (S.seen store.new) job.number job.bytes) }
@@ -85,8 +90,8 @@ fn carry_out<S: Store>(
     stored
 }
 
-/// Takes the job of the least number that is pending from one on, and carries it out. Answers the number to go on
-/// from: None where none is pending, and after a fault.
+/// Takes the job of the least pending number from `from` on, and carries it out. Returns the number to go on from: None
+/// if none is pending, and after a fault.
 fn store_next<S: Store>(
     alloc: Global,
     publisher: &mut Publisher,
@@ -96,9 +101,11 @@ fn store_next<S: Store>(
     text: &mut Vec<u8>,
 ) -> Result<Option<u32>, AllocError>
     requires { IsIdle (maps_of publisher.old) }
-    ensures stored { IfOk result (λ next. StoresBy session.now.text (stage_of publisher.old (Some from)) (stage_of publisher.new next)
+    ensures stored { IfOk result (λ next. StoresBy session.now.text (stage_of publisher.old (Some from))
+        (stage_of publisher.new next)
         (Extends text.old.items text.new.items) (S.seen store.old) (S.seen store.new)) }
-    ensures unchanged { OnErr result (StopsAtOnce session.now.text (stage_of publisher.old (Some from)) (S.seen store.old) (S.seen store.new)) }
+    ensures unchanged { OnErr result (StopsAtOnce session.now.text (stage_of publisher.old (Some from)) (S.seen store.old)
+        (S.seen store.new)) }
     ensures onward { IfOk result (λ next. IfSome next (λ n. (from < n) × (n < 2 ^ 32))) }
     ensures idle { IsIdle (maps_of publisher.new) }
 {
@@ -122,13 +129,15 @@ pub fn build<S: Store>(
     store: &mut S,
 ) -> Result<Vec<u8>, AllocError>
     requires { IsIdle (maps_of publisher.old) }
-    ensures answer { IfOk result (λ text. BuildsBy session.now.text (maps_of publisher.old).directory (maps_of publisher.new).directory
+    ensures answer { IfOk result (λ text. BuildsBy session.now.text (maps_of publisher.old).directory
+        (maps_of publisher.new).directory
         text.items (S.seen store.old) (S.seen store.new)) }
-    ensures unchanged { OnErr result (BuildStops session.now.text (maps_of publisher.old).directory (S.seen store.old) (S.seen store.new)) }
+    ensures unchanged { OnErr result (BuildStops session.now.text (maps_of publisher.old).directory (S.seen store.old)
+        (S.seen store.new)) }
     ensures idle { IsIdle (maps_of publisher.new) }
 {
     let mut text = Vec::new(alloc);
-    // Each job is looked for behind the last one: from 0 on, each would pass over all the files that are stored.
+    // Each job is searched after the last one; a search from 0 would visit all stored files each time.
     let mut next = Some(0);
     while let Some(from) = next {
         next = store_next(alloc, publisher, session, from, store, &mut text)?;

@@ -2,7 +2,9 @@
 
 ghost use Rattle.std.specs.Prelude.{◌≡◌, ◌≤◌, take, Some, MatchOption, IfSome};
 ghost use Rattle.abc_text.specs.Number.{number_of};
-ghost use Rattle.abc2midi_live.specs.Command.{insertion, replacement, deletion, hex_dump, without_numbers, if_few, command_named, command_of, command_of_words, numbers_of, words_behind, IsUseless, words_of, line_count};
+ghost use Rattle.abc2midi_live.specs.Command.{insertion, replacement, deletion, hex_dump, without_numbers, within_line_limit};
+ghost use Rattle.abc2midi_live.specs.Command.{command_named, command_of, command_of_words, numbers_of, words_behind, IsUseless};
+ghost use Rattle.abc2midi_live.specs.Command.{words_of, line_count};
 
 use crate::cut::cut;
 use abc_lines::{LONGEST_LINE, MOST_LINES};
@@ -14,7 +16,7 @@ use std::str;
 pub enum Command {
     /// Puts lines before line `at`.
     Insert { at: u32, count: u32 },
-    /// Puts lines in the place of the lines `from` to `to`.
+    /// Replaces the lines `from` to `to`.
     Replace { from: u32, to: u32, count: u32 },
     /// Takes out the lines `from` to `to`.
     Delete { from: u32, to: u32 },
@@ -73,9 +75,9 @@ fn numbers_of(words: Option<&[u8]>) -> Option<Numbers>
     Some(Numbers { values, count })
 }
 
-#[tactic(auto, unfolding(crate::specs::Command::if_few))]
-fn if_few(count: u32, command: Command) -> Command
-    ensures { result ≡ if_few count command }
+#[tactic(auto, unfolding(crate::specs::Command::within_line_limit))]
+fn within_line_limit(count: u32, command: Command) -> Command
+    ensures { result ≡ within_line_limit count command }
 {
     if count as usize <= MOST_LINES {
         command
@@ -89,7 +91,7 @@ fn insertion(numbers: &[u32]) -> Command
     ensures { result ≡ insertion numbers.now }
 {
     match *numbers {
-        [at, count] => if_few(count, Command::Insert { at, count }),
+        [at, count] => within_line_limit(count, Command::Insert { at, count }),
         _ => Command::Unknown,
     }
 }
@@ -99,7 +101,7 @@ fn replacement(numbers: &[u32]) -> Command
     ensures { result ≡ replacement numbers.now }
 {
     match *numbers {
-        [from, to, count] => if_few(count, Command::Replace { from, to, count }),
+        [from, to, count] => within_line_limit(count, Command::Replace { from, to, count }),
         _ => Command::Unknown,
     }
 }
@@ -136,7 +138,7 @@ fn without_numbers(command: Command, numbers: &[u32]) -> Command
 
 /// The command of a name and the numbers after it.
 #[tactic(auto, unfolding(crate::specs::Command::command_named))]
-fn named(name: &str, numbers: &[u32]) -> Command
+fn command_named(name: &str, numbers: &[u32]) -> Command
     ensures { result ≡ command_named name.now numbers.now }
 {
     match name {
@@ -153,22 +155,22 @@ fn named(name: &str, numbers: &[u32]) -> Command
 }
 
 /// The same for a word that need not be text.
-fn named_by_bytes(name: &[u8], numbers: &[u32]) -> Command
+fn command_named_by_bytes(name: &[u8], numbers: &[u32]) -> Command
     ensures { result ≡ command_named name.now numbers.now }
 {
     match str::from_utf8(name) {
-        Ok(name) => named(name, numbers),
+        Ok(name) => command_named(name, numbers),
         Err(_) => Command::Unknown,
     }
 }
 
 /// The command that the words of a line spell.
-fn spelled(line: &[u8]) -> Command
+fn command_of_words(line: &[u8]) -> Command
     ensures { result ≡ command_of_words (words_of line.now) }
 {
     let (name, words) = cut(line, b' ');
     match numbers_of(words) {
-        Some(numbers) => named_by_bytes(name, numbers.as_slice()),
+        Some(numbers) => command_named_by_bytes(name, numbers.as_slice()),
         None => Command::Unknown,
     }
 }
@@ -181,7 +183,7 @@ impl Command {
         if line.len() > LONGEST_LINE {
             return Command::Unknown;
         }
-        spelled(without_return(line))
+        command_of_words(without_return(line))
     }
 
     /// How many of the lines after it belong to the command.

@@ -1,11 +1,11 @@
-//! A text cut at a byte, which need not stand in it.
+//! A text cut at the first occurrence of a byte.
 
 ghost use Rattle.std.specs.Prelude.{option_map};
 ghost use Rattle.abc2midi_live.specs.Cut.{IsCut};
 
 use bstr::ByteSlice;
 
-/// What stands before the first such byte, and what stands behind it where there is one.
+/// The bytes before the first such byte, and those after it if there is one.
 #[tactic(auto, using(crate::proofs::Cuts::cut_found, crate::proofs::Cuts::cut_none))]
 pub fn cut(text: &[u8], byte: u8) -> (&[u8], Option<&[u8]>)
     ensures { IsCut byte text.now result.0.now (option_map (λ rest. rest.now) result.1) }

@@ -9,7 +9,7 @@ ghost use Rattle.abc_live.specs.Edit.{splice_of};
 ghost use Rattle.abc_publish.specs.Publisher.{maps_of};
 ghost use Rattle.abc2midi_live.specs.Building.{IsIdle};
 ghost use Rattle.abc2midi_live.specs.Transcript.{book_lines, edit_answer, no_directory, request_of};
-ghost use Rattle.abc2midi_live.specs.Dialogue.{CommandStops, RequestStops, RespondsBy, begun_with, is_taken};
+ghost use Rattle.abc2midi_live.specs.Dialogue.{CommandStops, RequestStops, RespondsBy, with_first_lines, is_taken};
 
 use crate::answer::{fault_list, hex_line, refusal, report_line, title_list};
 use crate::book_lines::book_lines;
@@ -24,7 +24,7 @@ use std::alloc::{AllocError, Global};
 
 /// A command whose lines have not all come.
 #[derive(Drop)]
-pub struct Gathering {
+pub struct PendingCommand {
     pub command: Command,
     pub lines: Vec<Vec<u8>>,
     ghost incomplete: { nat_le (line_count command) (length lines.items) ≡ false },
@@ -36,33 +36,35 @@ pub struct Dialogue {
     pub alloc: Global,
     pub session: Session,
     pub publisher: Publisher,
-    pub gathering: Option<Gathering>,
+    pub pending: Option<PendingCommand>,
     ghost idle: { IsIdle (maps_of publisher) },
 }
 
 impl Dialogue {
-    ghost use Rattle.abc2midi_live.specs.DialogueState.{ProceedsBy, holding_of};
+    ghost use Rattle.abc2midi_live.specs.DialogueState.{ProceedsBy, view_of};
 
     /// No command has come yet.
     pub fn new(alloc: Global) -> Result<Dialogue, AllocError>
         ensures session { IfOk result (λ d. d.session.text ≡ []) }
         ensures directory { IfOk result (λ d. (maps_of d.publisher).directory ≡ no_directory) }
-        ensures gathering { IfOk result (λ d. d.gathering ≡ None) }
+        ensures pending { IfOk result (λ d. d.pending ≡ None) }
     {
         Ok(Dialogue {
             alloc,
             session: Session::new(alloc)?,
             publisher: Publisher::new(alloc)?,
-            gathering: None,
+            pending: None,
         })
     }
 
     // Edits the text, and gives the answer to that.
     fn change(&mut self, edit: &Edit, work: &mut Work) -> Result<Vec<u8>, AllocError>
-        ensures answer { let before = self.old.session.text in IfOk result (λ text. text.items ≡ edit_answer before (edited before (splice_of edit.now))) }
-        ensures text { let before = self.old.session.text in IfOk result (λ _. self.new.session.text ≡ result_unwrap_or (edited before (splice_of edit.now)) before) }
+        ensures answer { let before = self.old.session.text in IfOk result
+            (λ text. text.items ≡ edit_answer before (edited before (splice_of edit.now))) }
+        ensures text { let before = self.old.session.text in IfOk result
+            (λ _. self.new.session.text ≡ result_unwrap_or (edited before (splice_of edit.now)) before) }
         ensures publisher { self.new.publisher ≡ self.old.publisher }
-        ensures gathering { self.new.gathering ≡ self.old.gathering }
+        ensures pending { self.new.pending ≡ self.old.pending }
         ensures uncounted { OnOk result (IsErr (edited self.old.session.text (splice_of edit.now)) → work.new ≡ work.old) }
     {
         match self.session.apply(edit, work) {
@@ -73,10 +75,12 @@ impl Dialogue {
 
     /// Puts the lines of a tune book before line 1, and gives the answer to that.
     pub fn take_book(&mut self, book: &[u8], work: &mut Work) -> Result<Vec<u8>, AllocError>
-        ensures answer { IfOk result (λ text. text.items ≡ edit_answer self.old.session.text (edited self.old.session.text (insertion 1 (book_lines book.now)))) }
-        ensures session { IfOk result (λ _. self.new.session.text ≡ result_unwrap_or (edited self.old.session.text (insertion 1 (book_lines book.now))) self.old.session.text) }
+        ensures answer { IfOk result (λ text. text.items ≡ edit_answer self.old.session.text
+            (edited self.old.session.text (insertion 1 (book_lines book.now)))) }
+        ensures session { IfOk result (λ _. self.new.session.text
+            ≡ result_unwrap_or (edited self.old.session.text (insertion 1 (book_lines book.now))) self.old.session.text) }
         ensures publisher { self.new.publisher ≡ self.old.publisher }
-        ensures gathering { self.new.gathering ≡ self.old.gathering }
+        ensures pending { self.new.pending ≡ self.old.pending }
     {
         let lines = book_lines(self.alloc, book)?;
         self.change(&Edit::Insert { at: 1, lines }, work)
@@ -92,11 +96,13 @@ impl Dialogue {
     ) -> Result<Reply, AllocError>
         requires { length lines.items ≡ line_count command }
         ensures reply { let request = request_of command (text_of lines) in
-            IfOk result (λ reply. RespondsBy (holding_of self.old) (holding_of self.new) request reply (S.seen store.old) (S.seen store.new)) }
+            IfOk result (λ reply. RespondsBy (view_of self.old) (view_of self.new) request reply
+            (S.seen store.old) (S.seen store.new)) }
         ensures unchanged { let request = request_of command (text_of lines) in
-            OnErr result (RequestStops (holding_of self.old) request (S.seen store.old) (S.seen store.new)) }
-        ensures gathering { self.new.gathering ≡ self.old.gathering }
-        ensures uncounted { OnOk result (is_taken self.old.session.text (request_of command (text_of lines)) ≡ false → work.new ≡ work.old) }
+            OnErr result (RequestStops (view_of self.old) request (S.seen store.old) (S.seen store.new)) }
+        ensures pending { self.new.pending ≡ self.old.pending }
+        ensures uncounted { OnOk result (is_taken self.old.session.text (request_of command (text_of lines)) ≡ false
+            → work.new ≡ work.old) }
     {
         match command {
             Command::Insert { at, .. } => {
@@ -143,16 +149,17 @@ impl Dialogue {
         store: &mut S,
         work: &mut Work,
     ) -> Result<Reply, AllocError>
-        requires idle { self.old.gathering ≡ None }
+        requires idle { self.old.pending ≡ None }
         requires few { length lines.items ≤ line_count command }
-        ensures unchanged { let begun = begun_with command (text_of lines) in
-            OnErr result (CommandStops (holding_of self.old) begun (S.seen store.old) (S.seen store.new)) }
-        ensures reply { let begun = begun_with command (text_of lines) in
+        ensures unchanged { let begun = with_first_lines command (text_of lines) in
+            OnErr result (CommandStops (view_of self.old) begun (S.seen store.old) (S.seen store.new)) }
+        ensures reply { let begun = with_first_lines command (text_of lines) in
             IfOk result (λ reply. ProceedsBy self.old self.new begun reply (S.seen store.old) (S.seen store.new)) }
-        ensures uncounted { OnOk result (is_taken self.old.session.text (request_of command (text_of lines)) ≡ false → work.new ≡ work.old) }
+        ensures uncounted { OnOk result (is_taken self.old.session.text (request_of command (text_of lines)) ≡ false
+            → work.new ≡ work.old) }
     {
         if lines.len() < command.line_count() {
-            self.gathering = Some(Gathering { command, lines });
+            self.pending = Some(PendingCommand { command, lines });
             return Ok(Reply::Nothing);
         }
         self.respond(command, lines, store, work)
@@ -160,19 +167,19 @@ impl Dialogue {
 }
 
 impl Machine for Dialogue {
-    ghost use Rattle.abc2midi_live.specs.Dialogue.{awaited, request_with};
-    ghost use Rattle.abc2midi_live.specs.DialogueState.{holding_of};
-    ghost use Rattle.abc2midi_live.specs.Gathering.{begun_of};
-    ghost use Rattle.abc2midi_live.specs.Machine.{standing};
+    ghost use Rattle.abc2midi_live.specs.Dialogue.{dialogue_future, request_with};
+    ghost use Rattle.abc2midi_live.specs.DialogueState.{view_of};
+    ghost use Rattle.abc2midi_live.specs.PendingCommand.{begun_command};
+    ghost use Rattle.abc2midi_live.specs.Machine.{machine_state};
     ghost use Rattle.abc2midi_live.specs.Waiting.{dialogue_unasked, dialogue_waits};
 
-    ghost state = { λ d. standing (awaited (holding_of d) (begun_of d.gathering)) (maps_of d.publisher).directory };
+    ghost state = { λ d. machine_state (dialogue_future (view_of d) (begun_command d.pending)) (maps_of d.publisher).directory };
 
-    ghost costs = { λ d line. is_taken d.session.text (request_with (begun_of d.gathering) line) };
+    ghost costs = { λ d line. is_taken d.session.text (request_with (begun_command d.pending) line) };
 
-    ghost waits = { λ d. dialogue_waits (holding_of d) d.gathering };
+    ghost waits = { λ d. dialogue_waits (view_of d) d.pending };
 
-    ghost unasked = { λ d lines. dialogue_unasked (holding_of d) (begun_of d.gathering) lines };
+    ghost unasked = { λ d lines. dialogue_unasked (view_of d) (begun_command d.pending) lines };
 
     fn take_line<S: Store>(
         &mut self,
@@ -180,8 +187,8 @@ impl Machine for Dialogue {
         store: &mut S,
         work: &mut Work,
     ) -> Result<Reply, AllocError> {
-        match self.gathering.take() {
-            Some(Gathering { command, mut lines }) => {
+        match self.pending.take() {
+            Some(PendingCommand { command, mut lines }) => {
                 lines.push(line)?;
                 self.proceed(command, lines, store, work)
             }
@@ -192,8 +199,8 @@ impl Machine for Dialogue {
         }
     }
 
-    fn last_words(&self) -> &'static [u8] {
-        match self.gathering {
+    fn on_end_of_input(&self) -> &'static [u8] {
+        match self.pending {
             Some(_) => b"error truncated\n",
             None => b"",
         }

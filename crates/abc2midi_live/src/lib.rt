@@ -20,6 +20,6 @@ pub use abc_lines::EditError;
 pub use book_fault::fault_of_book;
 pub use command::Command;
 pub use fault::RunFault;
-pub use reading::{MOST_READS, run_limits};
+pub use reading::MOST_READS;
 pub use streams::{Piped, Sink, Source, Store, StoreFault, StreamFault};
 pub use transcript::{run, run_before_exit};

@@ -20,7 +20,7 @@ use std::mem;
 /// How many bytes of a line of the input are kept: one more than a line of a text may have.
 const MOST_KEPT: usize = LONGEST_LINE + 1;
 
-// Hands a line to the machine and writes its answer. Whether the machine goes on.
+// Passes a line to the machine and writes its answer. Returns whether the machine goes on.
 #[tactic(auto, using(crate::proofs::Counts::raised_none))]
 fn serve<M: Machine, W: Sink, S: Store>(
     machine: &mut M,
@@ -30,8 +30,9 @@ fn serve<M: Machine, W: Sink, S: Store>(
     work: &mut Work,
 ) -> Result<bool, RunFault>
     ensures answer { let out = outlets_of W.contents S.seen in
-        ServesOrFails (M.state machine.old) (M.state machine.new) (line.items ∷ []) (out writer.old store.old) (out writer.new store.new) result }
-    ensures fails { W.failures writer.new ≡ raised (W.failures writer.old) (write_faults result) }
+        ServesOrFails (M.state machine.old) (M.state machine.new) (line.items ∷ []) (out writer.old store.old)
+        (out writer.new store.new) result }
+    ensures failures { W.failures writer.new ≡ raised (W.failures writer.old) (write_faults result) }
     ensures uncounted { OnOk result (M.costs machine.old line.items ≡ false → work.new ≡ work.old) }
 {
     match machine.take_line(line, store, work)? {
@@ -46,11 +47,11 @@ fn serve<M: Machine, W: Sink, S: Store>(
 
 // Writes a text, if there is one.
 #[tactic(auto, using(crate::proofs::Counts::raised_none))]
-fn say<W: Sink>(writer: &mut W, text: &[u8]) -> Result<(), RunFault>
+fn write_text<W: Sink>(writer: &mut W, text: &[u8]) -> Result<(), RunFault>
     ensures answer { MatchResult result
         (λ _. Appends (W.contents writer.old) (W.contents writer.new) text.now)
         (λ fault. fault ≡ RunFault.Write) }
-    ensures fails { W.failures writer.new ≡ raised (W.failures writer.old) (write_faults result) }
+    ensures failures { W.failures writer.new ≡ raised (W.failures writer.old) (write_faults result) }
 {
     if text.is_empty() {
         return Ok(());
@@ -61,7 +62,7 @@ fn say<W: Sink>(writer: &mut W, text: &[u8]) -> Result<(), RunFault>
     }
 }
 
-/// A machine, what has come of its next line, and where lines are allocated.
+/// A machine, the part of its next line that has come, and the allocator of lines.
 #[derive(Drop)]
 pub struct Listener<M> {
     machine: M,
@@ -73,7 +74,7 @@ pub struct Listener<M> {
 
 #[tactic(auto, using(crate::proofs::Counts::raised_none))]
 impl<M: Machine> Listener<M> {
-    ghost use Rattle.abc2midi_live.specs.Listener.{hears};
+    ghost use Rattle.abc2midi_live.specs.Listener.{at_byte};
 
     /// Nothing has come yet.
     pub fn new(alloc: Global, machine: M) -> Listener<M>
@@ -106,7 +107,7 @@ impl<M: Machine> Listener<M> {
     }
 
     // Takes the line that has come.
-    fn take_begun(&mut self) -> Vec<u8>
+    fn take_partial_line(&mut self) -> Vec<u8>
         ensures line { result.items ≡ self.old.begun.items }
         ensures begun { self.new.begun.items ≡ [] }
         ensures machine { self.new.machine ≡ self.old.machine }
@@ -123,17 +124,17 @@ impl<M: Machine> Listener<M> {
         work: &mut Work,
     ) -> Result<bool, RunFault>
         requires { IsClean piece.now }
-        ensures answer { let out = outlets_of W.contents S.seen in ServesOrFails (hears M.state self.old) (hears M.state self.new)
+        ensures answer { let out = outlets_of W.contents S.seen in ServesOrFails (at_byte M.state self.old)
+            (at_byte M.state self.new)
             (piece.now ++ line_feed ∷ []) (out writer.old store.old) (out writer.new store.new) result }
-        ensures fails { W.failures writer.new ≡ raised (W.failures writer.old) (write_faults result) }
+        ensures failures { W.failures writer.new ≡ raised (W.failures writer.old) (write_faults result) }
     {
         self.keep(piece)?;
-        let line = self.take_begun();
+        let line = self.take_partial_line();
         serve(&mut self.machine, writer, line, store, work)
     }
 
-    /// Serves the lines that end in a piece of the input, and keeps what comes behind them. Whether the machine
-    /// goes on.
+    /// Serves the lines that end in a piece of the input, and keeps the rest. Returns whether the machine goes on.
     pub fn feed<W: Sink, S: Store>(
         &mut self,
         writer: &mut W,
@@ -141,9 +142,10 @@ impl<M: Machine> Listener<M> {
         store: &mut S,
         work: &mut Work,
     ) -> Result<bool, RunFault>
-        ensures answer { let out = outlets_of W.contents S.seen in FeedsOrBreaks (hears M.state self.old) (hears M.state self.new)
+        ensures answer { let out = outlets_of W.contents S.seen in FeedsOrBreaks (at_byte M.state self.old)
+            (at_byte M.state self.new)
             piece.now (out writer.old store.old) (out writer.new store.new) result }
-        ensures fails { W.failures writer.new ≡ raised (W.failures writer.old) (write_faults result) }
+        ensures failures { W.failures writer.new ≡ raised (W.failures writer.old) (write_faults result) }
     {
         let mut rest = piece;
         'lines: loop {
@@ -162,7 +164,7 @@ impl<M: Machine> Listener<M> {
         }
     }
 
-    /// Serves what has come of a last line, and writes what the machine answers where no more lines come.
+    /// Serves what has come of a last line, and writes the machine's answer to the end of the input.
     pub fn finish<W: Sink, S: Store>(
         &mut self,
         writer: &mut W,
@@ -170,15 +172,15 @@ impl<M: Machine> Listener<M> {
         work: &mut Work,
     ) -> Result<(), RunFault>
         ensures answer { let out = outlets_of W.contents S.seen in
-            TellsOrFails (hears M.state self.old) (out writer.old store.old) (out writer.new store.new) result }
-        ensures fails { W.failures writer.new ≡ raised (W.failures writer.old) (write_faults result) }
+            TellsOrFails (at_byte M.state self.old) (out writer.old store.old) (out writer.new store.new) result }
+        ensures failures { W.failures writer.new ≡ raised (W.failures writer.old) (write_faults result) }
     {
         if self.begun.is_empty() {
-            return say(writer, self.machine.last_words());
+            return write_text(writer, self.machine.on_end_of_input());
         }
-        let line = self.take_begun();
+        let line = self.take_partial_line();
         if serve(&mut self.machine, writer, line, store, work)? {
-            say(writer, self.machine.last_words())
+            write_text(writer, self.machine.on_end_of_input())
         } else {
             Ok(())
         }

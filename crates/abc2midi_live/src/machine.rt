@@ -1,14 +1,14 @@
 //! What takes the lines of an input one after another, and answers some of them.
 
 ghost use Rattle.std.specs.Prelude.{◌≡◌, Bool, false, Some, List, ℕ, [], ◌∷◌, IfOk, OnErr, OnOk};
-ghost use Rattle.abc2midi_live.specs.Machine.{AsksNothing, CarriesOut, Standing, TakesLine};
-ghost use Rattle.abc2midi_live.specs.Told.{told, SoFar, Stopped, Whole};
+ghost use Rattle.abc2midi_live.specs.Machine.{AsksNothing, CarriesOut, MachineState, TakesLine};
+ghost use Rattle.abc2midi_live.specs.RunOutput.{run_output, SoFar, Stopped, Whole};
 
 use crate::streams::Store;
 use abc_fold::Work;
 use std::alloc::AllocError;
 
-/// What a machine says to a line.
+/// What a machine answers to a line.
 #[derive(Drop)]
 pub enum Reply {
     /// It waits for more lines.
@@ -22,7 +22,7 @@ pub enum Reply {
 /// A machine that takes lines, and puts and removes files in a store.
 pub trait Machine {
     // What it answers to the lines that come, and what the store is known to hold.
-    ghost state: { Self → Standing (List ℕ) };
+    ghost state: { Self → MachineState (List ℕ) };
 
     // Whether a line may cost work that is counted.
     ghost costs: { Self → List ℕ → Bool };
@@ -36,15 +36,16 @@ pub trait Machine {
     ) -> Result<Reply, AllocError>
         ensures reply { IfOk result (TakesLine (state self.old) (state self.new) line.items (S.seen store.old) (S.seen store.new)) }
         ensures unchanged { let before = state self.old in
-            OnErr result (CarriesOut before.directory (before.future Stopped (line.items ∷ [])) (S.seen store.old) (S.seen store.new)) }
+            OnErr result (CarriesOut before.directory (before.future Stopped (line.items ∷ [])) (S.seen store.old)
+            (S.seen store.new)) }
         ensures uncounted { OnOk result (costs self.old line.items ≡ false → work.new ≡ work.old) };
 
-    /// What it tells where no more lines come.
-    fn last_words(&self) -> &'static [u8]
-        ensures { (state self.now).future Whole [] [] ≡ Some (told result.now (state self.now).directory) };
+    /// What it answers at the end of the input.
+    fn on_end_of_input(&self) -> &'static [u8]
+        ensures { (state self.now).future Whole [] [] ≡ Some (run_output result.now (state self.now).directory) };
 
-    // Nothing is told before a line comes.
-    ghost waits: { (m : Self) → (state m).future SoFar [] [] ≡ Some (told [] (state m).directory) };
+    // Nothing is written before a line comes.
+    ghost waits: { (m : Self) → (state m).future SoFar [] [] ≡ Some (run_output [] (state m).directory) };
 
     // Nothing is asked for before the store answers.
     ghost unasked: { (m : Self) (lines : List (List ℕ)) → AsksNothing (state m).directory ((state m).future Stopped lines) };

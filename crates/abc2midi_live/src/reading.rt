@@ -1,8 +1,8 @@
 //! A machine that listens to a reader, from its first byte to the end of the input.
 
-ghost use Rattle.std.specs.Prelude.{◌≡◌, ◌<◌, ◌≤◌, ◌-◌, ◌^◌, ℕ, length};
-ghost use Rattle.abc2midi_live.specs.Outcome.{read_faults, write_faults, ends_of, read_counts, AnswersAll, Reads, TurnsOrFails};
-ghost use Rattle.abc2midi_live.specs.Listener.{hears};
+ghost use Rattle.std.specs.Prelude.{◌≡◌, ◌<◌, ◌≤◌, ℕ, length};
+ghost use Rattle.abc2midi_live.specs.Outcome.{read_faults, write_faults, run_ends_of, read_counts, AnswersAll, Reads, TurnsOrFails};
+ghost use Rattle.abc2midi_live.specs.Listener.{at_byte};
 ghost use Rattle.abc_fold.specs.Work.{raised};
 
 use crate::fault::RunFault;
@@ -18,14 +18,11 @@ pub const MOST_READS: u32 = 4_294_967_295;
 /// How many bytes are read at a time.
 const PIECE: usize = 8_192;
 
-/// A run makes as many reads as 32 bits can count.
-pub fn run_limits()
-    ensures { MOST_READS ≡ 2 ^ 32 - 1 }
-{}
+const _: () = prove!(MOST_READS == u32::MAX);
 
 // One read, and what it leads to. Whether the run goes on.
 #[tactic(auto, using(crate::proofs::Counts::raised_none))]
-fn turn<M: Machine, R: Source, W: Sink, S: Store>(
+fn serve_read<M: Machine, R: Source, W: Sink, S: Store>(
     listener: &mut Listener<M>,
     buffer: &mut [u8],
     reader: &mut R,
@@ -34,7 +31,8 @@ fn turn<M: Machine, R: Source, W: Sink, S: Store>(
     work: &mut Work,
 ) -> Result<bool, RunFault>
     requires { 0 < length buffer.old }
-    ensures answers { let e = ends_of R.remaining W.contents S.seen in TurnsOrFails (hears M.state listener.old) (hears M.state listener.new)
+    ensures answers { let e = run_ends_of R.remaining W.contents S.seen in TurnsOrFails (at_byte M.state listener.old)
+        (at_byte M.state listener.new)
         (e reader.old writer.old store.old) (e reader.new writer.new store.new) result }
     ensures calls { R.calls reader.new ≡ raised (R.calls reader.old) 1 }
     ensures reads { R.failures reader.new ≡ raised (R.failures reader.old) (read_faults result) }
@@ -61,7 +59,7 @@ pub fn listen<M: Machine + Drop, R: Source, W: Sink, S: Store>(
     store: &mut S,
     work: &mut Work,
 ) -> Result<M, RunFault>
-    ensures answers { let e = ends_of R.remaining W.contents S.seen in
+    ensures answers { let e = run_ends_of R.remaining W.contents S.seen in
         AnswersAll (M.state machine) (e reader.old writer.old store.old) (e reader.new writer.new store.new) result }
     ensures calls { (made : ℕ) × (made ≤ MOST_READS) × (R.calls reader.new ≡ raised (R.calls reader.old) made) }
     ensures reads { Reads (R.remaining reader.old) (read_counts (R.failures reader.old) (R.calls reader.old))
@@ -71,7 +69,7 @@ pub fn listen<M: Machine + Drop, R: Source, W: Sink, S: Store>(
     let mut listener = Listener::new(alloc, machine);
     let mut buffer = [0; PIECE];
     'reads: for _ in 0..MOST_READS {
-        if !turn(&mut listener, &mut buffer, reader, writer, store, work)? {
+        if !serve_read(&mut listener, &mut buffer, reader, writer, store, work)? {
             return Ok(listener.into_machine());
         }
     }

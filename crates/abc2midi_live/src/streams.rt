@@ -1,5 +1,5 @@
-//! Where commands come from, where answers go to, and where files are kept. Each counts its failures, so that
-//! contracts can say what caused a fault, and may tell its bytes.
+//! The source of commands, the sink of answers, and the store of files. Each counts its failures, so that contracts can
+//! name the cause of a fault, and may give its bytes.
 
 ghost use Rattle.std.specs.Prelude.{◌≡◌, ◌↔◌, ℕ, List, Option, None, IsTrue, OnOk, MatchResult};
 ghost use Rattle.std.specs.Io.{ReadsAtMost};
@@ -29,16 +29,16 @@ pub trait Source {
     // How many calls were made.
     ghost calls: { Self → ℕ };
 
-    // The bytes to come, where they are told.
+    // The bytes to come, if they are known.
     ghost remaining: { Self → Option (List ℕ) } = { λ _. None };
 
-    /// Puts the next bytes at the front of the buffer, and answers how many there are: none only at the end of the
-    /// input, or into a buffer without room. A fault takes no bytes.
+    /// Reads the next bytes into the front of the buffer, and returns how many: none only at the end of the input, or
+    /// into an empty buffer. A fault takes no bytes.
     fn read(&mut self, buf: &mut [u8]) -> Result<usize, StreamFault>
         ensures within { ReadsAtMost result buf.new }
         ensures bytes { ReadConsumes (remaining self.old) (remaining self.new) result buf.new }
-        ensures fails { failures self.new ≡ raised (failures self.old) (faults result) }
-        ensures counts { calls self.new ≡ raised (calls self.old) 1 };
+        ensures failures { failures self.new ≡ raised (failures self.old) (faults result) }
+        ensures calls { calls self.new ≡ raised (calls self.old) 1 };
 }
 
 /// What answers are written to.
@@ -46,35 +46,35 @@ pub trait Sink {
     // How many calls failed.
     ghost failures: { Self → ℕ };
 
-    // The bytes written, where they are told.
+    // The bytes written, if they are known.
     ghost contents: { Self → Option (List ℕ) } = { λ _. None };
 
-    /// Appends all the bytes. After a fault nothing is said of how many of them went out.
+    /// Appends all the bytes. After a fault some of them may have been written.
     fn write_all(&mut self, bytes: &[u8]) -> Result<(), StreamFault>
         ensures bytes { OnOk result (Appends (contents self.old) (contents self.new) bytes.now) }
-        ensures fails { failures self.new ≡ raised (failures self.old) (faults result) };
+        ensures failures { failures self.new ≡ raised (failures self.old) (faults result) };
 }
 
 /// What keeps files by their names.
 pub trait Store {
-    // How many calls failed, how many were made, and the bytes under each name, where they are told.
+    // How many calls failed, how many were made, and the bytes under each name, if they are known.
     ghost seen: { Self → StoreSeen };
 
-    /// Puts the bytes under the name, in place of what is there. A fault leaves the other names.
+    /// Stores the bytes under the name, instead of what is there. A fault leaves the other names.
     fn put(&mut self, name: &str, bytes: &[u8]) -> Result<(), StoreFault>
         ensures files { MatchResult result
             (λ _. Puts (seen self.old).contents (seen self.new).contents name.now bytes.now)
             (λ _. KeepsOthers (seen self.old).contents (seen self.new).contents name.now) }
-        ensures fails { (seen self.new).failures ≡ raised (seen self.old).failures (faults result) }
-        ensures counts { (seen self.new).calls ≡ raised (seen self.old).calls 1 };
+        ensures failures { (seen self.new).failures ≡ raised (seen self.old).failures (faults result) }
+        ensures calls { (seen self.new).calls ≡ raised (seen self.old).calls 1 };
 
-    /// Takes the name out, which is no fault where it is not there. A fault leaves the other names.
+    /// Removes the name; a missing name is no fault. A fault leaves the other names.
     fn remove(&mut self, name: &str) -> Result<(), StoreFault>
         ensures files { MatchResult result
             (λ _. TakesOut (seen self.old).contents (seen self.new).contents name.now)
             (λ _. KeepsOthers (seen self.old).contents (seen self.new).contents name.now) }
-        ensures fails { (seen self.new).failures ≡ raised (seen self.old).failures (faults result) }
-        ensures counts { (seen self.new).calls ≡ raised (seen self.old).calls 1 };
+        ensures failures { (seen self.new).failures ≡ raised (seen self.old).failures (faults result) }
+        ensures calls { (seen self.new).calls ≡ raised (seen self.old).calls 1 };
 }
 
 /// A source over a reader of std, or a sink over a writer.
@@ -100,7 +100,7 @@ impl<T> Piped<T> {
     }
 }
 
-/// Whether a signal came in between, so that the call is made again.
+/// Whether a signal interrupted the call, so that it is made again.
 fn is_interrupted(error: &Error) -> bool
     ensures { IsTrue result ↔ (error_kind error.now ≡ ErrorKind.Interrupted) }
 {

@@ -1,7 +1,7 @@
 //! A run of commands: read, carried out, answered.
 
 ghost use Rattle.std.specs.Prelude.{◌≡◌, ◌≤◌, ℕ, IfOk, option_copied};
-ghost use Rattle.abc2midi_live.specs.Outcome.{write_faults, ends_of, read_counts, Reads, Transcribes};
+ghost use Rattle.abc2midi_live.specs.Outcome.{write_faults, run_ends_of, read_counts, Reads, Transcribes};
 ghost use Rattle.abc_fold.specs.Work.{raised};
 ghost use Rattle.abc_publish.specs.Publisher.{maps_of};
 ghost use Rattle.abc2midi_live.specs.DialogueState.{OpensOrFails};
@@ -17,7 +17,7 @@ use std::mem;
 
 /// The dialogue on the text of a tune book, if there is one, whose answer is written.
 #[tactic(auto, using(crate::proofs::Counts::raised_none))]
-fn opened<W: Sink>(
+fn open_dialogue<W: Sink>(
     alloc: Global,
     book: Option<&[u8]>,
     writer: &mut W,
@@ -25,7 +25,7 @@ fn opened<W: Sink>(
 ) -> Result<Dialogue, RunFault>
     ensures answer { OpensOrFails (option_copied book.entry) (W.contents writer.old) (W.contents writer.new) result }
     ensures directory { IfOk result (λ d. (maps_of d.publisher).directory ≡ no_directory) }
-    ensures fails { W.failures writer.new ≡ raised (W.failures writer.old) (write_faults result) }
+    ensures failures { W.failures writer.new ≡ raised (W.failures writer.old) (write_faults result) }
 {
     let mut dialogue = Dialogue::new(alloc)?;
     match book {
@@ -40,8 +40,8 @@ fn opened<W: Sink>(
     }
 }
 
-// The dialogue as a run leaves it.
-fn ended<R: Source, W: Sink, S: Store>(
+// The dialogue after a run.
+fn dialogue_after_run<R: Source, W: Sink, S: Store>(
     alloc: Global,
     book: Option<&[u8]>,
     reader: &mut R,
@@ -49,23 +49,23 @@ fn ended<R: Source, W: Sink, S: Store>(
     store: &mut S,
     work: &mut Work,
 ) -> Result<Dialogue, RunFault>
-    ensures transcript { let e = ends_of R.remaining W.contents S.seen in
+    ensures transcript { let e = run_ends_of R.remaining W.contents S.seen in
         Transcribes (option_copied book.entry) (e reader.old writer.old store.old) (e reader.new writer.new store.new) result }
     ensures calls { (made : ℕ) × (made ≤ MOST_READS) × (R.calls reader.new ≡ raised (R.calls reader.old) made) }
     ensures reads { Reads (R.remaining reader.old) (read_counts (R.failures reader.old) (R.calls reader.old))
         (read_counts (R.failures reader.new) (R.calls reader.new)) result }
     ensures writes { W.failures writer.new ≡ raised (W.failures writer.old) (write_faults result) }
 {
-    let dialogue = opened(alloc, book, writer, work)?;
+    let dialogue = open_dialogue(alloc, book, writer, work)?;
     listen(alloc, dialogue, reader, writer, store, work)
 }
 
-/// Puts the lines of a tune book, if there is one, into a text that is empty at first, reads commands to the end of
-/// the input or `quit`, carries them out, and writes the answers to all of these. `build` puts files into the store
-/// and takes them out.
+/// Puts the lines of a tune book, if there is one, into a text that is empty at first, reads commands to the end of the
+/// input or `quit`, carries them out, and writes the answers to all of these. `build` puts files into the store and
+/// removes them.
 ///
-/// `Read` is answered where the reader fails or 4,294,967,295 reads were made, `Write` where the writer fails, and
-/// `Memory` where there is no memory. A fault of the store is no fault of the run.
+/// The fault is `Read` if the reader fails or 4,294,967,295 reads were made, `Write` if the writer fails, and `Memory`
+/// if an allocation fails. A fault of the store is no fault of the run.
 pub fn run<R: Source, W: Sink, S: Store>(
     alloc: Global,
     book: Option<&[u8]>,
@@ -75,9 +75,9 @@ pub fn run<R: Source, W: Sink, S: Store>(
     work: &mut Work,
 ) -> Result<(), RunFault>
 
-    // What is written is the transcript of the book, of all that there is to read, and of the store's answers; the
-    // store then holds what the transcript says. Or what a fault leaves of these.
-    ensures transcript { let e = ends_of R.remaining W.contents S.seen in
+    // What is written is the transcript of the book, of the whole input and of the store's answers; the store then
+    // holds what the transcript says. Or what a fault leaves of these.
+    ensures transcript { let e = run_ends_of R.remaining W.contents S.seen in
         Transcribes (option_copied book.entry) (e reader.old writer.old store.old) (e reader.new writer.new store.new) result }
 
     // What the counts of the reader and the writer say.
@@ -86,13 +86,12 @@ pub fn run<R: Source, W: Sink, S: Store>(
         (read_counts (R.failures reader.new) (R.calls reader.new)) result }
     ensures writes { W.failures writer.new ≡ raised (W.failures writer.old) (write_faults result) }
 {
-    let _dialogue = ended(alloc, book, reader, writer, store, work)?;
+    let _dialogue = dialogue_after_run(alloc, book, reader, writer, store, work)?;
     Ok(())
 }
 
-/// The same as `run`, for a process that ends behind it. Where it answers `Ok` it does not give the memory of the
-/// session back: the system takes the memory of a process back at once, while piece by piece that takes a fifth of
-/// the time of opening a large book. Whoever goes on behind the run calls `run`, which gives all back.
+/// The same as `run`, for a process that ends after it. After `Ok` it does not free the memory of the session: the
+/// operating system reclaims that at once. A caller that goes on after the run calls `run`.
 pub fn run_before_exit<R: Source, W: Sink, S: Store>(
     alloc: Global,
     book: Option<&[u8]>,
@@ -103,14 +102,14 @@ pub fn run_before_exit<R: Source, W: Sink, S: Store>(
 ) -> Result<(), RunFault>
 
     // The clauses of `run`.
-    ensures transcript { let e = ends_of R.remaining W.contents S.seen in
+    ensures transcript { let e = run_ends_of R.remaining W.contents S.seen in
         Transcribes (option_copied book.entry) (e reader.old writer.old store.old) (e reader.new writer.new store.new) result }
     ensures calls { (made : ℕ) × (made ≤ MOST_READS) × (R.calls reader.new ≡ raised (R.calls reader.old) made) }
     ensures reads { Reads (R.remaining reader.old) (read_counts (R.failures reader.old) (R.calls reader.old))
         (read_counts (R.failures reader.new) (R.calls reader.new)) result }
     ensures writes { W.failures writer.new ≡ raised (W.failures writer.old) (write_faults result) }
 {
-    let dialogue = ended(alloc, book, reader, writer, store, work)?;
+    let dialogue = dialogue_after_run(alloc, book, reader, writer, store, work)?;
     mem::forget(dialogue);
     Ok(())
 }

@@ -1,5 +1,6 @@
 -- The voices that a header declares: one more line says of them what it gives.
-use Rattle.std.proofs.Common.{◌≡◌, ℕ, ℤ, suc, ◌+◌, ◌||◌, nat_lt, nat_le, Bool, true, false, cond, is_some, List, [], ◌∷◌, ◌++◌, length, map, Option, Some, None, bytes_eq, refl, sym, ap, subst, ◌∙◌, add-one, length-append, lit≤, arith, ◌≤◌}
+use Rattle.std.proofs.Common.{◌≡◌, ℕ, ℤ, suc, ◌+◌, ◌||◌, nat_lt, nat_le, Bool, true, false, cond, is_some, List, [], ◌∷◌, ◌++◌, length, map, Option, Some, None, bytes_eq, refl, sym, ap, subst, ◌∙◌}
+use Rattle.std.proofs.Common.{add-one, length-append, lit≤, arith, ◌≤◌}
 use Rattle.std.proofs.lemmas.Bool.Decides.{nat_tests}
 use Rattle.std.proofs.lemmas.Cmp.{nat_list_eq_equiv}
 use Rattle.std.proofs.lemmas.List.{map-append}
@@ -12,12 +13,12 @@ use Rattle.abc_fields.specs.declared.fault.FaultCode.{FaultCode}
 use Rattle.abc_fields.specs.declared.fault.FaultCode.TheVariants.{TooManyVoices}
 use Rattle.abc_fields.specs.declared.shift.Shift.{Shift}
 use Rattle.abc_fields.specs.Shift.{no_shift}
-use Rattle.abc_header.specs.Header.{declared, declared_by, said_at, said_of, shift_said}
-use Rattle.abc_header.specs.HeaderLine.{HeaderLine}
+use Rattle.abc_bars_header.specs.Header.{declare, declare_at, with_shift_at, with_shift_of, merge_shift}
+use Rattle.abc_bars_header.specs.HeaderLine.{HeaderLine}
 use Rattle.abc_bars.specs.LookBack.Header.{declared_names, declared_shift, last_part, part_said, voice_on, voices_at, with_name, with_named}
-use Rattle.abc_header.specs.Voices.{place_of, voice_at}
-use Rattle.abc_items.specs.declared.item.TheConstants.{MOST_VOICES}
-use Rattle.abc_header.proofs.NamePlaces.{place_here, place_behind}
+use Rattle.abc_bars_header.specs.Voices.{place_of, voice_at}
+use Rattle.abc_bars_items.specs.declared.item.TheConstants.{MOST_VOICES}
+use Rattle.abc_bars_header.proofs.NamePlaces.{place_here, place_behind}
 
 -- A test passes or does not.
 by_test : {P : Type 0} (b : Bool) → (b ≡ true → P) → (b ≡ false → P) → P
@@ -37,7 +38,7 @@ said_on name shift said other = record {
 }
 
 -- It is said for the voice of that name.
-said_for : (name : List ℕ) (shift : Shift) (said : List ℕ → Shift) (other : List ℕ) → bytes_eq other name ≡ true → said_on name shift said other ≡ shift_said shift (said other)
+said_for : (name : List ℕ) (shift : Shift) (said : List ℕ → Shift) (other : List ℕ) → bytes_eq other name ≡ true → said_on name shift said other ≡ merge_shift shift (said other)
 said_for name shift said other same = ap (λ b. record {
   clef = option_or (cond b shift.clef None) (said other).clef;
   octave = option_or (cond b shift.octave None) (said other).octave;
@@ -58,7 +59,7 @@ or_none None before none = none
 or_none (Some v) before none = refl
 
 -- It is all that is said for a voice of which nothing was said before.
-said_first : (shift before : Shift) → before ≡ no_shift → shift_said shift before ≡ shift
+said_first : (shift before : Shift) → before ≡ no_shift → merge_shift shift before ≡ shift
 said_first shift before none = λ i. record {
   clef = or_none shift.clef before.clef (ap (λ s. s.clef) none) i;
   octave = or_none shift.octave before.octave (ap (λ s. s.octave) none) i;
@@ -75,15 +76,16 @@ others_stay name shift said (other ∷ names) differ =
     λ i. (other, stays i) ∷ rest i
 
 -- Each name in front is put before the voices.
-said_behind : (voice : List ℕ × Shift) (voices : List (List ℕ × Shift)) (at : ℕ) (shift : Shift) → said_at (voice ∷ voices) (suc at) shift ≡ voice ∷ said_at voices at shift
+said_behind : (voice : List ℕ × Shift) (voices : List (List ℕ × Shift)) (at : ℕ) (shift : Shift) → with_shift_at (voice ∷ voices) (suc at) shift ≡ voice ∷ with_shift_at voices at shift
 said_behind voice voices at shift = go (voice_at voices at)
   where
-    go : (known : Option Shift) → said_of (voice ∷ voices) (suc at) shift known ≡ voice ∷ said_of voices at shift known
+    go : (known : Option Shift) → with_shift_of (voice ∷ voices) (suc at) shift known ≡ voice ∷ with_shift_of voices at shift known
     go None = refl
     go (Some before) = refl
 
--- The names behind the one with this name are others.
-others_behind : (name here : List ℕ) (names : List (List ℕ)) → bytes_eq name here ≡ true → AllByRecursion (λ other. bytes_eq here other ≡ false) names → AllByRecursion (λ other. bytes_eq name other ≡ false) names
+-- The names after the one with this name are others.
+others_behind : (name here : List ℕ) (names : List (List ℕ)) → bytes_eq name here ≡ true → AllByRecursion (λ other. bytes_eq here other ≡ false) names
+    → AllByRecursion (λ other. bytes_eq name other ≡ false) names
 others_behind name here [] same differ = tt
 others_behind name here (other ∷ names) same differ =
     (nat_list_eq_equiv.congr name here other same ∙ differ.0, others_behind name here names same differ.1)
@@ -91,33 +93,33 @@ others_behind name here (other ∷ names) same differ =
 -- What is said for the first of the voices.
 again_first : (here : List ℕ) (names : List (List ℕ)) (name : List ℕ) (shift : Shift) (said : List ℕ → Shift) (at : ℕ) → IsDistinct bytes_eq (here ∷ names) →
     bytes_eq name here ≡ true → position (bytes_eq name) (here ∷ names) ≡ Some at →
-    said_at (map (voice_with said) (here ∷ names)) at shift ≡ map (voice_with (said_on name shift said)) (here ∷ names)
+    with_shift_at (map (voice_with said) (here ∷ names)) at shift ≡ map (voice_with (said_on name shift said)) (here ∷ names)
 again_first here names name shift said at distinct same found =
     let first : at ≡ 0 = cc (found, place_here (bytes_eq name) here names same) in
     let now = sym (said_for name shift said here (nat_list_eq_equiv.symm here name ∙ same)) in
     let rest = others_stay name shift said names (others_behind name here names same (IsDistinct-head bytes_eq here names distinct)) in
-    ap (λ k. said_at (map (voice_with said) (here ∷ names)) k shift) first ∙ (λ i. (here, now i) ∷ rest i)
+    ap (λ k. with_shift_at (map (voice_with said) (here ∷ names)) k shift) first ∙ (λ i. (here, now i) ∷ rest i)
 
--- What is said for one behind the first of the voices.
+-- What is said for one after the first of the voices.
 again_behind : (here : List ℕ) (names : List (List ℕ)) (name : List ℕ) (shift : Shift) (said : List ℕ → Shift) (at : ℕ) →
-    ((k : ℕ) → position (bytes_eq name) names ≡ Some k → said_at (map (voice_with said) names) k shift ≡ map (voice_with (said_on name shift said)) names) →
+    ((k : ℕ) → position (bytes_eq name) names ≡ Some k → with_shift_at (map (voice_with said) names) k shift ≡ map (voice_with (said_on name shift said)) names) →
     bytes_eq name here ≡ false → position (bytes_eq name) (here ∷ names) ≡ Some at →
-    said_at (map (voice_with said) (here ∷ names)) at shift ≡ map (voice_with (said_on name shift said)) (here ∷ names)
+    with_shift_at (map (voice_with said) (here ∷ names)) at shift ≡ map (voice_with (said_on name shift said)) (here ∷ names)
 again_behind here names name shift said at further differs found = behind (position (bytes_eq name) names) refl
   where
-    behind : (place : Option ℕ) → position (bytes_eq name) names ≡ place → said_at (map (voice_with said) (here ∷ names)) at shift ≡ map (voice_with (said_on name shift said)) (here ∷ names)
+    behind : (place : Option ℕ) → position (bytes_eq name) names ≡ place → with_shift_at (map (voice_with said) (here ∷ names)) at shift ≡ map (voice_with (said_on name shift said)) (here ∷ names)
     behind None none = absurd (cc (place_behind (bytes_eq name) here names differs, found, none))
     behind (Some k) some =
         let next : at ≡ k + 1 = cc (place_behind (bytes_eq name) here names differs, found, some) in
         let voices = map (voice_with said) names in
         let stays = sym (not_said_for name shift said here (nat_list_eq_equiv.symm here name ∙ differs)) in
         let rest = further k some in
-        ap (λ j. said_at (voice_with said here ∷ voices) j shift) (next ∙ add-one k)
+        ap (λ j. with_shift_at (voice_with said here ∷ voices) j shift) (next ∙ add-one k)
         ∙ said_behind (voice_with said here) voices k shift ∙ (λ i. (here, stays i) ∷ rest i)
 
 -- A voice that is declared already gets what is said for it.
 said_again : (names : List (List ℕ)) (name : List ℕ) (shift : Shift) (said : List ℕ → Shift) (at : ℕ) → IsDistinct bytes_eq names → position (bytes_eq name) names ≡ Some at →
-    said_at (map (voice_with said) names) at shift ≡ map (voice_with (said_on name shift said)) names
+    with_shift_at (map (voice_with said) names) at shift ≡ map (voice_with (said_on name shift said)) names
 said_again [] name shift said at distinct found = absurd (cc)
 said_again (here ∷ names) name shift said at distinct found =
     by_test (bytes_eq name here) (again_first here names name shift said at distinct)
@@ -128,7 +130,7 @@ mapped : (place : Option ℕ) → is_some place ≡ is_some (option_map (λ k. k
 mapped None = refl
 mapped (Some k) = refl
 
--- A name is among others where it has a place.
+-- A name is among others if it has a place.
 among_by_place : (name : List ℕ) (names : List (List ℕ)) → list_any (bytes_eq name) names ≡ is_some (position (bytes_eq name) names)
 among_by_place name [] = refl
 among_by_place name (here ∷ names) = by_test (bytes_eq name here)
@@ -152,7 +154,7 @@ none_of name [] new = tt
 none_of name (here ∷ names) new =
     (neither_first (bytes_eq name here) _ new, none_of name names (neither_second (bytes_eq name here) _ new))
 
--- A new voice, of which nothing was said, comes behind the others.
+-- A new voice, of which nothing was said, comes after the others.
 said_new : (names : List (List ℕ)) (name : List ℕ) (shift : Shift) (said : List ℕ → Shift) → list_any (bytes_eq name) names ≡ false → said name ≡ no_shift →
     map (voice_with said) names ++ (name, shift) ∷ [] ≡ map (voice_with (said_on name shift said)) (names ++ name ∷ [])
 said_new names name shift said new nothing =
@@ -174,13 +176,13 @@ as_many said (name ∷ names) = ap suc (as_many said names)
 room : (n : ℕ) → nat_le MOST_VOICES n ≡ false → nat_lt n MOST_VOICES ≡ true
 room n free = grind (arith, nat_tests)
 
--- There is none where they are.
+-- There is none if they are.
 no_room : (n : ℕ) → nat_le MOST_VOICES n ≡ true → nat_lt n MOST_VOICES ≡ false
 no_room n full = grind (arith, nat_tests)
 
 -- The voices, by whether there is room.
 by_room : (voices : List (List ℕ × Shift)) (name : List ℕ) (shift : Shift) (b : Bool) → nat_lt (length voices) MOST_VOICES ≡ b →
-    (declared_by voices name shift None).0 ≡ cond b (voices ++ (name, shift) ∷ []) voices
+    (declare_at voices name shift None).0 ≡ cond b (voices ++ (name, shift) ∷ []) voices
 by_room voices name shift b known =
     ap (λ v. (cond {A = List (List ℕ × Shift) × Option FaultCode} v (voices ++ (name, shift) ∷ [], None) (voices, Some TooManyVoices)).0) known ∙ either b
   where
@@ -188,11 +190,11 @@ by_room voices name shift b known =
     either true = refl
     either false = refl
 
--- The voices behind a V: that names one, by its place among those before.
+-- The voices after a V: that names one, by its place among those before.
 named_at : (names : List (List ℕ)) (name : List ℕ) (shift : Shift) (said : List ℕ → Shift) → IsDistinct bytes_eq names →
     (list_any (bytes_eq name) names ≡ false → nat_le MOST_VOICES (length names) ≡ false → said name ≡ no_shift) →
     (place : Option ℕ) → position (bytes_eq name) names ≡ place →
-    map (voice_with (said_on name shift said)) (with_name names name) ≡ (declared_by (map (voice_with said) names) name shift place).0
+    map (voice_with (said_on name shift said)) (with_name names name) ≡ (declare_at (map (voice_with said) names) name shift place).0
 named_at names name shift said distinct nothing (Some at) found =
     let among = among_by_place name names ∙ ap is_some found in
     ap (λ b. map (voice_with (said_on name shift said)) (cond (b || nat_le MOST_VOICES (length names)) names (names ++ name ∷ []))) among
@@ -232,7 +234,7 @@ unfolding IsDistinct
 distinct_names [] = tt
 distinct_names (line ∷ before) = distinct_with (declared_names before) (voice_on line) (distinct_names before)
 
--- One more is no more than the most where they are not reached.
+-- One more is no more than the most if they are not reached.
 one_fits : (n : ℕ) → nat_le MOST_VOICES n ≡ false → n + 1 ≤ MOST_VOICES
 one_fits n free = grind (arith, nat_tests)
 
@@ -302,9 +304,9 @@ unsaid part name [] new free = refl
 unsaid part name (line ∷ before) new free =
     unsaid_on part name (declared_names before) (voice_on line) (last_part part name before) (unsaid part name before) new free
 
--- The voices behind a V: that names one are those that it declares.
+-- The voices after a V: that names one are those that it declares.
 pub voices_named : (before : List HeaderLine) (name : List ℕ) (shift : Shift) →
-    map (voice_with (said_on name shift (declared_shift before))) (with_name (declared_names before) name) ≡ (declared (voices_at before) name shift).0
+    map (voice_with (said_on name shift (declared_shift before))) (with_name (declared_names before) name) ≡ (declare (voices_at before) name shift).0
 voices_named before name shift =
     let names = declared_names before in
     named_at names name shift (declared_shift before) (distinct_names before)

@@ -1,9 +1,9 @@
 -- Places of different kinds.
 use Rattle.std.proofs.Common.{◌≡◌, ◌∙◌, ◌↔◌, ℕ, Bool, true, [], ◌∷◌, refl, sym, ap}
 use Rattle.std.proofs.lemmas.Bool.Decides.{same_from_decides}
-use Rattle.abc_cells.specs.SameEntry.{same_entry, same_entry_tells}
-use Rattle.abc_cells.specs.declared.entry.Entry.{Entry}
-use Rattle.abc_cells.specs.declared.entry.Entry.TheVariants as entries
+use Rattle.abc_bars_body.specs.SameEntry.{same_entry, same_entry_tells}
+use Rattle.abc_bars_body.specs.declared.entry.Entry.{Entry}
+use Rattle.abc_bars_body.specs.declared.entry.Entry.TheVariants as entries
 use Rattle.abc_bars.specs.LookBack.Place.{InBody, InFileHeader, InHeader, KindsApart, Place, kind_of_place, view}
 
 -- The kind of a place, by what holds there.
@@ -19,11 +19,11 @@ kind-seen (InHeader opening []) = refl
 kind-seen (InHeader opening (line ∷ before)) = refl
 kind-seen (InBody opening before key elements) = refl
 
--- What holds at places of different kinds is never the same.
+-- The state at places of different kinds is never the same.
 pub kinds_apart : KindsApart
 kinds_apart here there same = kind-seen here ∙ ap kind_held same ∙ sym (kind-seen there)
 
--- What tells exactly whether what holds at two places is equal is the test of it.
+-- What decides exactly whether the state at two places is equal is the test of it.
 pub told_by : (told : Bool) (a b : Entry) → (told ≡ true → a ≡ b) × (a ≡ b → told ≡ true) → told ≡ same_entry a b
 told_by told a b tells = same_from_decides told (same_entry a b) tells (same_entry_tells a b)
 

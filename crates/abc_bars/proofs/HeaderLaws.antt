@@ -1,4 +1,4 @@
--- What holds behind one more line of a header is what the line gives from what held before it.
+-- The state after one more line of a header is what the line gives from what held before it.
 use Rattle.std.proofs.Common.{◌≡◌, ℕ, nat_lt, Bool, true, false, cond, List, [], ◌∷◌, ◌++◌, length, map, Option, Some, None, Result, Ok, Err, refl, ◌∙◌}
 use Rattle.std.specs.Option.{option_map, option_or}
 use Rattle.std.specs.Result.{result_ok}
@@ -10,17 +10,17 @@ use Rattle.abc_fields.specs.declared.voice.Voice.{Voice}
 use Rattle.abc_fields.specs.Key.{key_of}
 use Rattle.abc_fields.specs.Parts.{parts_of}
 use Rattle.abc_fields.specs.Voice.{voice_of}
-use Rattle.abc_header.specs.FieldKind.{kind_of}
-use Rattle.abc_header.specs.Header.{declared_by, declared_given, header_given, header_key_by, header_voice_by, order_by, own_given, reference_by}
-use Rattle.abc_header.specs.HeaderLine.{HeaderLine, FieldLine, DirectiveLine}
+use Rattle.abc_bars_header.specs.FieldKind.{kind_of}
+use Rattle.abc_bars_header.specs.Header.{declare_at, declare_result, header_result, header_key_by, header_voice_by, order_by, own_result, reference_by}
+use Rattle.abc_bars_header.specs.HeaderLine.{HeaderLine, FieldLine, DirectiveLine}
 use Rattle.abc_bars.specs.LookBack.Header.{declared_names, declared_shift, header_at, named_in, part_said, voice_said, voices_at, with_named}
-use Rattle.abc_header.specs.Reference.{reference_of}
-use Rattle.abc_header.specs.Voices.{place_of}
-use Rattle.abc_items.specs.declared.item.TheConstants.{MOST_VOICES}
-use Rattle.abc_header.specs.declared.defaults.Defaults.{Defaults}
-use Rattle.abc_header.specs.declared.field_kind.FieldKind.{FieldKind}
-use Rattle.abc_header.specs.declared.field_kind.FieldKind.TheVariants as kinds
-use Rattle.abc_header.specs.declared.header.Header.{Header}
+use Rattle.abc_bars_header.specs.Reference.{reference_of}
+use Rattle.abc_bars_header.specs.Voices.{place_of}
+use Rattle.abc_bars_items.specs.declared.item.TheConstants.{MOST_VOICES}
+use Rattle.abc_bars_header.specs.declared.defaults.Defaults.{Defaults}
+use Rattle.abc_bars_header.specs.declared.field_kind.FieldKind.{FieldKind}
+use Rattle.abc_bars_header.specs.declared.field_kind.FieldKind.TheVariants as kinds
+use Rattle.abc_bars_header.specs.declared.header.Header.{Header}
 use Rattle.abc_bars.specs.LookBack.Defaults.{defaults_at}
 use Rattle.abc_bars.proofs.DeclaredVoices.{voice_with, voices_named}
 use Rattle.abc_bars.proofs.HeaderViews.{defaults_behind, said, setting_said}
@@ -33,11 +33,11 @@ shift_on voice before name = record {
   transpose = option_or (part_said (λ shift. shift.transpose) name voice) (before name).transpose;
 }
 
--- The voices behind a field that may name one.
+-- The voices after a field that may name one.
 abbrev voices_on : List HeaderLine → Option (List ℕ × Shift) → List (List ℕ × Shift)
 voices_on before voice = map (voice_with (shift_on voice (declared_shift before))) (with_named (declared_names before) voice)
 
--- What holds behind a field of this kind, looking back.
+-- The state after a field of this kind, looking back.
 abbrev header_on : Defaults → List HeaderLine → FieldKind → List ℕ → Header
 header_on opening before kind value = record {
   defaults = said (defaults_at opening before) kind value;
@@ -61,13 +61,13 @@ key_keeps header (Err fault) = refl
 
 -- A voice that is one too many leaves the voices as they are.
 declares : (header : Header) (name : List ℕ) (shift : Shift) (place : Option ℕ) →
-    record header { voices = (declared_by header.voices name shift place).0 } ≡ (declared_given header name (declared_by header.voices name shift place)).header
+    record header { voices = (declare_at header.voices name shift place).0 } ≡ (declare_result header name (declare_at header.voices name shift place)).header
 declares header name shift (Some at) = refl
 declares header name shift None = either (nat_lt (length header.voices) MOST_VOICES)
   where
     either : (b : Bool) →
         (let made = cond {A = List (List ℕ × Shift) × Option FaultCode} b (header.voices ++ (name, shift) ∷ [], None) (header.voices, Some TooManyVoices) in
-        record header { voices = made.0 } ≡ (declared_given header name made).header)
+        record header { voices = made.0 } ≡ (declare_result header name made).header)
     either true = refl
     either false = refl
 
@@ -83,9 +83,9 @@ voice_declares opening before value (Ok voice) =
     (λ i. record { defaults = defaults_at opening before; voices = voices i })
     ∙ declares header named.0 named.1 (place_of named.0 header.voices)
 
--- What holds behind a field of each kind.
+-- The state after a field of each kind.
 behind_kind : (opening : Defaults) (before : List HeaderLine) (kind : FieldKind) (value : List ℕ) →
-    header_on opening before kind value ≡ (own_given (header_at opening before) kind value).header
+    header_on opening before kind value ≡ (own_result (header_at opening before) kind value).header
 behind_kind opening before kinds.Reference value = reference_keeps (header_at opening before) (reference_of value)
 behind_kind opening before kinds.Title value = refl
 behind_kind opening before kinds.Meter value =
@@ -99,9 +99,9 @@ behind_kind opening before kinds.Voice value = voice_declares opening before val
 behind_kind opening before kinds.Key value = key_keeps (header_at opening before) (key_of value)
 behind_kind opening before kinds.Other value = refl
 
--- What holds behind one more line of a header is what the line gives from what held before it.
+-- The state after one more line of a header is what the line gives from what held before it.
 pub header_behind : (opening : Defaults) (before : List HeaderLine) (line : HeaderLine) →
-    header_at opening (line ∷ before) ≡ (header_given (header_at opening before) line).header
+    header_at opening (line ∷ before) ≡ (header_result (header_at opening before) line).header
 header_behind opening before (FieldLine field) = behind_kind opening before (kind_of field.letter) field.value
 header_behind opening before (DirectiveLine directive) =
     let set = defaults_behind opening before (DirectiveLine directive) in λ i. record { defaults = set i; voices = voices_at before }

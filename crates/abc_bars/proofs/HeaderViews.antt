@@ -1,4 +1,4 @@
--- The values behind one more line are those that the line gives from the ones before it.
+-- The values after one more line are those that the line gives from the ones before it.
 use Rattle.std.proofs.Common.{◌≡◌, ℕ, List, ◌∷◌, Option, Some, None, Result, Ok, Err, refl}
 use Rattle.std.specs.Option.{option_or}
 use Rattle.std.specs.Result.{result_ok}
@@ -9,17 +9,17 @@ use Rattle.abc_fields.specs.declared.tempo.Tempo.TheVariants.{Unset, Units, Beat
 use Rattle.abc_fields.specs.Meter.{meter_of}
 use Rattle.abc_fields.specs.Tempo.{tempo_of}
 use Rattle.abc_fields.specs.Unit.{unit_of}
-use Rattle.abc_items.specs.Program.{program_of}
+use Rattle.abc_bars_items.specs.Program.{program_of}
 use Rattle.abc_scan.specs.declared.directive.Directive.TheVariants as directives
 use Rattle.abc_time.specs.declared.ratio.Ratio.{Ratio}
-use Rattle.abc_header.specs.Defaults.{program_set, set_or_refused, tempo_or, setting_given}
-use Rattle.abc_header.specs.FieldKind.{kind_of}
-use Rattle.abc_header.specs.FileHeader.{line_given}
-use Rattle.abc_header.specs.HeaderLine.{HeaderLine, FieldLine, DirectiveLine}
+use Rattle.abc_bars_header.specs.Defaults.{set_program, set_or_refused, tempo_or, setting_result}
+use Rattle.abc_bars_header.specs.FieldKind.{kind_of}
+use Rattle.abc_bars_header.specs.FileHeader.{line_result}
+use Rattle.abc_bars_header.specs.HeaderLine.{HeaderLine, FieldLine, DirectiveLine}
 use Rattle.abc_bars.specs.LookBack.Defaults.{if_set, meter_said, unit_said, tempo_said, defaults_at}
-use Rattle.abc_header.specs.declared.defaults.Defaults.{Defaults}
-use Rattle.abc_header.specs.declared.field_kind.FieldKind.{FieldKind}
-use Rattle.abc_header.specs.declared.field_kind.FieldKind.TheVariants as kinds
+use Rattle.abc_bars_header.specs.declared.defaults.Defaults.{Defaults}
+use Rattle.abc_bars_header.specs.declared.field_kind.FieldKind.{FieldKind}
+use Rattle.abc_bars_header.specs.declared.field_kind.FieldKind.TheVariants as kinds
 
 -- The values before a field, with what it says of each.
 abbrev pub said : Defaults → FieldKind → List ℕ → Defaults
@@ -56,7 +56,7 @@ tempo_read defaults (Err fault) = refl
 
 -- A field of each kind sets what it says.
 pub setting_said : (defaults : Defaults) (kind : FieldKind) (value : List ℕ) →
-    said defaults kind value ≡ (setting_given defaults kind value).defaults
+    said defaults kind value ≡ (setting_result defaults kind value).defaults
 setting_said defaults kinds.Reference value = refl
 setting_said defaults kinds.Title value = refl
 setting_said defaults kinds.Meter value = meter_read defaults (meter_of value)
@@ -69,13 +69,13 @@ setting_said defaults kinds.Other value = refl
 
 -- A directive of a program sets it, if MIDI has it.
 program_read : (defaults : Defaults) (program : Option ℕ) →
-    record defaults { program = option_or program defaults.program } ≡ (program_set defaults program).defaults
+    record defaults { program = option_or program defaults.program } ≡ (set_program defaults program).defaults
 program_read defaults (Some program) = refl
 program_read defaults None = refl
 
--- The values behind one more line are those that it gives from the ones before it.
+-- The values after one more line are those that it gives from the ones before it.
 pub defaults_behind : (opening : Defaults) (before : List HeaderLine) (line : HeaderLine) →
-    defaults_at opening (line ∷ before) ≡ (line_given (defaults_at opening before) line).defaults
+    defaults_at opening (line ∷ before) ≡ (line_result (defaults_at opening before) line).defaults
 defaults_behind opening before (FieldLine field) = setting_said (defaults_at opening before) (kind_of field.letter) field.value
 defaults_behind opening before (DirectiveLine (directives.Program written)) = program_read (defaults_at opening before) (program_of written)
 defaults_behind opening before (DirectiveLine (directives.Reach reach)) = refl

@@ -1,5 +1,6 @@
 -- The mode of a K: is known by the first three letters of the run after its tonic.
-use Rattle.std.proofs.Common.{◌≡◌, ℕ, suc, ◌+◌, ◌<◌, ◌≤◌, eqb, Bool, true, false, cond, ◌||◌, ◌⊎◌, ⊎_elim, List, [], ◌∷◌, ◌++◌, length, take, drop, Option, Some, None, Ok, codes, refl, sym, ap, ◌∙◌, inl, inr, arith, ℤ, pos}
+use Rattle.std.proofs.Common.{◌≡◌, ℕ, suc, ◌+◌, ◌<◌, ◌≤◌, eqb, Bool, true, false, cond, ◌||◌, ◌⊎◌, ⊎_elim, List, [], ◌∷◌, ◌++◌, length, take, drop, Option, Some, None, Ok, codes, refl, sym, ap, ◌∙◌}
+use Rattle.std.proofs.Common.{inl, inr, arith, ℤ, pos}
 use Rattle.std.specs.Prelude.{◌≢◌, ◌+ℤ◌, ◌==◌}
 use Rattle.std.specs.List.{AllPass, prefix_len}
 use Rattle.std.specs.Option.{option_map, ok_or}
@@ -19,14 +20,15 @@ use Rattle.abc_text.proofs.Fronts.{front_exact, front_none}
 use Rattle.abc_fields.specs.declared.fault.FaultCode.TheVariants.{BadKey}
 use Rattle.abc_fields.specs.declared.key.Key.{Key}
 use Rattle.abc_fields.specs.declared.shift.Shift.{Shift}
-use Rattle.abc_fields.specs.Key.{completed, key_after, key_in, key_with, spelled_key, start_by, start_of, tonal_start}
+use Rattle.abc_fields.specs.Key.{complete_key, key_after, key_in, key_with, spelled_key, start_by, start_of, tonal_start}
 use Rattle.abc_fields.specs.Mode.{front_of, mode_named, mode_of}
 use Rattle.abc_fields.specs.Shift.{no_shift, shift_of}
 use Rattle.abc_fields.specs.Signature.{signature_of}
 use Rattle.abc_fields.specs.Spelling.Tonic.{IsRun, IsTonic, StopsAt}
 use Rattle.abc_fields.specs.Tonic.{basis_at, basis_by}
 use Rattle.abc_fields.proofs.Tonics.{tonic_to}
-use Rattle.abc_bars.specs.KeyFieldLaws.{BeginsWith, NamesMode, lydian, major, ionian, mixolydian, dorian, minor, aeolian, letter_m, phrygian, locrian, IsTonicWithRun, NamesNone, NamedModesAdd, OthersAreMajor, OtherRunsAreRefused}
+use Rattle.abc_bars.specs.KeyFieldLaws.{BeginsWith, NamesMode, lydian, major, ionian, mixolydian, dorian, minor, aeolian, letter_m, phrygian, locrian, IsTonicWithRun, NamesNone, NamedModesAdd}
+use Rattle.abc_bars.specs.KeyFieldLaws.{OthersAreMajor, OtherRunsAreRefused}
 
 -- letters, capitals or not
 abbrev IsSmall : ℕ → Type 0
@@ -112,7 +114,8 @@ unfolding basis_at
 run_read text blanks run rest is =
     let n : prefix_len is_blank text ≡ length blanks = ap (prefix_len is_blank) is.spelling ∙ front_len is_blank blanks (run ++ rest) is.are_blanks is.no_more_blanks in
     let behind : drop (prefix_len is_blank text) text ≡ run ++ rest = (λ i. drop (n i) (is.spelling i)) ∙ drop-append_seam blanks (run ++ rest) in
-    let m : prefix_len is_ascii_alphabetic (drop (prefix_len is_blank text) text) ≡ length run = ap (prefix_len is_ascii_alphabetic) behind ∙ front_len is_ascii_alphabetic run rest is.are_letters is.no_more_letters in
+    let m : prefix_len is_ascii_alphabetic (drop (prefix_len is_blank text) text) ≡ length run =
+    ap (prefix_len is_ascii_alphabetic) behind ∙ front_len is_ascii_alphabetic run rest is.are_letters is.no_more_letters in
     let letters = (λ i. take (m i) (behind i)) ∙ take-append_seam run rest in
     let more = (λ i. drop (m i) (behind i)) ∙ drop-append_seam run rest in
     λ i. basis_by (mode_of (letters i)) (n i) (letters i) text (more i)
@@ -147,8 +150,8 @@ shifted : (start : Key) (words : List (List ℕ)) (o : Option Shift) (key : Key)
 shifted start words None key e = cc
 shifted start words (Some shift) key e = let same : key_after start words shift ≡ key = cc in (ap (λ (k : Key). k.sharps) (sym same), ap (λ (k : Key). k.minor) (sym same))
 
-completes : (start : Key) (words : List (List ℕ)) (key : Key) → completed start words ≡ Some key → (key.sharps ≡ start.sharps) × (key.minor ≡ start.minor)
-unfolding completed
+completes : (start : Key) (words : List (List ℕ)) (key : Key) → complete_key start words ≡ Some key → (key.sharps ≡ start.sharps) × (key.minor ≡ start.minor)
+unfolding complete_key
 completes start words key e = shifted start words (shift_of words) key e
 
 by_test : (out : Bool) (start key : Key) (text : List ℕ) → spelled_key (option_map (λ first. (first, text)) (cond out None (Some start))) ≡ Some key
@@ -156,7 +159,8 @@ by_test : (out : Bool) (start key : Key) (text : List ℕ) → spelled_key (opti
 by_test true start key text e = cc
 by_test false start key text e = completes start (words_of text) key e
 
-with_mode : (sharps : ℤ) (is_minor : Bool) (text : List ℕ) (key : Key) → spelled_key (option_map (λ first. (first, text)) (key_with sharps is_minor)) ≡ Some key → (key.sharps ≡ sharps) × (key.minor ≡ is_minor)
+with_mode : (sharps : ℤ) (is_minor : Bool) (text : List ℕ) (key : Key) → spelled_key (option_map (λ first. (first, text)) (key_with sharps is_minor)) ≡ Some key → (key.sharps ≡ sharps)
+    × (key.minor ≡ is_minor)
 unfolding key_with
 with_mode sharps is_minor text key e = by_test _ (record { signature = Some (signature_of sharps); sharps = sharps; minor = is_minor; shift = no_shift }) key text e
 
@@ -168,16 +172,25 @@ read_some (Some other) key e = cc
 mode_sharps : (sharps : ℤ) (blanks : ℕ) (run text rest : List ℕ) (added : ℤ) (is_minor : Bool) → NamesMode run added is_minor
     → tonal_start sharps (basis_by (mode_of run) blanks run text rest) ≡ option_map (λ first. (first, rest)) (key_with (sharps +ℤ added) is_minor)
 unfolding mode_of mode_named
-mode_sharps sharps blanks run text rest _ _ (lydian h) = ap (λ o. tonal_start sharps (basis_by o blanks run text rest)) (small_letters 108 121 100 run (omega arith, omega arith) (omega arith, omega arith) (omega arith, omega arith) h)
-mode_sharps sharps blanks run text rest _ _ (major h) = ap (λ o. tonal_start sharps (basis_by o blanks run text rest)) (small_letters 109 97 106 run (omega arith, omega arith) (omega arith, omega arith) (omega arith, omega arith) h)
-mode_sharps sharps blanks run text rest _ _ (ionian h) = ap (λ o. tonal_start sharps (basis_by o blanks run text rest)) (small_letters 105 111 110 run (omega arith, omega arith) (omega arith, omega arith) (omega arith, omega arith) h)
-mode_sharps sharps blanks run text rest _ _ (mixolydian h) = ap (λ o. tonal_start sharps (basis_by o blanks run text rest)) (small_letters 109 105 120 run (omega arith, omega arith) (omega arith, omega arith) (omega arith, omega arith) h)
-mode_sharps sharps blanks run text rest _ _ (dorian h) = ap (λ o. tonal_start sharps (basis_by o blanks run text rest)) (small_letters 100 111 114 run (omega arith, omega arith) (omega arith, omega arith) (omega arith, omega arith) h)
-mode_sharps sharps blanks run text rest _ _ (minor h) = ap (λ o. tonal_start sharps (basis_by o blanks run text rest)) (small_letters 109 105 110 run (omega arith, omega arith) (omega arith, omega arith) (omega arith, omega arith) h)
-mode_sharps sharps blanks run text rest _ _ (aeolian h) = ap (λ o. tonal_start sharps (basis_by o blanks run text rest)) (small_letters 97 101 111 run (omega arith, omega arith) (omega arith, omega arith) (omega arith, omega arith) h)
+mode_sharps sharps blanks run text rest _ _ (lydian h) =
+    ap (λ o. tonal_start sharps (basis_by o blanks run text rest)) (small_letters 108 121 100 run (omega arith, omega arith) (omega arith, omega arith) (omega arith, omega arith) h)
+mode_sharps sharps blanks run text rest _ _ (major h) =
+    ap (λ o. tonal_start sharps (basis_by o blanks run text rest)) (small_letters 109 97 106 run (omega arith, omega arith) (omega arith, omega arith) (omega arith, omega arith) h)
+mode_sharps sharps blanks run text rest _ _ (ionian h) =
+    ap (λ o. tonal_start sharps (basis_by o blanks run text rest)) (small_letters 105 111 110 run (omega arith, omega arith) (omega arith, omega arith) (omega arith, omega arith) h)
+mode_sharps sharps blanks run text rest _ _ (mixolydian h) =
+    ap (λ o. tonal_start sharps (basis_by o blanks run text rest)) (small_letters 109 105 120 run (omega arith, omega arith) (omega arith, omega arith) (omega arith, omega arith) h)
+mode_sharps sharps blanks run text rest _ _ (dorian h) =
+    ap (λ o. tonal_start sharps (basis_by o blanks run text rest)) (small_letters 100 111 114 run (omega arith, omega arith) (omega arith, omega arith) (omega arith, omega arith) h)
+mode_sharps sharps blanks run text rest _ _ (minor h) =
+    ap (λ o. tonal_start sharps (basis_by o blanks run text rest)) (small_letters 109 105 110 run (omega arith, omega arith) (omega arith, omega arith) (omega arith, omega arith) h)
+mode_sharps sharps blanks run text rest _ _ (aeolian h) =
+    ap (λ o. tonal_start sharps (basis_by o blanks run text rest)) (small_letters 97 101 111 run (omega arith, omega arith) (omega arith, omega arith) (omega arith, omega arith) h)
 mode_sharps sharps blanks run text rest _ _ (letter_m h) = ap (λ r. tonal_start sharps (basis_by (mode_of r) blanks run text rest)) h
-mode_sharps sharps blanks run text rest _ _ (phrygian h) = ap (λ o. tonal_start sharps (basis_by o blanks run text rest)) (small_letters 112 104 114 run (omega arith, omega arith) (omega arith, omega arith) (omega arith, omega arith) h)
-mode_sharps sharps blanks run text rest _ _ (locrian h) = ap (λ o. tonal_start sharps (basis_by o blanks run text rest)) (small_letters 108 111 99 run (omega arith, omega arith) (omega arith, omega arith) (omega arith, omega arith) h)
+mode_sharps sharps blanks run text rest _ _ (phrygian h) =
+    ap (λ o. tonal_start sharps (basis_by o blanks run text rest)) (small_letters 112 104 114 run (omega arith, omega arith) (omega arith, omega arith) (omega arith, omega arith) h)
+mode_sharps sharps blanks run text rest _ _ (locrian h) =
+    ap (λ o. tonal_start sharps (basis_by o blanks run text rest)) (small_letters 108 111 99 run (omega arith, omega arith) (omega arith, omega arith) (omega arith, omega arith) h)
 
 pub named_modes_add : NamedModesAdd
 named_modes_add value blanks run sharps added is_minor key is names read =

@@ -12,7 +12,7 @@ use Rattle.abc_fields.specs.declared.signature.Signature.{Signature}
 use Rattle.abc_fields.specs.Accidental.{changes_of}
 use Rattle.abc_fields.specs.Key.{key_of}
 use Rattle.abc_fields.specs.Listed.{with_change}
-use Rattle.abc_fields.specs.Signature.{alteration, altered}
+use Rattle.abc_fields.specs.Signature.{alteration, altered_signature}
 use Rattle.abc_fields.specs.Spelling.Accidental.{AreChanges}
 use Rattle.abc_fields.specs.Spelling.Key.{IsKey, IsSpelled, IsCompleted, nothing, spelled}
 use Rattle.abc_fields.specs.Spelling.Listed.{IsChanged, AreListed}
@@ -31,7 +31,7 @@ same_letter F F = inl refl
 same_letter G G = inl refl
 same_letter a b = inr (λ e. cc)
 
-altered_here : (s : Signature) (letter : Letter) (by : ℤ) → alteration (altered s letter by) letter ≡ by
+altered_here : (s : Signature) (letter : Letter) (by : ℤ) → alteration (altered_signature s letter by) letter ≡ by
 altered_here s A by = refl
 altered_here s B by = refl
 altered_here s C by = refl
@@ -40,7 +40,7 @@ altered_here s E by = refl
 altered_here s F by = refl
 altered_here s G by = refl
 
-altered_else : (s : Signature) (letter other : Letter) (by : ℤ) → letter ≢ other → alteration (altered s letter by) other ≡ alteration s other
+altered_else : (s : Signature) (letter other : Letter) (by : ℤ) → letter ≢ other → alteration (altered_signature s letter by) other ≡ alteration s other
 altered_else s A A by h = absurd (h refl)
 altered_else s B B by h = absurd (h refl)
 altered_else s C C by h = absurd (h refl)
@@ -77,7 +77,7 @@ module _ {T : Type 0} (step : Signature → T → Signature) (of : T → Change)
           split = ap (λ l. ((of t).0, l) ∷ map of ts) same;
           none = silent.0;
         },
-        silent.1 ∙ ap (λ s. alteration s letter) (is start t) ∙ ap (λ l. alteration (altered start l (semitones (of t).0)) letter) same ∙ altered_here start letter (semitones (of t).0),
+        silent.1 ∙ ap (λ s. alteration s letter) (is start t) ∙ ap (λ l. alteration (altered_signature start l (semitones (of t).0)) letter) same ∙ altered_here start letter (semitones (of t).0),
       ))
       (λ other. inr (
         All-cons (λ change. change.1 ≢ letter) (of t) (map of ts) other silent.0,

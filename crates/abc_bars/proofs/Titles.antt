@@ -17,19 +17,19 @@ use Rattle.abc_fields.specs.Tempo.{tempo_of}
 use Rattle.abc_fields.specs.Unit.{unit_of}
 use Rattle.abc_fields.specs.Voice.{voice_of}
 use Rattle.abc_fold.specs.Steps.{items_from}
-use Rattle.abc_music.specs.BarRest.{bar_rest_of}
-use Rattle.abc_music.specs.Broken.{factors_of, is_bad_mark}
-use Rattle.abc_music.specs.Chords.{inside_of}
-use Rattle.abc_items.specs.Item.{Items}
-use Rattle.abc_settings.specs.TempoItem.{is_out, tempo_item}
-use Rattle.abc_music.specs.TimeTokens.{chord_by, note_played, rest_played}
-use Rattle.abc_music.specs.TokenRole.{has_note}
-use Rattle.abc_settings.specs.Tuplet.{tuplet_opened}
-use Rattle.abc_items.specs.declared.item.Item.{Item}
-use Rattle.abc_items.specs.declared.item.Item.TheVariants as items
-use Rattle.abc_settings.specs.declared.settings.Settings.{Settings}
-use Rattle.abc_music.specs.declared.sound.Inside.{Inside}
-use Rattle.abc_items.specs.Program.{program_of}
+use Rattle.abc_bars_notes.specs.BarRest.{bar_rest_of}
+use Rattle.abc_bars_notes.specs.Broken.{factors_of, is_bad_mark}
+use Rattle.abc_bars_notes.specs.Chords.{chord_builder_of}
+use Rattle.abc_bars_items.specs.Item.{Items}
+use Rattle.abc_bars_voice.specs.TempoItem.{is_out_of_range, tempo_item}
+use Rattle.abc_bars_notes.specs.TimeTokens.{chord_by, play_note, play_rest}
+use Rattle.abc_bars_notes.specs.TokenRole.{has_note}
+use Rattle.abc_bars_voice.specs.Tuplet.{begin_tuplet}
+use Rattle.abc_bars_items.specs.declared.item.Item.{Item}
+use Rattle.abc_bars_items.specs.declared.item.Item.TheVariants as items
+use Rattle.abc_bars_voice.specs.declared.voice_state.VoiceState.{VoiceState}
+use Rattle.abc_bars_notes.specs.declared.sound.ChordBuilder.{ChordBuilder}
+use Rattle.abc_bars_items.specs.Program.{program_of}
 use Rattle.abc_scan.specs.declared.directive.Directive.{Directive}
 use Rattle.abc_scan.specs.declared.directive.Directive.TheVariants as directives
 use Rattle.abc_scan.specs.declared.field.Field.{Field}
@@ -37,32 +37,34 @@ use Rattle.abc_scan.specs.declared.spanned.Spanned.{Spanned}
 use Rattle.abc_scan.specs.declared.token.TokenKind.{TokenKind}
 use Rattle.abc_scan.specs.declared.token.TokenKind.TheVariants as kinds
 use Rattle.abc_time.specs.declared.ratio.Ratio.{Ratio}
-use Rattle.abc_cells.specs.Body.{here, made_current, mentioned, with_here}
-use Rattle.abc_cells.specs.BodyFields.{field_given, key_by, kind_given, meter_by, part_by, part_of, tempo_by, unit_by, voice_by, voice_made, accepted, faulty}
-use Rattle.abc_cells.specs.BodyOpening.{body_from}
-use Rattle.abc_cells.specs.Cell.{given_from, mentioned_by_chord, nothing_given, tie_ahead, with_directive, with_ending, with_fault, with_fault_if, with_item, with_kind, with_played_in, with_some_fault, with_token}
-use Rattle.abc_header.specs.Defaults.{unit_in}
-use Rattle.abc_header.specs.FieldKind.{kind_of}
-use Rattle.abc_header.specs.Header.{and_program, declared, declared_given, directive_item, header_key_by, header_voice_by, items_with, line_own, line_program, opening_header, order_by, own_given, reference_by}
-use Rattle.abc_header.specs.HeaderLine.{HeaderLine, FieldLine, DirectiveLine}
-use Rattle.abc_header.specs.Opening.{opening_meter, opening_tempo, opening_tempo_by}
-use Rattle.abc_header.specs.Reference.{reference_of}
-use Rattle.abc_cells.specs.SameEntry.{bar_steps}
-use Rattle.abc_cells.specs.Step.{behind_kind, behind_line, body_stepped, directive_in, field_in, file_header_stepped, header_stepped, line_in, line_of, stepped}
+use Rattle.abc_bars_body.specs.Body.{here, with_current, after_mention, with_here}
+use Rattle.abc_bars_body.specs.BodyFields.{field_result, key_by, kind_result, meter_by, part_by, part_of, tempo_by, unit_by, voice_by, voice_made, accept, accept_with_fault}
+use Rattle.abc_bars_body.specs.BodyOpening.{body_from}
+use Rattle.abc_bars_body.specs.Cell.{cell_result_from, after_chord_mention, empty_cell_result, tie_ahead, with_directive, with_ending, with_fault, with_fault_if, with_item, with_kind, with_result_in}
+use Rattle.abc_bars_body.specs.Cell.{with_some_fault, with_token}
+use Rattle.abc_bars_header.specs.Defaults.{unit_in}
+use Rattle.abc_bars_header.specs.FieldKind.{kind_of}
+use Rattle.abc_bars_header.specs.Header.{append_program, declare, declare_result, directive_item, header_key_by, header_voice_by, items_with, own_line_result, line_program, opening_header, order_by}
+use Rattle.abc_bars_header.specs.Header.{own_result, reference_by}
+use Rattle.abc_bars_header.specs.HeaderLine.{HeaderLine, FieldLine, DirectiveLine}
+use Rattle.abc_bars_header.specs.Opening.{opening_meter, opening_tempo, opening_tempo_by}
+use Rattle.abc_bars_header.specs.Reference.{reference_of}
+use Rattle.abc_bars_body.specs.SameEntry.{bar_steps}
+use Rattle.abc_bars_body.specs.Step.{behind_kind, behind_line, body_step, directive_in, field_in, file_header_step, header_step, line_in, line_of, entry_step}
 use Rattle.abc_bars.specs.Titles.{title_said, titles_by, titles_from, titles_of_header, titles_said, SaysTitlesOfHeader}
-use Rattle.abc_cells.specs.declared.body.Body.{Body}
-use Rattle.abc_cells.specs.declared.cell.Given.{Given}
-use Rattle.abc_header.specs.declared.defaults.Defaults.{Defaults}
-use Rattle.abc_cells.specs.declared.entry.Entry.{Entry}
-use Rattle.abc_cells.specs.declared.entry.Entry.TheVariants as entries
-use Rattle.abc_header.specs.declared.field_kind.FieldKind.{FieldKind}
-use Rattle.abc_header.specs.declared.field_kind.FieldKind.TheVariants as fields
-use Rattle.abc_header.specs.declared.header.Header.{Header}
+use Rattle.abc_bars_body.specs.declared.body.Body.{Body}
+use Rattle.abc_bars_body.specs.declared.cell.CellResult.{CellResult}
+use Rattle.abc_bars_header.specs.declared.defaults.Defaults.{Defaults}
+use Rattle.abc_bars_body.specs.declared.entry.Entry.{Entry}
+use Rattle.abc_bars_body.specs.declared.entry.Entry.TheVariants as entries
+use Rattle.abc_bars_header.specs.declared.field_kind.FieldKind.{FieldKind}
+use Rattle.abc_bars_header.specs.declared.field_kind.FieldKind.TheVariants as fields
+use Rattle.abc_bars_header.specs.declared.header.Header.{Header}
 
 abbrev pub Cell : Type 0
 Cell = List (Spanned TokenKind)
 
--- items that say no title, behind others
+-- items that say no title, after others
 quiet : (tune more : List Item) → titles_said more ≡ [] → titles_said (tune ++ more) ≡ titles_said tune
 quiet tune more none = filter_map-append title_said tune more ∙ ap (λ titles. titles_said tune ++ titles) none ∙ append-nil (titles_said tune)
 
@@ -80,9 +82,9 @@ unit_quiet body place (Ok unit) = refl
 unit_quiet body place (Err fault) = refl
 
 tempo_quiet : (body : Body) (place : ℕ) (tempo : Result Tempo FaultCode) → titles_said (tempo_by body place tempo).items ≡ []
-tempo_quiet body place (Ok tempo) = by (is_out (here body).unit tempo)
+tempo_quiet body place (Ok tempo) = by (is_out_of_range (here body).unit tempo)
   where
-    by : (out : Bool) → titles_said (cond out (faulty body place (tempo_item false (here body).unit tempo) TempoRange) (accepted body (tempo_item false (here body).unit tempo))).items ≡ []
+    by : (out : Bool) → titles_said (cond out (accept_with_fault body place (tempo_item false (here body).unit tempo) TempoRange) (accept body (tempo_item false (here body).unit tempo))).items ≡ []
     by true = refl
     by false = refl
 tempo_quiet body place (Err fault) = refl
@@ -98,10 +100,10 @@ made_quiet body place name None = refl
 voice_quiet : (body : Body) (place : ℕ) (value : List ℕ) (voice : Result Voice FaultCode) → titles_said (voice_by body place value voice).items ≡ []
 voice_quiet body place value (Ok voice) =
     let name = slice_range value voice.from voice.to in
-    made_quiet body place name (made_current body name voice.shift)
+    made_quiet body place name (with_current body name voice.shift)
 voice_quiet body place value (Err fault) = refl
 
-field_quiet : (body : Body) (kind : FieldKind) (value : List ℕ) (place : ℕ) → titles_said (kind_given body kind value place).items ≡ []
+field_quiet : (body : Body) (kind : FieldKind) (value : List ℕ) (place : ℕ) → titles_said (kind_result body kind value place).items ≡ []
 field_quiet body fields.Parts value place = part_quiet body place (part_of value)
 field_quiet body fields.Meter value place = meter_quiet body place (meter_of value)
 field_quiet body fields.UnitLength value place = unit_quiet body place (unit_of value)
@@ -113,67 +115,67 @@ field_quiet body fields.Title value place = refl
 field_quiet body fields.Other value place = refl
 
 -- nor does any token
-abbrev said_in : Given → List (List ℕ)
+abbrev said_in : CellResult → List (List ℕ)
 said_in given = titles_said given.items.items
 
-fault_kept : (given : Given) (place : ℕ) (fault : Option FaultCode) → (with_some_fault given place fault).items.items ≡ given.items.items
+fault_kept : (given : CellResult) (place : ℕ) (fault : Option FaultCode) → (with_some_fault given place fault).items.items ≡ given.items.items
 fault_kept given place None = refl
 fault_kept given place (Some fault) = refl
 
-broken_quiet : (given : Given) (bad : Bool) (place : ℕ) → said_in (with_fault_if given bad place BadBroken) ≡ said_in given
+broken_quiet : (given : CellResult) (bad : Bool) (place : ℕ) → said_in (with_fault_if given bad place BadBroken) ≡ said_in given
 broken_quiet given true place = refl
 broken_quiet given false place = refl
 
-program_fault_quiet : (given : Given) (place : ℕ) (bad : Bool) → said_in (with_fault_if given bad place BadProgram) ≡ said_in given
+program_fault_quiet : (given : CellResult) (place : ℕ) (bad : Bool) → said_in (with_fault_if given bad place BadProgram) ≡ said_in given
 program_fault_quiet given place true = refl
 program_fault_quiet given place false = refl
 
-directive_quiet : (given : Given) (place : ℕ) (directive : Directive) → said_in (with_directive given place directive) ≡ said_in given
+directive_quiet : (given : CellResult) (place : ℕ) (directive : Directive) → said_in (with_directive given place directive) ≡ said_in given
 directive_quiet given place (directives.Program written) =
     program_fault_quiet (with_item given (items.Program false (program_of written))) place (is_none (program_of written))
     ∙ quiet given.items.items (items.Program false (program_of written) ∷ []) refl
 directive_quiet given place (directives.Reach reach) = refl
 
-tie_quiet : (given : Given) (place : ℕ) (after_note : Bool) → said_in (cond after_note given (with_fault given place LooseTie)) ≡ said_in given
+tie_quiet : (given : CellResult) (place : ℕ) (after_note : Bool) → said_in (cond after_note given (with_fault given place LooseTie)) ≡ said_in given
 tie_quiet given place true = refl
 tie_quiet given place false = refl
 
-ending_quiet : (given : Given) (place : ℕ) (passes : Option ℕ) → said_in (with_ending given place passes) ≡ said_in given
+ending_quiet : (given : CellResult) (place : ℕ) (passes : Option ℕ) → said_in (with_ending given place passes) ≡ said_in given
 ending_quiet given place None = refl
 ending_quiet given place (Some passes) = quiet given.items.items (items.Ending passes ∷ []) refl
 
-chord_quiet : (given : Given) (place : ℕ) (inside : Settings → Inside) (some : Bool)
-    → said_in (with_played_in given (mentioned_by_chord some given.body) (chord_by some (here (mentioned_by_chord some given.body)) place (inside (here (mentioned_by_chord some given.body)))))
+chord_quiet : (given : CellResult) (place : ℕ) (inside : VoiceState → ChordBuilder) (some : Bool)
+    → said_in (with_result_in given (after_chord_mention some given.body) (chord_by some (here (after_chord_mention some given.body)) place (inside (here (after_chord_mention some given.body)))))
     ≡ said_in given
 chord_quiet given place inside true =
-    let played = chord_by true (here (mentioned given.body)) place (inside (here (mentioned given.body))) in
+    let played = chord_by true (here (after_mention given.body)) place (inside (here (after_mention given.body))) in
     quiet given.items.items played.items refl
 chord_quiet given place inside false =
     let played = chord_by false (here given.body) place (inside (here given.body)) in
     quiet given.items.items played.items refl
 
-kind_quiet : (given : Given) (place : ℕ) (kind : TokenKind) (ahead : Cell) → said_in (with_kind given place kind ahead) ≡ said_in given
+kind_quiet : (given : CellResult) (place : ℕ) (kind : TokenKind) (ahead : Cell) → said_in (with_kind given place kind ahead) ≡ said_in given
 kind_quiet given place (kinds.Note note) ahead =
-    let played = note_played (here (mentioned given.body)) (factors_of given.behind ahead) (tie_ahead ahead) place note in
+    let played = play_note (here (after_mention given.body)) (factors_of given.behind ahead) (tie_ahead ahead) place note in
     quiet given.items.items played.items refl
 kind_quiet given place (kinds.Rest long) ahead =
-    let played = rest_played (here (mentioned given.body)) (factors_of given.behind ahead) place long in
+    let played = play_rest (here (after_mention given.body)) (factors_of given.behind ahead) place long in
     quiet given.items.items played.items refl
 kind_quiet given place (kinds.BarRest bars) ahead =
-    let body = mentioned given.body in
+    let body = after_mention given.body in
     let rest = bar_rest_of (here body).meter bars in
     ap titles_said (fault_kept (record given { body = body; items = record given.items { items = given.items.items ++ rest.0 ∷ [] } }) place rest.1)
     ∙ quiet given.items.items (rest.0 ∷ []) refl
 kind_quiet given place (kinds.Chord chord) ahead =
     chord_quiet given place
-    (λ settings. inside_of settings (factors_of given.behind ahead) (record { length = chord.length; tied = tie_ahead ahead; from = place }) chord.parts)
+    (λ state. chord_builder_of state (factors_of given.behind ahead) (record { length = chord.length; tied = tie_ahead ahead; from = place }) chord.parts)
     (has_note chord.parts)
 kind_quiet given place (kinds.InlineField field) ahead =
-    quiet given.items.items (field_given given.body field.letter field.value place).items (field_quiet given.body (kind_of field.letter) field.value place)
+    quiet given.items.items (field_result given.body field.letter field.value place).items (field_quiet given.body (kind_of field.letter) field.value place)
 kind_quiet given place (kinds.Bar bar) ahead = quiet given.items.items (items.Bar bar ∷ []) refl
 kind_quiet given place (kinds.Ending passes) ahead = ending_quiet given place passes
 kind_quiet given place (kinds.Tuplet mark) ahead =
-    let opened = tuplet_opened (here given.body).meter (here given.body).tuplet mark in
+    let opened = begin_tuplet (here given.body).meter (here given.body).tuplet mark in
     ap titles_said (fault_kept (record given { body = with_here given.body (record (here given.body) { tuplet = opened.0 }) }) place opened.1)
 kind_quiet given place (kinds.Broken mark) ahead = broken_quiet given (is_bad_mark given.behind ahead) place
 kind_quiet given place kinds.Tie ahead = tie_quiet given place given.after_note
@@ -182,16 +184,16 @@ kind_quiet given place kinds.NoEffect ahead = refl
 kind_quiet given place (kinds.Dynamic dynamic) ahead = refl
 kind_quiet given place (kinds.Directive directive) ahead = directive_quiet given place directive
 kind_quiet given place (kinds.Field field) ahead =
-    quiet given.items.items (field_given given.body field.letter field.value place).items (field_quiet given.body (kind_of field.letter) field.value place)
+    quiet given.items.items (field_result given.body field.letter field.value place).items (field_quiet given.body (kind_of field.letter) field.value place)
 kind_quiet given place kinds.Unclosed ahead = refl
 kind_quiet given place kinds.BadByte ahead = refl
 
-tokens_quiet : (given : Given) (tokens : Cell) → said_in (given_from given tokens) ≡ said_in given
+tokens_quiet : (given : CellResult) (tokens : Cell) → said_in (cell_result_from given tokens) ≡ said_in given
 tokens_quiet given [] = refl
 tokens_quiet given (token ∷ ahead) = tokens_quiet (with_token given token ahead) ahead ∙ kind_quiet given token.from token.kind ahead
 
-body_quiet : (body : Body) (cell : Cell) → titles_said (body_stepped body cell).1.items ≡ []
-body_quiet body cell = tokens_quiet (nothing_given body) cell
+body_quiet : (body : Body) (cell : Cell) → titles_said (body_step body cell).1.items ≡ []
+body_quiet body cell = tokens_quiet (empty_cell_result body) cell
 
 -- the header
 tempo_silent : (unit : Ratio) (tempo : Option Tempo) → title_said (opening_tempo_by unit tempo) ≡ None
@@ -217,14 +219,14 @@ order_silent header value (Ok reading) = refl
 order_silent header value (Err fault) = refl
 
 declared_silent : (header : Header) (name : List ℕ) (voices : List (List ℕ × Shift)) (fault : Option FaultCode)
-    → titles_if (declared_given header name (voices, fault)).item ≡ []
+    → titles_if (declare_result header name (voices, fault)).item ≡ []
 declared_silent header name voices None = refl
 declared_silent header name voices (Some fault) = refl
 
 voice_silent : (header : Header) (value : List ℕ) (voice : Result Voice FaultCode) → titles_if (header_voice_by header value voice).item ≡ []
 voice_silent header value (Ok voice) =
     let name = slice_range value voice.from voice.to in
-    let made = declared header.voices name voice.shift in
+    let made = declare header.voices name voice.shift in
     declared_silent header name made.0 made.1
 voice_silent header value (Err fault) = refl
 
@@ -233,7 +235,7 @@ key_silent header (Ok key) = refl
 key_silent header (Err fault) = refl
 
 -- what a field of the header says itself
-own_say : (header : Header) (kind : FieldKind) (value : List ℕ) → titles_if (own_given header kind value).item ≡ titles_from kind value []
+own_say : (header : Header) (kind : FieldKind) (value : List ℕ) → titles_if (own_result header kind value).item ≡ titles_from kind value []
 own_say header fields.Reference value = reference_silent header (reference_of value)
 own_say header fields.Title value = refl
 own_say header fields.Meter value = refl
@@ -249,11 +251,11 @@ directive_silent : (directive : Directive) → titles_if (directive_item directi
 directive_silent (directives.Program written) = refl
 directive_silent (directives.Reach reach) = refl
 
-program_quiet : (given : List Item) (program : Option ℕ) → titles_said (and_program given program) ≡ titles_said given
+program_quiet : (given : List Item) (program : Option ℕ) → titles_said (append_program given program) ≡ titles_said given
 program_quiet given None = refl
 program_quiet given (Some program) = quiet given (items.Program true (Some program) ∷ []) refl
 
-line_say : (header : Header) (line : HeaderLine) → titles_if (line_own header line).item ≡ titles_by (Some line) []
+line_say : (header : Header) (line : HeaderLine) → titles_if (own_line_result header line).item ≡ titles_by (Some line) []
 line_say header (FieldLine field) = own_say header (kind_of field.letter) field.value
 line_say header (DirectiveLine directive) = directive_silent directive
 
@@ -310,24 +312,24 @@ behind_line_say header (DirectiveLine directive) cells = refl
 abbrev step_says : Entry × Items → List Cell → List (List ℕ)
 step_says step cells = titles_said step.1.items ++ said_from step.0 cells
 
-body_says : (body : Body) (cell : Cell) (cells : List Cell) → step_says (body_stepped body cell) cells ≡ []
+body_says : (body : Body) (cell : Cell) (cells : List Cell) → step_says (body_step body cell) cells ≡ []
 body_says body cell cells = ap (λ titles. titles ++ []) (body_quiet body cell)
 
 header_says : (header : Header) (cell : Cell) (line : Option HeaderLine) (cells : List Cell)
-    → step_says (header_stepped header cell line) cells ≡ titles_by line (titles_of_header cells)
+    → step_says (header_step header cell line) cells ≡ titles_by line (titles_of_header cells)
 header_says header cell None cells = body_says (body_from header empty_key) cell cells
 header_says header cell (Some line) cells =
-    let own = line_own header line in
+    let own = own_line_result header line in
     ap (λ titles. titles ++ said_from (behind_line own.header line) cells)
     (program_quiet (items_with own.item own.header.defaults) (line_program line header.defaults) ∙ items_say own.item own.header.defaults ∙ line_say header line)
     ∙ behind_line_say own.header line cells
 
-file_says : (defaults : Defaults) (line : Option HeaderLine) (cells : List Cell) → step_says (file_header_stepped defaults line) cells ≡ []
+file_says : (defaults : Defaults) (line : Option HeaderLine) (cells : List Cell) → step_says (file_header_step defaults line) cells ≡ []
 file_says defaults None cells = refl
 file_says defaults (Some line) cells = refl
 
-says : (entry : Entry) (cell : Cell) (cells : List Cell) → step_says (stepped entry cell) cells ≡ said_from entry (cell ∷ cells)
-unfolding stepped
+says : (entry : Entry) (cell : Cell) (cells : List Cell) → step_says (entry_step entry cell) cells ≡ said_from entry (cell ∷ cells)
+unfolding entry_step
 says (entries.FileHeader defaults) cell cells = file_says defaults (line_in cell) cells
 says (entries.Opening defaults) cell cells = header_says (opening_header defaults) cell (line_in cell) cells
 says (entries.Header header) cell cells = header_says header cell (line_in cell) cells
@@ -342,7 +344,7 @@ nothing_said (entries.Body body) = refl
 cells_say : (entry : Entry) (cells : List Cell) → titles_said (flat_map (λ given. given.items) (items_from bar_steps entry cells)) ≡ said_from entry cells
 cells_say entry [] = nothing_said entry
 cells_say entry (cell ∷ cells) =
-    let step = stepped entry cell in
+    let step = entry_step entry cell in
     filter_map-append title_said step.1.items (flat_map (λ given. given.items) (items_from bar_steps step.0 cells))
     ∙ ap (λ titles. titles_said step.1.items ++ titles) (cells_say step.0 cells)
     ∙ says entry cell cells

@@ -1,5 +1,6 @@
 -- What the accidentals and the mode of a field K: say, apart from how its value is read. ABC 2.1 section 3.1.14.
-use Rattle.std.specs.Prelude.{◌≡◌, ◌≢◌, ℕ, ◌+◌, ◌<◌, ◌⊎◌, Bool, true, false, ⊤, ℤ, pos, negsuc, ◌+ℤ◌, List, [], ◌∷◌, ◌++◌, length, codes, All, Some, Ok, Err}
+use Rattle.std.specs.Prelude.{◌≡◌, ◌≢◌, ℕ, ◌+◌, ◌<◌, ◌⊎◌, Bool, true, false, ⊤, ℤ, pos, negsuc, ◌+ℤ◌, List, [], ◌∷◌, ◌++◌, length}
+use Rattle.std.specs.Prelude.{codes, All, Some, Ok, Err}
 use Rattle.abc_text.specs.declared.accidental.Accidental.{Accidental}
 use Rattle.abc_text.specs.declared.letter.Letter.{Letter}
 use Rattle.abc_text.specs.Accidental.{spelling, alteration as semitones}
@@ -73,7 +74,7 @@ BeginsWith [] run = ⊤
 BeginsWith (small ∷ rest) [] = ⊥
 BeginsWith (small ∷ rest) (b ∷ run) = ((b ≡ small) ⊎ (b + 32 ≡ small)) × BeginsWith rest run
 
--- A run of letters names a mode, which adds so many sharps to those of the major key and is minor or not.
+-- A run of letters names a mode, which adds `sharps` to those of the major key and is minor or not.
 pub data NamesMode (run : List ℕ) : ℤ → Bool → Type 0 where
   lydian : BeginsWith (codes "lyd") run → NamesMode run (pos 1) false
   major : BeginsWith (codes "maj") run → NamesMode run (pos 0) false
@@ -86,7 +87,7 @@ pub data NamesMode (run : List ℕ) : ℤ → Bool → Type 0 where
   phrygian : BeginsWith (codes "phr") run → NamesMode run (negsuc 3) false
   locrian : BeginsWith (codes "loc") run → NamesMode run (negsuc 4) false
 
--- After the tonic of a value, whose major key has so many sharps, come blanks and a run of letters, each as long as it can be.
+-- After the tonic of a value, whose major key has `sharps` sharps, come blanks and a run of letters, each as long as it can be.
 pub record IsTonicWithRun (value : List ℕ) (sharps : ℤ) (blanks run : List ℕ) : Type 0 where
   pub behind : List ℕ
   pub rest : List ℕ
@@ -114,4 +115,5 @@ OthersAreMajor =
 -- A run of letters directly after the tonic that names no mode is refused.
 abbrev pub OtherRunsAreRefused : Type 0
 OtherRunsAreRefused =
-    (value run : List ℕ) (sharps : ℤ) → IsTonicWithRun value sharps [] run → NamesNone run → 0 < length run → key_of value ≡ Err BadKey
+    (value run : List ℕ) (sharps : ℤ) → IsTonicWithRun value sharps [] run → NamesNone run → 0 < length run → key_of value
+    ≡ Err BadKey

@@ -1,14 +1,14 @@
 -- The titles that the items of a tune say. ABC 2.1 section 3.1.2.
 use Rattle.std.specs.Prelude.{◌≡◌, ℕ, List, [], ◌∷◌, Option, Some, None, filter_map}
-use Rattle.abc_header.specs.FieldKind.{kind_of}
-use Rattle.abc_cells.specs.Mentioned.{items_of_cells}
-use Rattle.abc_header.specs.HeaderLine.{HeaderLine, FieldLine, DirectiveLine}
-use Rattle.abc_cells.specs.Step.{line_in}
-use Rattle.abc_header.specs.declared.defaults.Defaults.{Defaults}
-use Rattle.abc_header.specs.declared.field_kind.FieldKind.{FieldKind}
-use Rattle.abc_header.specs.declared.field_kind.FieldKind.TheVariants as fields
-use Rattle.abc_items.specs.declared.item.Item.{Item}
-use Rattle.abc_items.specs.declared.item.Item.TheVariants as items
+use Rattle.abc_bars_header.specs.FieldKind.{kind_of}
+use Rattle.abc_bars_body.specs.Mentioned.{items_of_cells}
+use Rattle.abc_bars_header.specs.HeaderLine.{HeaderLine, FieldLine, DirectiveLine}
+use Rattle.abc_bars_body.specs.Step.{line_in}
+use Rattle.abc_bars_header.specs.declared.defaults.Defaults.{Defaults}
+use Rattle.abc_bars_header.specs.declared.field_kind.FieldKind.{FieldKind}
+use Rattle.abc_bars_header.specs.declared.field_kind.FieldKind.TheVariants as fields
+use Rattle.abc_bars_items.specs.declared.item.Item.{Item}
+use Rattle.abc_bars_items.specs.declared.item.Item.TheVariants as items
 use Rattle.abc_scan.specs.declared.spanned.Spanned.{Spanned}
 use Rattle.abc_scan.specs.declared.token.TokenKind.{TokenKind}
 
@@ -21,7 +21,7 @@ title_said _ = None
 abbrev pub titles_said : List Item → List (List ℕ)
 titles_said tune = filter_map title_said tune
 
--- What the T: lines of a header say from a field of this kind on, of what those behind it say: a K: ends the header.
+-- What the T: lines of a header say from a field of this kind on, of what those after it say: a K: ends the header.
 abbrev pub titles_from : FieldKind → List ℕ → List (List ℕ) → List (List ℕ)
 titles_from fields.Reference value behind = behind
 titles_from fields.Title value behind = value ∷ behind

@@ -2,26 +2,27 @@
 
 ghost use Rattle.std.specs.Prelude.{◌≡◌, IfOk};
 ghost use Rattle.std.specs.Option.{option_copied};
-ghost use Rattle.abc_cells.specs.Cell.{cell_given};
-ghost use Rattle.abc_cells.specs.SameEntry.{bar_steps, bars_resumable};
-ghost use Rattle.abc_header.specs.Header.{header_given};
-ghost use Rattle.abc_header.specs.HeaderLine.{DirectiveLine, FieldLine};
-ghost use Rattle.abc_cells.specs.Step.{field_line, field_in, directive_line, directive_in, line_in, body_stepped, line_stepped, header_stepped, file_header_made, file_header_stepped, stepped};
+ghost use Rattle.abc_bars_body.specs.Cell.{cell_result};
+ghost use Rattle.abc_bars_body.specs.SameEntry.{bar_steps, bars_resumable};
+ghost use Rattle.abc_bars_header.specs.Header.{header_result};
+ghost use Rattle.abc_bars_header.specs.HeaderLine.{DirectiveLine, FieldLine};
+ghost use Rattle.abc_bars_body.specs.Step.{field_line, field_in, directive_line, directive_in, line_in, body_step, line_step};
+ghost use Rattle.abc_bars_body.specs.Step.{header_step, file_header_step_of, file_header_step, entry_step};
 
-use abc_cells::{BodyCopy, Entry, Given, body_from, cell_given};
+use abc_bars_body::{BodyCopy, CellResult, Entry, body_from, cell_result};
+use abc_bars_header::{
+    Defaults, FieldKind, FileHeaderResult, Header, HeaderResult, file_header_directive_result,
+    file_header_result, header_directive_result, header_result, kind_of,
+};
+use abc_bars_items::{Items, ItemsBuilder};
 use abc_fields::{EMPTY_KEY, key_set_by};
 use abc_fold::{Fold, Work};
-use abc_header::{
-    Defaults, FieldKind, FileHeaderGiven, Header, HeaderGiven, file_header_directed,
-    file_header_given, header_directed, header_given, kind_of,
-};
-use abc_items::{Items, ItemsBuilder};
 use abc_scan::{Cell, Directive, Field, Token, TokenKind};
 use abc_text::Sequence;
 use std::alloc::{AllocError, Global};
 
-/// What holds behind a cell, and what it gives.
-type Stepped = Result<(Entry, ItemsBuilder), AllocError>;
+/// The state after a cell, and what it gives.
+type StepResult = Result<(Entry, ItemsBuilder), AllocError>;
 
 /// The field that a token is, if it is a field line.
 fn field_line(kind: &TokenKind) -> Option<&Field>
@@ -64,23 +65,23 @@ fn directive_in(cell: &[Token]) -> Option<Directive>
 }
 
 /// A cell of a body.
-fn body_stepped(alloc: Global, body: BodyCopy, cell: &[Token]) -> Stepped
-    ensures { IfOk result (λ made. made ≡ body_stepped body cell.now) }
+fn body_step(alloc: Global, body: BodyCopy, cell: &[Token]) -> StepResult
+    ensures { IfOk result (λ made. made ≡ body_step body cell.now) }
 {
-    let Given { body, items, .. } = cell_given(alloc, body, cell)?;
+    let CellResult { body, items, .. } = cell_result(alloc, body, cell)?;
     let entry = body.into_entry(alloc)?;
     Ok((entry, items))
 }
 
 /// A field of a header, of which a K: ends it.
-fn field_stepped(alloc: Global, header: Header, field: &Field) -> Stepped
-    ensures { IfOk result (λ made. made ≡ line_stepped (header_given header (FieldLine field.now)) (FieldLine field.now)) }
+fn field_step(alloc: Global, header: Header, field: &Field) -> StepResult
+    ensures { IfOk result (λ made. made ≡ line_step (header_result header (FieldLine field.now)) (FieldLine field.now)) }
 {
-    let HeaderGiven {
+    let HeaderResult {
         header,
         items,
         faults,
-    } = header_given(alloc, header, field)?;
+    } = header_result(alloc, header, field)?;
     let entry = match kind_of(field.letter) {
         FieldKind::Key => {
             let key = key_set_by(field.value.as_slice());
@@ -100,28 +101,28 @@ fn field_stepped(alloc: Global, header: Header, field: &Field) -> Stepped
 }
 
 /// A directive of a header, which does not end it.
-fn directive_stepped(alloc: Global, header: Header, directive: Directive) -> Stepped
-    ensures { IfOk result (λ made. made ≡ line_stepped (header_given header (DirectiveLine directive)) (DirectiveLine directive)) }
+fn directive_step(alloc: Global, header: Header, directive: Directive) -> StepResult
+    ensures { IfOk result (λ made. made ≡ line_step (header_result header (DirectiveLine directive)) (DirectiveLine directive)) }
 {
-    let HeaderGiven {
+    let HeaderResult {
         header,
         items,
         faults,
-    } = header_directed(alloc, header, directive)?;
+    } = header_directive_result(alloc, header, directive)?;
     let entry = Entry::in_header(alloc, header)?;
     Ok((entry, ItemsBuilder::of(items, faults)))
 }
 
 /// A cell of a header: a line of music ends it, and is a cell of the body.
-fn header_stepped(alloc: Global, header: Header, cell: &[Token]) -> Stepped
-    ensures { IfOk result (λ made. made ≡ header_stepped header cell.now (line_in cell.now)) }
+fn header_step(alloc: Global, header: Header, cell: &[Token]) -> StepResult
+    ensures { IfOk result (λ made. made ≡ header_step header cell.now (line_in cell.now)) }
 {
     match (field_in(cell), directive_in(cell)) {
-        (Some(field), _) => field_stepped(alloc, header, field),
-        (None, Some(directive)) => directive_stepped(alloc, header, directive),
+        (Some(field), _) => field_step(alloc, header, field),
+        (None, Some(directive)) => directive_step(alloc, header, directive),
         (None, None) => {
             let body = body_from(alloc, &header, &EMPTY_KEY)?;
-            body_stepped(alloc, BodyCopy::own(alloc, body)?, cell)
+            body_step(alloc, BodyCopy::own(alloc, body)?, cell)
         }
     }
 }
@@ -131,22 +132,22 @@ fn file_header_cell(
     alloc: Global,
     defaults: Defaults,
     cell: &[Token],
-) -> Result<FileHeaderGiven, AllocError>
-    ensures { IfOk result (λ given. file_header_made given ≡ file_header_stepped defaults (line_in cell.now)) }
+) -> Result<FileHeaderResult, AllocError>
+    ensures { IfOk result (λ given. file_header_step_of given ≡ file_header_step defaults (line_in cell.now)) }
 {
     match (field_in(cell), directive_in(cell)) {
-        (Some(field), _) => file_header_given(alloc, defaults, field),
-        (None, Some(directive)) => file_header_directed(alloc, defaults, directive),
+        (Some(field), _) => file_header_result(alloc, defaults, field),
+        (None, Some(directive)) => file_header_directive_result(alloc, defaults, directive),
         (None, None) => {
             let faults = Sequence::new(alloc);
-            Ok(FileHeaderGiven { defaults, faults })
+            Ok(FileHeaderResult { defaults, faults })
         }
     }
 }
 
 /// A cell of a file header.
-fn file_header_stepped(alloc: Global, defaults: Defaults, cell: &[Token]) -> Stepped
-    ensures { IfOk result (λ made. made ≡ file_header_stepped defaults (line_in cell.now)) }
+fn file_header_step(alloc: Global, defaults: Defaults, cell: &[Token]) -> StepResult
+    ensures { IfOk result (λ made. made ≡ file_header_step defaults (line_in cell.now)) }
 {
     let given = file_header_cell(alloc, defaults, cell)?;
     let items = Sequence::new(alloc);
@@ -157,22 +158,20 @@ fn file_header_stepped(alloc: Global, defaults: Defaults, cell: &[Token]) -> Ste
 }
 
 /// A cell that is entered there.
-#[tactic(auto, unfolding(abc_cells::specs::Step::stepped))]
-fn stepped(alloc: Global, entry: &Entry, cell: &[Token]) -> Stepped
-    ensures { IfOk result (λ made. made ≡ stepped entry.now cell.now) }
+#[tactic(auto, unfolding(abc_bars_body::specs::Step::entry_step))]
+fn entry_step(alloc: Global, entry: &Entry, cell: &[Token]) -> StepResult
+    ensures { IfOk result (λ made. made ≡ entry_step entry.now cell.now) }
 {
     match entry {
-        Entry::FileHeader(defaults) => file_header_stepped(alloc, *defaults, cell),
-        Entry::Opening(defaults) => {
-            header_stepped(alloc, Header::opening(alloc, *defaults), cell)
-        }
-        Entry::Header(header) => header_stepped(alloc, header.get().copied()?, cell),
-        Entry::Body(body) => body_stepped(alloc, BodyCopy::of(body)?, cell),
+        Entry::FileHeader(defaults) => file_header_step(alloc, *defaults, cell),
+        Entry::Opening(defaults) => { header_step(alloc, Header::opening(alloc, *defaults), cell) }
+        Entry::Header(header) => header_step(alloc, header.get().clone()?, cell),
+        Entry::Body(body) => body_step(alloc, BodyCopy::of(body)?, cell),
     }
 }
 
 /// The fold over the cells of a file header or of a tune, from `Entry::header` or `Entry::tune` on: what each
-/// cell gives and what holds behind it depend on what holds where it is entered, and on nothing else.
+/// cell gives and the state after it depend on the state if it is entered, and on nothing else.
 #[derive(Clone, Copy, Debug, Drop)]
 pub struct BarFold;
 
@@ -197,7 +196,7 @@ impl Fold for BarFold {
         work: &mut Work,
     ) -> Result<(Entry, Items), AllocError> {
         work.count_folded();
-        let (next, given) = stepped(alloc, state, cell.tokens())?;
+        let (next, given) = entry_step(alloc, state, cell.tokens())?;
         Ok((next, Items::new(alloc, given)?))
     }
 
@@ -210,7 +209,7 @@ impl Fold for BarFold {
     }
 
     fn copy_state(_alloc: Global, state: &Entry) -> Result<Entry, AllocError> {
-        state.copied()
+        state.share()
     }
 
     fn copy_cell(_alloc: Global, cell: &Cell) -> Result<Cell, AllocError> {

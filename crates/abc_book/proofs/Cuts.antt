@@ -7,32 +7,33 @@ use Rattle.abc_scan.specs.declared.class.LineClass.{LineClass}
 use Rattle.abc_scan.specs.declared.class.LineClass.TheVariants.{Blank, Comment, Field, Directive, Music}
 use Rattle.abc_book.specs.declared.block.BlockKind.{BlockKind}
 use Rattle.abc_book.specs.declared.block.BlockKind.TheVariants.{FileHeader, Tune, Free}
-use Rattle.abc_book.specs.declared.pass.Before.{Before}
-use Rattle.abc_book.specs.declared.pass.Before.TheVariants.{Nothing, Inside, Ended}
+use Rattle.abc_book.specs.declared.pass.OpenBlock.{OpenBlock}
+use Rattle.abc_book.specs.declared.pass.OpenBlock.TheVariants.{Nothing, Inside, Ended}
 use Rattle.abc_book.specs.Block.{letter_x, is_x_line, blocks_of}
-use Rattle.abc_book.specs.Pass.{one_line, with_line, after_line, last_block, ended_by, blocks_from}
+use Rattle.abc_book.specs.Pass.{one_line, with_line, after_line, last_block, block_ended_by, blocks_from}
 use Rattle.abc_book.specs.Laws.{moved, AnXLineCuts}
 use Rattle.abc_book.proofs.OnePass.{one_pass}
 
-cut_from : (before : Before) (at : ℕ) (front behind : List LineClass) → blocks_from before at (front ++ Field letter_x ∷ behind) ≡ blocks_from before at front ++ blocks_from Nothing (at + length front) (Field letter_x ∷ behind)
+cut_from : (before : OpenBlock) (at : ℕ) (front behind : List LineClass)
+    → blocks_from before at (front ++ Field letter_x ∷ behind) ≡ blocks_from before at front ++ blocks_from Nothing (at + length front) (Field letter_x ∷ behind)
 cut_from before at [] behind = let here : at ≡ at + 0 = omega arith in ap (λ n. last_block before ++ blocks_from Nothing n (Field letter_x ∷ behind)) here
 cut_from before at (class ∷ front) behind =
     let more = cut_from (after_line before at class) (at + 1) front behind in
     let here : at + 1 + length front ≡ at + length (class ∷ front) = omega arith in
-    ap (λ l. ended_by before class ++ l) (more ∙ ap (λ n. blocks_from (after_line before at class) (at + 1) front ++ blocks_from Nothing n (Field letter_x ∷ behind)) here)
-    ∙ sym (append_assoc (ended_by before class) (blocks_from (after_line before at class) (at + 1) front) (blocks_from Nothing (at + length (class ∷ front)) (Field letter_x ∷ behind)))
+    ap (λ l. block_ended_by before class ++ l) (more ∙ ap (λ n. blocks_from (after_line before at class) (at + 1) front ++ blocks_from Nothing n (Field letter_x ∷ behind)) here)
+    ∙ sym (append_assoc (block_ended_by before class) (blocks_from (after_line before at class) (at + 1) front) (blocks_from Nothing (at + length (class ∷ front)) (Field letter_x ∷ behind)))
 
-abbrev moved_before : ℕ → Before → Before
+abbrev moved_before : ℕ → OpenBlock → OpenBlock
 moved_before n Nothing = Nothing
 moved_before n (Inside block) = Inside (moved n block)
 moved_before n Ended = Ended
 
-last_moved : (n : ℕ) (before : Before) → last_block (moved_before n before) ≡ map (moved n) (last_block before)
+last_moved : (n : ℕ) (before : OpenBlock) → last_block (moved_before n before) ≡ map (moved n) (last_block before)
 last_moved n Nothing = refl
 last_moved n (Inside block) = refl
 last_moved n Ended = refl
 
-ended_moved : (n : ℕ) (before : Before) (class : LineClass) → ended_by (moved_before n before) class ≡ map (moved n) (ended_by before class)
+ended_moved : (n : ℕ) (before : OpenBlock) (class : LineClass) → block_ended_by (moved_before n before) class ≡ map (moved n) (block_ended_by before class)
 ended_moved n before Blank = last_moved n before
 ended_moved n before Comment = refl
 ended_moved n before (Field letter) = ⊎_elim
@@ -45,17 +46,17 @@ ended_moved n before Music = refl
 one_moved : (n at : ℕ) (kind : BlockKind) → one_line kind (at + n) ≡ moved n (one_line kind at)
 one_moved n at kind = let end : at + n + 1 ≡ at + 1 + n = omega arith in λ i. record { kind = kind; from = at + n; to = end i }
 
-line_moved : (n at : ℕ) (kind : BlockKind) (before : Before) → with_line kind (moved_before n before) (at + n) ≡ moved n (with_line kind before at)
+line_moved : (n at : ℕ) (kind : BlockKind) (before : OpenBlock) → with_line kind (moved_before n before) (at + n) ≡ moved n (with_line kind before at)
 line_moved n at kind Nothing = one_moved n at kind
 line_moved n at kind (Inside block) = let end : at + n + 1 ≡ at + 1 + n = omega arith in λ i. record { kind = block.kind; from = block.from + n; to = end i }
 line_moved n at kind Ended = one_moved n at Free
 
-blank_moved : (n at : ℕ) (before : Before) → after_line (moved_before n before) (at + n) Blank ≡ moved_before n (after_line before at Blank)
+blank_moved : (n at : ℕ) (before : OpenBlock) → after_line (moved_before n before) (at + n) Blank ≡ moved_before n (after_line before at Blank)
 blank_moved n at Nothing = refl
 blank_moved n at (Inside block) = refl
 blank_moved n at Ended = refl
 
-after_moved : (n at : ℕ) (before : Before) (class : LineClass) → after_line (moved_before n before) (at + n) class ≡ moved_before n (after_line before at class)
+after_moved : (n at : ℕ) (before : OpenBlock) (class : LineClass) → after_line (moved_before n before) (at + n) class ≡ moved_before n (after_line before at class)
 after_moved n at before Blank = blank_moved n at before
 after_moved n at before Comment = refl
 after_moved n at before (Field letter) = ⊎_elim
@@ -66,13 +67,13 @@ after_moved n at before Directive = ap (λ b. Inside b) (line_moved n at FileHea
 after_moved n at before Music = ap (λ b. Inside b) (line_moved n at Free before)
 
 -- the same lines further down make the same blocks, as much further down
-pub blocks_moved : (n at : ℕ) (before : Before) (classes : List LineClass) → blocks_from (moved_before n before) (at + n) classes ≡ map (moved n) (blocks_from before at classes)
+pub blocks_moved : (n at : ℕ) (before : OpenBlock) (classes : List LineClass) → blocks_from (moved_before n before) (at + n) classes ≡ map (moved n) (blocks_from before at classes)
 blocks_moved n at before [] = last_moved n before
 blocks_moved n at before (class ∷ classes) =
     let next : at + n + 1 ≡ at + 1 + n = omega arith in
     (λ i. ended_moved n before class i ++ blocks_from (after_moved n at before class i) (next i) classes)
-    ∙ ap (λ l. map (moved n) (ended_by before class) ++ l) (blocks_moved n (at + 1) (after_line before at class) classes)
-    ∙ sym (map-append (moved n) (ended_by before class) (blocks_from (after_line before at class) (at + 1) classes))
+    ∙ ap (λ l. map (moved n) (block_ended_by before class) ++ l) (blocks_moved n (at + 1) (after_line before at class) classes)
+    ∙ sym (map-append (moved n) (block_ended_by before class) (blocks_from (after_line before at class) (at + 1) classes))
 
 -- a line that begins a tune is a field X:
 pub is_field_x : (x : LineClass) → IsTrue (is_x_line x) → x ≡ Field letter_x

@@ -6,8 +6,9 @@ use Rattle.abc_scan.specs.declared.class.LineClass.{LineClass}
 use Rattle.abc_scan.specs.declared.class.LineClass.TheVariants.{Blank, Comment, Field, Directive, Music}
 use Rattle.abc_book.specs.declared.block.Block.{Block}
 use Rattle.abc_book.specs.declared.block.BlockKind.TheVariants.{FileHeader, Tune, Free}
-use Rattle.abc_book.specs.declared.pass.Before.TheVariants.{Nothing, Inside, Ended}
-use Rattle.abc_book.specs.Block.{Line, letter_x, numbered, without_comments, first_piece, other_pieces, cut_at_blanks, cut_before_x, has_lines, pieces_of, end_after, later_blocks, blocks_of_runs, blocks_of}
+use Rattle.abc_book.specs.declared.pass.OpenBlock.TheVariants.{Nothing, Inside, Ended}
+use Rattle.abc_book.specs.Block.{Line, letter_x, numbered, without_comments, first_piece, other_pieces, cut_at_blanks, cut_before_x, has_lines, pieces_of, end_after, later_blocks, blocks_of_runs}
+use Rattle.abc_book.specs.Block.{blocks_of}
 use Rattle.abc_book.specs.Pass.{one_line, blocks_from}
 use Rattle.abc_book.specs.Laws.{OnePass}
 
@@ -19,11 +20,11 @@ runs_at at classes = cut_at_blanks (without_comments (numbered at classes))
 pub pieces_at : ℕ → List LineClass → List (List Line)
 pieces_at at classes = cut_before_x (first_piece (runs_at at classes))
 
--- the blocks of the runs behind it
+-- the blocks of the runs after it
 pub runs_blocks : List (List Line) → List Block
 runs_blocks runs = flat_map (λ later. later_blocks (pieces_of later)) (filter has_lines runs)
 
--- the blocks behind the piece that goes on
+-- the blocks after the piece that goes on
 pub behind_at : ℕ → List LineClass → List Block
 behind_at at classes =
     later_blocks (filter has_lines (other_pieces (pieces_at at classes))) ++ runs_blocks (other_pieces (runs_at at classes))

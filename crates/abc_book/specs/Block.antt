@@ -2,7 +2,7 @@
 use Rattle.std.specs.Prelude.{ℕ, ◌+◌, Bool, true, false, not, List, [], ◌∷◌, ◌++◌, filter, if◌then◌else◌, ◌==◌}
 use Rattle.std.specs.List.{flat_map}
 use Rattle.abc_scan.specs.declared.class.LineClass.{LineClass}
-use Rattle.abc_scan.specs.declared.class.LineClass.TheVariants.{Blank, Comment, Field, Directive, Music}
+use Rattle.abc_scan.specs.declared.class.LineClass.TheVariants.{Blank, Comment, Field, Directive}
 use Rattle.abc_book.specs.declared.block.Block.{Block}
 use Rattle.abc_book.specs.declared.block.BlockKind.{BlockKind}
 use Rattle.abc_book.specs.declared.block.BlockKind.TheVariants.{FileHeader, Tune, Free}
@@ -17,17 +17,11 @@ line_at number class = record { number = number; class = class }
 
 abbrev pub is_blank : LineClass → Bool
 is_blank Blank = true
-is_blank Comment = false
-is_blank (Field letter) = false
-is_blank Directive = false
-is_blank Music = false
+is_blank _ = false
 
 abbrev pub is_comment : LineClass → Bool
-is_comment Blank = false
 is_comment Comment = true
-is_comment (Field letter) = false
-is_comment Directive = false
-is_comment Music = false
+is_comment _ = false
 
 -- The byte `X`.
 abbrev pub letter_x : ℕ
@@ -35,18 +29,15 @@ letter_x = 88
 
 -- The first field of a tune. ABC 2.1 section 3.1.1.
 abbrev pub is_x_line : LineClass → Bool
-is_x_line Blank = false
-is_x_line Comment = false
 is_x_line (Field letter) = letter == letter_x
-is_x_line Directive = false
-is_x_line Music = false
+is_x_line _ = false
 
 -- The lines of a text with their numbers, of which the first is this one.
 abbrev pub numbered : ℕ → List LineClass → List Line
 numbered number [] = []
 numbered number (class ∷ classes) = line_at number class ∷ numbered (number + 1) classes
 
--- The lines that are left where the comments are taken out. ABC 2.1 section 2.2.
+-- The lines without the comments. ABC 2.1 section 2.2.
 abbrev pub without_comments : List Line → List Line
 without_comments lines = filter (λ line. not (is_comment line.class)) lines
 
@@ -83,24 +74,22 @@ has_lines (line ∷ lines) = true
 abbrev pub runs_of : List LineClass → List (List Line)
 runs_of classes = filter has_lines (cut_at_blanks (without_comments (numbered 0 classes)))
 
--- The pieces of a run: an X: line begins a tune wherever it stands. Our own.
+-- The pieces of a run: an X: line always begins a tune. Not in ABC 2.1.
 abbrev pub pieces_of : List Line → List (List Line)
 pieces_of run = filter has_lines (cut_before_x run)
 
 -- What a piece is by its first line, at the start of the first run. ABC 2.1 sections 2.2.2 and 11; that a field
--- or a directive has to begin the file header is our own.
+-- or a directive has to begin the file header is not in ABC 2.1.
 abbrev pub opening_kind : LineClass → BlockKind
-opening_kind Blank = Free
-opening_kind Comment = Free
 opening_kind (Field letter) = if letter == letter_x then Tune else FileHeader
 opening_kind Directive = FileHeader
-opening_kind Music = Free
+opening_kind _ = Free
 
 -- What any other piece is by its first line. ABC 2.1 section 2.2.
 abbrev pub later_kind : LineClass → BlockKind
 later_kind class = if is_x_line class then Tune else Free
 
--- The number behind the last of these lines, which follow one that this is the number behind.
+-- The number after the last of these lines, which follow a line before this number.
 abbrev pub end_after : ℕ → List Line → ℕ
 end_after end [] = end
 end_after end (line ∷ lines) = end_after (line.number + 1) lines

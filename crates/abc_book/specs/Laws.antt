@@ -1,10 +1,11 @@
 -- What holds of the blocks of every text.
-use Rattle.std.specs.Prelude.{◌≡◌, ℕ, ◌+◌, ◌<◌, ◌≤◌, ◌↔◌, Bool, ◌&&◌, nat_le, nat_lt, IsTrue, Some, List, [], ◌∷◌, ◌++◌, length, map, All, count_by, slice_get}
+use Rattle.std.specs.Prelude.{◌≡◌, ℕ, ◌+◌, ◌<◌, ◌≤◌, ◌↔◌, Bool, ◌&&◌, nat_le, nat_lt, IsTrue, Some, List, [], ◌∷◌, ◌++◌, length}
+use Rattle.std.specs.Prelude.{map, All, count_by, slice_get}
 use Rattle.abc_scan.specs.declared.class.LineClass.{LineClass}
 use Rattle.abc_scan.specs.declared.class.LineClass.TheVariants.{Blank, Comment, Field}
 use Rattle.abc_book.specs.declared.block.Block.{Block}
 use Rattle.abc_book.specs.declared.block.BlockKind.TheVariants.{Tune}
-use Rattle.abc_book.specs.declared.pass.Before.TheVariants.{Nothing}
+use Rattle.abc_book.specs.declared.pass.OpenBlock.TheVariants.{Nothing}
 use Rattle.abc_book.specs.Block.{is_x_line, letter_x, blocks_of}
 use Rattle.abc_book.specs.Pass.{blocks_from}
 
@@ -28,11 +29,11 @@ NoBlankInABlock =
     (classes : List LineClass) (line : ℕ) → slice_get classes line ≡ Some Blank
     → count_by (holds line) (blocks_of classes) ≡ 0
 
--- A block so many lines further down.
+-- A block `lines` lines further down.
 abbrev pub moved : ℕ → Block → Block
 moved lines block = record { kind = block.kind; from = block.from + lines; to = block.to + lines }
 
--- The blocks of a text are those of what stands before an X: line, and those of the rest. Our own.
+-- The blocks of a text are those of the lines before an X: line, and those of the rest. Not in ABC 2.1.
 abbrev pub AnXLineCuts : Type 0
 AnXLineCuts =
     (before behind : List LineClass) (x : LineClass) → IsTrue (is_x_line x)
@@ -46,7 +47,7 @@ RiseFromTo first (block ∷ blocks) last = (first ≤ block.from) × (block.from
 abbrev pub BlocksRise : Type 0
 BlocksRise = (classes : List LineClass) → RiseFromTo 0 (blocks_of classes) (length classes)
 
--- A block is a tune where its first line is an X: line. ABC 2.1 section 2.2.
+-- A block is a tune exactly if its first line is an X: line. ABC 2.1 section 2.2.
 abbrev pub XLinesBeginTunes : Type 0
 XLinesBeginTunes =
     (classes : List LineClass)

@@ -5,8 +5,8 @@ use Rattle.abc_scan.specs.declared.class.LineClass.TheVariants.{Blank, Comment, 
 use Rattle.abc_book.specs.declared.block.Block.{Block}
 use Rattle.abc_book.specs.declared.block.BlockKind.{BlockKind}
 use Rattle.abc_book.specs.declared.block.BlockKind.TheVariants.{FileHeader, Tune, Free}
-use Rattle.abc_book.specs.declared.pass.Before.{Before}
-use Rattle.abc_book.specs.declared.pass.Before.TheVariants.{Nothing, Inside, Ended}
+use Rattle.abc_book.specs.declared.pass.OpenBlock.{OpenBlock}
+use Rattle.abc_book.specs.declared.pass.OpenBlock.TheVariants.{Nothing, Inside, Ended}
 use Rattle.abc_book.specs.Block.{letter_x}
 
 -- The block of one line.
@@ -14,19 +14,19 @@ abbrev pub one_line : BlockKind → ℕ → Block
 one_line kind at = record { kind = kind; from = at; to = at + 1 }
 
 -- The block that a line without X: is in: a line with nothing before it opens one of this kind.
-abbrev pub with_line : BlockKind → Before → ℕ → Block
+abbrev pub with_line : BlockKind → OpenBlock → ℕ → Block
 with_line opening Nothing at = one_line opening at
 with_line opening (Inside block) at = record block { to = at + 1 }
 with_line opening Ended at = one_line Free at
 
--- What stands before the line that follows a blank one.
-abbrev pub after_blank : Before → Before
+-- The open block before the line that follows a blank one.
+abbrev pub after_blank : OpenBlock → OpenBlock
 after_blank Nothing = Nothing
 after_blank (Inside block) = Ended
 after_blank Ended = Ended
 
--- What stands before the line that follows this one.
-abbrev pub after_line : Before → ℕ → LineClass → Before
+-- The open block before the line that follows this one.
+abbrev pub after_line : OpenBlock → ℕ → LineClass → OpenBlock
 after_line before at Blank = after_blank before
 after_line before at Comment = before
 after_line before at (Field letter) =
@@ -35,21 +35,19 @@ after_line before at Directive = Inside (with_line FileHeader before at)
 after_line before at Music = Inside (with_line Free before at)
 
 -- The block that is open at the end of a text.
-abbrev pub last_block : Before → List Block
+abbrev pub last_block : OpenBlock → List Block
 last_block Nothing = []
 last_block (Inside block) = block ∷ []
 last_block Ended = []
 
 -- The block that a line ends.
-abbrev pub ended_by : Before → LineClass → List Block
-ended_by before Blank = last_block before
-ended_by before Comment = []
-ended_by before (Field letter) = if letter == letter_x then last_block before else []
-ended_by before Directive = []
-ended_by before Music = []
+abbrev pub block_ended_by : OpenBlock → LineClass → List Block
+block_ended_by before Blank = last_block before
+block_ended_by before (Field letter) = if letter == letter_x then last_block before else []
+block_ended_by before _ = []
 
--- The blocks that lines make behind what stands before them; the first of them has this number.
-abbrev pub blocks_from : Before → ℕ → List LineClass → List Block
+-- The blocks that lines make after an open block; the first of them has this number.
+abbrev pub blocks_from : OpenBlock → ℕ → List LineClass → List Block
 blocks_from before at [] = last_block before
 blocks_from before at (class ∷ classes) =
-    ended_by before class ++ blocks_from (after_line before at class) (at + 1) classes
+    block_ended_by before class ++ blocks_from (after_line before at class) (at + 1) classes

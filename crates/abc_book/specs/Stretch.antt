@@ -1,4 +1,4 @@
--- The stretch of a text that an edit changes, and the blocks that there are after it. Our own.
+-- The stretch of a text that an edit changes, and the blocks that there are after it. Not in ABC 2.1.
 use Rattle.std.specs.Prelude.{◌≡◌, ◌⊎◌, ℕ, ◌+◌, ◌-◌, IsTrue, nat_le, nat_lt, List, [], ◌∷◌, ◌++◌, filter, length, map}
 use Rattle.abc_scan.specs.declared.class.LineClass.{LineClass}
 use Rattle.abc_book.specs.declared.block.Block.{Block}
@@ -14,27 +14,28 @@ BeginTune (class ∷ classes) = IsTrue (is_x_line class)
 abbrev pub IsCut : List LineClass → List LineClass → Type 0
 IsCut before behind = (before ≡ []) ⊎ BeginTune behind
 
--- The blocks of lines that have so many before them, where they stand in the text.
+-- The blocks of lines that begin at line `first`, with their places in the text.
 abbrev pub blocks_at : ℕ → List LineClass → List Block
 blocks_at first classes = map (moved first) (blocks_of classes)
 
--- Those of some blocks that begin before a line, and those that begin there or behind it.
+-- Those of some blocks that begin before a line, and those that begin there or after it.
 abbrev pub blocks_before : ℕ → List Block → List Block
 blocks_before line blocks = filter (λ block. nat_lt block.from line) blocks
 
 abbrev pub blocks_behind : ℕ → List Block → List Block
 blocks_behind line blocks = filter (λ block. nat_le line block.from) blocks
 
--- A block behind lines of which so many went, and so many came in their place.
+-- A block after `went` lines that `came` lines replaced.
 abbrev pub shifted : ℕ → ℕ → Block → Block
 shifted went came block = record { kind = block.kind; from = block.from - went + came; to = block.to - went + came }
 
--- Where a stretch takes the place of another, the blocks before it stay, and those behind it move by the difference of
--- lines: a stretch is the first of the text, begins a tune, or has no lines, and what stands behind it begins a tune or has
+-- If a stretch replaces another, the blocks before it stay, and those after it move by the difference of
+-- lines: a stretch is the first of the text, begins a tune, or has no lines, and what follows it begins a tune or has
 -- no lines.
 abbrev pub AStretchIsEnough : Type 0
 AStretchIsEnough =
     (before old new behind : List LineClass) → IsCut before old → IsCut before new → BeginTune behind
     → let there = blocks_of (before ++ (old ++ behind)) in let end = length before + length old in
     blocks_of (before ++ (new ++ behind))
-    ≡ blocks_before (length before) there ++ (blocks_at (length before) new ++ map (shifted (length old) (length new)) (blocks_behind end there))
+    ≡ blocks_before (length before) there
+    ++ (blocks_at (length before) new ++ map (shifted (length old) (length new)) (blocks_behind end there))

@@ -3,7 +3,7 @@
 /// What a block of a text is (ABC 2.1 section 2.2).
 #[derive(Clone, Copy)]
 pub enum BlockKind {
-    /// The first lines, up to a blank one or the first tune, where the first of them is a field or a directive; some set
+    /// The first lines, up to a blank one or the first tune, if the first of them is a field or a directive; some set
     /// defaults for all tunes.
     FileHeader,
     /// A tune, which an X: line begins.

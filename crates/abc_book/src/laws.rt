@@ -3,7 +3,7 @@
 ghost use Rattle.abc_book.specs.Laws.{OnePass, EachLineInOneBlock, NoBlankInABlock, AnXLineCuts, BlocksRise, XLinesBeginTunes};
 ghost use Rattle.abc_book.specs.Stretch.{AStretchIsEnough};
 
-/// One pass over the lines finds the blocks that the rules tell.
+/// One pass over the lines finds the blocks of the rules.
 pub fn one_pass()
     ensures { OnePass }
 {}
@@ -14,20 +14,20 @@ pub fn each_line_in_one_block()
     ensures none { NoBlankInABlock }
 {}
 
-/// An X: line cuts a text in two: what stands before it and what follows it do not touch each other.
+/// An X: line cuts a text in two: the lines before it and from it on are independent.
 pub fn an_x_line_cuts()
     ensures { AnXLineCuts }
 {}
 
 /// Blocks follow one another within the text, each of at least one line, and the first line of a block
-/// is an X: line where the block is a tune and nowhere else.
+/// is an X: line exactly if the block is a tune.
 pub fn blocks_rise()
     ensures rise { BlocksRise }
     ensures tunes { XLinesBeginTunes }
 {}
 
-/// Where a stretch of a text takes the place of another, each of them begins a tune or the text, or has no lines, and a tune
-/// or nothing follows them, the blocks before it stay, and those behind it move by the difference of lines.
+/// If a stretch of a text replaces another, each of them begins a tune or the text, or has no lines, and a tune
+/// or nothing follows them, the blocks before it stay, and those after it move by the difference of lines.
 pub fn a_stretch_is_enough()
     ensures { AStretchIsEnough }
 {}

@@ -2,12 +2,9 @@
 #![tactic(auto)]
 
 mod block;
-mod laws;
+pub mod laws;
 mod pass;
 
 pub use abc_scan::LineClass;
 pub use block::{Block, BlockKind};
-pub use laws::{
-    a_stretch_is_enough, an_x_line_cuts, blocks_rise, each_line_in_one_block, one_pass,
-};
 pub use pass::{blocks, stretch_blocks};

@@ -1,5 +1,6 @@
 -- Laws of accidentals.
-use Rattle.std.proofs.Common.{◌≡◌, ℕ, suc, ◌+◌, ◌<◌, ◌≤◌, true, false, ltb, List, [], ◌∷◌, ◌++◌, length, get_or, take, drop, Option, Some, None, refl, sym, ap, ◌∙◌, subst, inl, inr, ⊎_elim, arith, append-nil, append_assoc, length-append}
+use Rattle.std.proofs.Common.{◌≡◌, ℕ, suc, ◌+◌, ◌<◌, ◌≤◌, true, false, ltb, List, [], ◌∷◌, ◌++◌, length, get_or, take, drop, Option, Some, None, refl, sym, ap, ◌∙◌, subst, inl, inr, ⊎_elim, arith}
+use Rattle.std.proofs.Common.{append-nil, append_assoc, length-append}
 use Rattle.std.specs.Prelude.{◌⊎◌, ◌↔◌, not, position, codes}
 use Rattle.std.specs.List.{position_or_len}
 use Rattle.std.specs.Option.{is_some, option_and_then}
@@ -19,7 +20,7 @@ use Rattle.abc_fields.specs.Spelling.Accidental.{IsChange, AreChanges}
 abbrev first : List ℕ → ℕ
 first text = position_or_len is_letter text
 
--- the changes of what begins with a letter behind an accidental, where both are known
+-- the changes of what begins with a letter after an accidental, where both are known
 abbrev Behind : Option Accidental → Option (List Change) → Letter → Option (List Change)
 Behind accidental behind letter = option_and_then (and_change letter behind) accidental
 
@@ -100,7 +101,8 @@ pub no_letter_at : (text : List ℕ) (at : ℕ) → Some at ≡ position is_lett
 no_letter_at text at e none =
     change_at text at e ∙ ap (option_and_then (Behind (accidental_of (take at text)) (changes_of (drop (at + 1) text)))) (sym none)
 
-pub change_first : (text : List ℕ) (at : ℕ) (accidental : Accidental) (letter : Letter) → Some at ≡ position is_letter text → Some accidental ≡ accidental_of (take at text) → Some letter ≡ letter_of (get_or text at 0)
+pub change_first : (text : List ℕ) (at : ℕ) (accidental : Accidental) (letter : Letter) → Some at ≡ position is_letter text → Some accidental ≡ accidental_of (take at text)
+    → Some letter ≡ letter_of (get_or text at 0)
     → changes_of text ≡ and_change letter (changes_of (drop (at + 1) text)) accidental
 change_first text at accidental letter e is known =
     change_at text at e
@@ -124,7 +126,8 @@ record FirstParts (letter : Option Letter) (accidental : Option Accidental) (beh
   behind_is : behind ≡ Some more
   are : changes ≡ change ∷ more
 
-first_parts : (letter : Option Letter) (accidental : Option Accidental) (behind : Option (List Change)) (changes : List Change) → option_and_then (Behind accidental behind) letter ≡ Some changes → FirstParts letter accidental behind changes
+first_parts : (letter : Option Letter) (accidental : Option Accidental) (behind : Option (List Change)) (changes : List Change) → option_and_then (Behind accidental behind) letter ≡ Some changes
+    → FirstParts letter accidental behind changes
 first_parts None accidental behind changes e = cc
 first_parts (Some l) None behind changes e = cc
 first_parts (Some l) (Some a) None changes e = cc
@@ -171,7 +174,8 @@ changes_read (change ∷ changes) text e = ⊎_elim
     (h.rest, subst (λ x. IsChange text x h.rest) same h.here, changes_read changes h.rest (h.there ∙ ap Some more)))
     (first_of_changes text (change ∷ changes) e)
 
-known_by : (accidental : Accidental) (byte : ℕ) (letter : Letter) (rest : List ℕ) → letter_of byte ≡ Some letter → changes_of (spelled accidental ++ (byte ∷ rest)) ≡ and_change letter (changes_of rest) accidental
+known_by : (accidental : Accidental) (byte : ℕ) (letter : Letter) (rest : List ℕ) → letter_of byte ≡ Some letter
+    → changes_of (spelled accidental ++ (byte ∷ rest)) ≡ and_change letter (changes_of rest) accidental
 unfolding changes_of letter_of accidental_of
 known_by DoubleFlat byte letter rest e = ap (λ o. at_letter o (Some DoubleFlat) (changes_with rest []) (changes_with rest (codes "__" ++ byte ∷ []))) e
 known_by Flat byte letter rest e = ap (λ o. at_letter o (Some Flat) (changes_with rest []) (changes_with rest (codes "_" ++ byte ∷ []))) e

@@ -1,5 +1,6 @@
 -- Laws of fractions and of their sums.
-use Rattle.std.proofs.Common.{◌≡◌, ℕ, zero, suc, ◌+◌, ◌*◌, ◌/◌, ◌%◌, ◌^◌, ◌<◌, ◌≤◌, Bool, true, false, List, [], ◌∷◌, ◌++◌, length, take, drop, Option, Some, None, refl, sym, ap, ◌∙◌, subst, ◌⊎◌, inl, inr, ⊎_elim, arith, length-append, append_assoc}
+use Rattle.std.proofs.Common.{◌≡◌, ℕ, zero, suc, ◌+◌, ◌*◌, ◌/◌, ◌%◌, ◌^◌, ◌<◌, ◌≤◌, Bool, true, false, List, [], ◌∷◌, ◌++◌, length, take, drop, Option, Some, None, refl, sym, ap, ◌∙◌, subst, ◌⊎◌, inl}
+use Rattle.std.proofs.Common.{inr, ⊎_elim, arith, length-append, append_assoc}
 use Rattle.std.specs.Prelude.{◌==◌, not, nat_le, option_and_then}
 use Rattle.std.specs.Char.{is_ascii_digit}
 use Rattle.std.specs.List.{prefix_len, AllPass}
@@ -14,7 +15,7 @@ use Rattle.abc_text.specs.Blank.{is_blank, trim_start, AreBlanks}
 use Rattle.abc_text.specs.Number.{number_of, IsNumber}
 use Rattle.abc_text.specs.Cut.{cut_at}
 use Rattle.abc_text.specs.Power.{IsPowerUpTo}
-use Rattle.abc_text.specs.Word.{before_blank}
+use Rattle.abc_text.specs.Word.{bytes_before_blank}
 use Rattle.abc_fields.specs.Tempo.{part_of, fraction_of, word_in_front, behind_word, added, sum_with, sum_of}
 use Rattle.abc_fields.specs.Spelling.Tempo.{IsFraction, IsSum}
 use Rattle.abc_text.proofs.Powers.{power_from, power_to}
@@ -144,7 +145,7 @@ pub record IsWord (text : List ℕ) : Type 0 where
 pub word_cut : (text : List ℕ) → IsWord text
 unfolding word_in_front behind_word
 word_cut text =
-    let n = before_blank text in
+    let n = bytes_before_blank text in
     let rest = drop n text in
     let whole : text ≡ take n text ++ rest = sym (take-append-drop n text) in
     ⊎_elim
@@ -172,11 +173,12 @@ gap_or_end (b ∷ bs) h = front_none (λ b. not (is_blank b)) b bs (blank_hidden
 
 word_in_front-is : (text word more : List ℕ) → text ≡ word ++ more → AllPass (λ b. not (is_blank b)) word → prefix_len (λ b. not (is_blank b)) more ≡ 0 → word_in_front text ≡ word
 unfolding word_in_front
-word_in_front-is text word more e visible stops = ap (λ t. take (before_blank t) t) e ∙ take_exact _ word more (front_exact (λ b. not (is_blank b)) word more visible stops)
+word_in_front-is text word more e visible stops = ap (λ t. take (bytes_before_blank t) t) e ∙ take_exact _ word more (front_exact (λ b. not (is_blank b)) word more visible stops)
 
 behind_word-is : (text word more : List ℕ) → text ≡ word ++ more → AllPass (λ b. not (is_blank b)) word → prefix_len (λ b. not (is_blank b)) more ≡ 0 → behind_word text ≡ trim_start more
 unfolding behind_word
-behind_word-is text word more e visible stops = ap (λ t. trim_start (drop (before_blank t) t)) e ∙ ap trim_start (drop_exact _ word more (front_exact (λ b. not (is_blank b)) word more visible stops))
+behind_word-is text word more e visible stops =
+    ap (λ t. trim_start (drop (bytes_before_blank t) t)) e ∙ ap trim_start (drop_exact _ word more (front_exact (λ b. not (is_blank b)) word more visible stops))
 
 -- a sum begins with a digit
 begins_with : (text word more rest : List ℕ) (part : ℕ) → text ≡ word ++ more → IsFraction word part → (prefix_len is_blank (text ++ rest) ≡ 0) × (1 ≤ length text)
@@ -203,7 +205,7 @@ added_parts : (part sum : ℕ) (o : Option ℕ) → added part o ≡ Some sum �
 added_parts part sum None e = cc
 added_parts part sum (Some n) e = (n, refl, cc)
 
--- by what stands behind the first word
+-- by what follows the first word
 sum_by : (most : ℕ) (text : List ℕ) (sum : ℕ) → ((rest : List ℕ) (n : ℕ) → sum_of most rest ≡ Some n → IsSum most rest n) → (behind : List ℕ) → behind_word text ≡ behind
     → (part : ℕ) → IsFraction (word_in_front text) part → sum_with (sum_of most) (behind_word text) part ≡ Some sum → IsWord text → IsSum (suc most) text sum
 sum_by most text sum rest_is [] b part word total cut =

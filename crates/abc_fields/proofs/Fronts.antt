@@ -1,5 +1,6 @@
 -- What the front of an order plays, byte by byte: how many groups are open, and how great a count is.
-use Rattle.std.proofs.Common.{◌≡◌, ℕ, zero, suc, ◌+◌, ◌-◌, ◌*◌, ◌^◌, ◌<◌, ◌≤◌, ◌≢◌, Bool, true, false, not, ◌&&◌, ◌||◌, ◌==◌, cond, ltb, List, [], ◌∷◌, length, take, get_or, Option, Some, None, Ok, refl, sym, ap, ◌∙◌, subst, ⊎_elim, arith}
+use Rattle.std.proofs.Common.{◌≡◌, ℕ, zero, suc, ◌+◌, ◌-◌, ◌*◌, ◌^◌, ◌<◌, ◌≤◌, ◌≢◌, Bool, true, false, not, ◌&&◌, ◌||◌, ◌==◌, cond, ltb, List, [], ◌∷◌, length, take, get_or, Option, Some, None, Ok}
+use Rattle.std.proofs.Common.{refl, sym, ap, ◌∙◌, subst, ⊎_elim, arith}
 use Rattle.std.specs.List.{fold}
 use Rattle.std.specs.Char.{is_ascii_digit, is_ascii_uppercase}
 use Rattle.std.proofs.lemmas.Bool.{both_ways, or_left, or_right, and_parts, or_cases, eqb-true, ltb-true}
@@ -8,16 +9,16 @@ use Rattle.std.proofs.lemmas.List.{take_all}
 use Rattle.std.proofs.lemmas.List.Sums.{fold_more}
 use Rattle.std.proofs.Math.Nat.{pow-suc, pow-le-pow_right}
 use Rattle.abc_text.proofs.Decimals.{digit_range}
-use Rattle.abc_fields.specs.declared.parts.Before.{Before}
-use Rattle.abc_fields.specs.declared.parts.Before.TheVariants.{Nothing, Item}
+use Rattle.abc_fields.specs.declared.parts.LastItem.{LastItem}
+use Rattle.abc_fields.specs.declared.parts.LastItem.TheVariants.{Nothing, Item}
 use Rattle.abc_fields.specs.declared.parts.Place.{Place}
 use Rattle.abc_fields.specs.Parts.{is_ignored, order_bytes, ends_item, begins_item, with_digit, at, behind_digit, next, next_of, ends_order, is_order, parts_of}
 use Rattle.abc_fields.specs.Letters.{Played, nothing_played, count_or_once, letters_so_far, with_item, close_group, count_on, play_on, letters_of, is_order_byte, read_on, front_of}
 use Rattle.abc_fields.proofs.LetterLaws.{plays_letter, plays_open, plays_close, plays_digit}
 use Rattle.abc_fields.proofs.Orders.{order_lost, begins_too, positive_step, guarded, guarded_digit, branches, accepts}
 
--- the count behind an item has so many digits, of which one is not 0 where it is positive
-abbrev CountFits : Before → Option ℕ → Type 0
+-- the count after an item has so many digits, of which one is not 0 where it is positive
+abbrev CountFits : LastItem → Option ℕ → Type 0
 CountFits Nothing None = Unit {0}
 CountFits Nothing (Some n) = ⊥
 CountFits (Item digits positive) None = (digits ≡ 0) × (positive ≡ false)
@@ -36,7 +37,7 @@ pub record Accepts (played : Played) (b : ℕ) : Type 0 where
   pub counted : is_order_byte b ≡ true → is_ascii_digit b ≡ false → 0 < count_or_once played.count
 
 -- a count that is settled is not 0
-settled_count : (before : Before) (count : Option ℕ) → CountFits before count → begins_item before ≡ true → 0 < count_or_once count
+settled_count : (before : LastItem) (count : Option ℕ) → CountFits before count → begins_item before ≡ true → 0 < count_or_once count
 settled_count Nothing None fits begins = omega arith
 settled_count Nothing (Some n) fits begins = absurd fits
 settled_count (Item digits positive) None fits begins = omega arith
@@ -70,7 +71,7 @@ short_count digits positive n fits =
     let wide : 10 ^ digits ≤ 10 ^ 9 = pow-le-pow_right (omega arith) fits.1 in
     omega (arith, below, wide)
 
--- the step: what holds in front of a byte, and what stands behind it
+-- the step: what holds in front of a byte, and what follows it
 record Step (place : Place) (played : Played) (b : ℕ) (rest : List ℕ) : Type 0 where
   accepts_it : Accepts played b
   behind : Place
@@ -205,7 +206,7 @@ close_leads place played fits ends some = record {
 not_open_digit : (b : ℕ) → is_ascii_digit b ≡ true → b ≡ 40 → ⊥
 not_open_digit b digit e = both_ways (is_ascii_digit b) (subst (λ k. is_ascii_digit k ≡ false) (sym e) refl) digit
 
-digit_leads : (depth : ℕ) (before : Before) (played : Played) (b : ℕ) (after : Place) → Fits (at depth before) played → is_ascii_digit b ≡ true
+digit_leads : (depth : ℕ) (before : LastItem) (played : Played) (b : ℕ) (after : Place) → Fits (at depth before) played → is_ascii_digit b ≡ true
     → behind_digit depth (with_digit before b) ≡ Some after → Leads played b after
 digit_leads depth Nothing played b after fits digit e = cc
 digit_leads depth (Item digits positive) played b after fits digit e =

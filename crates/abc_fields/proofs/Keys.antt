@@ -1,5 +1,6 @@
 -- A value is read as its grammar says.
-use Rattle.std.proofs.Common.{◌≡◌, ◌==◌, ◌||◌, ℕ, ◌⊎◌, ℤ, pos, negsuc, ◌+ℤ◌, Bool, true, false, List, [], ◌∷◌, length, codes, Option, Some, None, Result, refl, sym, ap, ◌∙◌, subst, inl, inr, ⊎_elim, arith}
+use Rattle.std.proofs.Common.{◌≡◌, ◌==◌, ◌||◌, ℕ, ◌⊎◌, ℤ, pos, negsuc, ◌+ℤ◌, Bool, true, false, List, [], ◌∷◌, length, codes, Option, Some, None, Result, refl, sym, ap, ◌∙◌, subst, inl, inr, ⊎_elim}
+use Rattle.std.proofs.Common.{arith}
 use Rattle.std.specs.Prelude.{int_lt, IfSome}
 use Rattle.std.specs.Option.{option_map}
 use Rattle.std.specs.Str.{bytes_eq}
@@ -23,7 +24,8 @@ use Rattle.abc_fields.specs.Spelling.Tonic.{IsTonic}
 use Rattle.abc_text.specs.Letter.{letter_of}
 use Rattle.abc_text.specs.Word.{IsFirstWord, words_of}
 use Rattle.abc_fields.specs.Clef.{mark_of, names_clef, without_line}
-use Rattle.abc_fields.specs.Key.{empty_key, unchanged_key, IsInRange, key_with, key_on, sets_properties, begins_accidental, toneless_start, tonal_start, start_by_words, start_by, start_of, key_after, completed, spelled_key, key_in, key_of}
+use Rattle.abc_fields.specs.Key.{empty_key, unchanged_key, IsInRange, key_with, key_on, sets_properties, begins_accidental, toneless_start, tonal_start, start_by_words, start_by, start_of, key_after}
+use Rattle.abc_fields.specs.Key.{complete_key, spelled_key, key_in, key_of}
 use Rattle.abc_fields.specs.Spelling.Key.{IsKeyOn, HasNoTonic, IsStart, IsCompleted, IsSpelled, IsKey}
 use Rattle.abc_fields.specs.Spelling.Key.IsStart.{tonal, listed, properties}
 use Rattle.abc_fields.specs.Spelling.Key.IsKey.{nothing, spelled}
@@ -172,12 +174,12 @@ by_shift start words key (Some shift) s e =
       shift = (shift_exact words shift).0 s;
     })
 
-completed_from : (start : Key) (words : List (List ℕ)) (key : Key) → completed start words ≡ Some key → Completes start words key
-unfolding completed
+completed_from : (start : Key) (words : List (List ℕ)) (key : Key) → complete_key start words ≡ Some key → Completes start words key
+unfolding complete_key
 completed_from start words key e = by_shift start words key (shift_of words) refl e
 
-completed_to : (start : Key) (words : List (List ℕ)) (key : Key) → Completes start words key → completed start words ≡ Some key
-unfolding completed
+completed_to : (start : Key) (words : List (List ℕ)) (key : Key) → Completes start words key → complete_key start words ≡ Some key
+unfolding complete_key
 completed_to start words key h =
     let signature = signature_to start.signature words key.signature h.signature in
     ap (option_map (key_after start words)) ((shift_exact words key.shift).1 h.shift)
@@ -235,10 +237,10 @@ key_in_to value key (spelled h) =
     let something : ((length value == 0) || bytes_eq value (codes "none")) ≡ false = false_from_ne_true _ (λ t.
     let none : ◌≡◌ {A = Option (Key × List ℕ)} None (Some (h.start, h.text)) = sym (no_start value (nothing_from value t)) ∙ begins in cc) in
     let words : words_of h.text ≡ h.words = (words_exact h.text h.words).1 h.are_words in
-    let done : completed h.start h.words ≡ Some key = completed_to h.start h.words key (record { signature = h.signature; sharps = h.sharps; minor = h.minor; shift = h.shift }) in
+    let done : complete_key h.start h.words ≡ Some key = completed_to h.start h.words key (record { signature = h.signature; sharps = h.sharps; minor = h.minor; shift = h.shift }) in
     cond-false _ (Some empty_key) (spelled_key (start_of value)) something
     ∙ ap spelled_key begins
-    ∙ ap (completed h.start) words
+    ∙ ap (complete_key h.start) words
     ∙ done
 
 -- a key is within its bounds

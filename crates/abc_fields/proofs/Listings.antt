@@ -36,7 +36,8 @@ changed_by : (signature : Signature) (word : List ℕ) (o : Option (List Change)
 changed_by signature word None e = inr ((λ changes are. let known : Some changes ≡ None = sym ((changes_exact word changes).1 are) ∙ e in cc), refl)
 changed_by signature word (Some changes) e = inl (changes, (changes_exact word changes).0 e, refl)
 
-changed_to : (signature : Signature) (word : List ℕ) (changed : Signature) (o : Option (List Change)) → changes_of word ≡ o → IsChanged signature word changed → changed ≡ changed_or signature signature o
+changed_to : (signature : Signature) (word : List ℕ) (changed : Signature) (o : Option (List Change)) → changes_of word ≡ o → IsChanged signature word changed
+    → changed ≡ changed_or signature signature o
 changed_to signature word changed None e h = ⊎_elim
     (λ is. let known : Some is.0 ≡ None = sym ((changes_exact word is.0).1 is.1) ∙ e in cc)
     (λ is. is.1)

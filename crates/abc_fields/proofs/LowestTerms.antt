@@ -5,29 +5,29 @@ use Rattle.std.proofs.lemmas.Nat.{pow_pos}
 use Rattle.std.proofs.Math.Nat.{mul-one, one-mul, mul_assoc, dvd-mul_left, dvd-mul_right, dvd-mul_left_of_dvd, dvd-add_iff_right, eq-one_of_dvd-one, div-mul_cancel, eq_of_mul-eq-mul_right}
 use Rattle.std.specs.Int.{◌∣◌}
 use Rattle.abc_time.specs.declared.ratio.Ratio.{Ratio}
-use Rattle.abc_fields.specs.Tempo.{halved, lowest}
+use Rattle.abc_fields.specs.Tempo.{halve, lowest_terms}
 use Rattle.abc_fields.specs.Spelling.Tempo.{IsLowest}
 
 abbrev pub ratio : ℕ → ℕ → Ratio
 ratio n d = record { num = n; den = d }
 
-pub halved-odd : (most num den : ℕ) → num % 2 ≢ 0 → halved most num den ≡ ratio num den
-unfolding halved
-halved-odd zero num den odd = refl
-halved-odd (suc most) num den odd = cond-false _ _ _ (ne_eqb (num % 2) 0 odd)
+pub halve-odd : (most num den : ℕ) → num % 2 ≢ 0 → halve most num den ≡ ratio num den
+unfolding halve
+halve-odd zero num den odd = refl
+halve-odd (suc most) num den odd = cond-false _ _ _ (ne_eqb (num % 2) 0 odd)
 
-halved-suc : (most num den : ℕ) → num % 2 ≡ 0 → halved (suc most) num den ≡ halved most (num / 2) (den / 2)
-unfolding halved
-halved-suc most num den even = cond-true _ _ _ (eq-eqb (num % 2) 0 even)
+halve-suc : (most num den : ℕ) → num % 2 ≡ 0 → halve (suc most) num den ≡ halve most (num / 2) (den / 2)
+unfolding halve
+halve-suc most num den even = cond-true _ _ _ (eq-eqb (num % 2) 0 even)
 
-pub halved-even : (i num den : ℕ) → i < 9 → num % 2 ≡ 0 → halved (9 - i) num den ≡ halved (9 - (i + 1)) (num / 2) (den / 2)
-halved-even i num den h even =
+pub halve-even : (i num den : ℕ) → i < 9 → num % 2 ≡ 0 → halve (9 - i) num den ≡ halve (9 - (i + 1)) (num / 2) (den / 2)
+halve-even i num den h even =
     let left : 9 - i ≡ suc (9 - (i + 1)) = omega arith in
-    ap (λ n. halved n num den) left ∙ halved-suc (9 - (i + 1)) num den even
+    ap (λ n. halve n num den) left ∙ halve-suc (9 - (i + 1)) num den even
 
-pub halved-end : (i num den : ℕ) → 9 ≤ i → halved (9 - i) num den ≡ ratio num den
-unfolding halved
-halved-end i num den h = let left : 9 - i ≡ zero = omega arith in ap (λ n. halved n num den) left
+pub halve-end : (i num den : ℕ) → 9 ≤ i → halve (9 - i) num den ≡ ratio num den
+unfolding halve
+halve-end i num den h = let left : 9 - i ≡ zero = omega arith in ap (λ n. halve n num den) left
 
 -- what divides an odd multiple of m and a multiple of it by a power of two divides m
 odd_cancel : (q k c m : ℕ) → c ∣ (2 * q + 1) * m → c ∣ 2 ^ k * m → c ∣ m
@@ -52,8 +52,8 @@ pub record IsHalved (power num : ℕ) (r : Ratio) : Type 0 where
   pub num_least : 1 ≤ num → 1 ≤ r.num
   pub num_most : r.num ≤ num
 
-halved-zero : (num : ℕ) → IsHalved 0 num (ratio num 1)
-halved-zero num = record {
+halve-zero : (num : ℕ) → IsHalved 0 num (ratio num 1)
+halve-zero num = record {
   value = refl;
   cancels = λ c m h g. subst (λ n. c ∣ n) (one-mul m) g;
   den_least = omega arith;
@@ -89,21 +89,21 @@ even_IsHalved power num r even h = record {
   twice : (a p n d : ℕ) → a * p ≡ n * d → a * (2 * p) ≡ 2 * n * d
   twice a p n d e = omega (arith, e)
 
-pub halved_is : (power num den : ℕ) → den ≡ 2 ^ power → IsHalved power num (halved power num den)
-unfolding halved
-halved_is zero num den e = subst (λ d. IsHalved 0 num (ratio num d)) (sym e) (halved-zero num)
+pub halved_is : (power num den : ℕ) → den ≡ 2 ^ power → IsHalved power num (halve power num den)
+unfolding halve
+halved_is zero num den e = subst (λ d. IsHalved 0 num (ratio num d)) (sym e) (halve-zero num)
 halved_is (suc power) num den e = ⊎_elim
     (λ even.
     let half : den / 2 ≡ 2 ^ power = let p : 2 ^ suc power ≡ 2 * 2 ^ power = omega arith in omega (arith, e, p) in
-    subst (IsHalved (suc power) num) (sym (halved-suc power num den even)) (even_IsHalved power num _ even (halved_is power (num / 2) (den / 2) half)))
-    (λ odd. subst (IsHalved (suc power) num) (sym (halved-odd (suc power) num den odd)) (subst (λ d. IsHalved (suc power) num (ratio num d)) (sym e) (odd_IsHalved (suc power) num odd)))
+    subst (IsHalved (suc power) num) (sym (halve-suc power num den even)) (even_IsHalved power num _ even (halved_is power (num / 2) (den / 2) half)))
+    (λ odd. subst (IsHalved (suc power) num) (sym (halve-odd (suc power) num den odd)) (subst (λ d. IsHalved (suc power) num (ratio num d)) (sym e) (odd_IsHalved (suc power) num odd)))
     (cases_eq (num % 2) 0)
 
-pub lowest_is : (sum : ℕ) → IsHalved 9 sum (lowest sum)
+pub lowest_is : (sum : ℕ) → IsHalved 9 sum (lowest_terms sum)
 lowest_is sum = halved_is 9 sum 512 refl
 
-pub IsLowest-halved : (power num : ℕ) (r : Ratio) → IsHalved power num r → IsLowest r
-IsLowest-halved power num r h c above below = eq-one_of_dvd-one (h.cancels c 1 (subst (λ n. c ∣ n) (sym (mul-one r.num)) above) (subst (λ n. c ∣ n) (sym (mul-one r.den)) below))
+pub IsLowest-halve : (power num : ℕ) (r : Ratio) → IsHalved power num r → IsLowest r
+IsLowest-halve power num r h c above below = eq-one_of_dvd-one (h.cancels c 1 (subst (λ n. c ∣ n) (sym (mul-one r.num)) above) (subst (λ n. c ∣ n) (sym (mul-one r.den)) below))
 
 -- a ratio has one form in lowest terms
 one_lowest : (power num : ℕ) (r s : Ratio) → IsHalved power num s → r.num * 2 ^ power ≡ num * r.den → IsLowest r → r ≡ s
@@ -126,5 +126,5 @@ one_lowest power num r s h e least =
     same_num : (a b c d t : ℕ) → a * d ≡ c * b → t * d ≡ b → c * t * d ≡ a * d
     same_num a b c d t e f = omega (arith, e, ap (λ x. c * x) f)
 
-pub lowest-one : (sum : ℕ) (r : Ratio) → r.num * 512 ≡ sum * r.den → IsLowest r → r ≡ lowest sum
-lowest-one sum r e least = one_lowest 9 sum r (lowest sum) (lowest_is sum) e least
+pub lowest_terms-one : (sum : ℕ) (r : Ratio) → r.num * 512 ≡ sum * r.den → IsLowest r → r ≡ lowest_terms sum
+lowest_terms-one sum r e least = one_lowest 9 sum r (lowest_terms sum) (lowest_is sum) e least

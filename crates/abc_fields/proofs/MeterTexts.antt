@@ -1,5 +1,6 @@
 -- A text is a meter exactly where it is read.
-use Rattle.std.proofs.Common.{◌≡◌, ℕ, ◌-◌, ◌≤◌, ◌^◌, ◌&&◌, ◌||◌, ◌==◌, Bool, true, false, cond, List, [], ◌∷◌, ◌++◌, length, get_or, take, sum, codes, bytes_eq, Option, Some, None, Result, refl, sym, ap, ◌∙◌, subst, inl, inr, ⊎_elim, arith}
+use Rattle.std.proofs.Common.{◌≡◌, ℕ, ◌-◌, ◌≤◌, ◌^◌, ◌&&◌, ◌||◌, ◌==◌, Bool, true, false, cond, List, [], ◌∷◌, ◌++◌, length, get_or, take, sum, codes, bytes_eq, Option, Some, None, Result, refl, sym}
+use Rattle.std.proofs.Common.{ap, ◌∙◌, subst, inl, inr, ⊎_elim, arith}
 use Rattle.std.specs.Prelude.{not}
 use Rattle.std.specs.Option.{option_and_then}
 use Rattle.std.proofs.Math.Seq.{take-append_seam, get_or-append_seam}
@@ -13,10 +14,10 @@ use Rattle.abc_fields.specs.declared.fault.FaultCode.TheVariants.{BadMeter}
 use Rattle.abc_fields.specs.declared.meter.Meter.{Meter}
 use Rattle.abc_fields.specs.declared.meter.Meter.TheVariants.{Free, Of}
 use Rattle.abc_text.specs.Byte.{slash}
-use Rattle.abc_text.specs.Cut.{Without, cut_at}
+use Rattle.abc_text.specs.Cut.{HasNoByte, cut_at}
 use Rattle.abc_text.specs.Number.{number_of}
 use Rattle.abc_text.specs.Power.{IsPowerUpTo, power_up_to}
-use Rattle.abc_fields.specs.Meter.{IsMeterInRange, has_plus, sum_of, closes_a_sum, above_of, meter_by, meter_of_parts, fraction_of, symbol_or_fraction, meter_of}
+use Rattle.abc_fields.specs.Meter.{IsMeterInRange, has_plus, sum_of, closes_a_sum, upper_number, meter_by, meter_of_parts, fraction_of, symbol_or_fraction, meter_of}
 use Rattle.abc_fields.specs.Spelling.Meter.{IsSum, IsAbove, IsFraction, IsMeter}
 use Rattle.abc_text.proofs.Cuts.{cut_at-found, cut_at-cuts}
 use Rattle.abc_text.proofs.Fronts.{last_split}
@@ -58,18 +59,18 @@ in_parentheses b rest n t e =
       small = k.3;
     }
 
-above_from : (text : List ℕ) (n : ℕ) → above_of text ≡ Some n → IsRead text n
+above_from : (text : List ℕ) (n : ℕ) → upper_number text ≡ Some n → IsRead text n
 above_from [] n e = plain [] n e
 above_from (b ∷ rest) n e = ⊎_elim
     (λ t. in_parentheses b rest n t (sym (cond-true _ _ _ t) ∙ e))
     (λ t. plain (b ∷ rest) n (sym (cond-false _ _ _ t) ∙ e))
     (cases_Bool ((b == 40) && closes_a_sum rest))
 
-plain_to : (text numbers : List ℕ) → IsSum text numbers → above_of text ≡ sum_of text
+plain_to : (text numbers : List ℕ) → IsSum text numbers → upper_number text ≡ sum_of text
 plain_to [] numbers h = refl
 plain_to (b ∷ rest) numbers h = cond-false _ _ _ (and_left _ _ (All-head IsSumByte b rest (sum_bytes (b ∷ rest) numbers h)).not_open)
 
-closed_to : (inner numbers : List ℕ) → IsSum inner numbers → 2 ≤ length numbers → above_of (40 ∷ inner ++ 41 ∷ []) ≡ sum_of inner
+closed_to : (inner numbers : List ℕ) → IsSum inner numbers → 2 ≤ length numbers → upper_number (40 ∷ inner ++ 41 ∷ []) ≡ sum_of inner
 closed_to inner numbers h several =
     let rest = inner ++ 41 ∷ [] in
     let front : length rest - 1 ≡ length inner = omega (arith, length-append inner (41 ∷ [])) in
@@ -78,19 +79,19 @@ closed_to inner numbers h several =
     let plus : has_plus (take (length rest - 1) rest) ≡ true = ap has_plus inside ∙ has_plus-to inner numbers h several in
     cond-true ((40 == 40) && closes_a_sum rest) _ _ (and_from _ _ last plus) ∙ ap sum_of inside
 
-above_to : (text : List ℕ) (n : ℕ) → IsAbove text n → n ≤ 255 → above_of text ≡ Some n
+above_to : (text : List ℕ) (n : ℕ) → IsAbove text n → n ≤ 255 → upper_number text ≡ Some n
 above_to text n h small =
     let total : n ≡ sum h.numbers = h.total_is in
     let within : sum h.numbers ≤ 255 = omega arith in
     ⊎_elim
     (λ k. plain_to text h.numbers k ∙ sum_of-to text h.numbers k within ∙ ap Some (sym total))
-    (λ p. ap above_of p.spelling ∙ closed_to p.inner h.numbers p.summed p.several ∙ sum_of-to p.inner h.numbers p.summed within ∙ ap Some (sym total))
+    (λ p. ap upper_number p.spelling ∙ closed_to p.inner h.numbers p.summed p.several ∙ sum_of-to p.inner h.numbers p.summed within ∙ ap Some (sym total))
     h.spelling
 
-sum_Without : (text numbers : List ℕ) → IsSum text numbers → Without slash text
+sum_Without : (text numbers : List ℕ) → IsSum text numbers → HasNoByte slash text
 sum_Without text numbers h = All-weaker IsSumByte (λ b. not (b == slash) ≡ true) (λ b k. not_from_false (b == slash) k.no_stroke) text (sum_bytes text numbers h)
 
-above_Without : (text : List ℕ) (n : ℕ) → IsAbove text n → Without slash text
+above_Without : (text : List ℕ) (n : ℕ) → IsAbove text n → HasNoByte slash text
 above_Without text n h = ⊎_elim
     (λ k. sum_Without text h.numbers k)
     (λ p. let clean = λ (b : ℕ). not (b == slash) ≡ true in
@@ -126,7 +127,7 @@ unfolding fraction_of
 fraction_from text m e =
     let cut = bound meter_of_parts (cut_at slash text) m e in
     let is = cut_at-cuts slash text cut.0 cut.1 in
-    let p = parts (above_of cut.0.0) (power_up_to 6 (number_of cut.0.1)) m cut.2 in
+    let p = parts (upper_number cut.0.0) (power_up_to 6 (number_of cut.0.1)) m cut.2 in
     let above = above_from cut.0.0 p.num p.num_is in
     let below = power_up_to-from 6 (number_of cut.0.1) p.den p.den_is in
     record {
@@ -145,7 +146,7 @@ fraction_from text m e =
       };
     }
 
-fraction_cut : (above below : List ℕ) → Without slash above → fraction_of (above ++ slash ∷ below) ≡ meter_by (above_of above) (power_up_to 6 (number_of below))
+fraction_cut : (above below : List ℕ) → HasNoByte slash above → fraction_of (above ++ slash ∷ below) ≡ meter_by (upper_number above) (power_up_to 6 (number_of below))
 unfolding fraction_of
 fraction_cut above below clean = ap (option_and_then meter_of_parts) (cut_at-found slash above below clean)
 
@@ -186,7 +187,8 @@ differs : (text word : List ℕ) (m : Meter) → fraction_of text ≡ Some m →
 differs text word m e none = false_from_ne_true (bytes_eq text word)
     (λ t. let same : text ≡ word = (bytes_eq-Decides text word).0 t in let k : ◌≡◌ {A = Option Meter} None (Some m) = sym none ∙ ap fraction_of (sym same) ∙ e in cc)
 
-fraction_is : (text : List ℕ) (m : Meter) → fraction_of text ≡ Some m → fraction_of [] ≡ None → fraction_of (codes "none") ≡ None → fraction_of (codes "C") ≡ None → fraction_of (codes "C|") ≡ None → symbol_or_fraction text ≡ Some m
+fraction_is : (text : List ℕ) (m : Meter) → fraction_of text ≡ Some m → fraction_of [] ≡ None → fraction_of (codes "none") ≡ None → fraction_of (codes "C") ≡ None → fraction_of (codes "C|") ≡ None
+    → symbol_or_fraction text ≡ Some m
 unfolding symbol_or_fraction
 fraction_is text m e empty none common cut =
     cond-false (bytes_eq text [] || bytes_eq text (codes "none")) _ _ (or_from _ _ (differs text [] m e empty) (differs text (codes "none") m e none))

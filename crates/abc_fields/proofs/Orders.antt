@@ -1,5 +1,6 @@
 -- Laws of orders of parts: the places of an order, and its grammar.
-use Rattle.std.proofs.Common.{◌≡◌, ℕ, suc, ◌+◌, ◌-◌, ◌*◌, ◌<◌, ◌≤◌, ◌⊎◌, ◌↔◌, Bool, true, false, not, ◌&&◌, ◌||◌, ◌==◌, cond, ltb, List, [], ◌∷◌, ◌++◌, length, length-append, append-nil, drop, get_or, replicate, Option, Some, None, Result, Ok, Err, refl, sym, ap, ◌∙◌, subst, inl, inr, ⊎_elim, arith, append_assoc, add-one, add-zero, drop-cons}
+use Rattle.std.proofs.Common.{◌≡◌, ℕ, suc, ◌+◌, ◌-◌, ◌*◌, ◌<◌, ◌≤◌, ◌⊎◌, ◌↔◌, Bool, true, false, not, ◌&&◌, ◌||◌, ◌==◌, cond, ltb, List, [], ◌∷◌, ◌++◌, length, length-append, append-nil, drop, get_or}
+use Rattle.std.proofs.Common.{replicate, Option, Some, None, Result, Ok, Err, refl, sym, ap, ◌∙◌, subst, inl, inr, ⊎_elim, arith, append_assoc, add-one, add-zero, drop-cons}
 use Rattle.std.specs.List.{AllPass, fold, concat}
 use Rattle.std.specs.Char.{is_ascii_digit, is_ascii_uppercase}
 use Rattle.std.proofs.lemmas.Bool.{both_ways, false_from_ne_true, and_parts, or_cases, or_right, ne_eqb, ltb-true, lt-ltb, eqb-true}
@@ -12,26 +13,26 @@ use Rattle.abc_text.specs.Number.{IsNumber}
 use Rattle.abc_text.proofs.Decimals.{digit_range}
 use Rattle.abc_fields.specs.declared.fault.FaultCode.{FaultCode}
 use Rattle.abc_fields.specs.declared.fault.FaultCode.TheVariants.{BadOrder}
-use Rattle.abc_fields.specs.declared.parts.Before.{Before}
-use Rattle.abc_fields.specs.declared.parts.Before.TheVariants.{Nothing, Item}
+use Rattle.abc_fields.specs.declared.parts.LastItem.{LastItem}
+use Rattle.abc_fields.specs.declared.parts.LastItem.TheVariants.{Nothing, Item}
 use Rattle.abc_fields.specs.declared.parts.Place.{Place}
 use Rattle.abc_fields.specs.Parts.{is_ignored, order_bytes, ends_item, begins_item, with_digit, at, behind_digit, next, next_of, is_whole, place_behind, ends_order, is_order, parts_of}
 use Rattle.abc_fields.specs.Spelling.Parts.{IsCount, once, times, IsOrder, part, group, behind, IsParts}
 
--- the place behind a text, from this place on
+-- the place after a text, from this place on
 abbrev read : Option Place → List ℕ → Option Place
 read place text = fold next_of place text
 
 -- a letter, parentheses and a digit are four kinds of bytes
-letter_next : (depth letter : ℕ) (before : Before) → is_ascii_uppercase letter ≡ true → begins_item before ≡ true → next (at depth before) letter ≡ Some (at depth (Item 0 false))
+letter_next : (depth letter : ℕ) (before : LastItem) → is_ascii_uppercase letter ≡ true → begins_item before ≡ true → next (at depth before) letter ≡ Some (at depth (Item 0 false))
 unfolding next
 letter_next depth letter before upper begins = rw (upper, begins) refl
 
-open_next : (depth : ℕ) (before : Before) → begins_item before ≡ true → depth < 32 → next (at depth before) 40 ≡ Some (at (depth + 1) Nothing)
+open_next : (depth : ℕ) (before : LastItem) → begins_item before ≡ true → depth < 32 → next (at depth before) 40 ≡ Some (at (depth + 1) Nothing)
 unfolding next
 open_next depth before begins few = rw (begins, lt-ltb depth 32 few) refl
 
-close_next : (depth : ℕ) (before : Before) → ends_item before ≡ true → next (at (depth + 1) before) 41 ≡ Some (at depth (Item 0 false))
+close_next : (depth : ℕ) (before : LastItem) → ends_item before ≡ true → next (at (depth + 1) before) 41 ≡ Some (at depth (Item 0 false))
 unfolding next
 close_next depth before ends =
     let some : ltb 0 (depth + 1) ≡ true = lt-ltb 0 (depth + 1) (omega arith) in
@@ -70,16 +71,16 @@ order_step place value i inside =
 -- From the grammar to the places: an order leads from a place where an item may begin to one where an
 -- item may end, at the same depth.
 abbrev Ends : ℕ → Option Place → Type 0
-Ends depth place = (before : Before) × (place ≡ Some (at depth before)) × (ends_item before ≡ true)
+Ends depth place = (before : LastItem) × (place ≡ Some (at depth before)) × (ends_item before ≡ true)
 
-pub begins_too : (before : Before) → ends_item before ≡ true → begins_item before ≡ true
+pub begins_too : (before : LastItem) → ends_item before ≡ true → begins_item before ≡ true
 begins_too Nothing h = cc
 begins_too (Item digits positive) h = h
 
 pub positive_step : (b n : ℕ) → 48 ≤ b → (ltb 0 n || not (b == 48)) ≡ ltb 0 (n * 10 + (b - 48))
 positive_step b n low = grind (arith, nat_tests)
 
--- the number that digits write behind this one
+-- the number that digits write after this one
 abbrev pub number_after : ℕ → List ℕ → ℕ
 number_after n digits = fold (λ n d. n * 10 + (d - 48)) n digits
 
@@ -103,7 +104,7 @@ count_ends (times {text} {n} number positive) depth = (
   or_right (0 + length text == 0) _ (lt-ltb 0 (decimal text) (subst (λ v. 0 < v) number.value positive)),
 )
 
-order_ends : {depth : ℕ} {text letters : List ℕ} → IsOrder depth text letters → (before : Before) → begins_item before ≡ true → Ends depth (read (Some (at depth before)) text)
+order_ends : {depth : ℕ} {text letters : List ℕ} → IsOrder depth text letters → (before : LastItem) → begins_item before ≡ true → Ends depth (read (Some (at depth before)) text)
 order_ends (part {depth} {letter} {n} {count} upper counted) before begins =
     subst (λ place. Ends depth (read place count)) (sym (letter_next depth letter before upper begins)) (count_ends counted depth)
 order_ends (group {depth} {n} {inner} {count} few order counted) before begins =
@@ -140,7 +141,7 @@ record IsBegun (count : List ℕ) (digits : ℕ) (positive : Bool) : Type 0 wher
   all : AllPass is_ascii_digit count
   value : positive ≡ ltb 0 (decimal count)
 
-data Reached : ℕ → Before → List ℕ → Type 0 where
+data Reached : ℕ → LastItem → List ℕ → Type 0 where
   at_front : {depth : ℕ} {text : List ℕ} → Opened depth text → Reached depth Nothing text
   at_item : {depth digits : ℕ} {positive : Bool} {outer inner bare count : List ℕ}
       → Opened depth outer → IsInner depth inner → IsBare depth bare → IsBegun count digits positive → Reached depth (Item digits positive) (outer ++ (inner ++ (bare ++ count)))
@@ -178,7 +179,7 @@ settled (b ∷ count) digits positive begun ends =
     let number : IsNumber (b ∷ count) (decimal (b ∷ count)) = record { some = omega arith; few = omega arith; digits = begun.all; value = refl } in
     (decimal (b ∷ count), times number (ltb-true 0 (decimal (b ∷ count)) (sym begun.value ∙ sure)))
 
-finishes : {depth : ℕ} {before : Before} {text : List ℕ} → Reached depth before text → ends_item before ≡ true → Finishes depth text
+finishes : {depth : ℕ} {before : LastItem} {text : List ℕ} → Reached depth before text → ends_item before ≡ true → Finishes depth text
 finishes (at_front opened) ends = cc
 finishes (at_item {depth} {digits} {positive} {outer} {inner} {bare} {count} opened is_inner is_bare begun) ends =
     let counted = settled count digits positive begun ends in
@@ -186,7 +187,7 @@ finishes (at_item {depth} {digits} {positive} {outer} {inner} {bare} {count} ope
     let all = joined is_inner one.1 in
     record { outer = outer; inner = inner ++ (bare ++ count); letters = all.0; opened = opened; is_order = all.1; spelling = refl }
 
-begins : {depth : ℕ} {before : Before} {text : List ℕ} → Reached depth before text → begins_item before ≡ true → Begins depth text
+begins : {depth : ℕ} {before : LastItem} {text : List ℕ} → Reached depth before text → begins_item before ≡ true → Begins depth text
 begins (at_front {depth} {text} opened) may = record { outer = text; inner = []; opened = opened; is_inner = empty; spelling = sym (append-nil text) }
 begins (at_item {depth} {digits} {positive} {outer} {inner} {bare} {count} opened is_inner is_bare begun) may =
     let whole = finishes (at_item opened is_inner is_bare begun) may in
@@ -228,12 +229,13 @@ new_item : {depth : ℕ} {outer inner bare text : List ℕ} → Opened depth out
 new_item {depth} opened is_inner is_bare spelling = subst (Reached depth (Item 0 false)) (sym spelling) (at_item opened is_inner is_bare unbegun)
 
 -- one byte more
-after_letter : (depth letter : ℕ) (before : Before) (text : List ℕ) → Reached depth before text → begins_item before ≡ true → is_ascii_uppercase letter ≡ true → Reached depth (Item 0 false) (text ++ letter ∷ [])
+after_letter : (depth letter : ℕ) (before : LastItem) (text : List ℕ) → Reached depth before text → begins_item before ≡ true → is_ascii_uppercase letter ≡ true
+    → Reached depth (Item 0 false) (text ++ letter ∷ [])
 after_letter depth letter before text reached may upper =
     let h = begins reached may in
     new_item h.opened h.is_inner (letter_bare depth letter upper) (ap (λ l. l ++ letter ∷ []) h.spelling ∙ append_assoc h.outer h.inner (letter ∷ []))
 
-after_open : (depth : ℕ) (before : Before) (text : List ℕ) → Reached depth before text → begins_item before ≡ true → depth < 32 → Reached (depth + 1) Nothing (text ++ 40 ∷ [])
+after_open : (depth : ℕ) (before : LastItem) (text : List ℕ) → Reached depth before text → begins_item before ≡ true → depth < 32 → Reached (depth + 1) Nothing (text ++ 40 ∷ [])
 after_open depth before text reached may few =
     let h = begins reached may in
     subst (Reached (depth + 1) Nothing) (sym (ap (λ l. l ++ 40 ∷ []) h.spelling ∙ append_assoc h.outer h.inner (40 ∷ []))) (at_front (inside few h.opened h.is_inner))
@@ -241,7 +243,7 @@ after_open depth before text reached may few =
 group_spelling : (outer inner order : List ℕ) → ((outer ++ (inner ++ 40 ∷ [])) ++ order) ++ 41 ∷ [] ≡ outer ++ (inner ++ ((40 ∷ (order ++ 41 ∷ [])) ++ []))
 group_spelling outer inner order = simp (append_assoc, append-nil)
 
-after_close : (depth : ℕ) (before : Before) (text : List ℕ) → Reached depth before text → ends_item before ≡ true → 0 < depth → Reached (depth - 1) (Item 0 false) (text ++ 41 ∷ [])
+after_close : (depth : ℕ) (before : LastItem) (text : List ℕ) → Reached depth before text → ends_item before ≡ true → 0 < depth → Reached (depth - 1) (Item 0 false) (text ++ 41 ∷ [])
 after_close depth before text reached ends some =
     let h = finishes reached ends in
     let g = inside_of h.opened some in
@@ -283,11 +285,12 @@ pub branches : (t : Bool) (x y : Option Place) (after : Place) → cond t x y �
 branches true x y after e = inl (refl, e)
 branches false x y after e = inr (refl, e)
 
-pub guarded_digit : (t : Bool) (depth : ℕ) (before : Before) (after : Place) → behind_digit depth (cond t (Some before) None) ≡ Some after → (t ≡ true) × (at depth before ≡ after)
+pub guarded_digit : (t : Bool) (depth : ℕ) (before : LastItem) (after : Place) → behind_digit depth (cond t (Some before) None) ≡ Some after → (t ≡ true) × (at depth before ≡ after)
 guarded_digit true depth before after e = (refl, cc)
 guarded_digit false depth before after e = cc
 
-digit_leads : (depth : ℕ) (before : Before) (b : ℕ) (text : List ℕ) (after : Place) → Reached depth before text → is_ascii_digit b ≡ true → behind_digit depth (with_digit before b) ≡ Some after → Leads (text ++ b ∷ []) after
+digit_leads : (depth : ℕ) (before : LastItem) (b : ℕ) (text : List ℕ) (after : Place) → Reached depth before text → is_ascii_digit b ≡ true → behind_digit depth (with_digit before b) ≡ Some after
+    → Leads (text ++ b ∷ []) after
 digit_leads depth Nothing b text after reached digit e = cc
 digit_leads depth (Item digits positive) b text after reached digit e =
     let given = guarded_digit (ltb digits 9) depth (Item (digits + 1) (positive || not (b == 48))) after e in

@@ -1,5 +1,6 @@
 -- Laws of properties.
-use Rattle.std.proofs.Common.{◌≡◌, ℕ, ℤ, suc, ◌+◌, ◌-◌, ◌≤◌, true, false, leb, eqb, List, [], ◌∷◌, ◌++◌, length, get_or, take, drop, Option, Some, None, refl, sym, ap, ◌∙◌, subst, inl, inr, ⊎_elim, arith, length-append}
+use Rattle.std.proofs.Common.{◌≡◌, ℕ, ℤ, suc, ◌+◌, ◌-◌, ◌≤◌, true, false, leb, eqb, List, [], ◌∷◌, ◌++◌, length, get_or, take, drop, Option, Some, None, refl, sym, ap, ◌∙◌, subst, inl, inr, ⊎_elim}
+use Rattle.std.proofs.Common.{arith, length-append}
 use Rattle.std.specs.Prelude.{◌⊎◌, ◌&&◌, pos, neg_ℤ}
 use Rattle.std.specs.List.{slice_range}
 use Rattle.std.specs.Option.{option_map, option_map_or}
@@ -12,7 +13,7 @@ use Rattle.std.specs.Char.{is_ascii_digit}
 use Rattle.abc_text.specs.Number.{IsNumber, number_of}
 use Rattle.abc_fields.specs.declared.property.Property.{Property}
 use Rattle.abc_fields.specs.declared.property.Property.TheVariants.{Clef, Octave, Transpose, Other}
-use Rattle.abc_fields.specs.Property.{clef_name, octave_name, transpose_name, is_quoted, unquoted, signed_number, begins_with, property_of}
+use Rattle.abc_fields.specs.Property.{clef_name, octave_name, transpose_name, is_quoted, unquote, signed_number, begins_with, property_of}
 use Rattle.abc_fields.specs.Spelling.Property.{IsUnquoted, IsSignedNumber, Gives, BeginsWith, HasNoName, IsProperty}
 use Rattle.abc_fields.specs.Clef.{mark_of, clef_of}
 use Rattle.abc_text.proofs.Fronts.{last_split}
@@ -44,15 +45,15 @@ quoted_is (b ∷ c ∷ cs) test =
     let closes : get_or bs (length bs - 1) 0 ≡ 34 = ap (λ n. get_or text n 0) (sym last) ∙ eqb-true _ 34 both.1 in
     (λ i. opens i ∷ last_split bs (omega arith) i) ∙ (λ i. 34 ∷ (take (sym count i) bs ++ closes i ∷ []))
 
-unquoted_is : (text : List ℕ) → IsUnquoted text (unquoted text)
-unfolding unquoted
+unquoted_is : (text : List ℕ) → IsUnquoted text (unquote text)
+unfolding unquote
 unquoted_is text = ⊎_elim
     (λ test. inl (quoted_is text test ∙ ap (λ l. 34 ∷ (l ++ 34 ∷ [])) (sym (cond-true _ _ _ test))))
     (λ other. inr (sym (cond-false _ _ _ other), λ inner e. true≢false (sym (quoted_of text inner e).0 ∙ other)))
     (cases_Bool (is_quoted text))
 
-unquoted_known : (text value : List ℕ) → IsUnquoted text value → unquoted text ≡ value
-unfolding unquoted
+unquoted_known : (text value : List ℕ) → IsUnquoted text value → unquote text ≡ value
+unfolding unquote
 unquoted_known text value is = ⊎_elim
     (λ e. let both = quoted_of text value e in cond-true _ _ _ both.0 ∙ both.1)
     (λ plain. ⊎_elim (λ test. absurd (plain.1 _ (quoted_is text test))) (λ other. cond-false _ _ _ other ∙ plain.0) (cases_Bool (is_quoted text)))
@@ -145,15 +146,15 @@ no_begin name word fails begins = true≢false (sym (begins_from name word begin
 first_differs : (a b : ℕ) (xs ys text word : List ℕ) → (a ≡ b → ⊥) → word ≡ (a ∷ xs) ++ text → begins_with (b ∷ ys) word ≡ false
 first_differs a b xs ys text word differ e = begins_false (b ∷ ys) word (λ begins. differ (ap (λ l. get_or l 0 0) (sym e ∙ begins.1)))
 
-given : (name word : List ℕ) → begins_with name word ≡ true → Gives name word (unquoted (drop (length name) word))
+given : (name word : List ℕ) → begins_with name word ≡ true → Gives name word (unquote (drop (length name) word))
 given name word e = record {
   text = drop (length name) word;
   spelling = begins_true name word e;
-  unquoted = unquoted_is (drop (length name) word);
+  unquote = unquoted_is (drop (length name) word);
 }
 
-value_known : (name word value : List ℕ) (g : Gives name word value) → unquoted (drop (length name) word) ≡ value
-value_known name word value g = ap unquoted (behind_name name word g.text g.spelling) ∙ unquoted_known g.text value g.unquoted
+value_known : (name word value : List ℕ) (g : Gives name word value) → unquote (drop (length name) word) ≡ value
+value_known name word value g = ap unquote (behind_name name word g.text g.spelling) ∙ unquoted_known g.text value g.unquote
 
 -- a word is read as what it says
 plain_read : (word : List ℕ) (o : Option ℤ) → HasNoName word → mark_of word ≡ o → IsProperty word (option_map_or Clef o Other)
@@ -164,21 +165,21 @@ pub property_read : (word : List ℕ) (p : Property) → property_of word ≡ So
 unfolding property_of
 property_read word p e = ⊎_elim
     (λ clef.
-    let value = unquoted (drop 5 word) in
+    let value = unquote (drop 5 word) in
     let same : Clef (clef_of value) ≡ p = (let chosen : Some (Clef (clef_of value)) ≡ Some p = sym (cond-true _ _ _ clef) ∙ e in cc) in
     subst (IsProperty word) same (inl (value, given clef_name word clef, clef_by value (mark_of value) refl)))
     (λ no_clef.
     let rest = sym (cond-false _ _ _ no_clef) ∙ e in
     ⊎_elim
     (λ octave.
-    let value = unquoted (drop 7 word) in
+    let value = unquote (drop 7 word) in
     let parts = map_some Octave (signed_number value) p (sym (cond-true _ _ _ octave) ∙ rest) in
     subst (IsProperty word) (sym parts.2) (value, given octave_name word octave, signed_read value parts.0 parts.1))
     (λ no_octave.
     let rest2 = sym (cond-false _ _ _ no_octave) ∙ rest in
     ⊎_elim
     (λ transpose.
-    let value = unquoted (drop 10 word) in
+    let value = unquote (drop 10 word) in
     let parts = map_some Transpose (signed_number value) p (sym (cond-true _ _ _ transpose) ∙ rest2) in
     subst (IsProperty word) (sym parts.2) (value, given transpose_name word transpose, signed_read value parts.0 parts.1))
     (λ no_transpose.
@@ -188,21 +189,23 @@ property_read word p e = ⊎_elim
     (cases_Bool (begins_with octave_name word)))
     (cases_Bool (begins_with clef_name word))
 
-clef_named : (word : List ℕ) → begins_with clef_name word ≡ true → property_of word ≡ Some (Clef (clef_of (unquoted (drop 5 word))))
+clef_named : (word : List ℕ) → begins_with clef_name word ≡ true → property_of word ≡ Some (Clef (clef_of (unquote (drop 5 word))))
 unfolding property_of
 clef_named word clef = cond-true _ _ _ clef
 
-octave_named : (word : List ℕ) → begins_with clef_name word ≡ false → begins_with octave_name word ≡ true → property_of word ≡ option_map Octave (signed_number (unquoted (drop 7 word)))
+octave_named : (word : List ℕ) → begins_with clef_name word ≡ false → begins_with octave_name word ≡ true → property_of word ≡ option_map Octave (signed_number (unquote (drop 7 word)))
 unfolding property_of
 octave_named word no_clef octave = cond-false _ _ _ no_clef ∙ cond-true _ _ _ octave
 
-transpose_named : (word : List ℕ) → begins_with clef_name word ≡ false → begins_with octave_name word ≡ false → begins_with transpose_name word ≡ true → property_of word ≡ option_map Transpose (signed_number (unquoted (drop 10 word)))
+transpose_named : (word : List ℕ) → begins_with clef_name word ≡ false → begins_with octave_name word ≡ false → begins_with transpose_name word ≡ true
+    → property_of word ≡ option_map Transpose (signed_number (unquote (drop 10 word)))
 unfolding property_of
 transpose_named word no_clef no_octave transpose = cond-false _ _ _ no_clef ∙ cond-false _ _ _ no_octave ∙ cond-true _ _ _ transpose
 
 not_named : (word : List ℕ) → HasNoName word → property_of word ≡ Some (option_map_or Clef (mark_of word) Other)
 unfolding property_of
-not_named word unnamed = cond-false _ _ _ (begins_false clef_name word unnamed.0) ∙ cond-false _ _ _ (begins_false octave_name word unnamed.1) ∙ cond-false _ _ _ (begins_false transpose_name word unnamed.2)
+not_named word unnamed =
+    cond-false _ _ _ (begins_false clef_name word unnamed.0) ∙ cond-false _ _ _ (begins_false octave_name word unnamed.1) ∙ cond-false _ _ _ (begins_false transpose_name word unnamed.2)
 
 pub property_known : (word : List ℕ) (p : Property) → IsProperty word p → property_of word ≡ Some p
 property_known word (Clef n) is = ⊎_elim

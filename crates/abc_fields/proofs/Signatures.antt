@@ -5,12 +5,12 @@ use Rattle.std.proofs.lemmas.Int.{ints}
 use Rattle.abc_text.specs.declared.letter.Letter.{Letter}
 use Rattle.abc_text.specs.declared.letter.Letter.TheVariants.{C, D, E, F, G, A, B}
 use Rattle.abc_fields.specs.declared.signature.Signature.{Signature}
-use Rattle.abc_fields.specs.Signature.{natural, altered, by_fifths, signature_of, IsAlteration, IsSignature}
+use Rattle.abc_fields.specs.Signature.{natural, altered_signature, alteration_by_fifths, signature_of, IsAlteration, IsSignature}
 
 natural_note : IsAlteration (pos 0)
 natural_note = (omega (arith, ints), omega (arith, ints))
 
-by_fifths_range : (sharps : ℤ) (letter : Letter) → IsAlteration (by_fifths sharps letter)
+by_fifths_range : (sharps : ℤ) (letter : Letter) → IsAlteration (alteration_by_fifths sharps letter)
 by_fifths_range (pos sharps) letter = cond_both _ (pos 1) (pos 0) IsAlteration (λ _. (omega (arith, ints), omega (arith, ints))) (λ _. natural_note)
 by_fifths_range (negsuc flats) letter = cond_both _ (negsuc 0) (pos 0) IsAlteration (λ _. (omega (arith, ints), omega (arith, ints))) (λ _. natural_note)
 
@@ -37,7 +37,7 @@ natural_range = record {
   g = natural_note;
 }
 
-pub altered_range : (s : Signature) (letter : Letter) (by : ℤ) → IsSignature s → IsAlteration by → IsSignature (altered s letter by)
+pub altered_range : (s : Signature) (letter : Letter) (by : ℤ) → IsSignature s → IsAlteration by → IsSignature (altered_signature s letter by)
 altered_range s A by h k = record { a = k; b = h.b; c = h.c; d = h.d; e = h.e; f = h.f; g = h.g }
 altered_range s B by h k = record { a = h.a; b = k; c = h.c; d = h.d; e = h.e; f = h.f; g = h.g }
 altered_range s C by h k = record { a = h.a; b = h.b; c = k; d = h.d; e = h.e; f = h.f; g = h.g }

@@ -6,7 +6,7 @@ use Rattle.std.proofs.lemmas.Bool.{cond-true, cond-false}
 use Rattle.std.proofs.lemmas.Bool.Decides.{nat_tests}
 use Rattle.std.proofs.lemmas.Iterator.{YieldsList}
 use Rattle.abc_text.specs.Number.{number_of}
-use Rattle.abc_fields.specs.Meter.{added, sum_of_words, at_most_255, plus, sum_of}
+use Rattle.abc_fields.specs.Meter.{added, sum_of_words, at_most_255, add_word, sum_of}
 
 none_tested : (total n : ℕ) (t : Bool) → t ≡ leb (total + n) 255 → cond t (Some (total + n)) None ≡ None → 255 < total + n
 none_tested total n true e h = cc
@@ -17,7 +17,7 @@ some_tested total n m true e h = let same : total + n ≡ m = cc in let small : 
 some_tested total n m false e h = cc
 
 -- where one number more is too much, so are all
-plus_none : (total : ℕ) (n rest : Option ℕ) → plus total n ≡ None → at_most_255 (added (Some total) (added n rest)) ≡ None
+plus_none : (total : ℕ) (n rest : Option ℕ) → add_word total n ≡ None → at_most_255 (added (Some total) (added n rest)) ≡ None
 plus_none total None rest h = refl
 plus_none total (Some n) None h = refl
 plus_none total (Some n) (Some r) h =
@@ -25,7 +25,7 @@ plus_none total (Some n) (Some r) h =
     cond-false (leb (total + (n + r)) 255) _ _ (grind (arith, nat_tests))
 
 -- and else it goes on from there
-plus_some : (total m : ℕ) (n rest : Option ℕ) → plus total n ≡ Some m → (at_most_255 (added (Some m) rest) ≡ at_most_255 (added (Some total) (added n rest))) × (m ≤ 255)
+plus_some : (total m : ℕ) (n rest : Option ℕ) → add_word total n ≡ Some m → (at_most_255 (added (Some m) rest) ≡ at_most_255 (added (Some total) (added n rest))) × (m ≤ 255)
 plus_some total m None rest h = cc
 plus_some total m (Some n) None h = (refl, (some_tested total n m (leb (total + n) 255) refl h).1)
 plus_some total m (Some n) (Some r) h =
@@ -45,7 +45,8 @@ none_is_zero (Some n) = ap Some (omega arith)
 
 pub IsSummed-start : {S : Type 0} (steps : S → Option (Bor (List ℕ)) → S → Type 0) (s : S) (text : List ℕ) → YieldsList steps (λ x. x.now) s (slice_split (λ b. b == 43) text) → IsSummed steps s text 0
 unfolding sum_of
-IsSummed-start steps s text h = record { left = slice_split (λ b. b == 43) text; yields = h; rest = ap at_most_255 (none_is_zero (sum_of_words (slice_split (λ b. b == 43) text))); small = omega arith }
+IsSummed-start steps s text h =
+    record { left = slice_split (λ b. b == 43) text; yields = h; rest = ap at_most_255 (none_is_zero (sum_of_words (slice_split (λ b. b == 43) text))); small = omega arith }
 
 -- a word comes
 record IsNext {S : Type 0} (steps : S → Option (Bor (List ℕ)) → S → Type 0) (t : S) (text word : List ℕ) (total : ℕ) : Type 0 where
@@ -60,16 +61,17 @@ next_at steps s t text total x (word ∷ left) h rest step =
     let k = h.runs.1 x t step in
     record { left = left; yields = record { runs = k.1 }; rest = ap (λ w. at_most_255 (added (Some total) (added (number_of w) (sum_of_words left)))) k.0 ∙ rest }
 
-next : {S : Type 0} (steps : S → Option (Bor (List ℕ)) → S → Type 0) (s t : S) (text : List ℕ) (total : ℕ) (x : Bor (List ℕ)) → IsSummed steps s text total → steps s (Some x) t → IsNext steps t text x.now total
+next : {S : Type 0} (steps : S → Option (Bor (List ℕ)) → S → Type 0) (s t : S) (text : List ℕ) (total : ℕ) (x : Bor (List ℕ)) → IsSummed steps s text total → steps s (Some x) t
+    → IsNext steps t text x.now total
 next steps s t text total x h step = next_at steps s t text total x h.left h.yields h.rest step
 
 pub IsSummed-over : {S : Type 0} (steps : S → Option (Bor (List ℕ)) → S → Type 0) (s t : S) (text : List ℕ) (total : ℕ) (x : Bor (List ℕ)) → IsSummed steps s text total → steps s (Some x) t
-    → plus total (number_of x.now) ≡ None → None ≡ sum_of text
+    → add_word total (number_of x.now) ≡ None → None ≡ sum_of text
 IsSummed-over steps s t text total x h step over =
     let k = next steps s t text total x h step in sym (plus_none total (number_of x.now) (sum_of_words k.left) over) ∙ k.rest
 
 pub IsSummed-more : {S : Type 0} (steps : S → Option (Bor (List ℕ)) → S → Type 0) (s t : S) (text : List ℕ) (total m : ℕ) (x : Bor (List ℕ)) → IsSummed steps s text total → steps s (Some x) t
-    → plus total (number_of x.now) ≡ Some m → IsSummed steps t text m
+    → add_word total (number_of x.now) ≡ Some m → IsSummed steps t text m
 IsSummed-more steps s t text total m x h step more =
     let k = next steps s t text total x h step in
     let p = plus_some total m (number_of x.now) (sum_of_words k.left) more in

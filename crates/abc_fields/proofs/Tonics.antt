@@ -1,5 +1,6 @@
 -- The front of a key is read as its grammar says.
-use Rattle.std.proofs.Common.{◌≡◌, ℕ, ◌<◌, ℤ, pos, negsuc, ◌+ℤ◌, Bool, true, false, cond, List, [], ◌∷◌, ◌++◌, length, take, drop, Option, Some, None, codes, refl, sym, ap, ◌∙◌, subst, inl, inr, ⊎_elim, arith}
+use Rattle.std.proofs.Common.{◌≡◌, ℕ, ◌<◌, ℤ, pos, negsuc, ◌+ℤ◌, Bool, true, false, cond, List, [], ◌∷◌, ◌++◌, length, take, drop, Option, Some, None, codes, refl, sym, ap, ◌∙◌, subst, inl, inr}
+use Rattle.std.proofs.Common.{⊎_elim, arith}
 use Rattle.std.specs.Prelude.{◌==◌, ◌≢◌}
 use Rattle.std.specs.List.{AllPass, prefix_len}
 use Rattle.std.specs.Option.{option_map, option_and_then}
@@ -40,7 +41,7 @@ tonic_letter-is b letter e = let known = bound (if_capital b) (letter_of b) lett
 tonic_letter-capital : (letter : Letter) → tonic_letter (capital letter) ≡ Some letter
 tonic_letter-capital letter = ap (option_and_then (if_capital (capital letter))) (letter_of-capital letter) ∙ cond-true _ _ _ (eq-eqb (capital letter) (capital letter) refl)
 
--- the sign behind it
+-- the sign after it
 sign_from : (text : List ℕ) → IsSign text (sign_at text).0 (sign_at text).1
 sign_from [] = none ((λ rest e. cc), (λ rest e. cc)) refl refl
 sign_from (b ∷ bs) =

@@ -15,12 +15,12 @@ is_letter b = is_some (letter_of b)
 abbrev pub and_change : Letter → Option (List Change) → Accidental → Option (List Change)
 and_change letter changes accidental = option_map (λ more. record { accidental = accidental; letter = letter } ∷ more) changes
 
--- The changes where a letter stands behind this accidental, and where none stands here yet.
+-- The changes if a letter follows this accidental, and if none is here yet.
 abbrev pub at_letter : Option Letter → Option Accidental → Option (List Change) → Option (List Change) → Option (List Change)
 at_letter None accidental behind on = on
 at_letter (Some letter) accidental behind on = option_and_then (and_change letter behind) accidental
 
--- The changes of a text in front of which these marks stand.
+-- The changes of a text after these marks.
 abbrev pub changes_with : List ℕ → List ℕ → Option (List Change)
 changes_with [] [] = Some []
 changes_with [] (m ∷ ms) = None

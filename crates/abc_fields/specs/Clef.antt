@@ -1,5 +1,6 @@
 -- Clefs. ABC 2.1 section 4.6.
-use Rattle.std.specs.Prelude.{ℕ, ℤ, pos, negsuc, ◌+◌, ◌-◌, ◌&&◌, ◌||◌, nat_eq, nat_le, Bool, if◌then◌else◌, List, length, take, codes, slice_index, Option, Some, None}
+use Rattle.std.specs.Prelude.{ℕ, ℤ, pos, negsuc, ◌+◌, ◌-◌, ◌&&◌, ◌||◌, nat_eq, nat_le, Bool, if◌then◌else◌, List, length, take}
+use Rattle.std.specs.Prelude.{codes, slice_index, Option, Some, None}
 use Rattle.std.specs.List.{ends_with}
 use Rattle.std.specs.Option.{unwrap_or}
 use Rattle.std.specs.Str.{bytes_eq}
@@ -26,8 +27,9 @@ names_clef name =
 unfoldable pub without_line : List ℕ → List ℕ
 without_line word =
     let front = length word - 1 in
-    if nat_le (digit_zero + 1) (slice_index word front) && nat_le (slice_index word front) (digit_zero + 5) then take front word else word
+    if nat_le (digit_zero + 1) (slice_index word front) && nat_le (slice_index word front) (digit_zero + 5)
+    then take front word else word
 
--- A word is the name of a clef, perhaps with the line that it stands on.
+-- A word is the name of a clef, perhaps with the line of its staff.
 abbrev pub is_clef_name : List ℕ → Bool
 is_clef_name word = names_clef (without_line word)

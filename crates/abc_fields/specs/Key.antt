@@ -1,5 +1,6 @@
 -- Keys. ABC 2.1 section 3.1.14.
-use Rattle.std.specs.Prelude.{ℕ, IfSome, ◌==◌, ◌||◌, Bool, false, ℤ, pos, negsuc, ◌+ℤ◌, int_lt, if◌then◌else◌, List, [], ◌∷◌, length, codes, Option, Some, None, Result, Ok, Err}
+use Rattle.std.specs.Prelude.{ℕ, IfSome, ◌==◌, ◌||◌, Bool, false, ℤ, pos, negsuc, ◌+ℤ◌, int_lt, if◌then◌else◌, List, [], ◌∷◌}
+use Rattle.std.specs.Prelude.{length, codes, Option, Some, None, Result, Ok, Err}
 use Rattle.std.specs.List.{list_any}
 use Rattle.std.specs.Option.{is_some, option_map, ok_or}
 use Rattle.std.specs.Str.{bytes_eq}
@@ -33,7 +34,7 @@ pub record IsInRange (key : Key) : Type 0 where
   pub signature : IfSome key.signature IsSignature
   pub shift : IsSmallShift key.shift
 
--- The key of a mode with so many sharps, if there are at most seven sharps or flats.
+-- The key of a mode with this number of sharps, if there are at most seven sharps or flats.
 unfoldable pub key_with : ℤ → Bool → Option Key
 key_with sharps minor =
     if int_lt sharps (negsuc 6) || int_lt (pos 7) sharps then None
@@ -44,7 +45,7 @@ abbrev pub key_on : ℤ → Basis → Option Key
 key_on major Explicit = Some empty_key
 key_on major (Named mode) = key_with (major +ℤ added_sharps mode) (is_minor mode)
 
--- A word sets properties, where it stands first: it has a `=`, or the mark of an octave, or is the
+-- A word sets properties, as the first word: it has a `=`, or the mark of an octave, or is the
 -- name of a clef.
 abbrev pub sets_properties : List ℕ → Bool
 sets_properties word = list_any (λ b. b == equals_sign) word || is_some (mark_of word) || is_clef_name word
@@ -71,7 +72,7 @@ abbrev pub start_by_words : List ℕ → List (List ℕ) → Option (Key × List
 start_by_words value [] = None
 start_by_words value (first ∷ rest) = option_map (λ key. (key, value)) (toneless_start first)
 
--- What a value begins with, where its tonic and what stands behind it are known, or that it has none.
+-- What a value begins with, if its tonic and what follows it are known, or that it has none.
 abbrev pub start_by : List ℕ → Option (ℤ × List ℕ) → Option (Key × List ℕ)
 start_by value None = start_by_words value (words_of value)
 start_by value (Some tonic) = tonal_start tonic.0 (basis_at tonic.1)
@@ -88,15 +89,15 @@ key_after start words shift = record start {
 }
 
 -- A key with the accidentals and the properties among words, of which none is malformed.
-unfoldable pub completed : Key → List (List ℕ) → Option Key
-completed start words = option_map (key_after start words) (shift_of words)
+unfoldable pub complete_key : Key → List (List ℕ) → Option Key
+complete_key start words = option_map (key_after start words) (shift_of words)
 
 -- What a value that is not empty says.
 abbrev pub spelled_key : Option (Key × List ℕ) → Option Key
 spelled_key None = None
-spelled_key (Some start) = completed start.0 (words_of start.1)
+spelled_key (Some start) = complete_key start.0 (words_of start.1)
 
--- The key that a value says, if it is accepted: without a signature where it is empty or `none`.
+-- The key that a value says, if it is accepted: without a signature if it is empty or `none`.
 unfoldable pub key_in : List ℕ → Option Key
 key_in value =
     if (length value == 0) || bytes_eq value (codes "none") then Some empty_key
@@ -106,8 +107,8 @@ key_in value =
 abbrev pub key_of : List ℕ → Result Key FaultCode
 key_of value = ok_or (key_in value) BadKey
 
--- The key that a field K: sets, where reading it gives this: what it says, or an empty signature where
--- it is refused. Our own.
+-- The key that a field K: sets, if reading it gives this: what it says, or an empty signature if
+-- it is refused. Not in ABC 2.1.
 abbrev pub key_or_empty : Result Key FaultCode → Key
 key_or_empty (Ok key) = key
 key_or_empty (Err fault) = empty_key

@@ -1,5 +1,6 @@
 -- The letters of the parts that an order plays. ABC 2.1 section 3.1.9.
-use Rattle.std.specs.Prelude.{ℕ, Bool, ◌+◌, ◌-◌, ◌*◌, ◌==◌, ◌||◌, if◌then◌else◌, List, [], ◌∷◌, ◌++◌, fold, take, replicate, Option, Some, None}
+use Rattle.std.specs.Prelude.{ℕ, Bool, ◌+◌, ◌-◌, ◌*◌, ◌==◌, ◌||◌, if◌then◌else◌, List, [], ◌∷◌, ◌++◌, fold, take, replicate, Option}
+use Rattle.std.specs.Prelude.{Some, None}
 use Rattle.std.specs.List.{concat}
 use Rattle.std.specs.Char.{is_ascii_digit, is_ascii_uppercase}
 use Rattle.abc_fields.specs.Parts.{order_bytes}
@@ -14,7 +15,7 @@ pub record Played : Type 0 where
   pub item : List ℕ
   pub count : Option ℕ
 
--- Nothing stands in front.
+-- Nothing comes before.
 abbrev pub nothing_played : Played
 nothing_played = record { around = []; before = []; item = []; count = None }
 
@@ -27,7 +28,7 @@ count_or_once (Some n) = n
 abbrev pub letters_so_far : Played → List ℕ
 letters_so_far played = played.before ++ concat (replicate (count_or_once played.count) played.item)
 
--- A new item in a group, behind these letters.
+-- A new item in a group, after these letters.
 abbrev pub with_item : List (List ℕ) → List ℕ → List ℕ → Played
 with_item around before item = record { around = around; before = before; item = item; count = None }
 

@@ -4,17 +4,17 @@ use Rattle.abc_text.specs.Accidental.{alteration}
 use Rattle.abc_fields.specs.declared.accidental.Change.{Change}
 use Rattle.abc_fields.specs.declared.signature.Signature.{Signature}
 use Rattle.abc_fields.specs.Accidental.{changes_of}
-use Rattle.abc_fields.specs.Signature.{altered}
+use Rattle.abc_fields.specs.Signature.{altered_signature}
 
 -- A signature after a change.
 abbrev pub with_change : Signature → Change → Signature
-with_change signature change = altered signature change.letter (alteration change.accidental)
+with_change signature change = altered_signature signature change.letter (alteration change.accidental)
 
 -- A signature after changes, of which the later ones count.
 abbrev pub with_changes : Signature → List Change → Signature
 with_changes signature changes = fold with_change signature changes
 
--- A signature after the changes of a word, or another where the word lists none.
+-- A signature after the changes of a word, or another if the word lists none.
 abbrev pub changed_or : Signature → Signature → Option (List Change) → Signature
 changed_or other signature None = other
 changed_or other signature (Some changes) = with_changes signature changes

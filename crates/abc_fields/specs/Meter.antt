@@ -1,5 +1,6 @@
 -- The meter of a field M:. ABC 2.1 section 3.1.6.
-use Rattle.std.specs.Prelude.{ℕ, ◌+◌, ◌-◌, ◌≤◌, ◌==◌, ◌&&◌, ◌||◌, nat_le, Bool, if◌then◌else◌, List, [], ◌∷◌, length, codes, take, slice_index, Option, Some, None, Result}
+use Rattle.std.specs.Prelude.{ℕ, ◌+◌, ◌-◌, ◌≤◌, ◌==◌, ◌&&◌, ◌||◌, nat_le, Bool, if◌then◌else◌, List, [], ◌∷◌, length, codes, take}
+use Rattle.std.specs.Prelude.{slice_index, Option, Some, None, Result}
 use Rattle.std.specs.List.{slice_split, list_any}
 use Rattle.std.specs.Str.{bytes_eq}
 use Rattle.std.specs.Option.{ok_or, option_and_then}
@@ -25,52 +26,55 @@ abbrev pub IsMeterInRange : Meter → Type 0
 IsMeterInRange Free = Unit {0}
 IsMeterInRange (Of num den) = HasMeterRange num den
 
--- The sum of two numbers, where both are there.
+-- The sum of two numbers, if both are there.
 abbrev pub added : Option ℕ → Option ℕ → Option ℕ
 added None b = None
 added (Some a) None = None
 added (Some a) (Some b) = Some (a + b)
 
--- The sum of the numbers that words spell, where each spells one.
+-- The sum of the numbers that words spell, if each spells one.
 abbrev pub sum_of_words : List (List ℕ) → Option ℕ
 sum_of_words [] = Some 0
 sum_of_words (word ∷ words) = added (number_of word) (sum_of_words words)
 
--- A number, where it is at most 255.
+-- A number, if it is at most 255.
 abbrev pub at_most_255 : Option ℕ → Option ℕ
 at_most_255 None = None
 at_most_255 (Some n) = if nat_le n 255 then Some n else None
 
--- The sum so far and one number more, where they come to at most 255.
-abbrev pub plus : ℕ → Option ℕ → Option ℕ
-plus total n = at_most_255 (added (Some total) n)
+-- The sum so far and one number more, if they come to at most 255.
+abbrev pub add_word : ℕ → Option ℕ → Option ℕ
+add_word total n = at_most_255 (added (Some total) n)
 
--- The sum of the numbers between plus signs, where it is at most 255.
+-- The sum of the numbers between plus signs, if it is at most 255.
 unfoldable pub sum_of : List ℕ → Option ℕ
 sum_of text = at_most_255 (sum_of_words (slice_split (λ b. b == plus_sign) text))
 
--- A plus stands in the text.
+-- The text has a plus.
 abbrev pub has_plus : List ℕ → Bool
 has_plus text = list_any (λ b. b == plus_sign) text
 
--- A text with a plus, and a parenthesis behind it.
+-- A text with a plus, and a parenthesis after it.
 abbrev pub closes_a_sum : List ℕ → Bool
 closes_a_sum text = (slice_index text (length text - 1) == close_parenthesis) && has_plus (take (length text - 1) text)
 
--- The number above the stroke; a sum may stand in parentheses.
-abbrev pub above_of : List ℕ → Option ℕ
-above_of [] = sum_of []
-above_of (b ∷ rest) = if (b == open_parenthesis) && closes_a_sum rest then sum_of (take (length rest - 1) rest) else sum_of (b ∷ rest)
+-- The number above the stroke; a sum may be in parentheses.
+abbrev pub upper_number : List ℕ → Option ℕ
+upper_number [] = sum_of []
+upper_number (b ∷ rest) =
+    if (b == open_parenthesis) && closes_a_sum rest
+    then sum_of (take (length rest - 1) rest)
+    else sum_of (b ∷ rest)
 
--- The meter of what stands above and below.
+-- The meter of the numbers above and below the stroke.
 abbrev pub meter_by : Option ℕ → Option ℕ → Option Meter
 meter_by None den = None
 meter_by (Some num) None = None
 meter_by (Some num) (Some den) = if num == 0 then None else Some (Of num den)
 
--- The meter of a text that is cut at a stroke: below it stands a power of two up to 64.
+-- The meter of a text that is cut at a stroke: below it is a power of two up to 64.
 abbrev pub meter_of_parts : List ℕ × List ℕ → Option Meter
-meter_of_parts parts = meter_by (above_of parts.0) (power_up_to 6 (number_of parts.1))
+meter_of_parts parts = meter_by (upper_number parts.0) (power_up_to 6 (number_of parts.1))
 
 -- The meter that a fraction says.
 unfoldable pub fraction_of : List ℕ → Option Meter

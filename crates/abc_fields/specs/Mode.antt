@@ -17,13 +17,8 @@ added_sharps Locrian = negsuc 4
 
 -- Minor and Aeolian are minor.
 abbrev pub is_minor : Mode → Bool
-is_minor Lydian = false
-is_minor Ionian = false
-is_minor Mixolydian = false
-is_minor Dorian = false
 is_minor Aeolian = true
-is_minor Phrygian = false
-is_minor Locrian = false
+is_minor _ = false
 
 -- The first three letters of a text, small.
 abbrev pub front_of : List ℕ → List ℕ

@@ -1,15 +1,16 @@
 -- The order of parts of a field P: in a header. ABC 2.1 section 3.1.9.
-use Rattle.std.specs.Prelude.{ℕ, ◌+◌, ◌-◌, Bool, true, false, not, ◌&&◌, ◌||◌, ◌==◌, nat_lt, if◌then◌else◌, List, filter, fold, Option, Some, None, Result, Ok, Err}
+use Rattle.std.specs.Prelude.{ℕ, ◌+◌, ◌-◌, Bool, true, false, not, ◌&&◌, ◌||◌, ◌==◌, nat_lt, if◌then◌else◌, List, filter, fold}
+use Rattle.std.specs.Prelude.{Option, Some, None, Result, Ok, Err}
 use Rattle.std.specs.Char.{is_ascii_digit, is_ascii_uppercase}
 use Rattle.abc_text.specs.Blank.{is_blank}
 use Rattle.abc_fields.specs.declared.fault.FaultCode.{FaultCode}
 use Rattle.abc_fields.specs.declared.fault.FaultCode.TheVariants.{BadOrder}
-use Rattle.abc_fields.specs.declared.parts.Before.{Before}
-use Rattle.abc_fields.specs.declared.parts.Before.TheVariants.{Nothing, Item}
+use Rattle.abc_fields.specs.declared.parts.LastItem.{LastItem}
+use Rattle.abc_fields.specs.declared.parts.LastItem.TheVariants.{Nothing, Item}
 use Rattle.abc_fields.specs.declared.parts.Place.{Place}
 use Rattle.abc_text.specs.Byte.{open_parenthesis, close_parenthesis, dot, digit_zero}
 
--- A dot or a blank, which is ignored wherever it stands in an order, also inside a count.
+-- A dot or a blank, which is ignored anywhere in an order, also inside a count.
 abbrev pub is_ignored : ℕ → Bool
 is_ignored b = (b == dot) || is_blank b
 
@@ -17,41 +18,43 @@ is_ignored b = (b == dot) || is_blank b
 abbrev pub order_bytes : List ℕ → List ℕ
 order_bytes value = filter (λ b. not (is_ignored b)) value
 
--- Whether an item ends behind this: it has no count, or a count that is not 0.
-abbrev pub ends_item : Before → Bool
+-- Whether an item ends after this: it has no count, or a count that is not 0.
+abbrev pub ends_item : LastItem → Bool
 ends_item Nothing = false
 ends_item (Item digits positive) = (digits == 0) || positive
 
--- Whether an item may begin behind this.
-abbrev pub begins_item : Before → Bool
+-- Whether an item may begin after this.
+abbrev pub begins_item : LastItem → Bool
 begins_item Nothing = true
 begins_item (Item digits positive) = ends_item (Item digits positive)
 
 -- The same item with one digit more of its count.
-abbrev pub with_digit : Before → ℕ → Option Before
+abbrev pub with_digit : LastItem → ℕ → Option LastItem
 with_digit Nothing digit = None
 with_digit (Item digits positive) digit =
     if nat_lt digits 9 then Some (Item (digits + 1) (positive || not (digit == digit_zero))) else None
 
 -- The place at this depth with this before it.
-abbrev pub at : ℕ → Before → Place
+abbrev pub at : ℕ → LastItem → Place
 at depth before = record { depth = depth; before = before }
 
--- The place behind a digit.
-abbrev pub behind_digit : ℕ → Option Before → Option Place
+-- The place after a digit.
+abbrev pub behind_digit : ℕ → Option LastItem → Option Place
 behind_digit depth None = None
 behind_digit depth (Some before) = Some (at depth before)
 
--- The place behind a byte that may stand at this place: a letter or the beginning of a group where an
+-- The place after a byte that may come at this place: a letter or the beginning of a group where an
 -- item may begin, the end of a group where an item in it may end, or a digit of a count.
 unfoldable pub next : Place → ℕ → Option Place
 next place b =
     if is_ascii_uppercase b then (if begins_item place.before then Some (at place.depth (Item 0 false)) else None)
-    else (if b == open_parenthesis then (if begins_item place.before && nat_lt place.depth 32 then Some (at (place.depth + 1) Nothing) else None)
-    else (if b == close_parenthesis then (if ends_item place.before && nat_lt 0 place.depth then Some (at (place.depth - 1) (Item 0 false)) else None)
+    else (if b == open_parenthesis
+    then (if begins_item place.before && nat_lt place.depth 32 then Some (at (place.depth + 1) Nothing) else None)
+    else (if b == close_parenthesis
+    then (if ends_item place.before && nat_lt 0 place.depth then Some (at (place.depth - 1) (Item 0 false)) else None)
     else (if is_ascii_digit b then behind_digit place.depth (with_digit place.before b) else None)))
 
--- The same where there may be no place.
+-- The same if there may be no place.
 abbrev pub next_of : Option Place → ℕ → Option Place
 next_of None b = None
 next_of (Some place) b = next place b
@@ -60,11 +63,11 @@ next_of (Some place) b = next place b
 abbrev pub is_whole : Place → Bool
 is_whole place = (place.depth == 0) && ends_item place.before
 
--- The place behind a text, where an order may begin with it.
+-- The place after a text, if an order may begin with it.
 abbrev pub place_behind : List ℕ → Option Place
 place_behind text = fold next_of (Some (at 0 Nothing)) (order_bytes text)
 
--- The same where there may be no place.
+-- The same if there may be no place.
 abbrev pub ends_order : Option Place → Bool
 ends_order None = false
 ends_order (Some place) = is_whole place

@@ -1,5 +1,6 @@
 -- The properties of the fields K: and V:. ABC 2.1 sections 4.6 and 7.1.
-use Rattle.std.specs.Prelude.{ℕ, ℤ, pos, neg_ℤ, ◌-◌, ◌==◌, ◌&&◌, nat_le, Bool, Option, Some, None, List, [], ◌∷◌, length, take, drop, codes, slice_index, slice_range, if◌then◌else◌}
+use Rattle.std.specs.Prelude.{ℕ, ℤ, pos, neg_ℤ, ◌-◌, ◌==◌, ◌&&◌, nat_le, Bool, Option, Some, None, List, [], ◌∷◌, length, take}
+use Rattle.std.specs.Prelude.{drop, codes, slice_index, slice_range, if◌then◌else◌}
 use Rattle.std.specs.Option.{option_map, option_map_or}
 use Rattle.std.specs.Str.{bytes_eq}
 use Rattle.abc_text.specs.Number.{number_of}
@@ -25,8 +26,8 @@ abbrev pub is_quoted : List ℕ → Bool
 is_quoted text = nat_le 2 (length text) && (slice_index text 0 == quote) && (slice_index text (length text - 1) == quote)
 
 -- A text without the quotes at its ends.
-unfoldable pub unquoted : List ℕ → List ℕ
-unquoted text = if is_quoted text then slice_range text 1 (length text - 1) else text
+unfoldable pub unquote : List ℕ → List ℕ
+unquote text = if is_quoted text then slice_range text 1 (length text - 1) else text
 
 -- A number with a sign or without one.
 unfoldable pub signed_number : List ℕ → Option ℤ
@@ -40,10 +41,10 @@ signed_number (b ∷ bs) =
 abbrev pub begins_with : List ℕ → List ℕ → Bool
 begins_with name word = bytes_eq (take (length name) word) name
 
--- What a word says; none where its number is refused.
+-- What a word says; none if its number is refused.
 unfoldable pub property_of : List ℕ → Option Property
 property_of word =
-    if begins_with clef_name word then Some (Clef (clef_of (unquoted (drop (length clef_name) word))))
-    else (if begins_with octave_name word then option_map Octave (signed_number (unquoted (drop (length octave_name) word)))
-    else (if begins_with transpose_name word then option_map Transpose (signed_number (unquoted (drop (length transpose_name) word)))
+    if begins_with clef_name word then Some (Clef (clef_of (unquote (drop (length clef_name) word))))
+    else (if begins_with octave_name word then option_map Octave (signed_number (unquote (drop (length octave_name) word)))
+    else (if begins_with transpose_name word then option_map Transpose (signed_number (unquote (drop (length transpose_name) word)))
     else Some (option_map_or Clef (mark_of word) Other)))

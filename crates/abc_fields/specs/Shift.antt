@@ -33,6 +33,6 @@ shift_after (word ∷ words) shift = option_and_then (λ p. shift_after words (w
 abbrev pub no_shift : Shift
 no_shift = record { clef = None; octave = None; transpose = None }
 
--- The shift that words say; none where a number is refused.
+-- The shift that words say; none if a number is refused.
 unfoldable pub shift_of : List (List ℕ) → Option Shift
 shift_of words = shift_after words no_shift

@@ -19,14 +19,14 @@ alteration signature F = signature.f
 alteration signature G = signature.g
 
 -- The signature with another alteration of a letter.
-abbrev pub altered : Signature → Letter → ℤ → Signature
-altered signature A by = record signature { a = by }
-altered signature B by = record signature { b = by }
-altered signature C by = record signature { c = by }
-altered signature D by = record signature { d = by }
-altered signature E by = record signature { e = by }
-altered signature F by = record signature { f = by }
-altered signature G by = record signature { g = by }
+abbrev pub altered_signature : Signature → Letter → ℤ → Signature
+altered_signature signature A by = record signature { a = by }
+altered_signature signature B by = record signature { b = by }
+altered_signature signature C by = record signature { c = by }
+altered_signature signature D by = record signature { d = by }
+altered_signature signature E by = record signature { e = by }
+altered_signature signature F by = record signature { f = by }
+altered_signature signature G by = record signature { g = by }
 
 -- How many fifths a letter lies above F: sharps fall on F C G D A E B in this order, and flats on
 -- B E A D G C F.
@@ -39,25 +39,25 @@ fifths A = 4
 fifths E = 5
 fifths B = 6
 
--- How the signature of a count of sharps, or of flats where it is negative, alters a letter: sharps
+-- How the signature of a count of sharps, or of flats if it is negative, alters a letter: sharps
 -- are counted from F upwards, flats from B downwards, the first being `negsuc 0`.
-abbrev pub by_fifths : ℤ → Letter → ℤ
-by_fifths (pos sharps) letter = if nat_lt (fifths letter) sharps then pos 1 else pos 0
-by_fifths (negsuc flats) letter = if nat_le (6 - fifths letter) flats then negsuc 0 else pos 0
+abbrev pub alteration_by_fifths : ℤ → Letter → ℤ
+alteration_by_fifths (pos sharps) letter = if nat_lt (fifths letter) sharps then pos 1 else pos 0
+alteration_by_fifths (negsuc flats) letter = if nat_le (6 - fifths letter) flats then negsuc 0 else pos 0
 
--- The signature of a count of sharps, or of flats where it is negative.
+-- The signature of a count of sharps, or of flats if it is negative.
 unfoldable pub signature_of : ℤ → Signature
 signature_of sharps = record {
-  a = by_fifths sharps A;
-  b = by_fifths sharps B;
-  c = by_fifths sharps C;
-  d = by_fifths sharps D;
-  e = by_fifths sharps E;
-  f = by_fifths sharps F;
-  g = by_fifths sharps G;
+  a = alteration_by_fifths sharps A;
+  b = alteration_by_fifths sharps B;
+  c = alteration_by_fifths sharps C;
+  d = alteration_by_fifths sharps D;
+  e = alteration_by_fifths sharps E;
+  f = alteration_by_fifths sharps F;
+  g = alteration_by_fifths sharps G;
 }
 
--- A count of sharps, or of flats where it is negative, of which a signature has at most seven.
+-- A count of sharps, or of flats if it is negative, of which a signature has at most seven.
 abbrev pub IsSharps : ℤ → Type 0
 IsSharps sharps = (negsuc 6 ≤ℤ sharps) × (sharps ≤ℤ pos 7)
 

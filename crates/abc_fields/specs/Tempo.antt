@@ -1,5 +1,6 @@
 -- The tempo of a field Q:. ABC 2.1 section 3.1.8.
-use Rattle.std.specs.Prelude.{◌≤◌, ℕ, zero, suc, ◌+◌, ◌*◌, ◌/◌, ◌%◌, ◌==◌, ◌&&◌, nat_le, if◌then◌else◌, List, [], ◌∷◌, take, drop, Option, Some, None, option_map, option_and_then, Result, ok_or}
+use Rattle.std.specs.Prelude.{◌≤◌, ℕ, zero, suc, ◌+◌, ◌*◌, ◌/◌, ◌%◌, ◌==◌, ◌&&◌, nat_le, if◌then◌else◌, List, [], ◌∷◌, take, drop}
+use Rattle.std.specs.Prelude.{Option, Some, None, option_map, option_and_then, Result, ok_or}
 use Rattle.abc_time.specs.declared.ratio.Ratio.{Ratio}
 use Rattle.abc_time.specs.Ratio.{IsRatio}
 use Rattle.abc_fields.specs.declared.fault.FaultCode.{FaultCode}
@@ -8,19 +9,19 @@ use Rattle.abc_fields.specs.declared.tempo.Tempo.{Tempo}
 use Rattle.abc_fields.specs.declared.tempo.Tempo.TheVariants.{Unset, Units, Beat}
 use Rattle.abc_text.specs.Blank.{trim_start, trim_end}
 use Rattle.abc_text.specs.Number.{number_of}
-use Rattle.abc_text.specs.Word.{before_blank}
+use Rattle.abc_text.specs.Word.{bytes_before_blank}
 use Rattle.abc_text.specs.Cut.{cut_at}
 use Rattle.abc_text.specs.Byte.{quote, slash, equals_sign}
 use Rattle.abc_text.specs.Power.{is_power_up_to}
 use Rattle.abc_text.specs.declared.digit.TheConstants.{LARGEST_NUMBER}
 
 -- A number from 1, or none.
-abbrev pub positive : ℕ → Option ℕ
-positive n = if n == 0 then None else Some n
+abbrev pub if_positive : ℕ → Option ℕ
+if_positive n = if n == 0 then None else Some n
 
 -- The number from 1 that a text spells.
-unfoldable pub positive_of : List ℕ → Option ℕ
-positive_of text = option_and_then positive (number_of text)
+unfoldable pub positive_number : List ℕ → Option ℕ
+positive_number text = option_and_then if_positive (number_of text)
 
 -- A fraction in 512ths, if both its parts are accepted.
 unfoldable pub part_of : ℕ → ℕ → Option ℕ
@@ -34,51 +35,51 @@ fraction_of word =
     (λ parts. option_and_then (λ above. option_and_then (part_of above) (number_of parts.1)) (number_of parts.0))
     (cut_at slash word)
 
--- What stands before the first blank of a text.
+-- The part before the first blank of a text.
 unfoldable pub word_in_front : List ℕ → List ℕ
-word_in_front text = take (before_blank text) text
+word_in_front text = take (bytes_before_blank text) text
 
--- What stands behind it and the blanks after it.
+-- What follows it and the blanks after it.
 unfoldable pub behind_word : List ℕ → List ℕ
-behind_word text = trim_start (drop (before_blank text) text)
+behind_word text = trim_start (drop (bytes_before_blank text) text)
 
 -- A fraction added to the sum of the rest.
 abbrev pub added : ℕ → Option ℕ → Option ℕ
 added part rest = option_map (λ sum. part + sum) rest
 
--- The sum, where this fraction stands before the rest: nothing, or a text with a sum of its own.
+-- The sum, if this fraction comes before the rest: nothing, or a text with a sum of its own.
 abbrev pub sum_with : (List ℕ → Option ℕ) → List ℕ → ℕ → Option ℕ
 sum_with sum_rest [] part = Some part
 sum_with sum_rest (b ∷ bs) part = added part (sum_rest (b ∷ bs))
 
--- The sum of at most so many fractions, in 512ths.
+-- The sum of at most `most` fractions, in 512ths.
 unfoldable pub sum_of : ℕ → List ℕ → Option ℕ
 sum_of zero text = None
 sum_of (suc most) text = option_and_then (sum_with (sum_of most) (behind_word text)) (fraction_of (word_in_front text))
 
--- Both parts halved at most so many times, while the upper one is even.
-unfoldable pub halved : ℕ → ℕ → ℕ → Ratio
-halved zero num den = record { num = num; den = den }
-halved (suc most) num den = if num % 2 == 0 then halved most (num / 2) (den / 2) else record { num = num; den = den }
+-- Both parts halved at most `most` times, while the upper one is even.
+unfoldable pub halve : ℕ → ℕ → ℕ → Ratio
+halve zero num den = record { num = num; den = den }
+halve (suc most) num den = if num % 2 == 0 then halve most (num / 2) (den / 2) else record { num = num; den = den }
 
 -- So many 512ths in lowest terms.
-abbrev pub lowest : ℕ → Ratio
-lowest sum = halved 9 sum 512
+abbrev pub lowest_terms : ℕ → Ratio
+lowest_terms sum = halve 9 sum 512
 
 -- So many beats per minute, each this many 512ths.
 abbrev pub beats : ℕ → Option ℕ → Option Tempo
-beats sum n = option_map (λ k. Beat (lowest sum) k) n
+beats sum n = option_map (λ k. Beat (lowest_terms sum) k) n
 
 -- The tempo of a text, which may have been cut at its first `=`.
 abbrev pub bare_by : List ℕ → Option (List ℕ × List ℕ) → Option Tempo
-bare_by text None = option_map (λ n. Units n) (positive_of text)
-bare_by text (Some parts) = option_and_then (λ sum. beats sum (positive_of (trim_start parts.1))) (sum_of 16 parts.0)
+bare_by text None = option_map (λ n. Units n) (positive_number text)
+bare_by text (Some parts) = option_and_then (λ sum. beats sum (positive_number (trim_start parts.1))) (sum_of 16 parts.0)
 
 -- The tempo of a text without quotes.
 unfoldable pub bare_tempo : List ℕ → Option Tempo
 bare_tempo text = bare_by text (cut_at equals_sign text)
 
--- The tempo of what stands before a quoted text and behind it.
+-- The tempo of the part before a quoted text and after it.
 unfoldable pub tempo_around : List ℕ → List ℕ → Option Tempo
 tempo_around [] [] = Some Unset
 tempo_around [] (b ∷ bs) = bare_tempo (trim_start (b ∷ bs))

@@ -1,5 +1,6 @@
 -- The front of a key: its tonic, and its mode. ABC 2.1 section 3.1.14.
-use Rattle.std.specs.Prelude.{ℕ, ◌==◌, ℤ, pos, negsuc, ◌+ℤ◌, ◌-ℤ◌, ◌≤ℤ◌, if◌then◌else◌, List, [], ◌∷◌, length, take, drop, codes, Option, Some, None}
+use Rattle.std.specs.Prelude.{ℕ, ◌==◌, ℤ, pos, negsuc, ◌+ℤ◌, ◌-ℤ◌, ◌≤ℤ◌, if◌then◌else◌, List, [], ◌∷◌, length, take, drop, codes}
+use Rattle.std.specs.Prelude.{Option, Some, None}
 use Rattle.std.specs.List.{prefix_len}
 use Rattle.std.specs.Option.{option_map, option_and_then}
 use Rattle.std.specs.Str.{bytes_eq}
@@ -36,13 +37,13 @@ if_capital b letter = if capital letter == b then Some letter else None
 abbrev pub tonic_letter : ℕ → Option Letter
 tonic_letter b = option_and_then (if_capital b) (letter_of b)
 
--- The sharps that a sign at the front of a text adds, and what stands behind it.
+-- The sharps that a sign at the front of a text adds, and what follows it.
 abbrev pub sign_at : List ℕ → ℤ × List ℕ
 sign_at [] = (pos 0, [])
 sign_at (b ∷ rest) =
     if b == sharp_sign then (pos 7, rest) else (if b == flat_sign then (negsuc 6, rest) else (pos 0, b ∷ rest))
 
--- The sharps of the major key on the tonic at the front of a text, and what stands behind it.
+-- The sharps of the major key on the tonic at the front of a text, and what follows it.
 abbrev pub tonic_at : List ℕ → Option (ℤ × List ℕ)
 tonic_at [] = None
 tonic_at (b ∷ behind) =
@@ -52,7 +53,7 @@ tonic_at (b ∷ behind) =
 abbrev pub IsMajor : ℤ → Type 0
 IsMajor sharps = (negsuc 7 ≤ℤ sharps) × (sharps ≤ℤ pos 12)
 
--- What a signature is made from, where a run of letters stands behind so many blanks of a text.
+-- The basis of a signature, if a run of letters follows `blanks` blanks of a text.
 abbrev pub basis_by : Option Mode → ℕ → List ℕ → List ℕ → List ℕ → Option (Basis × List ℕ)
 basis_by (Some mode) blanks run text rest = Some (Named mode, rest)
 basis_by None blanks run text rest =
@@ -60,7 +61,7 @@ basis_by None blanks run text rest =
     else (if blanks == 0 then None
     else (if bytes_eq run (codes "exp") then Some (Explicit, rest) else Some (Named Ionian, text)))
 
--- What a signature is made from, by the text behind the tonic, and the words that follow.
+-- The basis of a signature, by the text after the tonic, and the words that follow.
 unfoldable pub basis_at : List ℕ → Option (Basis × List ℕ)
 basis_at text =
     let blanks = prefix_len is_blank text in

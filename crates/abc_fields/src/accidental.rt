@@ -22,7 +22,7 @@ fn is_letter(byte: u8) -> bool
     letter_of(byte).is_some()
 }
 
-/// Where the first letter of a text stands.
+/// The index of the first letter of a text.
 fn first_letter(text: &[u8]) -> Option<usize>
     ensures value { result ≡ position is_letter text.now }
     ensures inside { IfSome result (λ at. at < length text.now) }
@@ -30,7 +30,7 @@ fn first_letter(text: &[u8]) -> Option<usize>
     text.iter().position(|byte| is_letter(*byte))
 }
 
-/// The first change of a text, and what stands behind it.
+/// The first change of a text, and what follows it.
 pub(crate) fn next_change(text: &[u8]) -> Option<(Change, &[u8])>
     ensures changes { MatchOption result ((text.now ≡ []) ⊎ (changes_of text.now ≡ None))
         (λ p. changes_of text.now ≡ option_map (λ more. p.0 ∷ more) (changes_of p.1.now)) }

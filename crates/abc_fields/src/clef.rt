@@ -47,7 +47,7 @@ fn names_clef(name: &[u8]) -> bool
         || name == b"perc".as_slice()
 }
 
-/// Whether a word is the name of a clef, perhaps with the line that it stands on.
+/// Whether a word is the name of a clef, perhaps with the line of its staff.
 pub(crate) fn is_clef_name(word: &[u8]) -> bool
     ensures { result ≡ is_clef_name word.now }
 {

@@ -1,7 +1,8 @@
 //! The faults of a tune book.
 
 ghost use Rattle.std.specs.Prelude.{◌≡◌, ◌≤◌, Some, nat_eq, refl};
-ghost use Rattle.std.specs.Cmp.{nat_cmp_total, nat_eq_equiv, on_equiv, on_per, on_po, on_total, partial_equiv_from_equiv, unsigned_po, unsigned_ties};
+ghost use Rattle.std.specs.Cmp.{nat_cmp_total, nat_eq_equiv, on_equiv, on_per, on_po, on_total, partial_equiv_from_equiv};
+ghost use Rattle.std.specs.Cmp.{unsigned_po, unsigned_ties};
 ghost use Rattle.std.specs.Ordering.{nat_cmp};
 ghost use Rattle.abc_fields.specs.declared.fault.FaultCode.{FaultCode};
 ghost use Rattle.abc_fields.specs.Fault.{name_of, number_of};

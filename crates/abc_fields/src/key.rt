@@ -5,7 +5,8 @@ ghost use Rattle.abc_fields.specs.declared.key.Key.{Key};
 ghost use Rattle.abc_text.specs.Word.{words_of};
 ghost use Rattle.abc_fields.specs.Mode.{added_sharps};
 ghost use Rattle.abc_fields.specs.Tonic.{IsMajor, basis_at};
-ghost use Rattle.abc_fields.specs.Key.{completed, key_with, key_on, begins_accidental, sets_properties, toneless_start, tonal_start, start_of, key_in, key_of, key_or_empty, IsInRange};
+ghost use Rattle.abc_fields.specs.Key.{complete_key, key_with, key_on, begins_accidental, sets_properties, toneless_start};
+ghost use Rattle.abc_fields.specs.Key.{tonal_start, start_of, key_in, key_of, key_or_empty, IsInRange};
 ghost use Rattle.abc_fields.specs.Spelling.Key.{IsKey};
 
 use crate::clef::{is_clef_name, mark_of};
@@ -20,7 +21,7 @@ use abc_text::next_word;
 /// A key, with what its value says beside it (ABC 2.1 section 3.1.14).
 #[derive(Clone, Copy)]
 pub struct Key {
-    /// None where the value sets properties alone, which leave the signature as it is.
+    /// None if the value sets properties alone, which leave the signature as it is.
     pub signature: Option<Signature>,
     /// The sharps of the tonic in its mode, from -7 to 7, negative for flats; 0 without a tonic and with `exp`.
     pub sharps: i8,
@@ -55,7 +56,7 @@ fn sharps_in(major: i8, mode: Mode) -> i8
     major + mode.added_sharps()
 }
 
-/// The key with so many sharps, if it has at most seven sharps or flats.
+/// The key with this number of sharps, if it has at most seven sharps or flats.
 #[tactic(auto, unfolding(crate::specs::Key::key_with))]
 fn key_with(sharps: i8, minor: bool) -> Option<Key>
     ensures { result ≡ key_with sharps minor }
@@ -82,7 +83,7 @@ fn key_on(major: i8, basis: Basis) -> Option<Key>
     }
 }
 
-/// Whether a word sets properties, where it stands first.
+/// Whether a word sets properties, as the first word.
 fn sets_properties(word: &[u8]) -> bool
     ensures { result ≡ sets_properties word.now }
 {
@@ -110,7 +111,7 @@ fn toneless_start(first: &[u8]) -> Option<Key>
     }
 }
 
-/// What a key on a tonic begins with, by the text behind the tonic, and the text whose words complete
+/// What a key on a tonic begins with, by the text after the tonic, and the text whose words complete
 /// it.
 fn tonal_start(major: i8, behind: &[u8]) -> Option<(Key, &[u8])>
     requires { IsMajor major }
@@ -137,9 +138,9 @@ fn start_of(value: &[u8]) -> Option<(Key, &[u8])>
 }
 
 /// A key with the accidentals and the properties among the words of a text.
-#[tactic(auto, unfolding(crate::specs::Key::completed))]
-fn completed(start: Key, text: &[u8]) -> Option<Key>
-    ensures { result ≡ completed start (words_of text.now) }
+#[tactic(auto, unfolding(crate::specs::Key::complete_key))]
+fn complete_key(start: Key, text: &[u8]) -> Option<Key>
+    ensures { result ≡ complete_key start (words_of text.now) }
 {
     let mut key = start;
     key.shift = shift_in(text)?;
@@ -158,12 +159,12 @@ fn key_in(value: &[u8]) -> Option<Key>
         return Some(EMPTY_KEY);
     }
     let (start, text) = start_of(value)?;
-    completed(start, text)
+    complete_key(start, text)
 }
 
 /// Reads the value of K: (ABC 2.1 section 3.1.14), without blanks at its ends: nothing or `none`; a tonic, its mode or `exp`
 /// if any, and words; listed accidentals; or properties alone. Anything else is `BadKey`, so are more than seven sharps or
-/// flats, and a malformed number of `octave` or `transpose`. The bound and the last two forms are our own.
+/// flats, and a malformed number of `octave` or `transpose`. The bound and the last two forms are not in ABC 2.1.
 pub fn read_key(value: &[u8]) -> Result<Key, FaultCode>
     ensures value { result ≡ key_of value.now }
     ensures ok { (key : Key) → (result ≡ Ok key) ↔ IsKey value.now key }
@@ -173,7 +174,7 @@ pub fn read_key(value: &[u8]) -> Result<Key, FaultCode>
     key_in(value).ok_or(FaultCode::BadKey)
 }
 
-/// The key that a field K: sets: what its value says, or an empty signature where it is refused.
+/// The key that a field K: sets: what its value says, or an empty signature if it is refused.
 #[tactic(auto, using(crate::proofs::Keys::no_key_range))]
 pub fn key_set_by(value: &[u8]) -> Key
     ensures value { result ≡ key_or_empty (key_of value.now) }

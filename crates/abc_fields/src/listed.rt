@@ -5,7 +5,7 @@ ghost use Rattle.abc_text.specs.Word.{words_of};
 ghost use Rattle.abc_fields.specs.Listed.{with_word, with_accidentals};
 
 use crate::accidental::next_change;
-use crate::signature::{Signature, altered};
+use crate::signature::{Signature, altered_signature};
 use abc_text::next_word;
 
 /// A signature with the changes that a word lists. A word that is anything else changes nothing.
@@ -16,7 +16,7 @@ fn with_word(signature: Signature, word: &[u8]) -> Signature
     let mut changed = signature;
     let mut rest = word;
     while let Some((change, behind)) = next_change(rest) {
-        changed = altered(changed, change.letter, change.accidental.alteration());
+        changed = altered_signature(changed, change.letter, change.accidental.alteration());
         rest = behind;
     }
     if rest.is_empty() { changed } else { signature }

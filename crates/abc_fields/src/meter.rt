@@ -1,7 +1,7 @@
 //! The meter, M:.
 
 ghost use Rattle.std.specs.Prelude.{◌≡◌, ◌↔◌, IfOk};
-ghost use Rattle.abc_fields.specs.Meter.{plus, sum_of, above_of, fraction_of, symbol_or_fraction, meter_of, IsMeterInRange};
+ghost use Rattle.abc_fields.specs.Meter.{add_word, sum_of, upper_number, fraction_of, symbol_or_fraction, meter_of, IsMeterInRange};
 ghost use Rattle.abc_fields.specs.Spelling.Meter.{IsMeter};
 ghost use Rattle.abc_text.specs.Power.{power_up_to};
 ghost use Rattle.abc_text.specs.Number.{number_of};
@@ -22,27 +22,27 @@ pub enum Meter {
 /// How often a whole note may be halved: the finest part of a bar is a 64th.
 const MOST_HALVINGS: u32 = 6;
 
-/// The sum so far and the number that a word spells, where they come to at most 255.
-fn plus(sum: u8, word: &[u8]) -> Option<u8>
-    ensures { result ≡ plus sum (number_of word.now) }
+/// The sum so far and the number that a word spells, if they come to at most 255.
+fn add_word(sum: u8, word: &[u8]) -> Option<u8>
+    ensures { result ≡ add_word sum (number_of word.now) }
 {
     u8::try_from(u32::from(sum) + number_of(word)?).ok()
 }
 
-/// The sum of the numbers between plus signs, where it is at most 255.
+/// The sum of the numbers between plus signs, if it is at most 255.
 fn sum_of(text: &[u8]) -> Option<u8>
     ensures { result ≡ sum_of text.now }
 {
     let mut sum = 0;
     for word in text.split(|byte| *byte == b'+') {
-        sum = plus(sum, word)?;
+        sum = add_word(sum, word)?;
     }
     Some(sum)
 }
 
-/// What stands above the stroke: a number, or a sum, which may stand in parentheses.
-fn above_of(text: &[u8]) -> Option<u8>
-    ensures { result ≡ above_of text.now }
+/// The number above the stroke: a number, or a sum, which may be in parentheses.
+fn upper_number(text: &[u8]) -> Option<u8>
+    ensures { result ≡ upper_number text.now }
 {
     match text {
         [b'(', sum @ .., b')'] if sum.contains(&b'+') => sum_of(sum),
@@ -50,8 +50,8 @@ fn above_of(text: &[u8]) -> Option<u8>
     }
 }
 
-/// What stands below the stroke: a power of two up to 64.
-fn below_of(text: &[u8]) -> Option<u8>
+/// The number below the stroke: a power of two up to 64.
+fn lower_number(text: &[u8]) -> Option<u8>
     ensures { result ≡ power_up_to 6 (number_of text.now) }
 {
     Some(power_up_to(MOST_HALVINGS, text)? as u8)
@@ -63,8 +63,8 @@ fn fraction_of(text: &[u8]) -> Option<Meter>
     ensures { result ≡ fraction_of text.now }
 {
     let (above, below) = cut_at(text, b'/')?;
-    let num = above_of(above)?;
-    let den = below_of(below)?;
+    let num = upper_number(above)?;
+    let den = lower_number(below)?;
     if num == 0 {
         None
     } else {
@@ -86,8 +86,8 @@ fn symbol_or_fraction(text: &[u8]) -> Option<Meter>
 }
 
 /// Reads the value of M: (ABC 2.1 section 3.1.6): empty or `none` for free meter, `C`, `C|`, or `n/d` with n a number, or a sum
-/// of several, in parentheses or not, from 1 to 255, and d a power of two up to 64 (the bounds and the empty value are our
-/// own). Anything else is `BadMeter`.
+/// of several, in parentheses or not, from 1 to 255, and d a power of two up to 64 (the bounds and the empty value are not
+/// in ABC 2.1). Anything else is `BadMeter`.
 pub fn read_meter(value: &[u8]) -> Result<Meter, FaultCode>
     ensures value { result ≡ meter_of value.now }
     ensures ok { (meter : Meter) → (result ≡ Ok meter) ↔ IsMeter value.now meter }

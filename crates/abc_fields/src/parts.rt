@@ -2,29 +2,30 @@
 
 ghost use Rattle.std.specs.Prelude.{◌≡◌, ◌↔◌, ℕ, List};
 ghost use Rattle.abc_fields.specs.Letters.{letters_of};
-ghost use Rattle.abc_fields.specs.Parts.{is_ignored, ends_item, begins_item, with_digit, next, is_whole, place_behind, is_order, parts_of};
+ghost use Rattle.abc_fields.specs.Parts.{is_ignored, ends_item, begins_item, with_digit, next, is_whole, place_behind, is_order};
+ghost use Rattle.abc_fields.specs.Parts.{parts_of};
 ghost use Rattle.abc_fields.specs.Spelling.Parts.{IsParts};
 
 use crate::fault::FaultCode;
 use abc_text::is_blank;
 
-/// How many groups of an order stand within one another at most. Our own.
+/// How many groups of an order are nested at most. Not in ABC 2.1.
 pub const DEEPEST_GROUP: u8 = 32;
 
 /// How many digits a count has at most.
 const LONGEST_COUNT: u8 = 9;
 
-/// What stands before a place of an order, in the group of that place.
+/// The last item before a place of an order, in the group of that place.
 #[derive(Clone, Copy)]
-enum Before {
+enum LastItem {
     Nothing,
-    /// An item with so many digits of its count, of which one is not 0 where it is positive.
+    /// An item with `digits` digits of its count, of which one is not 0 if it is `positive`.
     Item { digits: u8, positive: bool },
 }
 
-impl Before {
+impl LastItem {
     /// An item whose count has not begun.
-    const ITEM: Before = Before::Item {
+    const ITEM: LastItem = LastItem::Item {
         digits: 0,
         positive: false,
     };
@@ -34,8 +35,8 @@ impl Before {
         ensures { result ≡ ends_item self }
     {
         match self {
-            Before::Nothing => false,
-            Before::Item { digits, positive } => digits == 0 || positive,
+            LastItem::Nothing => false,
+            LastItem::Item { digits, positive } => digits == 0 || positive,
         }
     }
 
@@ -44,17 +45,17 @@ impl Before {
         ensures { result ≡ begins_item self }
     {
         match self {
-            Before::Nothing => true,
-            Before::Item { .. } => self.ends_item(),
+            LastItem::Nothing => true,
+            LastItem::Item { .. } => self.ends_item(),
         }
     }
 
     /// With one digit more of the count, if it may have one.
-    fn with_digit(self, digit: u8) -> Option<Before>
+    fn with_digit(self, digit: u8) -> Option<LastItem>
         ensures { result ≡ with_digit self digit }
     {
         match self {
-            Before::Item { digits, positive } if digits < LONGEST_COUNT => Some(Before::Item {
+            LastItem::Item { digits, positive } if digits < LONGEST_COUNT => Some(LastItem::Item {
                 digits: digits + 1,
                 positive: positive || digit != b'0',
             }),
@@ -63,20 +64,20 @@ impl Before {
     }
 }
 
-/// A place in an order: how many groups it stands in, and what stands before it.
+/// A place in an order: how many groups it is in, and the last item before it.
 #[derive(Clone, Copy)]
 struct Place {
     depth: u8,
-    before: Before,
+    before: LastItem,
 }
 
 impl Place {
     const FIRST: Place = Place {
         depth: 0,
-        before: Before::Nothing,
+        before: LastItem::Nothing,
     };
 
-    /// The place behind a byte that may stand here.
+    /// The place after a byte that may come here.
     #[tactic(auto, unfolding(crate::specs::Parts::next))]
     fn next(self, byte: u8) -> Option<Place>
         ensures { result ≡ next self byte }
@@ -85,15 +86,15 @@ impl Place {
         match byte {
             b'A'..=b'Z' if before.begins_item() => Some(Place {
                 depth,
-                before: Before::ITEM,
+                before: LastItem::ITEM,
             }),
             b'(' if before.begins_item() && depth < DEEPEST_GROUP => Some(Place {
                 depth: depth + 1,
-                before: Before::Nothing,
+                before: LastItem::Nothing,
             }),
             b')' if before.ends_item() && depth > 0 => Some(Place {
                 depth: depth - 1,
-                before: Before::ITEM,
+                before: LastItem::ITEM,
             }),
             b'0'..=b'9' => Some(Place {
                 depth,
@@ -118,7 +119,7 @@ fn is_ignored(byte: u8) -> bool
     byte == b'.' || is_blank(byte)
 }
 
-/// The place behind a text that may stand in an order.
+/// The place after a text that may begin an order.
 #[tactic(auto, using(crate::proofs::Orders::order_step, crate::proofs::Orders::order_lost))]
 fn place_behind(text: &[u8]) -> Option<Place>
     ensures { result ≡ place_behind text.now }
@@ -143,8 +144,8 @@ fn is_order(text: &[u8]) -> bool
 }
 
 /// Reads the value of P: in a header (ABC 2.1 section 3.1.9): one or more items, each a letter A to Z or a group of items in
-/// parentheses, with a count from 1 behind it or not. Dots and blanks are ignored; anything else is `BadOrder`, also groups
-/// deeper than `DEEPEST_GROUP`. That blanks are ignored, and how deep groups and how long counts may be, is our own.
+/// parentheses, with a count from 1 after it or not. Dots and blanks are ignored; anything else is `BadOrder`, also groups
+/// deeper than `DEEPEST_GROUP`. That blanks are ignored, and how deep groups and how long counts may be, is not in ABC 2.1.
 #[tactic(auto, using(crate::proofs::LetterLaws::parts_letters))]
 pub fn read_parts(value: &[u8]) -> Result<(), FaultCode>
     ensures value { result ≡ parts_of value.now }

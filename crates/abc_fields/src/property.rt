@@ -1,7 +1,7 @@
 //! Properties, as `clef=bass octave=-1`, and clefs with a mark, as `treble-8`.
 
 ghost use Rattle.std.specs.Prelude.{◌≡◌};
-ghost use Rattle.abc_fields.specs.Property.{property_of, signed_number, unquoted};
+ghost use Rattle.abc_fields.specs.Property.{property_of, signed_number, unquote};
 
 use crate::clef::{clef_of, mark_of};
 use abc_text::number_of;
@@ -20,9 +20,9 @@ pub(crate) enum Property {
 }
 
 /// A text without the quotes at its ends.
-#[tactic(auto, unfolding(crate::specs::Property::unquoted))]
-fn unquoted(text: &[u8]) -> &[u8]
-    ensures { result.now ≡ unquoted text.now }
+#[tactic(auto, unfolding(crate::specs::Property::unquote))]
+fn unquote(text: &[u8]) -> &[u8]
+    ensures { result.now ≡ unquote text.now }
 {
     match text {
         [b'"', value @ .., b'"'] => value,
@@ -42,17 +42,17 @@ fn signed_number(text: &[u8]) -> Option<i64>
     }
 }
 
-/// What a word says, or none where its number is refused.
+/// What a word says, or none if its number is refused.
 #[tactic(auto, unfolding(crate::specs::Property::property_of))]
 pub(crate) fn property_of(word: &[u8]) -> Option<Property>
     ensures value { result ≡ property_of word.now }
 {
     if let Some(clef) = word.strip_prefix(b"clef=") {
-        Some(Property::Clef(clef_of(unquoted(clef))))
+        Some(Property::Clef(clef_of(unquote(clef))))
     } else if let Some(octave) = word.strip_prefix(b"octave=") {
-        Some(Property::Octave(signed_number(unquoted(octave))?))
+        Some(Property::Octave(signed_number(unquote(octave))?))
     } else if let Some(transpose) = word.strip_prefix(b"transpose=") {
-        Some(Property::Transpose(signed_number(unquoted(transpose))?))
+        Some(Property::Transpose(signed_number(unquote(transpose))?))
     } else if let Some(mark) = mark_of(word) {
         Some(Property::Clef(mark))
     } else {

@@ -9,7 +9,7 @@ ghost use Rattle.abc_fields.specs.Spelling.Shift.{IsShift};
 use crate::property::{Property, property_of};
 use abc_text::next_word;
 
-/// What the properties of a field K: or V: say of the pitch of notes, each part where it is given
+/// What the properties of a field K: or V: say of the pitch of notes, each part if it is given
 /// (ABC 2.1 sections 4.6 and 7.1).
 #[derive(Clone, Copy, PartialEq, Eq)]
 pub struct Shift {
@@ -49,7 +49,7 @@ fn with_property(shift: Shift, property: Property) -> Shift
     }
 }
 
-/// The shift that the words of a text say, or none where a number is refused.
+/// The shift that the words of a text say, or none if a number is refused.
 #[tactic(auto, unfolding(crate::specs::Shift::shift_of))]
 pub(crate) fn shift_in(text: &[u8]) -> Option<Shift>
     ensures value { result ≡ shift_of (words_of text.now) }

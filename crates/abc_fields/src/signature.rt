@@ -1,7 +1,7 @@
 //! Key signatures.
 
 ghost use Rattle.std.specs.Prelude.{◌≡◌, ◌≤ℤ◌, pos};
-ghost use Rattle.abc_fields.specs.Signature.{alteration, altered, by_fifths, fifths, signature_of, IsSharps};
+ghost use Rattle.abc_fields.specs.Signature.{alteration, altered_signature, alteration_by_fifths, fifths, signature_of, IsSharps};
 
 use abc_text::Letter;
 
@@ -44,8 +44,8 @@ pub fn alteration(signature: &Signature, letter: Letter) -> i8
 }
 
 /// The signature with another alteration of a letter.
-pub(crate) fn altered(signature: Signature, letter: Letter, by: i8) -> Signature
-    ensures { result ≡ altered signature letter by }
+pub(crate) fn altered_signature(signature: Signature, letter: Letter, by: i8) -> Signature
+    ensures { result ≡ altered_signature signature letter by }
 {
     let mut changed = signature;
     match letter {
@@ -78,10 +78,10 @@ pub(crate) fn fifths(letter: Letter) -> i8
     }
 }
 
-/// How the signature of a count of sharps, or of flats where it is negative, alters a letter.
-fn by_fifths(sharps: i8, letter: Letter) -> i8
+/// How the signature of a count of sharps, or of flats if it is negative, alters a letter.
+fn alteration_by_fifths(sharps: i8, letter: Letter) -> i8
     requires { IsSharps sharps }
-    ensures { result ≡ by_fifths sharps letter }
+    ensures { result ≡ alteration_by_fifths sharps letter }
 {
     if sharps > fifths(letter) {
         1
@@ -92,19 +92,19 @@ fn by_fifths(sharps: i8, letter: Letter) -> i8
     }
 }
 
-/// The signature of a count of sharps, or of flats where it is negative.
+/// The signature of a count of sharps, or of flats if it is negative.
 #[tactic(auto, unfolding(crate::specs::Signature::signature_of))]
 pub(crate) fn signature_of(sharps: i8) -> Signature
     requires { IsSharps sharps }
     ensures value { result ≡ signature_of sharps }
 {
     Signature {
-        a: by_fifths(sharps, Letter::A),
-        b: by_fifths(sharps, Letter::B),
-        c: by_fifths(sharps, Letter::C),
-        d: by_fifths(sharps, Letter::D),
-        e: by_fifths(sharps, Letter::E),
-        f: by_fifths(sharps, Letter::F),
-        g: by_fifths(sharps, Letter::G),
+        a: alteration_by_fifths(sharps, Letter::A),
+        b: alteration_by_fifths(sharps, Letter::B),
+        c: alteration_by_fifths(sharps, Letter::C),
+        d: alteration_by_fifths(sharps, Letter::D),
+        e: alteration_by_fifths(sharps, Letter::E),
+        f: alteration_by_fifths(sharps, Letter::F),
+        g: alteration_by_fifths(sharps, Letter::G),
     }
 }

@@ -2,11 +2,12 @@
 
 ghost use Rattle.std.specs.Prelude.{◌≡◌, ◌≤◌, ◌↔◌, ◌*◌, ok_or, IfOk, IfSome};
 ghost use Rattle.abc_text.specs.declared.digit.TheConstants.{LARGEST_NUMBER};
-ghost use Rattle.abc_fields.specs.Tempo.{positive_of, part_of, fraction_of, sum_of, lowest, word_in_front, behind_word, bare_tempo, tempo_around, tempo_in, tempo_of, IsInRange};
+ghost use Rattle.abc_fields.specs.Tempo.{positive_number, part_of, fraction_of, sum_of, lowest_terms, word_in_front, behind_word};
+ghost use Rattle.abc_fields.specs.Tempo.{bare_tempo, tempo_around, tempo_in, tempo_of, IsInRange};
 ghost use Rattle.abc_fields.specs.Spelling.Tempo.{IsTempo};
 
 use crate::fault::FaultCode;
-use abc_text::{before_blank, cut_at, is_power_up_to, number_of, trim_end, trim_start};
+use abc_text::{bytes_before_blank, cut_at, is_power_up_to, number_of, trim_end, trim_start};
 use abc_time::Ratio;
 
 /// What a tempo field says (ABC 2.1 section 3.1.8).
@@ -30,9 +31,9 @@ const MOST_HALVINGS: u32 = 9;
 const FINEST: u32 = 512;
 
 /// The number from 1 that a text spells.
-#[tactic(auto, unfolding(crate::specs::Tempo::positive_of))]
-fn positive_of(text: &[u8]) -> Option<u32>
-    ensures value { result ≡ positive_of text.now }
+#[tactic(auto, unfolding(crate::specs::Tempo::positive_number))]
+fn positive_number(text: &[u8]) -> Option<u32>
+    ensures value { result ≡ positive_number text.now }
     ensures range { IfSome result (λ n. (1 ≤ n) × (n ≤ LARGEST_NUMBER)) }
 {
     let n = number_of(text)?;
@@ -61,13 +62,13 @@ fn fraction_of(word: &[u8]) -> Option<u32>
     part_of(number_of(above)?, number_of(below)?)
 }
 
-/// What stands before the first blank of a text, and what stands behind it and the blanks after it.
+/// The part before the first blank of a text, and what follows it and the blanks after it.
 #[tactic(auto, unfolding(crate::specs::Tempo::word_in_front, crate::specs::Tempo::behind_word))]
 fn split_word(text: &[u8]) -> (&[u8], &[u8])
     ensures word { result.0.now ≡ word_in_front text.now }
     ensures behind { result.1.now ≡ behind_word text.now }
 {
-    let size = before_blank(text);
+    let size = bytes_before_blank(text);
     (&text[..size], trim_start(&text[size..]))
 }
 
@@ -90,8 +91,8 @@ fn sum_of(text: &[u8]) -> Option<u32>
 }
 
 /// So many 512ths in lowest terms.
-fn lowest(sum: u32) -> Ratio
-    ensures { result ≡ lowest sum }
+fn lowest_terms(sum: u32) -> Ratio
+    ensures { result ≡ lowest_terms sum }
 {
     let mut num = sum;
     let mut den = FINEST;
@@ -111,15 +112,15 @@ fn bare_tempo(text: &[u8]) -> Option<Tempo>
     ensures { result ≡ bare_tempo text.now }
 {
     match cut_at(text, b'=') {
-        None => Some(Tempo::Units(positive_of(text)?)),
+        None => Some(Tempo::Units(positive_number(text)?)),
         Some((front, back)) => Some(Tempo::Beat {
-            beat: lowest(sum_of(front)?),
-            n: positive_of(trim_start(back))?,
+            beat: lowest_terms(sum_of(front)?),
+            n: positive_number(trim_start(back))?,
         }),
     }
 }
 
-/// The tempo of what stands before a quoted text and behind it.
+/// The tempo of the part before a quoted text and after it.
 #[tactic(auto, unfolding(crate::specs::Tempo::tempo_around))]
 fn tempo_around(before: &[u8], behind: &[u8]) -> Option<Tempo>
     ensures { result ≡ tempo_around before.now behind.now }
@@ -150,9 +151,9 @@ fn tempo_in(value: &[u8]) -> Option<Tempo>
 }
 
 /// Reads the value of Q: (ABC 2.1 section 3.1.8): `a/b=n`, up to 16 fractions added to a beat, and beats per minute; or n
-/// alone, unit notes per minute; either with a quoted text before or behind it; or such a text alone, or nothing. a is 1 to
+/// alone, unit notes per minute; either with a quoted text before or after it; or such a text alone, or nothing. a is 1 to
 /// 512, b a power of two up to 512, n at least 1; anything else is `BadTempo`. The bounds, n alone and the empty value are
-/// our own.
+/// not in ABC 2.1.
 pub fn read_tempo(value: &[u8]) -> Result<Tempo, FaultCode>
     ensures value { result ≡ tempo_of value.now }
     ensures ok { (m : Tempo) → (result ≡ Ok m) ↔ IsTempo value.now m }

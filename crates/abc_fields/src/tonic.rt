@@ -9,7 +9,7 @@ use crate::mode::{Mode, mode_of};
 use crate::signature::fifths;
 use abc_text::{Letter, leading_blanks, letter_of};
 
-/// What a signature is made from.
+/// The basis of a signature.
 #[derive(Clone, Copy)]
 pub(crate) enum Basis {
     /// The tonic and this mode.
@@ -39,7 +39,7 @@ fn tonic_letter(byte: u8) -> Option<Letter>
     }
 }
 
-/// The sharps that a sign at the front of a text adds, and what stands behind it.
+/// The sharps that a sign at the front of a text adds, and what follows it.
 fn sign_at(text: &[u8]) -> (i8, &[u8])
     ensures value { sign_at text.now ≡ (result.0, result.1.now) }
     ensures range { (negsuc 6 ≤ℤ result.0) × (result.0 ≤ℤ pos 7) }
@@ -51,7 +51,7 @@ fn sign_at(text: &[u8]) -> (i8, &[u8])
     }
 }
 
-/// The sharps of the major key on the tonic at the front of a text, and what stands behind it.
+/// The sharps of the major key on the tonic at the front of a text, and what follows it.
 pub(crate) fn tonic_at(text: &[u8]) -> Option<(i8, &[u8])>
     ensures value { MatchOption result (tonic_at text.now ≡ None)
         (λ p. tonic_at text.now ≡ Some (p.0, p.1.now)) }
@@ -77,7 +77,7 @@ fn letters(text: &[u8]) -> usize
         .count()
 }
 
-/// What the signature is made from, by the text behind the tonic, and the words that follow.
+/// The basis of the signature, by the text after the tonic, and the words that follow.
 #[tactic(auto, unfolding(crate::specs::Tonic::basis_at))]
 pub(crate) fn basis_at(text: &[u8]) -> Option<(Basis, &[u8])>
     ensures { MatchOption result (basis_at text.now ≡ None)

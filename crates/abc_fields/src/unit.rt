@@ -31,7 +31,7 @@ fn unit_in(value: &[u8]) -> Option<Ratio>
     Some(Ratio { num: 1, den })
 }
 
-/// Reads the value of L: (ABC 2.1 section 3.1.7): `1`, or `1/d` with d a power of two up to 512 (the bound is our own);
+/// Reads the value of L: (ABC 2.1 section 3.1.7): `1`, or `1/d` with d a power of two up to 512 (the bound is not in ABC 2.1);
 /// anything else is `BadUnit`.
 pub fn read_unit(value: &[u8]) -> Result<Ratio, FaultCode>
     ensures value { result ≡ unit_of value.now }

@@ -64,14 +64,15 @@ module _ {State Cell Items : Type 0} (steps : Steps State Cell Items) (laws : Is
   transitive (x ∷ xs) (y ∷ ys) [] ab bc = bc
   transitive (x ∷ xs) (y ∷ ys) (z ∷ zs) ab bc = (laws.transitive x y z ab.0 bc.0, transitive xs ys zs ab.1 bc.1)
 
-  -- Other states behind the same ones, alike to those that stood there.
+  -- Other states after the same ones, alike to those that stood there.
   pub other_tail : (front tail old whole : List State) → AreAlike steps (front ++ old) whole → AreAlike steps tail old → AreAlike steps (front ++ tail) whole
   other_tail [] tail old whole all same = transitive tail old whole same all
   other_tail (x ∷ front) tail old [] all same = all
   other_tail (x ∷ front) tail old (y ∷ whole) all same = (all.0, other_tail front tail old whole all.1 same)
 
-  -- The state that was kept behind a cell, where the cell is entered in a state alike to the kept one.
-  pub taken_state : (state entered left own : State) (cell : Cell) (given : Items) → IsAlike steps entered state → IsStep steps cell entered left given → own ≡ left → IsAlike steps own (steps.next state cell)
+  -- The state that was kept after a cell, where the cell is entered in a state alike to the kept one.
+  pub taken_state : (state entered left own : State) (cell : Cell) (given : Items) → IsAlike steps entered state → IsStep steps cell entered left given → own ≡ left
+      → IsAlike steps own (steps.next state cell)
   taken_state state entered left own cell given same kept is =
       rw is (laws.transitive left (steps.next entered cell) (steps.next state cell) kept.behind_alike (laws.alike_states entered state cell same))
 

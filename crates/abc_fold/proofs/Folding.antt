@@ -18,7 +18,8 @@ pub record IsWithin (before now : Counters) (k most : ℕ) : Type 0 where
   pub bound : raised now.folded k ≤ raised before.folded most
 
 -- What is made so far with what a fold makes of the rest, from the own state, is what a fold makes of all.
-pub record IsAhead {F State Cell Items Work : Type 0} (steps : Steps State Cell Items) (opening : State) (pieces : List (Piece F State Cell Items Work)) (state : State) (rest : List (Piece F State Cell Items Work)) (entries : List State) (cells : List Cell) (items : List Items) : Type 0 where
+pub record IsAhead {F State Cell Items Work : Type 0} (steps : Steps State Cell Items) (opening : State) (pieces : List (Piece F State Cell Items Work)) (state : State) (rest : List
+    (Piece F State Cell Items Work)) (entries : List State) (cells : List Cell) (items : List Items) : Type 0 where
   pub all_cells : cells ++ cells_of rest ≡ cells_of pieces
   pub all_items : items ++ items_from steps state (cells_of rest) ≡ items_from steps opening (cells_of pieces)
   pub all_states : AreAlike steps (entries ++ states_from steps state (cells_of rest)) (states_from steps opening (cells_of pieces))
@@ -65,8 +66,9 @@ module _ {F State Cell Items Work : Type 0} (steps : Steps State Cell Items) (op
     given = refl;
   }
 
-  -- Behind one more piece.
-  pub ahead_step : IsResumable steps → (state left : State) (piece : Piece F State Cell Items Work) (rest : List (Piece F State Cell Items Work)) (entries : List State) (cells : List Cell) (items : List Items) (cell : Cell) (given : Items)
+  -- After one more piece.
+  pub ahead_step : IsResumable steps → (state left : State) (piece : Piece F State Cell Items Work) (rest : List (Piece F State Cell Items Work)) (entries : List State) (cells : List Cell) (items :
+      List Items) (cell : Cell) (given : Items)
       → IsAhead steps opening pieces state (piece ∷ rest) entries cells items
       → IsAlike steps left (steps.next state (cell_of piece)) → cell ≡ cell_of piece → given ≡ steps.gives state (cell_of piece)
       → IsAhead steps opening pieces left rest (entries ++ state ∷ []) (cells ++ cell ∷ []) (items ++ given ∷ [])
@@ -78,12 +80,13 @@ module _ {F State Cell Items Work : Type 0} (steps : Steps State Cell Items) (op
     all_states =
         let same = alike_states steps laws left (steps.next state (cell_of piece)) (cells_of rest) alike in
         rw (append_assoc entries (state ∷ []) (states_from steps left (cells_of rest)))
-        (other_tail steps laws entries (state ∷ states_from steps left (cells_of rest)) (state ∷ states_from steps (steps.next state (cell_of piece)) (cells_of rest)) (states_from steps opening (cells_of pieces)) ahead.all_states (laws.reflexive state, same));
+        (other_tail steps laws entries (state ∷ states_from steps left (cells_of rest)) (state ∷ states_from steps (steps.next state (cell_of piece)) (cells_of rest))
+        (states_from steps opening (cells_of pieces)) ahead.all_states (laws.reflexive state, same));
     entered = grind (arith, length-append, ahead.entered);
     given = grind (arith, length-append, ahead.given);
   }
 
-  -- Behind the last piece.
+  -- After the last piece.
   pub ahead_done : (i : ℕ) (state : State) (entries : List State) (cells : List Cell) (items : List Items) → length pieces ≤ i
       → IsAhead steps opening pieces state (drop i pieces) entries cells items
       → Folds steps opening (record { entries = entries ++ state ∷ []; cells = cells; items = items })
@@ -96,7 +99,7 @@ module _ {F State Cell Items Work : Type 0} (steps : Steps State Cell Items) (op
         entries = rw all ahead.all_states;
       }
 
-  -- The cells behind the last piece.
+  -- The cells after the last piece.
   pub cells_done : (i : ℕ) (state : State) (entries : List State) (cells : List Cell) (items : List Items) → length pieces ≤ i
       → IsAhead steps opening pieces state (drop i pieces) entries cells items → cells ≡ cells_of pieces
   cells_done i state entries cells items past ahead =
@@ -115,16 +118,18 @@ module _ {F State Cell Items Work : Type 0} (steps : Steps State Cell Items) (op
   at_piece i state piece before now most within is inside =
       subst (λ rest. IsWithin before now (steps_needed steps state rest) most) (rest_at i piece is inside) within
 
-  -- Behind the piece of an iteration.
-  pub ahead_next : IsResumable steps → (i : ℕ) (state left : State) (piece : Piece F State Cell Items Work) (entries : List State) (cells : List Cell) (items : List Items) (cell : Cell) (given : Items)
+  -- After the piece of an iteration.
+  pub ahead_next : IsResumable steps
+      → (i : ℕ) (state left : State) (piece : Piece F State Cell Items Work) (entries : List State) (cells : List Cell) (items : List Items) (cell : Cell) (given : Items)
       → IsAhead steps opening pieces state (drop i pieces) entries cells items
       → piece ≡ get_or pieces i piece → i < length pieces
       → IsAlike steps left (steps.next state (cell_of piece)) → cell ≡ cell_of piece → given ≡ steps.gives state (cell_of piece)
       → IsAhead steps opening pieces left (drop (i + 1) pieces) (entries ++ state ∷ []) (cells ++ cell ∷ []) (items ++ given ∷ [])
   ahead_next laws i state left piece entries cells items cell given ahead is inside alike own_cell own_items =
-      ahead_step laws state left piece (drop (i + 1) pieces) entries cells items cell given (subst (λ rest. IsAhead steps opening pieces state rest entries cells items) (rest_at i piece is inside) ahead) alike own_cell own_items
+      ahead_step laws state left piece (drop (i + 1) pieces) entries cells items cell given (subst (λ rest. IsAhead steps opening pieces state rest entries cells items) (rest_at i piece is inside)
+      ahead) alike own_cell own_items
 
-  -- The counters behind the piece of an iteration.
+  -- The counters after the piece of an iteration.
   pub within_next : IsResumable steps → (i : ℕ) (state left : State) (piece : Piece F State Cell Items Work) (before now later : Counters) (most : ℕ)
       → IsWithin before now (steps_needed steps state (drop i pieces)) most
       → piece ≡ get_or pieces i piece → i < length pieces
@@ -133,7 +138,8 @@ module _ {F State Cell Items Work : Type 0} (steps : Steps State Cell Items) (op
       → IsWithin before later (steps_needed steps left (drop (i + 1) pieces)) most
   within_next laws i state left piece before now later most within is inside alike raise =
       let same = equal_steps steps laws left (steps.next state (cell_of piece)) (drop (i + 1) pieces) alike in
-      rw same (within_more before now later (steps_at steps state piece) (steps_needed steps (steps.next state (cell_of piece)) (drop (i + 1) pieces)) most (at_piece i state piece before now most within is inside) raise)
+      rw same (within_more before now later (steps_at steps state piece) (steps_needed steps (steps.next state (cell_of piece)) (drop (i + 1) pieces)) most
+      (at_piece i state piece before now most within is inside) raise)
 
   -- The counters where an iteration ends early.
   pub within_exit : (i : ℕ) (state : State) (piece : Piece F State Cell Items Work) (before now later : Counters) (most : ℕ)

@@ -10,7 +10,7 @@ use Rattle.abc_fold.specs.Piece.{is_taken}
 use Rattle.abc_fold.specs.Steps.{Steps, IsResumable}
 use Rattle.abc_fold.proofs.Kept.{some_same}
 
--- Behind the pieces before a place this is the very state in which the last of them was left.
+-- After the pieces before a place this is the very state in which the last of them was left.
 pub record IsLeftBehind {F State Cell Items Work : Type 0} (pieces : List (Piece F State Cell Items Work)) (i : ℕ) (state : State) : Type 0 where
   pub some : 0 < i
   pub left : (before : Piece F State Cell Items Work) → slice_get pieces (i - 1) ≡ Some before → IsLeftIn state before
@@ -35,7 +35,7 @@ get_there (x ∷ xs) zero inside = (x, refl)
 get_there (x ∷ xs) (suc k) inside = get_there xs k (omega (arith, inside))
 
 module _ {F State Cell Items Work : Type 0} where
-  -- What a chain keeps at two places, one behind the other, follows each other.
+  -- What a chain keeps at two places, one after the other, follows each other.
   pub kept_follow : (chain : Chained State Cell Items) (i : ℕ) (before piece : Piece F State Cell Items Work) → IsKeptAt chain i before → IsKeptAt chain (i + 1) piece → Follows before piece
   kept_follow chain i (New cell) piece at next = absurd at
   kept_follow chain i (Kept cell entered left items) (New other) at next = absurd next
@@ -66,7 +66,7 @@ module _ {F State Cell Items Work : Type 0} where
         (cases_lt i (length pieces));
   }
 
-  -- A state in which a piece was left stands behind it.
+  -- A state in which a piece was left stands after it.
   pub left_behind : (pieces : List (Piece F State Cell Items Work)) (i : ℕ) (piece : Piece F State Cell Items Work) (state : State)
       → piece ≡ get_or pieces i piece → i < length pieces → IsLeftIn state piece → IsLeftBehind pieces (i + 1) state
   left_behind pieces i piece state is inside left = record {
@@ -77,14 +77,16 @@ module _ {F State Cell Items Work : Type 0} where
         subst (λ p. IsLeftIn state p) (some_same piece before (sym own ∙ ap (slice_get pieces) (sym place) ∙ at)) left;
   }
 
-  follows_taken : (steps : Steps State Cell Items) → IsResumable steps → (state : State) (before piece : Piece F State Cell Items Work) → IsLeftIn state before → Follows before piece → is_taken steps state piece ≡ true
+  follows_taken : (steps : Steps State Cell Items) → IsResumable steps → (state : State) (before piece : Piece F State Cell Items Work) → IsLeftIn state before → Follows before piece
+      → is_taken steps state piece ≡ true
   follows_taken steps laws state before (New cell) left follows = absurd follows
   follows_taken steps laws state (New cell) (Kept other behind later given) left follows = absurd left
   follows_taken steps laws state (Kept cell entered own items) (Kept other behind later given) left follows =
       subst (λ s. steps.alike behind s ≡ true) (follows ∙ sym left) (laws.reflexive behind)
 
   -- A piece that follows one that was taken as it was kept may be taken too.
-  pub known_taken : (steps : Steps State Cell Items) → IsResumable steps → (pieces : List (Piece F State Cell Items Work)) (marks : List Bool) (i : ℕ) (state : State) (piece : Piece F State Cell Items Work)
+  pub known_taken : (steps : Steps State Cell Items) → IsResumable steps
+      → (pieces : List (Piece F State Cell Items Work)) (marks : List Bool) (i : ℕ) (state : State) (piece : Piece F State Cell Items Work)
       → AreMarked pieces marks → piece ≡ get_or pieces i piece → i < length pieces → slice_get marks i ≡ Some true → IsLeftBehind pieces i state
       → is_taken steps state piece ≡ true
   known_taken steps laws pieces marks i state piece right is inside marked behind =

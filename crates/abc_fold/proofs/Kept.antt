@@ -1,5 +1,6 @@
 -- What a chain keeps at a place is a step.
-use Rattle.std.proofs.Common.{◌≡◌, ℕ, zero, suc, ◌+◌, ◌-◌, ◌<◌, ◌≤◌, List, [], ◌∷◌, ◌++◌, Some, None, Result, Ok, Err, IfOk, slice_get, length, take, drop, get_or, sym, ◌∙◌, ap, subst, arith, add-one, length-drop}
+use Rattle.std.proofs.Common.{◌≡◌, ℕ, zero, suc, ◌+◌, ◌-◌, ◌<◌, ◌≤◌, List, [], ◌∷◌, ◌++◌, Some, None, Result, Ok, Err, IfOk, slice_get, length, take, drop, get_or, sym, ◌∙◌, ap, subst, arith, add-one}
+use Rattle.std.proofs.Common.{length-drop}
 use Rattle.std.proofs.lemmas.List.{take_more, get_or-drop}
 use Rattle.std.proofs.lemmas.Option.{slice_get_within, get_or_from_slice_get}
 use Rattle.abc_fold.specs.declared.piece.Piece.{Piece}
@@ -16,7 +17,8 @@ none_some : {X : Type 0} (x : X) → None ≡ Some x → ⊥
 none_some x is = subst (λ o. elim o as (λ _. Type 0) [ None ↦ Unit {0} | Some y ↦ ⊥ ]) is tt
 
 module _ {State Cell Items : Type 0} (steps : Steps State Cell Items) (laws : IsResumable steps) where
-  first_state : (state : State) (cells : List Cell) (entries : List State) (entered : State) → AreAlike steps entries (states_from steps state cells) → slice_get entries 0 ≡ Some entered → IsAlike steps entered state
+  first_state : (state : State) (cells : List Cell) (entries : List State) (entered : State) → AreAlike steps entries (states_from steps state cells) → slice_get entries 0 ≡ Some entered
+      → IsAlike steps entered state
   first_state state cells [] entered alike is = absurd (none_some entered is)
   first_state state [] (own ∷ entries) entered alike is = subst (λ s. IsAlike steps s state) (some_same own entered is) alike.0
   first_state state (cell ∷ cells) (own ∷ entries) entered alike is = subst (λ s. IsAlike steps s state) (some_same own entered is) alike.0
@@ -61,7 +63,8 @@ module _ {State Cell Items : Type 0} (steps : Steps State Cell Items) (laws : Is
   kept_of opening chain i (Err e) folds at = tt
 
 -- The cell of a piece that a chain keeps at a place.
-pub kept_cell : {F State Cell Items Work : Type 0} (chain : Chained State Cell Items) (i : ℕ) (piece : Piece F State Cell Items Work) → IsKeptAt chain i piece → slice_get chain.cells i ≡ Some (cell_of piece)
+pub kept_cell : {F State Cell Items Work : Type 0} (chain : Chained State Cell Items) (i : ℕ) (piece : Piece F State Cell Items Work) → IsKeptAt chain i piece
+    → slice_get chain.cells i ≡ Some (cell_of piece)
 kept_cell chain i (New cell) at = absurd at
 kept_cell chain i (Kept cell entered left items) at = at.own_cell
 

@@ -29,7 +29,7 @@ raised-least count k = omega arith
 pub raised-none : (k : ℕ) (counters : Counters) → IsRaisedUpTo k counters counters
 raised-none k counters = record { scanned = refl; built = refl; least = omega arith; most = raised-least counters.folded k }
 
--- Counters behind one step are raised by one at most.
+-- Counters after one step are raised by one at most.
 pub raised-once : (before after : Counters) → after ≡ after_steps before 1 → IsRaisedUpTo 1 before after
 raised-once before after is = record {
   scanned = ap (λ c. c.scanned) is;

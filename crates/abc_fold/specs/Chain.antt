@@ -1,4 +1,4 @@
--- What contracts see of a chain, and of one that has been prepared. Our own.
+-- What contracts see of a chain, and of one that has been prepared. Not in ABC 2.1.
 use Rattle.std.specs.Prelude.{◌≡◌, ℕ, ◌+◌, ◌-◌, List, [], length, Some, slice_get}
 use Rattle.abc_fold.specs.declared.piece.Piece.{Piece}
 use Rattle.abc_fold.specs.declared.piece.Piece.TheVariants.{New, Kept}
@@ -19,7 +19,7 @@ pub record Patched (State Cell Items : Type 0) : Type 0 where
   pub on : Chained State Cell Items
   pub after : Chained State Cell Items
 
--- Each cell has its items, and a state before it and behind it; without cells there may be no state.
+-- Each cell has its items, and a state before it and after it; without cells there may be no state.
 pub record HasShape {State Cell Items : Type 0} (entries : List State) (cells : List Cell) (items : List Items) : Type 0 where
   pub states : length entries - 1 ≡ length cells
   pub given : length items ≡ length cells

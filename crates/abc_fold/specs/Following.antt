@@ -1,4 +1,4 @@
--- Which pieces follow each other. Our own.
+-- Which pieces follow each other. Not in ABC 2.1.
 use Rattle.std.specs.Prelude.{◌≡◌, ℕ, ◌-◌, ◌<◌, Bool, true, List, length, Some, slice_get}
 use Rattle.abc_fold.specs.declared.piece.Piece.{Piece}
 use Rattle.abc_fold.specs.declared.piece.Piece.TheVariants.{New, Kept}
@@ -14,11 +14,12 @@ Follows before (New cell) = ⊥
 Follows before (Kept cell entered left items) = IsLeftIn entered before
 
 -- A piece follows the last of some pieces, if there is one.
-abbrev pub FollowsLast : {F State Cell Items Work : Type 0} → List (Piece F State Cell Items Work) → Piece F State Cell Items Work → Type 0
+abbrev pub FollowsLast : {F State Cell Items Work : Type 0} → List (Piece F State Cell Items Work) → Piece F State Cell Items Work
+    → Type 0
 FollowsLast {F = F} {State = State} {Cell = Cell} {Items = Items} {Work = Work} pieces piece =
     (before : Piece F State Cell Items Work) → slice_get pieces (length pieces - 1) ≡ Some before → Follows before piece
 
--- Where a mark says so, a piece behind the first one follows the one before it.
+-- If a mark says so, a piece after the first one follows the one before it.
 abbrev pub AreMarked : {F State Cell Items Work : Type 0} → List (Piece F State Cell Items Work) → List Bool → Type 0
 AreMarked {F = F} {State = State} {Cell = Cell} {Items = Items} {Work = Work} pieces marks =
     (i : ℕ) (before piece : Piece F State Cell Items Work) → 0 < i → slice_get marks i ≡ Some true

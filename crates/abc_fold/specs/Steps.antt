@@ -1,20 +1,20 @@
--- What a fold is by its own definition, and when it can be taken up again from a state that was kept.
+-- What a fold is by its definition, and when it can be resumed from a kept state.
 use Rattle.std.specs.Prelude.{◌≡◌, Bool, true, List, [], ◌∷◌, refl}
 use Rattle.std.specs.List.{AllZip}
 
--- A fold's own definition: the state after a cell and the items that the cell gives, where it is entered in a state;
--- and which states nothing that follows can tell apart. Our own.
+-- The definition of a fold: the state after a cell and the items that the cell gives, if it is entered in a state;
+-- and which states are equivalent. Not in ABC 2.1.
 pub record Steps (State Cell Items : Type 0) : Type 0 where
   pub next : State → Cell → State
   pub gives : State → Cell → Items
   pub alike : State → State → Bool
 
--- Nothing that follows can tell two states apart. Our own.
+-- Two states are equivalent: nothing after them depends on which it is. Not in ABC 2.1.
 abbrev pub IsAlike : {State Cell Items : Type 0} → Steps State Cell Items → State → State → Type 0
 IsAlike steps a b = steps.alike a b ≡ true
 
--- States that are alike may stand for each other: from them equal cells give equal items and states that are alike
--- again. Our own.
+-- Equivalent states may replace each other: from them equal cells give equal items and equivalent states
+-- again. Not in ABC 2.1.
 pub record IsResumable {State Cell Items : Type 0} (steps : Steps State Cell Items) : Type 0 where
   pub reflexive : (a : State) → IsAlike steps a a
   pub symmetric : (a b : State) → IsAlike steps a b → IsAlike steps b a
@@ -22,23 +22,24 @@ pub record IsResumable {State Cell Items : Type 0} (steps : Steps State Cell Ite
   pub equal_items : (a b : State) (cell : Cell) → IsAlike steps a b → steps.gives a cell ≡ steps.gives b cell
   pub alike_states : (a b : State) (cell : Cell) → IsAlike steps a b → IsAlike steps (steps.next a cell) (steps.next b cell)
 
--- The states of a fold over cells, from the one in which the first is entered to the one in which the last is left. Our
--- own.
+-- The states of a fold over cells, from the one in which the first is entered to the one in which the last is left. Not
+-- in ABC 2.1.
 abbrev pub states_from : {State Cell Items : Type 0} → Steps State Cell Items → State → List Cell → List State
 states_from steps state [] = state ∷ []
 states_from steps state (cell ∷ cells) = state ∷ states_from steps (steps.next state cell) cells
 
--- The items of a fold over cells, cell by cell. Our own.
+-- The items of a fold over cells, cell by cell. Not in ABC 2.1.
 abbrev pub items_from : {State Cell Items : Type 0} → Steps State Cell Items → State → List Cell → List Items
 items_from steps state [] = []
 items_from steps state (cell ∷ cells) = steps.gives state cell ∷ items_from steps (steps.next state cell) cells
 
--- States are alike, place by place. Our own.
+-- States are equivalent, place by place. Not in ABC 2.1.
 abbrev pub AreAlike : {State Cell Items : Type 0} → Steps State Cell Items → List State → List State → Type 0
 AreAlike steps some others = AllZip (IsAlike steps) some others
 
--- A fold whose states are alike just where they are equal can always be taken up again.
-pub resumable_where_equal : {State Cell Items : Type 0} (steps : Steps State Cell Items) → ((a b : State) → IsAlike steps a b → a ≡ b) → ((a : State) → IsAlike steps a a) → IsResumable steps
+-- A fold whose states are equivalent only if they are equal is resumable.
+pub resumable_where_equal : {State Cell Items : Type 0} (steps : Steps State Cell Items)
+    → ((a b : State) → IsAlike steps a b → a ≡ b) → ((a : State) → IsAlike steps a a) → IsResumable steps
 resumable_where_equal steps equal itself = record {
   reflexive = itself;
   symmetric = λ a b alike. rw (equal a b alike) (itself b);

@@ -10,7 +10,7 @@ ghost use Rattle.abc_fold.specs.Work.{IsRaisedUpTo};
 use crate::piece::{cell_in, is_taken, passed};
 use crate::{Counts, Fold, Piece, Pieces};
 use abc_lines::GapList;
-use abc_text::Seen;
+use abc_text::Snapshot;
 use std::alloc::{AllocError, Global};
 use std::marker::Model;
 
@@ -32,10 +32,10 @@ impl<F: Fold> Model for Chain<F> {
     ghost invariant = { λ c. HasShape c.states.items c.cells.items c.items.items };
 }
 
-/// A chain that has been prepared, and is to take the place of another. It must be spent, by `commit` of that one or by
+/// A chain that has been prepared to replace another. It must be spent, by `commit` of that one or by
 /// `drop_patch`. Contracts see both.
 pub struct ChainPatch<F: Fold> {
-    on: Seen<Chain<F>>,
+    on: Snapshot<Chain<F>>,
     next: Chain<F>,
 }
 
@@ -72,32 +72,32 @@ impl<F: Fold> Chain<F> {
         self.cells.len()
     }
 
-    /// The state in which the cell with `i` others before it is entered, or the last is left.
+    /// The state in which the cell at index `i` is entered, or the last is left.
     pub fn entry(&self, i: usize) -> Option<&F::State>
         ensures { option_copied result ≡ slice_get self.now.entries i }
     {
         self.states.get(i)
     }
 
-    /// What the cell with `i` others before it gives.
+    /// What the cell at index `i` gives.
     pub fn items(&self, i: usize) -> Option<&F::Items>
         ensures { option_copied result ≡ slice_get self.now.items i }
     {
         self.items.get(i)
     }
 
-    /// The cell with `i` others before it, with all that is kept of it. A chain of the same fold may take it up.
+    /// The cell at index `i`, with all that is kept of it. A chain of the same fold may reuse it.
     pub fn kept(&self, i: usize) -> Result<Piece<F>, AllocError>
         requires { i < length self.now.cells }
         ensures place { IfOk result (λ piece. IsKeptAt self.now i piece) }
         ensures resumable { (steps : Steps F.State F.Cell F.Items) (opening : F.State) → IsResumable steps → Folds steps opening self.now →
             IfOk result (λ piece. IsKept steps piece) }
     {
-        self.copied(i)
+        self.copy_piece(i)
     }
 
     /// What is kept at a place, copied by the fold.
-    fn copied(&self, i: usize) -> Result<Piece<F>, AllocError>
+    fn copy_piece(&self, i: usize) -> Result<Piece<F>, AllocError>
         requires { i < length self.now.cells }
         ensures { IfOk result (λ piece. IsKeptAt self.now i piece) }
     {
@@ -128,7 +128,7 @@ impl<F: Fold> Chain<F> {
     {
         let next = folded(self.allocator(), fold, opening, pieces, &[], work)?;
         Ok(ChainPatch {
-            on: Seen::of(self),
+            on: Snapshot::of(self),
             next,
         })
     }
@@ -151,7 +151,7 @@ impl<F: Fold> Chain<F> {
         let (listed, marks) = (pieces.as_slice(), pieces.marks());
         let next = folded(self.allocator(), fold, opening, listed, marks, work)?;
         Ok(ChainPatch {
-            on: Seen::of(self),
+            on: Snapshot::of(self),
             next,
         })
     }

@@ -11,15 +11,15 @@ pub trait Counts {
     // The three numbers.
     ghost counts: { Self → Counters };
 
-    /// How many lines were scanned, the greatest `u64` where they are more.
+    /// How many lines were scanned, at most the greatest `u64`.
     fn scanned(&self) -> u64
         ensures { result ≡ (counts self.now).scanned };
 
-    /// How many steps were folded, the greatest `u64` where they are more.
+    /// How many steps were folded, at most the greatest `u64`.
     fn folded(&self) -> u64
         ensures { result ≡ (counts self.now).folded };
 
-    /// How many tunes were built, the greatest `u64` where they are more.
+    /// How many tunes were built, at most the greatest `u64`.
     fn built(&self) -> u64
         ensures { result ≡ (counts self.now).built };
 }

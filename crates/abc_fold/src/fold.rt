@@ -26,7 +26,7 @@ pub trait Fold {
     // The fold's own definition: the state after a cell, the items that the cell gives, and which states are equivalent.
     ghost steps: { Self → Steps Self.State Self.Cell Self.Items };
 
-    /// The state after `cell`, and its items, where it is entered in `state`. A step that finds no
+    /// The state after `cell`, and its items, if it is entered in `state`. A step that finds no
     /// memory is counted too.
     fn step(
         &self,
@@ -65,6 +65,6 @@ pub trait Fold {
     fn copy_items(alloc: Global, items: &Self::Items) -> Result<Self::Items, AllocError>
         ensures { IfOk result (λ copy. copy ≡ items.now) };
 
-    // Equivalent states may stand for each other.
+    // Equivalent states may replace each other.
     ghost resumable: { (fold : Self) → IsResumable (steps fold) };
 }

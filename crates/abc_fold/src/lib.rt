@@ -1,4 +1,4 @@
-//! Folds that can be taken up again at any cell, chains that keep what a fold made of their cells, and the work that an
+//! Folds that can be resumed at any cell, chains that keep what a fold made of their cells, and the work that an
 //! edit costs, counted: lines scanned, steps folded, tunes built. The promise that a small edit of a chain takes few
 //! steps is said in these counters.
 #![tactic(auto)]

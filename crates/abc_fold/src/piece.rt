@@ -32,8 +32,8 @@ pub(crate) fn cell_in<F: Fold>(alloc: Global, piece: &Piece<F>) -> Result<F::Cel
     }
 }
 
-/// The state behind a cell and its items, by a step.
-fn stepped<F: Fold>(
+/// The state after a cell and its items, by a step.
+fn take_step<F: Fold>(
     alloc: Global,
     fold: &F,
     state: &F::State,
@@ -51,7 +51,7 @@ fn stepped<F: Fold>(
     Ok((next, items))
 }
 
-/// Whether what was kept of a piece may be taken where it is entered in a state. Where that is known, no states are
+/// Whether what was kept of a piece may be taken if it is entered in a state. If that is known, no states are
 /// compared.
 pub(crate) fn is_taken<F: Fold>(fold: &F, state: &F::State, piece: &Piece<F>, known: bool) -> bool
     requires { known ≡ true → is_taken (F.steps fold.now) state.now piece.now ≡ true }
@@ -66,7 +66,7 @@ pub(crate) fn is_taken<F: Fold>(fold: &F, state: &F::State, piece: &Piece<F>, kn
     }
 }
 
-/// The state behind a piece and its items, where it is entered in a state: kept ones where these may be taken, and else
+/// The state after a piece and its items, if it is entered in a state: kept ones if these may be taken, and else
 /// by a step.
 pub(crate) fn passed<F: Fold>(
     alloc: Global,
@@ -78,13 +78,15 @@ pub(crate) fn passed<F: Fold>(
 ) -> Result<(F::State, F::Items), AllocError>
     requires kept { IsKept (F.steps fold.now) piece.now }
     requires taken { taken ≡ is_taken (F.steps fold.now) state.now piece.now }
-    ensures state_after { IfOk result (λ made. IsAlike (F.steps fold.now) made.0 ((F.steps fold.now).next state.now (cell_of piece.now))) }
+    ensures state_after { IfOk result (λ made. IsAlike (F.steps fold.now) made.0
+        ((F.steps fold.now).next state.now (cell_of piece.now))) }
     ensures items { IfOk result (λ made. made.1 ≡ (F.steps fold.now).gives state.now (cell_of piece.now)) }
     ensures left { taken ≡ true → IfOk result (λ made. IsLeftIn made.0 piece.now) }
-    ensures counted { IsRaisedUpTo (steps_at (F.steps fold.now) state.now piece.now) (F.Work.counts work.old) (F.Work.counts work.new) }
+    ensures counted { IsRaisedUpTo (steps_at (F.steps fold.now) state.now piece.now)
+        (F.Work.counts work.old) (F.Work.counts work.new) }
 {
     match piece {
-        Piece::New(cell) => stepped(alloc, fold, state, cell, work),
+        Piece::New(cell) => take_step(alloc, fold, state, cell, work),
         Piece::Kept {
             cell,
             left,
@@ -92,7 +94,7 @@ pub(crate) fn passed<F: Fold>(
             ..
         } => {
             if !taken {
-                return stepped(alloc, fold, state, cell, work);
+                return take_step(alloc, fold, state, cell, work);
             }
             Ok((F::copy_state(alloc, left)?, F::copy_items(alloc, items)?))
         }

@@ -1,13 +1,13 @@
 //! Pieces of which it is known which follow each other.
 
-ghost use Rattle.std.specs.Prelude.{◌≡◌, [], ◌∷◌, ◌++◌, OnErr, OnOk, true};
+ghost use Rattle.std.specs.Prelude.{◌≡◌, [], ◌∷◌, ◌++◌, IfOk, OnErr, OnOk, true};
 ghost use Rattle.abc_fold.specs.Following.{AreMarked, FollowsLast};
 
 use crate::{Fold, Piece};
 use std::alloc::{AllocError, Global};
 use std::marker::Model;
 
-/// Pieces one behind the other, each with a mark whether it is known that it was entered in the very state in which the
+/// Pieces one after the other, each with a mark whether it is known that it was entered in the very state in which the
 /// one before it was left. Contracts see the pieces.
 #[derive(Drop)]
 pub struct Pieces<F: Fold> {
@@ -38,30 +38,43 @@ impl<F: Fold> Pieces<F> {
         }
     }
 
-    /// Appends a piece of which it is not known whether it follows the last one. Where memory is refused the pieces stay
+    /// An empty list with room for `room` pieces.
+    pub fn with_room(alloc: Global, room: usize) -> Result<Pieces<F>, AllocError>
+        ensures { IfOk result (λ pieces. pieces ≡ []) }
+    {
+        Ok(Pieces {
+            pieces: Vec::with_capacity(alloc, room)?,
+            marks: Vec::with_capacity(alloc, room)?,
+        })
+    }
+
+    /// Appends a piece of which it is not known whether it follows the last one. If an allocation fails, the pieces stay
     /// as they were.
+    #[inline(always)]
     pub fn push(&mut self, piece: Piece<F>) -> Result<(), AllocError>
-        ensures pushed { OnOk result (self.new ≡ self.old ++ piece ∷ []) }
-        ensures refused { OnErr result (self.new ≡ self.old) }
+        ensures ok { OnOk result (self.new ≡ self.old ++ piece ∷ []) }
+        ensures unchanged { OnErr result (self.new ≡ self.old) }
     {
         self.put(piece, false)
     }
 
     /// Appends a kept piece that was entered in the very state in which the last one was left, if there is one. Where
     /// memory is refused the pieces stay as they were.
+    #[inline(always)]
     pub fn push_following(&mut self, piece: Piece<F>) -> Result<(), AllocError>
         requires { FollowsLast self.old piece }
-        ensures pushed { OnOk result (self.new ≡ self.old ++ piece ∷ []) }
-        ensures refused { OnErr result (self.new ≡ self.old) }
+        ensures ok { OnOk result (self.new ≡ self.old ++ piece ∷ []) }
+        ensures unchanged { OnErr result (self.new ≡ self.old) }
     {
         self.put(piece, true)
     }
 
     /// Appends a piece with its mark.
+    #[inline(always)]
     fn put(&mut self, piece: Piece<F>, follows: bool) -> Result<(), AllocError>
         requires { follows ≡ true → FollowsLast self.old piece }
-        ensures pushed { OnOk result (self.new ≡ self.old ++ piece ∷ []) }
-        ensures refused { OnErr result (self.new ≡ self.old) }
+        ensures ok { OnOk result (self.new ≡ self.old ++ piece ∷ []) }
+        ensures unchanged { OnErr result (self.new ≡ self.old) }
     {
         self.marks.push(follows)?;
         match self.pieces.push(piece) {

@@ -7,7 +7,7 @@ use std::marker::Model;
 use std::rt::Runtime;
 
 /// How many lines were scanned, steps folded and tunes built. Only `mint` makes one, from the
-/// runtime, and none can be copied: code that is lent one and has no runtime can count nowhere
+/// runtime, and none can be copied: code that borrows one and has no runtime can count nowhere
 /// else. A counter that has come to the greatest `u64` stays there. Contracts see the three
 /// numbers, as `Counters`. In C it is three `uint64_t` in this order.
 #[derive(Drop)]

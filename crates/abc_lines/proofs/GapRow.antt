@@ -1,10 +1,11 @@
 -- What an item that comes or goes at an edge of the gap leaves.
 --     somes_laid                      what such places hold
 --     last_of                         a list that is not empty is a list and its last item
---     low_full, low_empty             the place at the lower edge, before and behind it
---     high_full, high_empty           the place at the upper edge, behind and before it
+--     low_full, low_empty             the place at the lower edge, before and after it
+--     high_full, high_empty           the place at the upper edge, after and before it
 --     fill_low, clear_low, fill_high, clear_high      what a write or a read there makes
-use Rattle.std.proofs.Common.{◌≡◌, ℕ, suc, zero, ◌+◌, ◌-◌, ◌<◌, ◌≤◌, List, [], ◌∷◌, ◌++◌, map, length, replicate, get_or, set, length-set, Option, Some, None, Bool, true, false, if◌then◌else◌, nat_lt, ⊎_elim, refl, sym, ap, ◌∙◌, subst, arith}
+use Rattle.std.proofs.Common.{◌≡◌, ℕ, suc, zero, ◌+◌, ◌-◌, ◌<◌, ◌≤◌, List, [], ◌∷◌, ◌++◌, map, length, replicate, get_or, set, length-set, Option, Some, None, Bool, true, false, if◌then◌else◌, nat_lt}
+use Rattle.std.proofs.Common.{⊎_elim, refl, sym, ap, ◌∙◌, subst, arith}
 use Rattle.std.proofs.lemmas.List.{append-nil, get_or_at, length-append, set_at}
 use Rattle.std.proofs.lemmas.Option.{slice_get_past}
 use Rattle.std.proofs.lemmas.Bool.{cases_Bool, ltb-true, ltb-false, le-ltb}
@@ -217,7 +218,8 @@ module _ {X : Type 0} {r : GapRow X} (g : IsGapped r) where
   pub held_past : (i : ℕ) → r.size ≤ i → None ≡ slice_get (items_of r) i
   held_past i le = sym (slice_get_past (items_of r) i (omega (arith, held_count)))
 
-  remade : (q : Places X) (s a : ℕ) (front back items : List X) → q.start ≡ r.places.start → q.row ≡ laid front (r.capacity - s) back → a ≡ length front → s ≡ length front + length back → s ≤ r.capacity → front ++ back ≡ items
+  remade : (q : Places X) (s a : ℕ) (front back items : List X) → q.start ≡ r.places.start → q.row ≡ laid front (r.capacity - s) back → a ≡ length front → s ≡ length front + length back
+      → s ≤ r.capacity → front ++ back ≡ items
       → Becomes r (record r { places = q; size = s; at = a }) items a s
   remade q s a front back items start row edge many fits same = record {
     gapped = record { front = front; back = back; row = row; before = edge; count = many; fits = fits; small = g.small; claimed = (g.claimed.0 ∙ sym start, g.claimed.1, g.claimed.2) };
@@ -266,7 +268,7 @@ module _ {X : Type 0} {r : GapRow X} (g : IsGapped r) where
           ∙ fill_high last.0 last.1 gap g.back (r.at - 1 + gap) reach_back)
           edge_back (omega (arith, g.count, count_back)) g.fits (seam last.0 last.1 g.back ∙ ap (λ (xs : List X). xs ++ g.back) (sym last.2) ∙ sym held)
 
-  -- the item behind the gap
+  -- the item after the gap
   module _ (more : r.at < r.size) where
     next : (y : X) × (ys : List X) × (g.back ≡ y ∷ ys)
     next = first_of g.back (omega (arith, g.before, g.count))

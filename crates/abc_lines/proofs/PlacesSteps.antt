@@ -65,7 +65,8 @@ module _ (R : RattleType) where
     sees_at (c ∷ cs) zero b o inside = qed 𝓛 (‵ (each_shared (c ∷ cs) (shows R) (type_size R) b o κ) ∷ []) ∵ fsplit ! $ keep ! (0 ∷ []) $ done !
     sees_at (c ∷ cs) (suc i) b o inside = qed 𝓛 (‵ (each_shared (c ∷ cs) (shows R) (type_size R) b o κ) ∷ []) ∵ fsplit ! $ drop ! $ by ! (sees_at cs i b (o + type_size R) (omega arith))
 
-    pub sees : (cs : List (Option R.Denot)) (i b o : ℕ) → i < length cs → (c : Option R.Denot) → get_or cs i None ≡ c → ent 𝓤 (sem 𝓛 (each_shared cs (shows R) (type_size R) b o κ)) (sem 𝓛 (shows R c b (i * type_size R + o) κ))
+    pub sees : (cs : List (Option R.Denot)) (i b o : ℕ) → i < length cs → (c : Option R.Denot) → get_or cs i None ≡ c
+        → ent 𝓤 (sem 𝓛 (each_shared cs (shows R) (type_size R) b o κ)) (sem 𝓛 (shows R c b (i * type_size R + o) κ))
     sees cs i b o inside c is =
         qed 𝓛 (‵ (each_shared cs (shows R) (type_size R) b o κ) ∷ []) ∵
         use1 𝓛 (‵ (shows R (get_or cs i None) b (place (type_size R) o i) κ)) (sees_at cs i b o inside) $

@@ -44,7 +44,7 @@ gapped_equal xs ys i j m n t u items gap room moved = rw items (rw gap (rw room 
 pub placed_equal : {X : Type 0} (xs ys : List X) (gap m n : ℕ) → xs ≡ ys → m ≡ n → placed xs gap m ≡ placed ys gap n
 placed_equal xs ys gap m n items room = rw items (rw room refl)
 
--- the first of some goes behind the last of others
+-- the first of some goes after the last of others
 pub one_moved : {X : Type 0} (to from : List X) (x : X) → slice_get from 0 ≡ Some x
     → insert to (length to) x ++ remove from 0 ≡ to ++ from
 one_moved to [] x first = search rules

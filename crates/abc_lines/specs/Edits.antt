@@ -1,5 +1,6 @@
--- The text after an edit, and when there is none. Our own.
-use Rattle.std.specs.Prelude.{◌≡◌, ◌⊎◌, ℕ, ◌+◌, ◌-◌, ◌&&◌, ◌==◌, not, if◌then◌else◌, [], length, nat_le, Option, Some, None, Result, Ok, Err, IsOk}
+-- The text after an edit, and when there is none. Not in ABC 2.1.
+use Rattle.std.specs.Prelude.{◌≡◌, ◌⊎◌, ℕ, ◌+◌, ◌-◌, ◌&&◌, ◌==◌, not, if◌then◌else◌, [], length, nat_le, Option, Some, None, Result}
+use Rattle.std.specs.Prelude.{Ok, Err, IsOk}
 use Rattle.std.specs.List.{list_all}
 use Rattle.abc_lines.specs.declared.limits.TheConstants.{MOST_LINES}
 use Rattle.abc_lines.specs.declared.edit_error.EditError.{EditError}
@@ -20,7 +21,7 @@ replaced text s =
 abbrev pub insertion : ℕ → Text → Option Splice
 insertion at lines = if at == 0 then None else Some (record { at = at - 1; removed = 0; lines = lines })
 
--- Lines put in the place of those from one to another.
+-- Lines put instead of those from one to another.
 abbrev pub replacement : ℕ → ℕ → Text → Option Splice
 replacement from to lines =
     if nat_le 1 from && nat_le from to then Some (record { at = from - 1; removed = to + 1 - from; lines = lines }) else None
@@ -34,6 +35,6 @@ unfoldable pub edited : Text → Option Splice → Result Text EditError
 edited text None = Err BadRange
 edited text (Some splice) = replaced text splice
 
--- A refusal for this reason, or for want of memory where there is no reason.
+-- A refusal for this reason; without a reason it is out of memory.
 abbrev pub Refuses : EditError → Result Text EditError → Type 0
 Refuses e answer = (answer ≡ Err e) ⊎ ((e ≡ OutOfMemory) × IsOk answer)

@@ -4,7 +4,7 @@ use Rattle.abc_lines.specs.GapList.{Gapped}
 use Rattle.abc_lines.specs.ListSplice.{Patched}
 use Rattle.abc_lines.specs.Text.{Text}
 
--- A text, how many of its lines stand before the gap, for how many more there is room, and how many places the gap has
+-- A text, how many of its lines precede the gap, for how many more there is room, and how many places the gap has
 -- moved.
 pub record Lines : Type 0 where
   pub text : Text
@@ -22,5 +22,5 @@ pub record Prepared : Type 0 where
   pub after : Text
 
 -- The splice of a text that a splice of its list is.
-abbrev pub prepared : Patched (List ℕ) → Prepared
-prepared splice = record { on = held_by splice.on; after = splice.after.items }
+abbrev pub line_patch_view : Patched (List ℕ) → Prepared
+line_patch_view splice = record { on = held_by splice.on; after = splice.after.items }

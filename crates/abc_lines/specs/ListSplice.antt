@@ -1,6 +1,6 @@
--- A splice of a list with a gap that has been prepared. Our own.
+-- A splice of a list with a gap that has been prepared. Not in ABC 2.1.
 use Rattle.std.specs.Prelude.{◌≡◌, ℕ, ◌+◌, ◌-◌, ◌*◌, ◌<◌, ◌≤◌, if◌then◌else◌, List, [], length, nat_le, Option, Some, None}
-use Rattle.abc_lines.specs.GapList.{Gapped, gapped, distance, tallied, replaced_run}
+use Rattle.abc_lines.specs.GapList.{Gapped, gapped, distance, add_to_tally, replaced_run}
 
 -- How many items there are after a splice.
 abbrev pub count_after : {T : Type 0} → Gapped T → ℕ → List T → ℕ
@@ -10,24 +10,25 @@ count_after list removed new = length list.items - removed + length new
 abbrev pub places : {T : Type 0} → Gapped T → ℕ
 places list = length list.items + list.room
 
--- How many it can have once it has to have so many: as before if that is enough, and otherwise twice as many.
+-- How many it can have once it has to have `count`: as before if that is enough, and otherwise twice `count`.
 abbrev pub places_for : {T : Type 0} → ℕ → Gapped T → ℕ
 places_for count list = if nat_le count (places list) then places list else 2 * count
 
--- A list after a splice: its items, with others in the place of so many that follow the first few, and the gap behind
+-- A list after a splice: its items, with others instead of `removed` of them from index `at` on, and the gap after
 -- those that have come.
 unfoldable pub after_splice : {T : Type 0} → Gapped T → ℕ → ℕ → List T → Gapped T
 after_splice list at removed new =
     let count = count_after list removed new in
-    gapped (replaced_run list.items at removed new) (at + length new) (places_for count list - count) (tallied list.moved (distance list.gap at))
+    gapped (replaced_run list.items at removed new) (at + length new) (places_for count list - count)
+    (add_to_tally list.moved (distance list.gap at))
 
 -- A list before a splice, and the same list after it.
 pub record Patched (T : Type 0) : Type 0 where
   pub on : Gapped T
   pub after : Gapped T
 
-abbrev pub patched : {T : Type 0} → Gapped T → ℕ → ℕ → List T → Patched T
-patched on at removed new = record { on = on; after = after_splice on at removed new }
+abbrev pub splice_view : {T : Type 0} → Gapped T → ℕ → ℕ → List T → Patched T
+splice_view on at removed new = record { on = on; after = after_splice on at removed new }
 
 -- So many items fit: in the list's own places, or in those of an empty list that takes its place.
 abbrev pub Fits : {T : Type 0} → ℕ → Gapped T → Option (Gapped T) → Type 0

@@ -1,5 +1,5 @@
 -- A tune book's text. ABC 2.1 says what it means; that it is a list of lines within limits, of which a
--- splice replaces a run, is our own.
+-- splice replaces a run, is not in ABC 2.1.
 use Rattle.std.specs.Prelude.{◌≡◌, ℕ, ◌+◌, ◌≤◌, ◌&&◌, ◌==◌, Bool, true, not, List, ◌++◌, length, take, drop, map, nat_le}
 use Rattle.std.specs.Borrow.{Bor}
 use Rattle.std.specs.Global.{Vec}
@@ -32,16 +32,16 @@ pub record IsText (text : Text) : Type 0 where
   pub count : length text ≤ MOST_LINES
   pub lines : list_all is_line text ≡ true
 
--- A splice: how many lines stand before it, how many go, which come.
+-- A splice: how many lines precede it, how many it removes, and the new lines.
 pub record Splice : Type 0 where
   pub at : ℕ
   pub removed : ℕ
   pub lines : Text
 
--- The splice that leaves out so many lines behind the first few and puts lines in their place.
+-- The splice that replaces `removed` lines from index `at` on.
 abbrev pub splice_from : ℕ → ℕ → List (Vec ℕ) → Splice
 splice_from at removed lines = record { at = at; removed = removed; lines = lines_of lines }
 
--- The lines before the splice, the lines handed in, the lines after it.
+-- The lines before the splice, the new lines, the lines after it.
 unfoldable pub spliced : Text → Splice → Text
 spliced text s = take s.at text ++ s.lines ++ drop (s.at + s.removed) text

@@ -1,28 +1,28 @@
-//! What a list with a gap keeps its items in: no places, which takes no memory, or a row of them in a block of memory.
+//! The storage of a list with a gap: no places, which takes no memory, or a row of them in a block of memory.
 
 ghost use Rattle.std.specs.Prelude.{◌≡◌, ◌+◌, ◌-◌, ◌<◌, ◌≤◌, ◌^◌, [], length, IfOk, IsOk, option_copied, slice_get, Some};
 ghost use Rattle.std.specs.List.{insert, remove};
 ghost use Rattle.std.specs.Option.{option_copied_mut};
 ghost use Rattle.std.specs.Borrow.{sem};
-ghost use Rattle.abc_lines.specs.Block.{placed, shown, IsSound};
+ghost use Rattle.abc_lines.specs.Block.{placed, block_view, IsSound};
 ghost use Rattle.abc_lines.specs.GapRowLends.{lends_in};
 
 use crate::gap_row::GapRow;
 use std::alloc::{AllocError, Global};
 use std::marker::Model;
 
-/// Places for items, with all the empty ones behind the first so many items; none where there is no row. It can't be let
+/// Places for items, with all the empty ones after the first `gap` items; none without a row. It can't be let
 /// go, but for `end`.
 pub(crate) struct Block<T> {
     row: Option<GapRow<T>>,
 }
 
 impl<T> Model for Block<T> {
-    ghost use Rattle.abc_lines.specs.Block.{Placed, shown, IsSound};
+    ghost use Rattle.abc_lines.specs.Block.{BlockView, block_view, IsSound};
 
-    ghost Value = { Placed T };
+    ghost Value = { BlockView T };
 
-    ghost view = { λ b. shown b.row };
+    ghost view = { λ b. block_view b.row };
 
     ghost invariant = { λ b. IsSound b.row };
 }
@@ -30,7 +30,7 @@ impl<T> Model for Block<T> {
 impl<T> Block<T> {
     ghost use Rattle.abc_lines.specs.BlockLends.{lends_placed};
 
-    /// So many empty places.
+    /// Returns `room` empty places.
     pub(crate) fn with_room(alloc: Global, room: usize) -> Result<Block<T>, AllocError>
         ensures empty { IfOk result (λ block. block ≡ placed [] 0 room) }
         ensures succeeds { room ≡ 0 → IsOk result }
@@ -45,7 +45,7 @@ impl<T> Block<T> {
 
     /// How many items there are.
     pub(crate) fn len(&self) -> usize
-        ensures count { result ≡ length self.now.items }
+        ensures value { result ≡ length self.now.items }
         ensures small { length self.now.items + self.now.room < 2 ^ 63 }
         ensures inside { self.now.gap ≤ length self.now.items }
     {
@@ -65,7 +65,7 @@ impl<T> Block<T> {
         }
     }
 
-    /// How many items stand before the gap.
+    /// How many items precede the gap.
     pub(crate) fn gap(&self) -> usize
         ensures value { result ≡ self.now.gap }
         ensures inside { self.now.gap ≤ length self.now.items }
@@ -76,7 +76,7 @@ impl<T> Block<T> {
         }
     }
 
-    /// The item with `i` others before it.
+    /// The item at index `i`.
     pub(crate) fn get(&self, i: usize) -> Option<&T>
         ensures { option_copied result ≡ slice_get self.now.items i }
     {
@@ -86,7 +86,7 @@ impl<T> Block<T> {
         }
     }
 
-    /// The item with `i` others before it, to be changed where it lies.
+    /// The item at index `i`, to be changed in place.
     pub(crate) fn get_mut(&mut self, i: usize) -> Option<&mut T>
         ensures* writes_back { sem 𝓛 (lends_placed T.row self.entry i result) }
         ensures value { option_copied_mut result ≡ slice_get self.old.items i }
@@ -117,7 +117,7 @@ impl<T> Block<T> {
         }
     }
 
-    /// Takes the item behind the gap out.
+    /// Takes out the item after the gap.
     pub(crate) fn take_next(&mut self) -> T
         requires { self.old.gap < length self.old.items }
         ensures item { slice_get self.old.items self.old.gap ≡ Some result }
@@ -141,11 +141,11 @@ impl<T> Block<T> {
     }
 }
 
-/// The item with `i` others before it of a row, if there is one, to be changed where it lies.
+/// The item at index `i` of a row, if there is one, to be changed in place.
 fn item_in<T>(row: &mut Option<GapRow<T>>, i: usize) -> Option<&mut T>
     requires { IsSound row.old }
     ensures* writes_back { sem 𝓛 (lends_in T.row row.entry i result) }
-    ensures value { option_copied_mut result ≡ slice_get (shown row.old).items i }
+    ensures value { option_copied_mut result ≡ slice_get (block_view row.old).items i }
 {
     match row {
         None => None,

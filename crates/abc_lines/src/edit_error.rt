@@ -12,13 +12,13 @@ pub enum EditError {
     /// The edit's lines are not lines of the text.
     #[error("the range is not in the text")]
     BadRange,
-    /// A line handed in holds a line feed or has more than 65,535 bytes.
+    /// A new line has a line feed or has more than 65,535 bytes.
     #[error("a line holds a line feed or has more than 65,535 bytes")]
     BadLine,
     /// The text would have more than 1,048,576 lines.
     #[error("the text would have more than 1,048,576 lines")]
     TooLarge,
-    /// There is no memory.
+    /// An allocation failed.
     #[error("out of memory")]
     OutOfMemory,
 }
@@ -26,7 +26,7 @@ pub enum EditError {
 impl EditError {
     ghost use Rattle.abc_lines.specs.EditError.{name_of};
 
-    /// The word that stands for it in an answer.
+    /// The word for it in an answer.
     pub fn name(self) -> &'static str
         ensures { result.now ≡ name_of self }
     {

@@ -1,19 +1,20 @@
-//! A list with a gap: what changes it where it was last changed moves nothing.
+//! A list with a gap: a change at the place of the last one moves nothing.
 
-ghost use Rattle.std.specs.Prelude.{◌≡◌, ◌+◌, ◌-◌, ◌<◌, ◌≤◌, ◌^◌, ◌++◌, ◌∷◌, [], length, IfOk, IsOk, option_copied, slice_get, Some};
+ghost use Rattle.std.specs.Prelude.{◌≡◌, ◌+◌, ◌-◌, ◌<◌, ◌≤◌, ◌^◌, ◌++◌, ◌∷◌, [], length, IfOk, IsOk, option_copied, slice_get};
+ghost use Rattle.std.specs.Prelude.{Some};
 ghost use Rattle.std.specs.List.{insert, remove};
 ghost use Rattle.std.specs.Option.{option_copied_mut};
 ghost use Rattle.std.specs.Borrow.{sem};
 ghost use Rattle.abc_lines.specs.Block.{placed};
-ghost use Rattle.abc_lines.specs.GapList.{gapped, distance, tallied, replaced_run};
+ghost use Rattle.abc_lines.specs.GapList.{gapped, distance, add_to_tally, replaced_run};
 
 use crate::block::Block;
 use std::alloc::{AllocError, Global};
 use std::marker::Model;
 use std::mem::replace;
 
-/// Items in order with spare room among them, the gap. It takes memory where it is made, and in a splice for which its room
-/// is too little; an item moves where the gap passes over it, and into such a roomier block. Contracts see the items, the
+/// Items in order with spare room among them, the gap. It allocates when it is made, and in a splice for which its room
+/// is too little; an item moves when the gap passes over it, and into such a roomier block. Contracts see the items, the
 /// place of the gap, the room and how many places the gap has moved.
 pub struct GapList<T> {
     block: Block<T>,
@@ -51,7 +52,7 @@ impl<T> GapList<T> {
 
     /// How many items there are.
     pub fn len(&self) -> usize
-        ensures count { result ≡ length self.now.items }
+        ensures value { result ≡ length self.now.items }
         ensures small { length self.now.items + self.now.room < 2 ^ 63 }
         ensures inside { self.now.gap ≤ length self.now.items }
     {
@@ -65,7 +66,7 @@ impl<T> GapList<T> {
         self.block.room()
     }
 
-    /// How many items stand before the gap.
+    /// How many items precede the gap.
     pub fn gap(&self) -> usize
         ensures { result ≡ self.now.gap }
     {
@@ -79,14 +80,14 @@ impl<T> GapList<T> {
         self.moved
     }
 
-    /// The item with `i` others before it.
+    /// The item at index `i`.
     pub fn get(&self, i: usize) -> Option<&T>
         ensures { option_copied result ≡ slice_get self.now.items i }
     {
         self.block.get(i)
     }
 
-    /// The item with `i` others before it, to be changed where it lies.
+    /// The item at index `i`, to be changed in place.
     pub fn get_mut(&mut self, i: usize) -> Option<&mut T>
         ensures* writes_back { sem 𝓛 (lends_item T.row self.entry i result) }
         ensures value { option_copied_mut result ≡ slice_get self.old.items i }
@@ -94,52 +95,60 @@ impl<T> GapList<T> {
         self.block.get_mut(i)
     }
 
-    /// Puts an item before the one with `i` others before it, or at the end. The gap stands behind it then.
+    /// Puts an item before the one at index `i`, or at the end. The gap follows it then.
     pub fn insert(&mut self, i: usize, item: T)
         requires inside { i ≤ length self.old.items }
         requires room { 0 < self.old.room }
-        ensures { self.new ≡ gapped (insert self.old.items i item) (i + 1) (self.old.room - 1) (tallied self.old.moved (distance self.old.gap i)) }
+        ensures { self.new ≡ gapped (insert self.old.items i item) (i + 1) (self.old.room - 1)
+            (add_to_tally self.old.moved (distance self.old.gap i)) }
     {
         self.move_gap(i);
         self.block.put(item);
     }
 
-    /// Takes out the item with `i` others before it. The gap stands in its place then.
+    /// Takes out the item at index `i`. The gap is in its place then.
     pub fn remove(&mut self, i: usize) -> T
         requires { i < length self.old.items }
         ensures item { slice_get self.old.items i ≡ Some result }
-        ensures list { self.new ≡ gapped (remove self.old.items i) i (self.old.room + 1) (tallied self.old.moved (distance self.old.gap i)) }
+        ensures list { self.new ≡ gapped (remove self.old.items i) i (self.old.room + 1)
+            (add_to_tally self.old.moved (distance self.old.gap i)) }
     {
         self.move_gap(i);
         self.block.take_next()
     }
 
     /// Puts an item at the end. The gap is after it then.
+    #[inline(always)]
     pub fn push(&mut self, item: T)
         requires { 0 < self.old.room }
         ensures items { self.new.items ≡ self.old.items ++ item ∷ [] }
         ensures room { self.new.room ≡ self.old.room - 1 }
     {
-        let end = self.len();
-        self.insert(end, item);
+        let end = self.block.len();
+        if self.block.gap() != end {
+            self.move_gap(end);
+        }
+        self.block.put(item);
     }
 
-    /// Moves the gap to a place.
+    /// Moves the gap to a place. It is out of line, so that `push` is short.
+    #[inline(never)]
     fn move_gap(&mut self, to: usize)
         requires { to ≤ length self.old.items }
-        ensures { self.new ≡ gapped self.old.items to self.old.room (tallied self.old.moved (distance self.old.gap to)) }
+        ensures { self.new ≡ gapped self.old.items to self.old.room (add_to_tally self.old.moved (distance self.old.gap to)) }
     {
         let from = self.block.gap();
         self.block.move_gap(to);
         self.moved = self.moved.saturating_add(from.abs_diff(to) as u64);
     }
 
-    /// Drops so many items behind a place. The gap stands there then.
+    /// Drops `count` items from index `at` on. The gap is there then.
     pub(crate) fn remove_run(&mut self, at: usize, count: usize)
     where
         T: Drop,
         requires { at + count ≤ length self.old.items }
-        ensures { self.new ≡ gapped (replaced_run self.old.items at count []) at (self.old.room + count) (tallied self.old.moved (distance self.old.gap at)) }
+        ensures { self.new ≡ gapped (replaced_run self.old.items at count []) at (self.old.room + count)
+            (add_to_tally self.old.moved (distance self.old.gap at)) }
     {
         self.move_gap(at);
         for _dropped in 0..count {
@@ -147,7 +156,7 @@ impl<T> GapList<T> {
         }
     }
 
-    /// Moves all items over into an empty list with room for them, which takes the place of theirs.
+    /// Moves all items into an empty list with room for them, which replaces their own.
     pub(crate) fn move_over(&mut self, roomier: GapList<T>)
         requires empty { roomier.items ≡ [] }
         requires room { length self.old.items ≤ roomier.room }
@@ -159,7 +168,7 @@ impl<T> GapList<T> {
             moved: _,
         } = roomier;
         let gap = self.block.gap();
-        let wider = moved_into(&mut self.block, block);
+        let wider = move_items(&mut self.block, block);
         replace(&mut self.block, wider).end();
         self.block.move_gap(gap);
     }
@@ -178,12 +187,13 @@ impl<T> GapList<T> {
         }
     }
 
-    /// Puts items in the place of the gap, which stands behind them then.
+    /// Puts items at the gap, which follows them then.
     pub(crate) fn put_all(&mut self, items: Vec<T>)
     where
         T: Drop,
         requires { length items.items ≤ self.old.room }
-        ensures { self.new ≡ gapped (replaced_run self.old.items self.old.gap 0 items.items) (self.old.gap + length items.items) (self.old.room - length items.items) self.old.moved }
+        ensures { self.new ≡ gapped (replaced_run self.old.items self.old.gap 0 items.items)
+            (self.old.gap + length items.items) (self.old.room - length items.items) self.old.moved }
     {
         for item in items {
             self.block.put(item);
@@ -192,7 +202,7 @@ impl<T> GapList<T> {
 }
 
 /// Empty places with the items of others, in order and before the gap.
-fn moved_into<T>(from: &mut Block<T>, mut block: Block<T>) -> Block<T>
+fn move_items<T>(from: &mut Block<T>, mut block: Block<T>) -> Block<T>
     requires empty { block.items ≡ [] }
     requires room { length from.old.items ≤ block.room }
     ensures moved { result ≡ placed from.old.items (length from.old.items) (block.room - length from.old.items) }

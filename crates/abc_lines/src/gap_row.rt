@@ -11,7 +11,7 @@ use crate::places::{Claim, Places, allocate, deallocate};
 use std::alloc::{AllocError, Global};
 use std_alloc::room::may_hold;
 
-/// A list of `size` items in a block of `capacity` places, with all the empty places behind the first `at` items.
+/// A list of `size` items in a block of `capacity` places, with all the empty places after the first `at` items.
 /// It can't be let go, but for `destroy_empty`.
 pub(crate) struct GapRow<T> {
     places: Places<T>,
@@ -23,7 +23,7 @@ pub(crate) struct GapRow<T> {
 }
 
 impl<T> GapRow<T> {
-    /// An empty list with room for so many items.
+    /// An empty list with room for `room` items.
     pub(crate) fn with_room(alloc: Global, room: usize) -> Result<GapRow<T>, AllocError>
         ensures { IfOk result (λ row. IsGapped row × (items_of row ≡ []) × (row.size ≡ 0) × (row.capacity ≡ room)) }
     {
@@ -44,7 +44,7 @@ impl<T> GapRow<T> {
     /// How many items there are.
     pub(crate) fn len(&self) -> usize
         requires { IsGapped self.now }
-        ensures count { result ≡ length (items_of self.now) }
+        ensures value { result ≡ length (items_of self.now) }
         ensures inside { self.now.at ≤ result }
         ensures places { result + (self.now.capacity - self.now.size) < 2 ^ 63 }
     {
@@ -59,7 +59,7 @@ impl<T> GapRow<T> {
         self.capacity - self.size
     }
 
-    /// How many items stand before the gap.
+    /// How many items precede the gap.
     pub(crate) fn gap(&self) -> usize
         requires { IsGapped self.now }
         ensures value { result ≡ self.now.at }
@@ -68,7 +68,7 @@ impl<T> GapRow<T> {
         self.at
     }
 
-    /// The item with `index` items before it.
+    /// The item at index `index`.
     pub(crate) fn get(&self, index: usize) -> Option<&T>
         requires { IsGapped self.now }
         ensures { option_copied result ≡ slice_get (items_of self.now) index }
@@ -79,7 +79,7 @@ impl<T> GapRow<T> {
         Some(self.places.get(self.place(index)))
     }
 
-    /// Where the item with `index` items before it lies.
+    /// The place of the item at index `index`.
     fn place(&self, index: usize) -> usize
         requires gapped { IsGapped self.now }
         requires inside { index < self.now.size }
@@ -91,7 +91,7 @@ impl<T> GapRow<T> {
         index + (self.capacity - self.size)
     }
 
-    /// The item with `index` items before it, to be changed where it lies.
+    /// The item at index `index`, to be changed in place.
     pub(crate) fn get_mut(&mut self, index: usize) -> Option<&mut T>
         requires { IsGapped self.old }
         ensures* writes_back { sem 𝓛 (lends_at T.row self.entry index result) }
@@ -104,7 +104,7 @@ impl<T> GapRow<T> {
         Some(self.places.get_mut(place))
     }
 
-    /// Moves the item before the gap behind it.
+    /// Moves the last item before the gap to its other side.
     pub(crate) fn step_back(&mut self)
         requires gapped { IsGapped self.old }
         requires before { 0 < self.old.at }
@@ -116,7 +116,7 @@ impl<T> GapRow<T> {
         self.at = from;
     }
 
-    /// Moves the item behind the gap before it.
+    /// Moves the first item after the gap to its other side.
     pub(crate) fn step_on(&mut self)
         requires gapped { IsGapped self.old }
         requires behind { self.old.at < self.old.size }
@@ -127,7 +127,7 @@ impl<T> GapRow<T> {
         self.at += 1;
     }
 
-    /// Moves the gap to where so many items stand before it.
+    /// Moves the gap to index `index`.
     pub(crate) fn move_gap(&mut self, index: usize)
         requires gapped { IsGapped self.old }
         requires within { index ≤ self.old.size }
@@ -139,7 +139,7 @@ impl<T> GapRow<T> {
         self.follow_gap(index);
     }
 
-    /// Moves the gap on to where so many items stand before it.
+    /// Moves the gap on to index `index`.
     fn follow_gap(&mut self, index: usize)
         requires gapped { IsGapped self.old }
         requires before { self.old.at ≤ index }
@@ -151,11 +151,12 @@ impl<T> GapRow<T> {
         }
     }
 
-    /// Puts an item into the gap, behind the items that stand before it.
+    /// Puts an item into the gap, after the items before it.
     pub(crate) fn put(&mut self, item: T)
         requires gapped { IsGapped self.old }
         requires room { self.old.size < self.old.capacity }
-        ensures put { Becomes self.old self.new (insert (items_of self.old) self.old.at item) (self.old.at + 1) (self.old.size + 1) }
+        ensures put { Becomes self.old self.new (insert (items_of self.old) self.old.at item)
+            (self.old.at + 1) (self.old.size + 1) }
         ensures inside { self.old.at ≤ length (items_of self.old) }
     {
         self.places.write(self.at, item);
@@ -163,7 +164,7 @@ impl<T> GapRow<T> {
         self.size += 1;
     }
 
-    /// Takes the item behind the gap.
+    /// Takes the item after the gap.
     pub(crate) fn take_next(&mut self) -> T
         requires gapped { IsGapped self.old }
         requires behind { self.old.at < self.old.size }

@@ -16,6 +16,6 @@ mod splice_patch;
 pub use edit_error::EditError;
 pub use gap_list::GapList;
 pub use iter::Iter;
-pub use limits::{LONGEST_LINE, MOST_LINES, text_limits};
+pub use limits::{LONGEST_LINE, MOST_LINES};
 pub use lines::{LineBuffer, LinePatch};
 pub use splice_patch::SplicePatch;

@@ -29,7 +29,7 @@ impl Model for LineBuffer {
     ghost invariant = { λ b. IsText b.lines.items };
 }
 
-/// A splice of a text, with all the memory that it needs: a list with more room where the text's own has too little.
+/// A splice of a text, with all the memory that it needs: a list with more room if the text's own has too little.
 /// It must be spent, by `commit` of its text or by `drop_patch`. Contracts see the text that it was prepared on and
 /// the one that it makes.
 pub struct LinePatch {
@@ -38,11 +38,11 @@ pub struct LinePatch {
 
 impl Model for LinePatch {
     ghost use Rattle.abc_lines.specs.Text.{IsText};
-    ghost use Rattle.abc_lines.specs.Lines.{Prepared, prepared};
+    ghost use Rattle.abc_lines.specs.Lines.{Prepared, line_patch_view};
 
     ghost Value = { Prepared };
 
-    ghost view = { λ p. prepared p.splice };
+    ghost view = { λ p. line_patch_view p.splice };
 
     ghost invariant = { λ p. IsText p.splice.after.items };
 }
@@ -65,13 +65,13 @@ impl LineBuffer {
 
     /// How many lines there are.
     pub fn len(&self) -> usize
-        ensures count { result ≡ length self.now.text }
+        ensures value { result ≡ length self.now.text }
         ensures limits { IsText self.now.text }
     {
         self.lines.len()
     }
 
-    /// The line with `i` lines before it.
+    /// The line at index `i`.
     pub fn line(&self, i: usize) -> Option<&[u8]>
         ensures { option_copied result ≡ slice_get self.now.text i }
     {
@@ -95,7 +95,7 @@ impl LineBuffer {
         ensures limits { IfOk result (λ patch. IsText patch.after) }
         ensures refused { IfErr result (λ e. Refuses e (replaced self.now.text (splice_from at removed lines.now))) }
     {
-        self.judge(at, removed, lines)?;
+        self.validate(at, removed, lines)?;
         let alloc = self.allocator();
         let lines = copies(alloc, lines)?;
         let splice = self.lines.splice_prepare(alloc, at, removed, lines)?;
@@ -103,7 +103,7 @@ impl LineBuffer {
     }
 
     /// Whether the lines may be spliced in, or the first reason why they may not.
-    fn judge(&self, at: usize, removed: usize, lines: &[Vec<u8>]) -> Result<(), EditError>
+    fn validate(&self, at: usize, removed: usize, lines: &[Vec<u8>]) -> Result<(), EditError>
         ensures inside { IfOk result (λ _. at + removed ≤ length self.now.text) }
         ensures limits { let s = splice_from at removed lines.now in
             IfOk result (λ _. IsText (spliced self.now.text s)) }

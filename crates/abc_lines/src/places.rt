@@ -102,7 +102,7 @@ impl<T> Places<T> {
         unsafe { &*self.start.add(index) }
     }
 
-    /// The item in a place that holds one, to be changed where it lies.
+    /// The item in a place that holds one, to be changed in place.
     pub(crate) fn get_mut(&mut self, index: usize) -> &mut T
         requires { (x : T) × (get_or self.old.row index None ≡ Some x) }
         ensures* writes_back { sem 𝓛 (lends_place T.row self.entry index result) }

@@ -1,18 +1,18 @@
 //! A splice of a list with a gap that has been prepared.
 
 ghost use Rattle.std.specs.Prelude.{◌≡◌, ◌+◌, ◌≤◌, length, IfOk, IsOk, option_copied, slice_get};
-ghost use Rattle.abc_lines.specs.ListSplice.{IsSplice, after_splice, count_after, places, patched};
+ghost use Rattle.abc_lines.specs.ListSplice.{IsSplice, after_splice, count_after, places, splice_view};
 
 use crate::gap_list::GapList;
-use abc_text::Seen;
+use abc_text::Snapshot;
 use std::alloc::{AllocError, Global};
 use std::marker::Model;
 
-/// A splice of a list, with all the memory that it needs: a list with more room where the one to be spliced has too
+/// A splice of a list, with all the memory that it needs: a list with more room if the one to be spliced has too
 /// little. It must be spent, by `commit` of that one or by `drop_patch`. Contracts see the list that it was prepared on
 /// and what it makes of it.
 pub struct SplicePatch<T> {
-    on: Seen<GapList<T>>,
+    on: Snapshot<GapList<T>>,
     at: usize,
     removed: usize,
     new: Vec<T>,
@@ -20,11 +20,11 @@ pub struct SplicePatch<T> {
 }
 
 impl<T> Model for SplicePatch<T> {
-    ghost use Rattle.abc_lines.specs.ListSplice.{Patched, IsSplice, patched};
+    ghost use Rattle.abc_lines.specs.ListSplice.{Patched, IsSplice, splice_view};
 
     ghost Value = { Patched T };
 
-    ghost view = { λ p. patched p.on.value p.at p.removed p.new.items };
+    ghost view = { λ p. splice_view p.on.value p.at p.removed p.new.items };
 
     ghost invariant = { λ p. IsSplice p.on.value p.at p.removed p.new.items p.roomier };
 }
@@ -52,7 +52,7 @@ impl<T: Drop> GapList<T> {
             Some(GapList::with_room(alloc, count.saturating_mul(2))?)
         };
         Ok(SplicePatch {
-            on: Seen::of(self),
+            on: Snapshot::of(self),
             at,
             removed,
             new,
@@ -72,12 +72,12 @@ impl<T: Drop> GapList<T> {
             new,
             roomier,
         } = patch;
-        put_in_place(self, roomier, at, removed, new);
+        apply_splice(self, roomier, at, removed, new);
     }
 }
 
-/// Makes a prepared splice of a list, in one with more room where it has too little.
-fn put_in_place<T: Drop>(
+/// Makes a prepared splice of a list, in one with more room if it has too little.
+fn apply_splice<T: Drop>(
     list: &mut GapList<T>,
     roomier: Option<GapList<T>>,
     at: usize,

@@ -1,5 +1,6 @@
 -- The book of the new text is what the stretch makes of the book of the old one.
-use Rattle.std.proofs.Common.{◌≡◌, ℕ, ◌+◌, ◌-◌, ◌<◌, ◌≤◌, if◌then◌else◌, nat_lt, List, [], ◌++◌, length, drop, map, take, Option, Some, None, slice_get, refl, sym, ap, ◌∙◌, subst, inl, inr, arith, append_assoc, ⊎_elim}
+use Rattle.std.proofs.Common.{◌≡◌, ℕ, ◌+◌, ◌-◌, ◌<◌, ◌≤◌, if◌then◌else◌, nat_lt, List, [], ◌++◌, length, drop, map, take, Option}
+use Rattle.std.proofs.Common.{Some, None, slice_get, refl, sym, ap, ◌∙◌, subst, inl, inr, arith, append_assoc, ⊎_elim}
 use Rattle.std.specs.List.{AllZip}
 use Rattle.std.specs.Prelude.{All, IfSome, ◌⊎◌}
 use Rattle.std.proofs.lemmas.Bool.Decides.{nat_tests}
@@ -7,32 +8,32 @@ use Rattle.std.proofs.lemmas.Grind.{flat_map-append}
 use Rattle.std.proofs.lemmas.List.{drop-drop, map-append, take-append-drop}
 use Rattle.std.proofs.lemmas.List.Elements.{All-append, All-contains, All-contains_itself, All-drop, All-nil, All-take}
 use Rattle.abc_book.specs.declared.block.Block.{Block}
-use Rattle.abc_chains.specs.Keeping.{AreChains, IsHeaderOf}
-use Rattle.abc_chains.specs.Standing.{Edited, HoldsHeader, KeepsHeader, gone, moved_on}
+use Rattle.abc_live_text.specs.Chains.{AreChains, IsHeaderChainOf}
+use Rattle.abc_live_text.specs.KeptText.{KeptPatchView, HoldsHeader, KeepsHeader, gone, block_after}
 use Rattle.abc_fold.specs.Chain.{Chained}
 use Rattle.abc_fold.specs.Steps.{Steps, IsAlike, IsResumable}
-use Rattle.abc_kept_book.specs.Faults.{fault_shifted, faults_after}
-use Rattle.abc_kept_book.specs.Laws.{StandsAmong, StandsBefore, StandsBehind}
-use Rattle.abc_kept_book.proofs.Following.{files_follow, titles_follow}
-use Rattle.abc_kept_book.proofs.Meeting.{faults_meet}
+use Rattle.abc_live_index.specs.Faults.{shifted_fault, faults_after}
+use Rattle.abc_live_index.specs.Laws.{FaultAmong, FaultBefore, FaultAfter}
+use Rattle.abc_live_index.proofs.SameOutputs.{files_follow, titles_follow}
+use Rattle.abc_live_index.proofs.ReplacedFaults.{faults_meet}
 use Rattle.abc_lines.specs.Text.{Splice, Text}
 use Rattle.abc_live.specs.Prepared.{IsBook, IsPrepared, header_faults_there}
-use Rattle.abc_live.proofs.Alike.{tunes_alike}
-use Rattle.abc_live.proofs.Found.{header_stands, same_behind, same_header_faults, same_tunes, shifted_tunes, tunes_stand}
-use Rattle.abc_live.proofs.Lying.{LiesIn, header_lies}
+use Rattle.abc_live.proofs.AlikeStates.{tunes_alike}
+use Rattle.abc_live.proofs.FaultLines.{header_stands, same_behind, same_header_faults, same_tunes, shifted_tunes, tunes_stand}
+use Rattle.abc_live.proofs.TunePlaces.{LiesIn, header_lies}
 use Rattle.abc_live.proofs.Parts.{tells_of, tune_chains}
 use Rattle.abc_live.proofs.Stretches.{first_is, made_chains, old_lie, old_stretch, parts_lie, places_lie, still_alike}
-use Rattle.abc_outputs.specs.Output.{output_in}
-use Rattle.abc_outputs.specs.Tunes.{LiesAmong, OutputTells, cell_faults_by, counts_among, faults_by, faults_of_tunes}
-use Rattle.abc_outputs.specs.declared.output.Output.{Output}
-use Rattle.abc_outputs.proofs.Following.{faults_follow, header_follows}
-use Rattle.abc_tunebook.specs.Book.{behind_header, blocks_in, book_of, header_faults, header_in, opening_of, tunes_in}
-use Rattle.abc_tunebook.specs.Fault.{fault_cmp}
-use Rattle.abc_tunebook.specs.Rules.{Rules}
-use Rattle.abc_tunebook.specs.Sorted.{sorted_once}
-use Rattle.abc_tunebook.specs.Tune.{Tune, tune_of}
-use Rattle.abc_tunebook.specs.declared.fault.Fault.{Fault}
-use Rattle.abc_tunebook.proofs.Order.{no_fault_lost}
+use Rattle.abc_live_index.specs.Output.{output_in}
+use Rattle.abc_live_index.specs.Tunes.{LiesAmong, OutputAgrees, cell_faults_by, counts_among, faults_by, faults_of_tunes}
+use Rattle.abc_live_index.specs.declared.output.Output.{Output}
+use Rattle.abc_live_index.proofs.ChainOutputs.{faults_follow, header_follows}
+use Rattle.abc_tune_compiler.specs.Book.{state_after_header, blocks_in, book_of, header_faults, header_in, opening_of, tunes_in}
+use Rattle.abc_tune_compiler.specs.Fault.{fault_cmp}
+use Rattle.abc_tune_compiler.specs.Rules.{Rules}
+use Rattle.abc_tune_compiler.specs.Sort.{sort_dedup}
+use Rattle.abc_tune_compiler.specs.Tune.{Tune, tune_of}
+use Rattle.abc_tune_compiler.specs.declared.fault.Fault.{Fault}
+use Rattle.abc_tune_compiler.proofs.Order.{no_fault_lost}
 
 if_below : {A : Type 0} (a b : ℕ) (x y : A) → a < b → (if nat_lt a b then x else y) ≡ x
 if_below a b x y below = grind (arith, nat_tests)
@@ -45,7 +46,8 @@ three_parts : {X : Type 0} (front behind : ℕ) (xs : List X) → front ≤ behi
 three_parts front behind xs order =
     let there : front + (behind - front) ≡ behind = omega (arith, order) in
     sym (take-append-drop front xs)
-    ∙ ap (λ l. take front xs ++ l) (sym (take-append-drop (behind - front) (drop front xs)) ∙ ap (λ l. take (behind - front) (drop front xs) ++ l) (drop-drop (behind - front) front xs ∙ ap (λ n. drop n xs) there))
+    ∙ ap (λ l. take front xs ++ l) (sym (take-append-drop (behind - front) (drop front xs))
+    ∙ ap (λ l. take (behind - front) (drop front xs) ++ l) (drop-drop (behind - front) front xs ∙ ap (λ n. drop n xs) there))
 
 module _ {State Cell Items Defaults : Type 0} (steps : Steps State Cell Items) (rules : Rules State Cell Items Defaults) where
   -- the faults of tunes
@@ -57,7 +59,8 @@ module _ {State Cell Items Defaults : Type 0} (steps : Steps State Cell Items) (
       ap faults_of_tunes (map-append (tune_of steps.next steps.gives rules opening text) xs ys)
       ∙ flat_map-append (λ (tune : Tune). tune.faults) (map (tune_of steps.next steps.gives rules opening text) xs) (map (tune_of steps.next steps.gives rules opening text) ys)
 
-  faults_three : (opening : State) (text : Text) (xs ys zs : List Block) → tune_faults opening text (xs ++ (ys ++ zs)) ≡ tune_faults opening text xs ++ (tune_faults opening text ys ++ tune_faults opening text zs)
+  faults_three : (opening : State) (text : Text) (xs ys zs : List Block)
+      → tune_faults opening text (xs ++ (ys ++ zs)) ≡ tune_faults opening text xs ++ (tune_faults opening text ys ++ tune_faults opening text zs)
   faults_three opening text xs ys zs = faults_append opening text xs (ys ++ zs) ∙ ap (λ l. tune_faults opening text xs ++ l) (faults_append opening text ys zs)
 
   module _ (text : Text) where
@@ -66,39 +69,45 @@ module _ {State Cell Items Defaults : Type 0} (steps : Steps State Cell Items) (
     faults_found header tunes = header_faults steps.next steps.gives rules text header ++ tune_faults (opening_of steps.next rules text (blocks_in rules text)) text tunes
 
     book_faults : (header : Option Block) (tunes : List Block) → header ≡ header_in (blocks_in rules text) → tunes ≡ tunes_in (blocks_in rules text)
-        → (book_of steps rules text).faults ≡ sorted_once fault_cmp (faults_found header tunes)
+        → (book_of steps rules text).faults ≡ sort_dedup fault_cmp (faults_found header tunes)
     unfolding book_of
     book_faults header tunes header_is tunes_are =
-        ap (λ h. sorted_once fault_cmp (faults_found h (tunes_in (blocks_in rules text)))) (sym header_is) ∙ ap (λ ts. sorted_once fault_cmp (faults_found header ts)) (sym tunes_are)
+        ap (λ h. sort_dedup fault_cmp (faults_found h (tunes_in (blocks_in rules text)))) (sym header_is) ∙ ap (λ ts. sort_dedup fault_cmp (faults_found header ts)) (sym tunes_are)
 
     -- the tunes give the files and the titles of the text
-    pub book_is : (chains : List (Chained State Cell Items)) (outputs : List Output) (found : List Fault) → AreChains steps rules text chains → outputs ≡ map (output_in rules) (drop 1 chains) → found ≡ (book_of steps rules text).faults
+    pub book_is : (chains : List (Chained State Cell Items)) (outputs : List Output) (found : List Fault)
+        → AreChains steps rules text chains → outputs ≡ map (output_in rules) (drop 1 chains) → found ≡ (book_of steps rules text).faults
         → IsBook outputs found (book_of steps rules text)
     unfolding book_of
     book_is chains outputs found are outputs_are found_is =
         let tunes = map (tune_of steps.next steps.gives rules (opening_of steps.next rules text (blocks_in rules text)) text) (tunes_in (blocks_in rules text)) in
-        let tells = subst (λ (given : List Output). AllZip OutputTells given tunes) (sym outputs_are) (tells_of steps rules text (opening_of steps.next rules text (blocks_in rules text)) (drop 1 chains) (tunes_in (blocks_in rules text)) (tune_chains steps rules text chains are)) in
+        let tells = subst (λ (given : List Output). AllZip OutputAgrees given tunes) (sym outputs_are)
+        (tells_of steps rules text (opening_of steps.next rules text (blocks_in rules text)) (drop 1 chains) (tunes_in (blocks_in rules text)) (tune_chains steps rules text chains are)) in
         record {
           files = files_follow outputs tunes tells;
           titles = titles_follow outputs tunes tells;
           faults = found_is;
         }
 
-    -- the faults of a text stand in its lines
-    pub faults_within : (header : Option Block) (tunes : List Block) → header ≡ header_in (blocks_in rules text) → tunes ≡ tunes_in (blocks_in rules text) → IfSome header (LiesIn (length text)) → All (LiesIn (length text)) tunes
+    -- the faults of a text are in its lines
+    pub faults_within : (header : Option Block) (tunes : List Block) → header ≡ header_in (blocks_in rules text)
+        → tunes ≡ tunes_in (blocks_in rules text) → IfSome header (LiesIn (length text)) → All (LiesIn (length text)) tunes
         → All (λ (fault : Fault). fault.line ≤ length text) (book_of steps rules text).faults
     faults_within header tunes header_is tunes_are header_lies tunes_lie =
         let P = λ (fault : Fault). fault.line ≤ length text in
         let found = faults_found header tunes in
         let all : All P found =
         All-append P (header_faults steps.next steps.gives rules text header) (tune_faults (opening_of steps.next rules text (blocks_in rules text)) text tunes)
-        (header_stands steps rules text P header header_lies (λ block is fault stands. let lies = subst (λ h. IfSome h (LiesIn (length text))) is header_lies in let within = lies.within in let below = stands.1 in omega (arith, within, below)))
-        (tunes_stand steps rules (opening_of steps.next rules text (blocks_in rules text)) text P tunes tunes_lie (λ k d inside. λ fault stands. let within = (tunes_lie k d inside).within in let below = stands.1 in omega (arith, within, below))) in
+        (header_stands steps rules text P header header_lies
+        (λ block is fault stands. let lies = subst (λ h. IfSome h (LiesIn (length text))) is header_lies in let within = lies.within in let below = stands.1 in omega (arith, within, below)))
+        (tunes_stand steps rules (opening_of steps.next rules text (blocks_in rules text)) text P tunes tunes_lie
+        (λ k d inside. λ fault stands. let within = (tunes_lie k d inside).within in let below = stands.1 in omega (arith, within, below))) in
         subst (All P) (sym (book_faults header tunes header_is tunes_are))
-        (λ k d inside. All-contains P found _ all ((no_fault_lost found _).0 (All-contains_itself (sorted_once fault_cmp found) k d inside)))
+        (λ k d inside. All-contains P found _ all ((no_fault_lost found _).0 (All-contains_itself (sort_dedup fault_cmp found) k d inside)))
 
   -- the faults of a file header that lies in some lines, which are the first
-  header_there : (text : Text) (from came : ℕ) (first : Chained State Cell Items) (header : Option Block) → IsHeaderOf steps rules text first header → IfSome header (LiesIn (length text)) → from ≡ 0 → ((block : Block) → header ≡ Some block → block.to ≤ came)
+  header_there : (text : Text) (from came : ℕ) (first : Chained State Cell Items) (header : Option Block)
+      → IsHeaderChainOf steps rules text first header → IfSome header (LiesIn (length text)) → from ≡ 0 → ((block : Block) → header ≡ Some block → block.to ≤ came)
       → header_faults_there rules from (counts_among rules.cells text from came) first header ≡ header_faults steps.next steps.gives rules text header
   header_there text from came first None is lies none ends = refl
   header_there text from came first (Some block) is lies none ends =
@@ -109,24 +118,31 @@ module _ {State Cell Items Defaults : Type 0} (steps : Steps State Cell Items) (
       ∙ header_follows steps rules text from came first block is there
 
   -- and of one that lies before them
-  header_before : (from : ℕ) (counts : List ℕ) (first : Chained State Cell Items) (header : Option Block) → ((block : Block) → header ≡ Some block → block.to ≤ from) → header_faults_there rules from counts first header ≡ []
+  header_before : (from : ℕ) (counts : List ℕ) (first : Chained State Cell Items) (header : Option Block)
+      → ((block : Block) → header ≡ Some block → block.to ≤ from) → header_faults_there rules from counts first header ≡ []
   header_before from counts first None before = refl
   header_before from counts first (Some block) before = if_not_below from block.to (cell_faults_by rules from counts first block) [] (before block refl)
 
-  module _ {C : Type 0} (s : Splice) (patch : Edited C State Cell Items) (is : IsPrepared steps rules s patch) (first : Chained State Cell Items) (there : slice_get patch.chains 0 ≡ Some first) where
+  module _ {C : Type 0} (s : Splice) (patch : KeptPatchView C State Cell Items) (is : IsPrepared steps rules s patch)
+      (first : Chained State Cell Items) (there : slice_get patch.chains 0 ≡ Some first) where
     -- the faults that the stretch has
     abbrev pub new_faults : List Fault
-    new_faults = header_faults_there rules patch.stretch.from (counts_among rules.cells patch.text patch.stretch.from patch.stretch.came) first patch.header ++ faults_by rules patch.stretch.from (counts_among rules.cells patch.text patch.stretch.from patch.stretch.came) patch.made patch.places
+    new_faults = header_faults_there rules patch.stretch.from
+        (counts_among rules.cells patch.text patch.stretch.from patch.stretch.came) first patch.header
+        ++ faults_by rules patch.stretch.from (counts_among rules.cells patch.text patch.stretch.from patch.stretch.came) patch.new_chains patch.places
 
-    own_faults : faults_by rules patch.stretch.from (counts_among rules.cells patch.text patch.stretch.from patch.stretch.came) patch.made patch.places ≡ tune_faults (opening_of steps.next rules patch.text (blocks_in rules patch.text)) patch.text patch.places
+    own_faults : faults_by rules patch.stretch.from
+        (counts_among rules.cells patch.text patch.stretch.from patch.stretch.came) patch.new_chains patch.places
+        ≡ tune_faults (opening_of steps.next rules patch.text (blocks_in rules patch.text)) patch.text patch.places
     own_faults =
         let start = opening_of steps.next rules patch.text (blocks_in rules patch.text) in
-        faults_follow steps rules start patch.text patch.stretch.from patch.stretch.came patch.made patch.places
+        faults_follow steps rules start patch.text patch.stretch.from patch.stretch.came patch.new_chains patch.places
         (made_chains steps rules s patch is) (places_lie steps rules s patch is)
 
-    own_stand : All (StandsAmong patch.stretch.from patch.stretch.came) (tune_faults (opening_of steps.next rules patch.text (blocks_in rules patch.text)) patch.text patch.places)
+    own_stand : All (FaultAmong patch.stretch.from patch.stretch.came) (tune_faults (opening_of steps.next rules patch.text (blocks_in rules patch.text)) patch.text patch.places)
     own_stand =
-        tunes_stand steps rules (opening_of steps.next rules patch.text (blocks_in rules patch.text)) patch.text (StandsAmong patch.stretch.from patch.stretch.came) patch.places (parts_lie steps rules s patch is)
+        tunes_stand steps rules (opening_of steps.next rules patch.text (blocks_in rules patch.text)) patch.text
+        (FaultAmong patch.stretch.from patch.stretch.came) patch.places (parts_lie steps rules s patch is)
         (λ k d inside. λ fault stands.
         let lies = places_lie steps rules s patch is k d inside in
         let behind = lies.behind in
@@ -167,11 +183,12 @@ module _ {State Cell Items Defaults : Type 0} (steps : Steps State Cell Items) (
     end_is : patch.stretch.to ≡ patch.stretch.from + gone patch.stretch
     end_is = let order = old_stretch steps rules s patch is in omega (arith, order)
 
-    amid_stand : All (StandsAmong patch.stretch.from (gone patch.stretch)) (old_faults (take (patch.stretch.behind - patch.stretch.front) (drop patch.stretch.front patch.on.tunes)))
+    amid_stand : All (FaultAmong patch.stretch.from (gone patch.stretch)) (old_faults (take (patch.stretch.behind - patch.stretch.front) (drop patch.stretch.front patch.on.tunes)))
     amid_stand =
-        tunes_stand steps rules start patch.on.lines.text (StandsAmong patch.stretch.from (gone patch.stretch)) (take (patch.stretch.behind - patch.stretch.front) (drop patch.stretch.front patch.on.tunes)) amid_lie
+        tunes_stand steps rules start patch.on.lines.text (FaultAmong patch.stretch.from (gone patch.stretch))
+        (take (patch.stretch.behind - patch.stretch.front) (drop patch.stretch.front patch.on.tunes)) amid_lie
         (λ k d inside. λ fault stands.
-        let own = is.narrow.amid k d inside in
+        let own = is.in_stretch.amid k d inside in
         let behind = own.0 in
         let before = own.1 in
         let least = stands.0 in
@@ -179,60 +196,65 @@ module _ {State Cell Items Defaults : Type 0} (steps : Steps State Cell Items) (
         let end = end_is in
         (omega (arith, behind, least), omega (arith, before, most, end)))
 
-    behind_stand : All (StandsBehind (patch.stretch.from + gone patch.stretch)) (old_faults (drop patch.stretch.behind patch.on.tunes))
+    behind_stand : All (FaultAfter (patch.stretch.from + gone patch.stretch)) (old_faults (drop patch.stretch.behind patch.on.tunes))
     behind_stand =
-        tunes_stand steps rules start patch.on.lines.text (StandsBehind (patch.stretch.from + gone patch.stretch)) (drop patch.stretch.behind patch.on.tunes) behind_lie
+        tunes_stand steps rules start patch.on.lines.text (FaultAfter (patch.stretch.from + gone patch.stretch)) (drop patch.stretch.behind patch.on.tunes) behind_lie
         (λ k d inside. λ fault stands.
-        let behind = is.narrow.beyond k d inside in
+        let behind = is.in_stretch.beyond k d inside in
         let least = stands.0 in
         let end = end_is in
         omega (arith, behind, least, end))
 
-    -- the tunes behind the stretch give as before, where they begin in a state that is alike
-    from_start : IsResumable steps → tune_faults (opening_of steps.next rules patch.text (blocks_in rules patch.text)) patch.text (map (moved_on patch.stretch) behind_tunes) ≡ tune_faults start patch.text (map (moved_on patch.stretch) behind_tunes)
+    -- the tunes after the stretch give as before, where they begin in a state that is alike
+    from_start : IsResumable steps → tune_faults (opening_of steps.next rules patch.text (blocks_in rules patch.text)) patch.text
+        (map (block_after patch.stretch) behind_tunes) ≡ tune_faults start patch.text (map (block_after patch.stretch) behind_tunes)
     from_start laws =
         let now = opening_of steps.next rules patch.text (blocks_in rules patch.text) in
         ⊎_elim
         (λ (none : drop patch.stretch.behind patch.on.tunes ≡ []).
-        ap (λ l. tune_faults now patch.text (map (moved_on patch.stretch) l)) none ∙ sym (ap (λ l. tune_faults start patch.text (map (moved_on patch.stretch) l)) none))
-        (λ (alike : IsAlike steps start now). ap faults_of_tunes (sym (tunes_alike steps laws rules start now patch.text (map (moved_on patch.stretch) behind_tunes) alike)))
+        ap (λ l. tune_faults now patch.text (map (block_after patch.stretch) l)) none ∙ sym (ap (λ l. tune_faults start patch.text (map (block_after patch.stretch) l)) none))
+        (λ (alike : IsAlike steps start now). ap faults_of_tunes (sym (tunes_alike steps laws rules start now patch.text (map (block_after patch.stretch) behind_tunes) alike)))
         (still_alike steps rules s patch is laws)
 
-    behind_shifted : tune_faults start patch.text (map (moved_on patch.stretch) behind_tunes) ≡ map (fault_shifted (gone patch.stretch) patch.stretch.came) (old_faults behind_tunes)
+    behind_shifted : tune_faults start patch.text (map (block_after patch.stretch) behind_tunes) ≡ map (shifted_fault (gone patch.stretch) patch.stretch.came) (old_faults behind_tunes)
     behind_shifted =
-        let same = is.narrow.lines_behind ∙ ap (λ n. drop n patch.on.lines.text) end_is in
-        let beyond : All (λ (block : Block). patch.stretch.from + gone patch.stretch ≤ block.from) behind_tunes = λ k d inside. let behind = is.narrow.beyond k d inside in let end = end_is in omega (arith, behind, end) in
+        let same = is.in_stretch.lines_behind ∙ ap (λ n. drop n patch.on.lines.text) end_is in
+        let beyond : All (λ (block : Block). patch.stretch.from + gone patch.stretch ≤ block.from) behind_tunes =
+        λ k d inside. let behind = is.in_stretch.beyond k d inside in let end = end_is in omega (arith, behind, end) in
         shifted_tunes steps rules start patch.on.lines.text patch.text patch.stretch.from (gone patch.stretch) patch.stretch.came behind_tunes same beyond behind_lie
 
     -- where the stretch begins with the text and holds the file header
     module _ (holds : HoldsHeader patch) where
       holds_parts : patch.on.tunes ≡ amid_tunes ++ behind_tunes
       holds_parts =
-          three_parts patch.stretch.front patch.stretch.behind patch.on.tunes is.narrow.order
+          three_parts patch.stretch.front patch.stretch.behind patch.on.tunes is.in_stretch.order
           ∙ ap (λ n. take n patch.on.tunes ++ (amid_tunes ++ behind_tunes)) holds.front
 
-      holds_places : patch.tunes ≡ patch.places ++ map (moved_on patch.stretch) behind_tunes
-      holds_places = is.narrow.tunes_are ∙ ap (λ n. take n patch.on.tunes ++ (patch.places ++ map (moved_on patch.stretch) behind_tunes)) holds.front
+      holds_places : patch.tunes ≡ patch.places ++ map (block_after patch.stretch) behind_tunes
+      holds_places = is.in_stretch.tunes_are ∙ ap (λ n. take n patch.on.tunes ++ (patch.places ++ map (block_after patch.stretch) behind_tunes)) holds.front
 
-      holds_header : header_faults_there rules patch.stretch.from (counts_among rules.cells patch.text patch.stretch.from patch.stretch.came) first patch.header ≡ header_faults steps.next steps.gives rules patch.text patch.header
+      holds_header : header_faults_there rules patch.stretch.from
+          (counts_among rules.cells patch.text patch.stretch.from patch.stretch.came) first patch.header ≡ header_faults steps.next steps.gives rules patch.text patch.header
       holds_header = header_there patch.text patch.stretch.from patch.stretch.came first patch.header (first_is steps rules s patch is first there) new_header holds.from holds.comes
 
-      holds_new : IsResumable steps → faults_found patch.text patch.header patch.tunes ≡ new_faults ++ map (fault_shifted (gone patch.stretch) patch.stretch.came) (old_faults behind_tunes)
+      holds_new : IsResumable steps → faults_found patch.text patch.header patch.tunes ≡ new_faults ++ map (shifted_fault (gone patch.stretch) patch.stretch.came) (old_faults behind_tunes)
       holds_new laws =
           let own = opening_of steps.next rules patch.text (blocks_in rules patch.text) in
           let head = header_faults steps.next steps.gives rules patch.text patch.header in
-          let moved = map (moved_on patch.stretch) behind_tunes in
-          let shifted = map (fault_shifted (gone patch.stretch) patch.stretch.came) (old_faults behind_tunes) in
+          let moved = map (block_after patch.stretch) behind_tunes in
+          let shifted = map (shifted_fault (gone patch.stretch) patch.stretch.came) (old_faults behind_tunes) in
           ap (λ tunes. head ++ tune_faults own patch.text tunes) holds_places
           ∙ ap (λ l. head ++ l) (faults_append own patch.text patch.places moved)
           ∙ ap (λ l. head ++ (tune_faults own patch.text patch.places ++ l)) (from_start laws ∙ behind_shifted)
           ∙ ap (λ l. head ++ (l ++ shifted)) (sym own_faults)
-          ∙ ap (λ l. l ++ (faults_by rules patch.stretch.from (counts_among rules.cells patch.text patch.stretch.from patch.stretch.came) patch.made patch.places ++ shifted)) (sym holds_header)
-          ∙ sym (append_assoc (header_faults_there rules patch.stretch.from (counts_among rules.cells patch.text patch.stretch.from patch.stretch.came) first patch.header) (faults_by rules patch.stretch.from (counts_among rules.cells patch.text patch.stretch.from patch.stretch.came) patch.made patch.places) shifted)
+          ∙ ap (λ l. l ++ (faults_by rules patch.stretch.from (counts_among rules.cells patch.text patch.stretch.from patch.stretch.came) patch.new_chains patch.places ++ shifted)) (sym holds_header)
+          ∙ sym (append_assoc (header_faults_there rules patch.stretch.from
+          (counts_among rules.cells patch.text patch.stretch.from patch.stretch.came) first patch.header)
+          (faults_by rules patch.stretch.from (counts_among rules.cells patch.text patch.stretch.from patch.stretch.came) patch.new_chains patch.places) shifted)
 
-      holds_stand : All (StandsAmong patch.stretch.from patch.stretch.came) new_faults
+      holds_stand : All (FaultAmong patch.stretch.from patch.stretch.came) new_faults
       holds_stand =
-          let P = StandsAmong patch.stretch.from patch.stretch.came in
+          let P = FaultAmong patch.stretch.from patch.stretch.came in
           All-append P _ _
           (subst (All P) (sym holds_header) (header_stands steps rules patch.text P patch.header new_header
           (λ block is_some fault stands.
@@ -243,9 +265,9 @@ module _ {State Cell Items Defaults : Type 0} (steps : Steps State Cell Items) (
           (omega (arith, least, none), omega (arith, most, ends, none)))))
           (subst (All P) (sym own_faults) own_stand)
 
-      holds_old : All (StandsAmong patch.stretch.from (gone patch.stretch)) (header_faults steps.next steps.gives rules patch.on.lines.text patch.on.header ++ old_faults amid_tunes)
+      holds_old : All (FaultAmong patch.stretch.from (gone patch.stretch)) (header_faults steps.next steps.gives rules patch.on.lines.text patch.on.header ++ old_faults amid_tunes)
       holds_old =
-          let P = StandsAmong patch.stretch.from (gone patch.stretch) in
+          let P = FaultAmong patch.stretch.from (gone patch.stretch) in
           All-append P (header_faults steps.next steps.gives rules patch.on.lines.text patch.on.header) (old_faults amid_tunes)
           (header_stands steps rules patch.on.lines.text P patch.on.header old_header
           (λ block is_some fault stands.
@@ -257,36 +279,39 @@ module _ {State Cell Items Defaults : Type 0} (steps : Steps State Cell Items) (
           (omega (arith, least, none), omega (arith, most, ends, end))))
           amid_stand
 
-      holds_was : faults_found patch.on.lines.text patch.on.header patch.on.tunes ≡ [] ++ ((header_faults steps.next steps.gives rules patch.on.lines.text patch.on.header ++ old_faults amid_tunes) ++ old_faults behind_tunes)
+      holds_was : faults_found patch.on.lines.text patch.on.header patch.on.tunes ≡ [] ++
+          ((header_faults steps.next steps.gives rules patch.on.lines.text patch.on.header ++ old_faults amid_tunes) ++ old_faults behind_tunes)
       holds_was =
           let head = header_faults steps.next steps.gives rules patch.on.lines.text patch.on.header in
           ap (λ tunes. head ++ old_faults tunes) holds_parts
           ∙ ap (λ l. head ++ l) (faults_append start patch.on.lines.text amid_tunes behind_tunes)
           ∙ sym (append_assoc head (old_faults amid_tunes) (old_faults behind_tunes))
 
-      holds_meets : IsResumable steps → faults_after patch.stretch.from (gone patch.stretch) patch.stretch.came (book_of steps rules patch.on.lines.text).faults new_faults ≡ (book_of steps rules patch.text).faults
+      holds_meets : IsResumable steps → faults_after patch.stretch.from (gone patch.stretch) patch.stretch.came
+          (book_of steps rules patch.on.lines.text).faults new_faults ≡ (book_of steps rules patch.text).faults
       holds_meets laws =
           ap (λ faults. faults_after patch.stretch.from (gone patch.stretch) patch.stretch.came faults new_faults)
-          (book_faults patch.on.lines.text patch.on.header patch.on.tunes is.stood.header_is is.stood.tunes_are ∙ ap (sorted_once fault_cmp) holds_was)
-          ∙ faults_meet patch.stretch.from (gone patch.stretch) patch.stretch.came [] (header_faults steps.next steps.gives rules patch.on.lines.text patch.on.header ++ old_faults amid_tunes) (old_faults behind_tunes) new_faults
-          (All-nil (StandsBefore patch.stretch.from)) holds_old behind_stand holds_stand
-          ∙ ap (sorted_once fault_cmp) (sym (holds_new laws))
+          (book_faults patch.on.lines.text patch.on.header patch.on.tunes is.stood.header_is is.stood.tunes_are ∙ ap (sort_dedup fault_cmp) holds_was)
+          ∙ faults_meet patch.stretch.from (gone patch.stretch) patch.stretch.came []
+          (header_faults steps.next steps.gives rules patch.on.lines.text patch.on.header ++ old_faults amid_tunes) (old_faults behind_tunes) new_faults
+          (All-nil (FaultBefore patch.stretch.from)) holds_old behind_stand holds_stand
+          ∙ ap (sort_dedup fault_cmp) (sym (holds_new laws))
           ∙ sym (book_faults patch.text patch.header patch.tunes is.stands.header_is is.stands.tunes_are)
 
     -- where the file header stays
     module _ (keeps : KeepsHeader patch) where
       start_same : opening_of steps.next rules patch.text (blocks_in rules patch.text) ≡ opening_of steps.next rules patch.on.lines.text (blocks_in rules patch.on.lines.text)
       start_same =
-          ap (λ h. rules.tune (behind_header steps.next rules patch.text h)) (sym is.stands.header_is ∙ keeps.header)
-          ∙ ap rules.tune (same_behind steps rules patch.on.lines.text patch.text patch.stretch.from patch.on.header is.narrow.lines_before keeps.before old_header)
-          ∙ ap (λ h. rules.tune (behind_header steps.next rules patch.on.lines.text h)) is.stood.header_is
+          ap (λ h. rules.tune (state_after_header steps.next rules patch.text h)) (sym is.stands.header_is ∙ keeps.header)
+          ∙ ap rules.tune (same_behind steps rules patch.on.lines.text patch.text patch.stretch.from patch.on.header is.in_stretch.lines_before keeps.before old_header)
+          ∙ ap (λ h. rules.tune (state_after_header steps.next rules patch.on.lines.text h)) is.stood.header_is
 
       front_lie : All (LiesIn (length patch.on.lines.text)) (take patch.stretch.front patch.on.tunes)
       front_lie = All-take (LiesIn (length patch.on.lines.text)) patch.stretch.front patch.on.tunes (old_lie steps rules s patch is)
 
-      front_stand : All (StandsBefore patch.stretch.from) (header_faults steps.next steps.gives rules patch.on.lines.text patch.on.header ++ old_faults (take patch.stretch.front patch.on.tunes))
+      front_stand : All (FaultBefore patch.stretch.from) (header_faults steps.next steps.gives rules patch.on.lines.text patch.on.header ++ old_faults (take patch.stretch.front patch.on.tunes))
       front_stand =
-          let P = StandsBefore patch.stretch.from in
+          let P = FaultBefore patch.stretch.from in
           All-append P (header_faults steps.next steps.gives rules patch.on.lines.text patch.on.header) (old_faults (take patch.stretch.front patch.on.tunes))
           (header_stands steps rules patch.on.lines.text P patch.on.header old_header
           (λ block is_some fault stands.
@@ -295,64 +320,70 @@ module _ {State Cell Items Defaults : Type 0} (steps : Steps State Cell Items) (
           omega (arith, before, most)))
           (tunes_stand steps rules start patch.on.lines.text P (take patch.stretch.front patch.on.tunes) front_lie
           (λ k d inside. λ fault stands.
-          let before = is.narrow.before k d inside in
+          let before = is.in_stretch.before k d inside in
           let most = stands.1 in
           omega (arith, before, most)))
 
       kept_new : new_faults ≡ tune_faults (opening_of steps.next rules patch.text (blocks_in rules patch.text)) patch.text patch.places
       kept_new =
-          ap (λ l. l ++ faults_by rules patch.stretch.from (counts_among rules.cells patch.text patch.stretch.from patch.stretch.came) patch.made patch.places)
-          (header_before patch.stretch.from (counts_among rules.cells patch.text patch.stretch.from patch.stretch.came) first patch.header (λ block is_some. keeps.before block (sym keeps.header ∙ is_some)))
+          ap (λ l. l ++ faults_by rules patch.stretch.from (counts_among rules.cells patch.text patch.stretch.from patch.stretch.came) patch.new_chains patch.places)
+          (header_before patch.stretch.from
+          (counts_among rules.cells patch.text patch.stretch.from patch.stretch.came) first patch.header (λ block is_some. keeps.before block (sym keeps.header ∙ is_some)))
           ∙ own_faults
 
       old_is : faults_found patch.on.lines.text patch.on.header patch.on.tunes
           ≡ (header_faults steps.next steps.gives rules patch.on.lines.text patch.on.header ++ old_faults front_tunes) ++ (old_faults amid_tunes ++ old_faults behind_tunes)
       old_is =
           let head = header_faults steps.next steps.gives rules patch.on.lines.text patch.on.header in
-          ap (λ tunes. head ++ old_faults tunes) (three_parts patch.stretch.front patch.stretch.behind patch.on.tunes is.narrow.order)
+          ap (λ tunes. head ++ old_faults tunes) (three_parts patch.stretch.front patch.stretch.behind patch.on.tunes is.in_stretch.order)
           ∙ ap (λ l. head ++ l) (faults_three start patch.on.lines.text front_tunes amid_tunes behind_tunes)
           ∙ sym (append_assoc head (old_faults front_tunes) (old_faults amid_tunes ++ old_faults behind_tunes))
 
       new_header_is : header_faults steps.next steps.gives rules patch.text patch.header ≡ header_faults steps.next steps.gives rules patch.on.lines.text patch.on.header
       new_header_is =
           ap (header_faults steps.next steps.gives rules patch.text) keeps.header
-          ∙ same_header_faults steps rules patch.on.lines.text patch.text patch.stretch.from patch.on.header is.narrow.lines_before keeps.before old_header
+          ∙ same_header_faults steps rules patch.on.lines.text patch.text patch.stretch.from patch.on.header is.in_stretch.lines_before keeps.before old_header
 
       new_front : tune_faults (opening_of steps.next rules patch.text (blocks_in rules patch.text)) patch.text front_tunes ≡ old_faults front_tunes
       new_front =
           ap (λ own. tune_faults own patch.text front_tunes) start_same
-          ∙ same_tunes steps rules start patch.on.lines.text patch.text patch.stretch.from front_tunes is.narrow.lines_before is.narrow.before front_lie
+          ∙ same_tunes steps rules start patch.on.lines.text patch.text patch.stretch.from front_tunes is.in_stretch.lines_before is.in_stretch.before front_lie
 
-      new_behind : tune_faults (opening_of steps.next rules patch.text (blocks_in rules patch.text)) patch.text (map (moved_on patch.stretch) behind_tunes) ≡ map (fault_shifted (gone patch.stretch) patch.stretch.came) (old_faults behind_tunes)
-      new_behind = ap (λ own. tune_faults own patch.text (map (moved_on patch.stretch) behind_tunes)) start_same ∙ behind_shifted
+      new_behind : tune_faults (opening_of steps.next rules patch.text (blocks_in rules patch.text)) patch.text
+          (map (block_after patch.stretch) behind_tunes) ≡ map (shifted_fault (gone patch.stretch) patch.stretch.came) (old_faults behind_tunes)
+      new_behind = ap (λ own. tune_faults own patch.text (map (block_after patch.stretch) behind_tunes)) start_same ∙ behind_shifted
 
       new_is : faults_found patch.text patch.header patch.tunes
-          ≡ (header_faults steps.next steps.gives rules patch.on.lines.text patch.on.header ++ old_faults front_tunes) ++ (new_faults ++ map (fault_shifted (gone patch.stretch) patch.stretch.came) (old_faults behind_tunes))
+          ≡ (header_faults steps.next steps.gives rules patch.on.lines.text patch.on.header ++ old_faults front_tunes)
+          ++ (new_faults ++ map (shifted_fault (gone patch.stretch) patch.stretch.came) (old_faults behind_tunes))
       new_is =
           let own = opening_of steps.next rules patch.text (blocks_in rules patch.text) in
           let head = header_faults steps.next steps.gives rules patch.on.lines.text patch.on.header in
-          let moved = map (moved_on patch.stretch) behind_tunes in
+          let moved = map (block_after patch.stretch) behind_tunes in
           ap (λ l. l ++ tune_faults own patch.text patch.tunes) new_header_is
-          ∙ ap (λ tunes. head ++ tune_faults own patch.text tunes) is.narrow.tunes_are
+          ∙ ap (λ tunes. head ++ tune_faults own patch.text tunes) is.in_stretch.tunes_are
           ∙ ap (λ l. head ++ l) (faults_three own patch.text front_tunes patch.places moved)
           ∙ ap (λ l. head ++ (l ++ (tune_faults own patch.text patch.places ++ tune_faults own patch.text moved))) new_front
           ∙ ap (λ l. head ++ (old_faults front_tunes ++ (tune_faults own patch.text patch.places ++ l))) new_behind
-          ∙ ap (λ l. head ++ (old_faults front_tunes ++ (l ++ map (fault_shifted (gone patch.stretch) patch.stretch.came) (old_faults behind_tunes)))) (sym kept_new)
-          ∙ sym (append_assoc head (old_faults front_tunes) (new_faults ++ map (fault_shifted (gone patch.stretch) patch.stretch.came) (old_faults behind_tunes)))
+          ∙ ap (λ l. head ++ (old_faults front_tunes ++ (l ++ map (shifted_fault (gone patch.stretch) patch.stretch.came) (old_faults behind_tunes)))) (sym kept_new)
+          ∙ sym (append_assoc head (old_faults front_tunes) (new_faults ++ map (shifted_fault (gone patch.stretch) patch.stretch.came) (old_faults behind_tunes)))
 
       kept_meets : faults_after patch.stretch.from (gone patch.stretch) patch.stretch.came (book_of steps rules patch.on.lines.text).faults new_faults ≡ (book_of steps rules patch.text).faults
       kept_meets =
           ap (λ faults. faults_after patch.stretch.from (gone patch.stretch) patch.stretch.came faults new_faults)
-          (book_faults patch.on.lines.text patch.on.header patch.on.tunes is.stood.header_is is.stood.tunes_are ∙ ap (sorted_once fault_cmp) old_is)
-          ∙ faults_meet patch.stretch.from (gone patch.stretch) patch.stretch.came (header_faults steps.next steps.gives rules patch.on.lines.text patch.on.header ++ old_faults front_tunes) (old_faults amid_tunes) (old_faults behind_tunes) new_faults
-          front_stand amid_stand behind_stand (subst (All (StandsAmong patch.stretch.from patch.stretch.came)) (sym kept_new) own_stand)
-          ∙ ap (sorted_once fault_cmp) (sym new_is)
+          (book_faults patch.on.lines.text patch.on.header patch.on.tunes is.stood.header_is is.stood.tunes_are ∙ ap (sort_dedup fault_cmp) old_is)
+          ∙ faults_meet patch.stretch.from (gone patch.stretch) patch.stretch.came
+          (header_faults steps.next steps.gives rules patch.on.lines.text patch.on.header ++ old_faults front_tunes) (old_faults amid_tunes) (old_faults behind_tunes) new_faults
+          front_stand amid_stand behind_stand (subst (All (FaultAmong patch.stretch.from patch.stretch.came)) (sym kept_new) own_stand)
+          ∙ ap (sort_dedup fault_cmp) (sym new_is)
           ∙ sym (book_faults patch.text patch.header patch.tunes is.stands.header_is is.stands.tunes_are)
 
-    meets : IsResumable steps → HoldsHeader patch ⊎ KeepsHeader patch → faults_after patch.stretch.from (gone patch.stretch) patch.stretch.came (book_of steps rules patch.on.lines.text).faults new_faults ≡ (book_of steps rules patch.text).faults
+    meets : IsResumable steps → HoldsHeader patch ⊎ KeepsHeader patch
+        → faults_after patch.stretch.from (gone patch.stretch) patch.stretch.came (book_of steps rules patch.on.lines.text).faults new_faults ≡ (book_of steps rules patch.text).faults
     meets laws (inl holds) = holds_meets holds laws
     meets laws (inr keeps) = kept_meets keeps
 
     -- the faults of the new text
-    pub faults_are : IsResumable steps → faults_after patch.stretch.from (gone patch.stretch) patch.stretch.came (book_of steps rules patch.on.lines.text).faults new_faults ≡ (book_of steps rules patch.text).faults
-    faults_are laws = meets laws is.narrow.header_is
+    pub faults_are : IsResumable steps → faults_after patch.stretch.from (gone patch.stretch) patch.stretch.came
+        (book_of steps rules patch.on.lines.text).faults new_faults ≡ (book_of steps rules patch.text).faults
+    faults_are laws = meets laws is.in_stretch.header_is

@@ -2,20 +2,20 @@
 use Rattle.std.proofs.Common.{◌≡◌, ℕ, ◌≤◌, List, [], ◌∷◌, length, drop, map, Some, slice_get, ap, ◌∙◌, refl, subst, arith}
 use Rattle.std.specs.List.{AllZip}
 use Rattle.abc_book.specs.declared.block.Block.{Block}
-use Rattle.abc_chains.specs.Keeping.{AreChains, IsHeaderOf}
-use Rattle.abc_rework.specs.Folded.{IsChainOf}
-use Rattle.abc_chains.specs.Rows.{Row, row_cells}
-use Rattle.abc_chains.specs.Standing.{AreRows}
+use Rattle.abc_live_text.specs.Chains.{AreChains, IsHeaderChainOf}
+use Rattle.abc_live_cost.specs.OldItems.{IsChainOf}
+use Rattle.abc_live_text.specs.Row.{Row, row_cells}
+use Rattle.abc_live_text.specs.KeptText.{AreRows}
 use Rattle.abc_fold.specs.Chain.{Chained}
 use Rattle.abc_fold.specs.Steps.{Steps}
 use Rattle.abc_live.specs.Prepared.{count_in}
 use Rattle.abc_lines.specs.Text.{Text}
-use Rattle.abc_outputs.specs.Output.{counts_of, output_in}
-use Rattle.abc_outputs.specs.Tunes.{OutputTells}
-use Rattle.abc_outputs.proofs.Following.{output_follows}
-use Rattle.abc_tunebook.specs.Book.{blocks_in, header_in, opening_of, tunes_in}
-use Rattle.abc_tunebook.specs.Rules.{Rules}
-use Rattle.abc_tunebook.specs.Tune.{tune_of}
+use Rattle.abc_live_index.specs.Output.{counts_of, output_in}
+use Rattle.abc_live_index.specs.Tunes.{OutputAgrees}
+use Rattle.abc_live_index.proofs.ChainOutputs.{output_follows}
+use Rattle.abc_tune_compiler.specs.Book.{blocks_in, header_in, opening_of, tunes_in}
+use Rattle.abc_tune_compiler.specs.Rules.{Rules}
+use Rattle.abc_tune_compiler.specs.Tune.{tune_of}
 
 module _ {State Cell Items Defaults : Type 0} (steps : Steps State Cell Items) (rules : Rules State Cell Items Defaults) (text : Text) where
   -- there is a chain of the file header
@@ -25,9 +25,10 @@ module _ {State Cell Items Defaults : Type 0} (steps : Steps State Cell Items) (
 
   -- it is that of the file header
   pub header_chain : (chains : List (Chained State Cell Items)) (first : Chained State Cell Items) → AreChains steps rules text chains → slice_get chains 0 ≡ Some first
-      → IsHeaderOf steps rules text first (header_in (blocks_in rules text))
+      → IsHeaderChainOf steps rules text first (header_in (blocks_in rules text))
   header_chain [] first are is = absurd are
-  header_chain (chain ∷ chains) first are is = let same : chain ≡ first = cc in subst (λ (c : Chained State Cell Items). IsHeaderOf steps rules text c (header_in (blocks_in rules text))) same are.0
+  header_chain (chain ∷ chains) first are is = let same : chain ≡ first = cc in subst
+      (λ (c : Chained State Cell Items). IsHeaderChainOf steps rules text c (header_in (blocks_in rules text))) same are.0
 
   -- and the others are those of the tunes
   pub tune_chains : (chains : List (Chained State Cell Items)) → AreChains steps rules text chains
@@ -37,7 +38,7 @@ module _ {State Cell Items Defaults : Type 0} (steps : Steps State Cell Items) (
 
   -- which give their tunes
   pub tells_of : (opening : State) (chains : List (Chained State Cell Items)) (blocks : List Block) → AllZip (IsChainOf steps rules.cells opening text) chains blocks
-      → AllZip OutputTells (map (output_in rules) chains) (map (tune_of steps.next steps.gives rules opening text) blocks)
+      → AllZip OutputAgrees (map (output_in rules) chains) (map (tune_of steps.next steps.gives rules opening text) blocks)
   tells_of opening [] [] all = tt
   tells_of opening [] (block ∷ blocks) all = absurd all
   tells_of opening (chain ∷ chains) [] all = absurd all
@@ -54,5 +55,6 @@ module _ {Cell : Type 0} where
   line_counts read (line ∷ text) = ap (λ l. length (read line) ∷ l) (line_counts read text)
 
 -- the rows have as many cells as the lines
-pub counts_are : {State Cell Items Defaults : Type 0} (rules : Rules State Cell Items Defaults) (text : Text) (rows : List (Row Cell)) → AreRows rules text rows → map count_in rows ≡ counts_of rules.cells text
+pub counts_are : {State Cell Items Defaults : Type 0} (rules : Rules State Cell Items Defaults) (text : Text)
+    (rows : List (Row Cell)) → AreRows rules text rows → map count_in rows ≡ counts_of rules.cells text
 counts_are rules text rows are = row_counts rows ∙ ap (map length) are.cells ∙ line_counts rules.cells text

@@ -1,4 +1,4 @@
--- Edits of a text, whose lines are counted from 1. Our own.
+-- Edits of a text, whose lines are counted from 1. Not in ABC 2.1.
 use Rattle.std.specs.Prelude.{ℕ, ◌-◌, ◌==◌, if◌then◌else◌, List, Option, None, slice_get}
 use Rattle.abc_lines.specs.Text.{Text, Splice, text_of}
 use Rattle.abc_lines.specs.Edits.{insertion, replacement, deletion}

@@ -6,7 +6,7 @@ pub mod Session
 -- The definitions of the crates below that public clauses cite: a caller needs only this crate.
 pub use Rattle.abc_lines.specs.EditError
 pub use Rattle.abc_lines.specs.Edits
-pub use Rattle.abc_tunebook.specs.Book
-pub use Rattle.abc_tunebook.specs.Fault
-pub use Rattle.abc_tunebook.specs.Files
-pub use Rattle.abc_tunebook.specs.Report
+pub use Rattle.abc_tune_compiler.specs.Book
+pub use Rattle.abc_tune_compiler.specs.Fault
+pub use Rattle.abc_tune_compiler.specs.Files
+pub use Rattle.abc_tune_compiler.specs.Report

@@ -8,8 +8,8 @@ pub enum Edit {
         at: u32,
         lines: Vec<Vec<u8>>,
     },
-    /// Puts lines in the place of the lines `from` to `to`. Both lines are included: `from` is at least 1 and at most
-    /// `to`, and `to` at most the count of lines; else the edit is a `BadRange`.
+    /// Replaces the lines `from` to `to`. Both lines are included: `from` is at least 1 and at most `to`, and `to` at
+    /// most the count of lines; else the edit is a `BadRange`.
     Replace {
         from: u32,
         to: u32,

@@ -7,15 +7,14 @@ mod change;
 mod edit;
 mod outcome;
 mod session;
-mod stretch;
+mod stretch_lines;
 
 pub use abc::Session;
-pub use abc_compiler::Compiler;
 pub use abc_fields::FaultCode;
 pub use abc_fold::Work;
 pub use abc_lines::{EditError, MOST_LINES};
 pub use abc_text::Sequence;
 pub use abc_tune::Abc;
-pub use abc_tunebook::{Fault, Report, Title};
+pub use abc_tune_compiler::{Compiler, Fault, Report, Title};
 pub use edit::Edit;
 pub use session::{EditPatch, LiveSession};

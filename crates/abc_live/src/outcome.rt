@@ -2,29 +2,30 @@
 
 ghost use Rattle.std.specs.Prelude.{◌≡◌, ◌+◌, ◌≤◌, IfOk, Some, drop, length, map, slice_get};
 ghost use Rattle.std.specs.List.{AllZip};
-ghost use Rattle.abc_kept_book.specs.Outputs.{files_of};
+ghost use Rattle.abc_live_index.specs.Outputs.{files_of};
 ghost use Rattle.abc_lines.specs.declared.limits.TheConstants.{MOST_LINES};
 ghost use Rattle.abc_live.specs.Prepared.{HeaderCells, IsBook, IsPrepared, stretch_faults, splice_in};
-ghost use Rattle.abc_memo.specs.Memo.{Remembers};
-ghost use Rattle.abc_outputs.specs.Built.{IsBuiltUpTo, made_of};
-ghost use Rattle.abc_outputs.specs.Output.{output_in};
-ghost use Rattle.abc_outputs.specs.Tunes.{HasCells};
-ghost use Rattle.abc_tunebook.specs.Book.{book_of};
-ghost use Rattle.abc_tunebook.specs.Report.{Reports};
+ghost use Rattle.abc_tune_memo.specs.Memo.{Remembers};
+ghost use Rattle.abc_live_index.specs.BuildCount.{IsBuiltUpTo, built_count};
+ghost use Rattle.abc_live_index.specs.Output.{output_in};
+ghost use Rattle.abc_live_index.specs.Tunes.{HasCells};
+ghost use Rattle.abc_tune_compiler.specs.Book.{book_of};
+ghost use Rattle.abc_tune_compiler.specs.Report.{Reports};
 
 use crate::change::Change;
-use crate::stretch::{counts_of, lines_of};
+use crate::stretch_lines::{counts_of, lines_of};
 use abc_book::Block;
-use abc_chains::{KeptPatch, KeptText, left_by};
-use abc_compiler::Compiler;
 use abc_fold::{Chain, Shared};
-use abc_kept_book::{BookPatch, KeptBook, NewTunes};
-use abc_memo::TuneMemo;
-use abc_outputs::{FoldedStretch, Output, TakenOver, outputs_of, put_cell_faults, put_tune_faults};
-use abc_tunebook::Fault;
+use abc_live_index::{
+    BookPatch, KeptBook, NewTunes, Output, ReusedOutputs, StretchView, outputs_of, put_cell_faults,
+    put_tune_faults,
+};
+use abc_live_text::{KeptPatch, KeptText, header_state};
+use abc_tune_compiler::{Compiler, Fault};
+use abc_tune_memo::TuneMemo;
 use std::alloc::{AllocError, Global};
 
-/// The chain that the file header would have. The edit belongs to the text as it is now.
+/// The chain of the file header after the edit. The edit belongs to the text as it is now.
 fn first_chain<'a, C: Compiler>(text: &'a KeptText<C>, kept: &'a KeptPatch<C>) -> &'a Chain<C>
     requires on { kept.now.on ≡ text.now }
     requires some { 1 ≤ length kept.now.chains }
@@ -39,7 +40,7 @@ fn faults_of<C: Compiler>(
     alloc: Global,
     header: Option<Block>,
     first: &Chain<C>,
-    stretch: &FoldedStretch<C>,
+    stretch: &StretchView<C>,
     outputs: &[Shared<Output>],
 ) -> Result<Vec<Fault>, AllocError>
     requires few { stretch.now.before + length stretch.now.counts.now ≤ MOST_LINES }
@@ -47,7 +48,8 @@ fn faults_of<C: Compiler>(
     requires cells { AllZip (HasCells stretch.now.before stretch.now.counts.now) stretch.now.chains.now stretch.now.places.now }
     requires outputs { outputs.now ≡ map (output_in (C.rules compiler.now)) stretch.now.chains.now }
     ensures { let s = stretch.now in
-        IfOk result (λ faults. faults.items ≡ stretch_faults (C.rules compiler.now) s.before s.counts.now first.now header s.chains.now s.places.now) }
+        IfOk result (λ faults. faults.items ≡ stretch_faults
+        (C.rules compiler.now) s.before s.counts.now first.now header s.chains.now s.places.now) }
 {
     let mut faults = Vec::new(alloc);
     if let Some(block) = header {
@@ -59,8 +61,8 @@ fn faults_of<C: Compiler>(
     Ok(faults)
 }
 
-/// What a prepared edit makes of the book, prepared. The memo is asked for the tunes of the stretch that take nothing
-/// over, and at most these are built.
+/// Prepares the book after a prepared edit. The memo is asked only for the tunes of the stretch that reuse no output,
+/// and at most these are built.
 pub(crate) fn book_after<C: Compiler>(
     text: &KeptText<C>,
     book: &KeptBook,
@@ -84,9 +86,9 @@ pub(crate) fn book_after<C: Compiler>(
     ensures report { IfOk result (λ patch. Reports (files_of book.now.outputs.items) (files_of patch.outputs) patch.report) }
     ensures remembers { let c = text.now.compiler in
         Remembers (C.steps c) (C.rules c) memo.new }
-    ensures counted { IsBuiltUpTo (made_of kept.now.taken) (C.Work.counts work.old) (C.Work.counts work.new) }
+    ensures counted { IsBuiltUpTo (built_count kept.now.reused_tunes) (C.Work.counts work.old) (C.Work.counts work.new) }
 {
-    // The text has no more lines than it may have.
+    // For the prover: the text has at most `MOST_LINES` lines.
     let _ = text.lines().len();
     let alloc = text.lines().allocator();
     let compiler = text.compiler();
@@ -94,16 +96,16 @@ pub(crate) fn book_after<C: Compiler>(
     let first = first_chain(text, kept);
     let lines = lines_of(text.lines(), change, stretch)?;
     let counts = counts_of(alloc, text, kept)?;
-    let folded = FoldedStretch {
+    let folded = StretchView {
         lines: &lines,
         before: stretch.from,
-        left: left_by(kept.header(), first),
+        left: header_state(kept.header(), first),
         places: kept.places(),
-        chains: kept.made(),
+        chains: kept.new_chains(),
         counts: &counts,
     };
-    let old = TakenOver {
-        taken: kept.taken(),
+    let old = ReusedOutputs {
+        reused_tunes: kept.reused_tunes(),
         outputs: book.outputs(),
     };
     let outputs = outputs_of(compiler, alloc, &folded, &old, memo, work)?;

@@ -1,6 +1,7 @@
 //! A tune book that is edited, for any compiler of its tunes.
 
-ghost use Rattle.std.specs.Prelude.{◌≡◌, ◌≢◌, ◌↔◌, ℕ, ◌≤◌, [], Contains, IfErr, IfOk, IsSome, MatchResult, Ok, Some, length, option_copied};
+ghost use Rattle.std.specs.Prelude.{◌≡◌, ◌≢◌, ◌↔◌, ℕ, ◌≤◌, [], Contains, IfErr, IfOk, IsSome, MatchResult, Ok, Some, length};
+ghost use Rattle.std.specs.Prelude.{option_copied};
 ghost use Rattle.std.specs.List.Sorted.{IsStrictlyIncreasing, IsStrictlySortedBy};
 ghost use Rattle.std.specs.Map.{keys_of};
 ghost use Rattle.abc_lines.specs.Edits.{Refuses, edited, replaced};
@@ -8,27 +9,25 @@ ghost use Rattle.abc_lines.specs.declared.limits.TheConstants.{MOST_LINES};
 ghost use Rattle.abc_live.specs.Counting.{MayCost, cost_of};
 ghost use Rattle.abc_live.specs.Edit.{line_at, splice_of};
 ghost use Rattle.abc_live.specs.Prepared.{splice_in};
-ghost use Rattle.abc_live.specs.Session.{book_in, tunes_given};
-ghost use Rattle.abc_tunebook.specs.Book.{book_of};
-ghost use Rattle.abc_tunebook.specs.Fault.{fault_cmp};
-ghost use Rattle.abc_tunebook.specs.Files.{file_at, first_file};
-ghost use Rattle.abc_tunebook.specs.Report.{Reports};
+ghost use Rattle.abc_live.specs.Session.{book_in, session_tunes};
+ghost use Rattle.abc_tune_compiler.specs.Book.{book_of};
+ghost use Rattle.abc_tune_compiler.specs.Fault.{fault_cmp};
+ghost use Rattle.abc_tune_compiler.specs.Files.{file_at, first_file};
+ghost use Rattle.abc_tune_compiler.specs.Report.{Reports};
 
 use crate::change::{Change, change_of};
 use crate::edit::Edit;
 use crate::outcome::book_after;
-use abc_chains::{KeptPatch, KeptText};
-use abc_compiler::Compiler;
-use abc_kept_book::{BookPatch, KeptBook};
 use abc_lines::EditError;
-use abc_memo::TuneMemo;
-use abc_tunebook::{Fault, Report, Title};
+use abc_live_index::{BookPatch, KeptBook};
+use abc_live_text::{KeptPatch, KeptText};
+use abc_tune_compiler::{Compiler, Fault, Report, Title};
+use abc_tune_memo::TuneMemo;
 use std::alloc::{AllocError, Global};
 use std::marker::Model;
 
 /// A tune book's text with the file of each reference number, the titles and the faults, as a compiler gives them.
-/// Contracts see the compiler, the text and what is kept of it: all else is what these give, but for the memo of built
-/// tunes, which nothing but the counters tells of.
+/// Contracts see the compiler, the text and what is kept of it. The memo of built tunes affects only the counters.
 #[derive(Drop)]
 pub struct LiveSession<C: Compiler> {
     text: KeptText<C>,
@@ -39,18 +38,19 @@ pub struct LiveSession<C: Compiler> {
 impl<C: Compiler> Model for LiveSession<C> {
     ghost use Rattle.abc_fold.specs.Steps.{};
     ghost use Rattle.abc_live.specs.Prepared.{HasOutputs, IsBookOf};
-    ghost use Rattle.abc_live.specs.Session.{Live, live};
-    ghost use Rattle.abc_memo.specs.Memo.{Remembers};
+    ghost use Rattle.abc_live.specs.Session.{SessionView, session_view};
+    ghost use Rattle.abc_tune_memo.specs.Memo.{Remembers};
 
-    ghost Value = { Live C C.State C.Cell C.Items };
+    ghost Value = { SessionView C C.State C.Cell C.Items };
 
-    ghost view = { λ s. live s.text s.book };
+    ghost view = { λ s. session_view s.text s.book };
 
-    ghost invariant = { λ s. let c = s.text.compiler in HasOutputs (C.rules c) s.text s.book × IsBookOf (C.steps c) (C.rules c) s.text s.book × Remembers (C.steps c) (C.rules c) s.memo };
+    ghost invariant = { λ s. let c = s.text.compiler in HasOutputs (C.rules c) s.text s.book
+        × IsBookOf (C.steps c) (C.rules c) s.text s.book × Remembers (C.steps c) (C.rules c) s.memo };
 }
 
-/// An edit that has been prepared: what the session would be, and how its files would differ. It must be spent, by
-/// `commit` of the session as it is or by `drop_patch`.
+/// A prepared edit: the session after it, and how its files will differ. It must be spent, by `commit` of the session
+/// as it is or by `drop_patch`.
 pub struct EditPatch<C: Compiler> {
     kept: KeptPatch<C>,
     book: BookPatch,
@@ -59,15 +59,16 @@ pub struct EditPatch<C: Compiler> {
 impl<C: Compiler> Model for EditPatch<C> {
     ghost use Rattle.std.specs.Prelude.{◌≡◌, drop, map};
     ghost use Rattle.abc_live.specs.Prepared.{IsBook};
-    ghost use Rattle.abc_live.specs.Session.{EditPatched, live};
-    ghost use Rattle.abc_outputs.specs.Output.{output_in};
-    ghost use Rattle.abc_tunebook.specs.Book.{book_of};
+    ghost use Rattle.abc_live.specs.Session.{EditPatchView, session_view};
+    ghost use Rattle.abc_live_index.specs.Output.{output_in};
+    ghost use Rattle.abc_tune_compiler.specs.Book.{book_of};
 
-    ghost Value = { EditPatched C C.State C.Cell C.Items };
+    ghost Value = { EditPatchView C C.State C.Cell C.Items };
 
-    ghost view = { λ p. record { on = live p.kept.on p.book.on; text = p.kept.text; report = p.book.report } };
+    ghost view = { λ p. record { on = session_view p.kept.on p.book.on; text = p.kept.text; report = p.book.report } };
 
-    ghost invariant = { λ p. let c = p.kept.on.compiler in (p.book.outputs ≡ map (output_in (C.rules c)) (drop 1 p.kept.chains)) × IsBook p.book.outputs p.book.faults (book_of (C.steps c) (C.rules c) p.kept.text) };
+    ghost invariant = { λ p. let c = p.kept.on.compiler in (p.book.outputs ≡ map (output_in (C.rules c)) (drop 1 p.kept.chains))
+        × IsBook p.book.outputs p.book.faults (book_of (C.steps c) (C.rules c) p.kept.text) };
 }
 
 impl<C: Compiler> LiveSession<C> {
@@ -82,17 +83,19 @@ impl<C: Compiler> LiveSession<C> {
         Ok(LiveSession { text, book, memo })
     }
 
-    /// Prepares an edit. Nothing changes but the counters and what is remembered: the counters rise by the new lines, the
-    /// fresh cells and the touched tunes at most, also where the edit is refused.
+    /// Prepares an edit. Nothing changes but the counters and the memo: the counters rise by the new lines, the fresh
+    /// cells and the touched tunes at most, even if the edit is refused.
     pub fn prepare(&mut self, edit: &Edit, work: &mut C::Work) -> Result<EditPatch<C>, EditError>
         ensures unchanged { self.new ≡ self.old }
         ensures on { IfOk result (λ patch. patch.on ≡ self.old) }
         ensures text { IfOk result (λ patch. edited self.old.text (splice_of edit.now) ≡ Ok patch.text) }
         ensures report { let c = self.old.compiler in
-            IfOk result (λ patch. Reports (book_in C.steps C.rules self.old).files (book_of (C.steps c) (C.rules c) patch.text).files patch.report) }
+            IfOk result (λ patch. Reports (book_in C.steps C.rules self.old).files
+            (book_of (C.steps c) (C.rules c) patch.text).files patch.report) }
         ensures refused { IfErr result (λ e. Refuses e (edited self.old.text (splice_of edit.now))) }
         ensures uncounted { IfErr result (λ e. e ≢ EditError.OutOfMemory → work.new ≡ work.old) }
-        ensures counted { MayCost (cost_of (C.steps self.old.compiler) (C.rules self.old.compiler) self.old.text (splice_of edit.now)) (C.Work.counts work.old) (C.Work.counts work.new) }
+        ensures counted { MayCost (cost_of (C.steps self.old.compiler) (C.rules self.old.compiler) self.old.text
+            (splice_of edit.now)) (C.Work.counts work.old) (C.Work.counts work.new) }
     {
         match change_of(edit) {
             Some(change) => self.prepare_change(&change, work),
@@ -100,7 +103,7 @@ impl<C: Compiler> LiveSession<C> {
         }
     }
 
-    /// Prepares that a run of lines is replaced.
+    /// Prepares to replace a run of lines.
     fn prepare_change(
         &mut self,
         change: &Change,
@@ -110,12 +113,14 @@ impl<C: Compiler> LiveSession<C> {
         ensures on { IfOk result (λ patch. patch.on ≡ self.old) }
         ensures text { IfOk result (λ patch. replaced self.old.text (splice_in change.now) ≡ Ok patch.text) }
         ensures report { let c = self.old.compiler in
-            IfOk result (λ patch. Reports (book_in C.steps C.rules self.old).files (book_of (C.steps c) (C.rules c) patch.text).files patch.report) }
+            IfOk result (λ patch. Reports (book_in C.steps C.rules self.old).files
+            (book_of (C.steps c) (C.rules c) patch.text).files patch.report) }
         ensures refused { IfErr result (λ e. Refuses e (replaced self.old.text (splice_in change.now))) }
         ensures uncounted { IfErr result (λ e. e ≢ EditError.OutOfMemory → work.new ≡ work.old) }
-        ensures counted { MayCost (cost_of (C.steps self.old.compiler) (C.rules self.old.compiler) self.old.text (Some (splice_in change.now))) (C.Work.counts work.old) (C.Work.counts work.new) }
+        ensures counted { MayCost (cost_of (C.steps self.old.compiler) (C.rules self.old.compiler) self.old.text
+            (Some (splice_in change.now))) (C.Work.counts work.old) (C.Work.counts work.new) }
     {
-        // What is kept is that of the text.
+        // For the prover: the kept parts are those of the text.
         let _ = self.text.lines();
         let kept = self
             .text
@@ -130,8 +135,8 @@ impl<C: Compiler> LiveSession<C> {
         }
     }
 
-    /// Puts a prepared edit in place, without memory, and answers which files changed. The patch belongs to the session
-    /// as it is now.
+    /// Commits a prepared edit without allocating, and returns which files changed. The patch belongs to the session as
+    /// it is now.
     pub fn commit(&mut self, patch: EditPatch<C>) -> Report
         requires { patch.on ≡ self.old }
         ensures text { self.new.text ≡ patch.text }
@@ -143,15 +148,17 @@ impl<C: Compiler> LiveSession<C> {
         self.book.commit(book)
     }
 
-    /// Edits the text, and answers which files that changed. After an error the session is unchanged. The counters rise
-    /// by the new lines, the fresh cells and the touched tunes at most, also where the edit is refused.
+    /// Edits the text, and returns which files changed. After an error the session is unchanged. The counters rise by
+    /// the new lines, the fresh cells and the touched tunes at most, even if the edit is refused.
     pub fn apply(&mut self, edit: &Edit, work: &mut C::Work) -> Result<Report, EditError>
-        ensures text { MatchResult result (λ _. edited self.old.text (splice_of edit.now) ≡ Ok self.new.text) (λ _. self.new ≡ self.old) }
+        ensures text { MatchResult result (λ _. edited self.old.text (splice_of edit.now) ≡ Ok self.new.text)
+            (λ _. self.new ≡ self.old) }
         ensures compiler { self.new.compiler ≡ self.old.compiler }
         ensures refused { IfErr result (λ e. Refuses e (edited self.old.text (splice_of edit.now))) }
         ensures uncounted { IfErr result (λ e. e ≢ EditError.OutOfMemory → work.new ≡ work.old) }
         ensures report { IfOk result (Reports (book_in C.steps C.rules self.old).files (book_in C.steps C.rules self.new).files) }
-        ensures counted { MayCost (cost_of (C.steps self.old.compiler) (C.rules self.old.compiler) self.old.text (splice_of edit.now)) (C.Work.counts work.old) (C.Work.counts work.new) }
+        ensures counted { MayCost (cost_of (C.steps self.old.compiler) (C.rules self.old.compiler) self.old.text
+            (splice_of edit.now)) (C.Work.counts work.old) (C.Work.counts work.new) }
     {
         let patch = self.prepare(edit, work)?;
         Ok(self.commit(patch))
@@ -161,7 +168,7 @@ impl<C: Compiler> LiveSession<C> {
     #[tactic(auto, using(crate::proofs::Books::file_of_first))]
     pub fn output(&self, n: u32) -> Option<&[u8]>
         ensures file { option_copied result ≡ file_at (book_in C.steps C.rules self.now).files n }
-        ensures first { option_copied result ≡ first_file (tunes_given C.steps C.rules self.now) n }
+        ensures first { option_copied result ≡ first_file (session_tunes C.steps C.rules self.now) n }
     {
         self.book.file(n)
     }
@@ -192,7 +199,7 @@ impl<C: Compiler> LiveSession<C> {
         self.book.faults()
     }
 
-    /// The bytes of the line of a number, counted from 1. None for 0 and behind the last line.
+    /// The bytes of the line of a number, counted from 1. None for 0 and after the last line.
     pub fn line(&self, n: u32) -> Option<&[u8]>
         ensures { option_copied result ≡ line_at self.now.text n }
     {
@@ -204,7 +211,7 @@ impl<C: Compiler> LiveSession<C> {
 
     /// How many lines there are.
     pub fn line_count(&self) -> u32
-        ensures count { result ≡ length self.now.text }
+        ensures value { result ≡ length self.now.text }
         ensures limit { result ≤ MOST_LINES }
     {
         self.text.lines().len() as u32
@@ -212,7 +219,7 @@ impl<C: Compiler> LiveSession<C> {
 }
 
 impl<C: Compiler> EditPatch<C> {
-    /// Gives the edit up: the session stays as it is.
+    /// Drops the edit: the session stays as it is.
     pub fn drop_patch(self) {
         let EditPatch { kept, book } = self;
         kept.drop_patch();

@@ -1,3 +1,3 @@
 pub mod Least
 pub mod Maps
-pub mod Settled
+pub mod SettledState

@@ -1,19 +1,20 @@
--- What a directory of files is known to hold, the jobs that are under way, and how both differ from a book. Our own.
-use Rattle.std.specs.Prelude.{◌≡◌, ℕ, ◌<◌, ◌≤◌, ◌^◌, ◌==◌, ◌&&◌, Bool, true, false, not, if◌then◌else◌, List, Option, Some, None, MatchOption, is_none}
+-- What a directory of files is known to hold, the jobs that are under way, and how both differ from a book. Not in ABC 2.1.
+use Rattle.std.specs.Prelude.{◌≡◌, ℕ, ◌<◌, ◌≤◌, ◌^◌, ◌==◌, ◌&&◌, Bool, true, false, not, if◌then◌else◌, List, Option, Some, None}
+use Rattle.std.specs.Prelude.{MatchOption, is_none}
 use Rattle.std.specs.Str.{bytes_eq}
 use Rattle.std.specs.BTreeMap.{is_at}
 use Rattle.std.specs.Map.{lookup}
 use Rattle.std.specs.Ordering.{nat_cmp}
 use Rattle.abc_publish.specs.declared.job.Job.{Job}
-use Rattle.abc_tunebook.specs.Files.{Files, file_at}
+use Rattle.abc_tune_compiler.specs.Files.{Files, file_at}
 pub use Rattle.abc_publish.specs.declared.slot.Stored.{Stored}
 pub use Rattle.abc_publish.specs.declared.slot.Stored.TheVariants.{Known, Unknown}
 
--- What the directory holds for each number; None where it has no file.
+-- What the directory holds for each number; None if it has no file.
 abbrev pub Directory : Type 0
 Directory = ℕ → Option Stored
 
--- What the job of each number carries, where one is under way: the bytes to write, or None to remove the file.
+-- What the job of each number carries, if one is under way: the bytes to write, or None to remove the file.
 abbrev pub Jobs : Type 0
 Jobs = ℕ → Option (Option (List ℕ))
 
@@ -25,35 +26,35 @@ pub record Publishing : Type 0 where
 abbrev pub publishing : Directory → Jobs → Publishing
 publishing directory jobs = record { directory = directory; jobs = jobs }
 
--- What a publisher holds for a number: its entry of the directory, and what the job carries, where one is under way.
-pub record Kept : Type 0 where
+-- What a publisher holds for a number: its entry of the directory, and what the job carries, if one is under way.
+pub record SlotView : Type 0 where
   pub stored : Option Stored
-  pub carried : Option (Option (List ℕ))
+  pub job_bytes : Option (Option (List ℕ))
 
-abbrev pub kept : Option Stored → Option (Option (List ℕ)) → Kept
-kept stored carried = record { stored = stored; carried = carried }
+abbrev pub slot_view : Option Stored → Option (Option (List ℕ)) → SlotView
+slot_view stored job_bytes = record { stored = stored; job_bytes = job_bytes }
 
 -- What a publisher holds, by number.
 abbrev pub Slots : Type 0
-Slots = List (ℕ × Kept)
+Slots = List (ℕ × SlotView)
 
 -- What a publisher holds for a number, if it has a slot.
-abbrev pub slot_at : Slots → ℕ → Option Kept
+abbrev pub slot_at : Slots → ℕ → Option SlotView
 slot_at slots n = lookup (is_at (nat_cmp n)) slots
 
--- The entry of the directory that a slot has; where there is no slot there is no file.
-abbrev pub stored_of : Option Kept → Option Stored
+-- The entry of the directory that a slot has; without a slot there is no file.
+abbrev pub stored_of : Option SlotView → Option Stored
 stored_of None = None
 stored_of (Some slot) = slot.stored
 
 -- What the job carries that a slot has under way.
-abbrev pub carried_of : Option Kept → Option (Option (List ℕ))
-carried_of None = None
-carried_of (Some slot) = slot.carried
+abbrev pub job_bytes_of : Option SlotView → Option (Option (List ℕ))
+job_bytes_of None = None
+job_bytes_of (Some slot) = slot.job_bytes
 
 -- The directory and the jobs under way of a publisher.
 abbrev pub maps_of : Slots → Publishing
-maps_of slots = publishing (λ n. stored_of (slot_at slots n)) (λ n. carried_of (slot_at slots n))
+maps_of slots = publishing (λ n. stored_of (slot_at slots n)) (λ n. job_bytes_of (slot_at slots n))
 
 -- A map with another entry at a number.
 abbrev pub with_entry : {A : Type 0} → (ℕ → Option A) → ℕ → Option A → ℕ → Option A
@@ -91,21 +92,22 @@ pub record IsNext (p : Publishing) (files : Files) (from number : ℕ) : Type 0 
 abbrev pub HasNone : Publishing → Files → ℕ → Type 0
 HasNone p files from = (n : ℕ) → from ≤ n → n < 2 ^ 32 → is_wanted p files n ≡ false
 
--- A job for the least such number, which carries the number's file; none exactly where there is no such number.
+-- A job for the least such number, which carries the number's file; none exactly if there is no such number.
 abbrev pub IsNextJob : Publishing → Files → ℕ → Option Job → Type 0
-IsNextJob p files from job = MatchOption job (HasNone p files from) (λ j. IsNext p files from j.number × (j.bytes ≡ file_at files j.number))
+IsNextJob p files from job =
+    MatchOption job (HasNone p files from) (λ j. IsNext p files from j.number × (j.bytes ≡ file_at files j.number))
 
 -- A job for a number has begun, and nothing else changed.
-abbrev pub begun : Publishing → ℕ → Option (List ℕ) → Publishing
-begun p number bytes = publishing p.directory (with_entry p.jobs number (Some bytes))
+abbrev pub with_job : Publishing → ℕ → Option (List ℕ) → Publishing
+with_job p number bytes = publishing p.directory (with_entry p.jobs number (Some bytes))
 
--- The job that was taken has begun, and nothing else changed; where there was none, nothing did.
+-- The job that was taken has begun, and nothing else changed; if there was none, nothing did.
 abbrev pub HasBegun : Slots → Slots → Option Job → Type 0
-HasBegun old new job = MatchOption job (new ≡ old) (λ j. maps_of new ≡ begun (maps_of old) j.number j.bytes)
+HasBegun old new job = MatchOption job (new ≡ old) (λ j. maps_of new ≡ with_job (maps_of old) j.number j.bytes)
 
 -- The job of a number has ended, and the directory holds this for it.
-abbrev pub ended : Publishing → ℕ → Option Stored → Publishing
-ended p number stored = publishing (with_entry p.directory number stored) (with_entry p.jobs number None)
+abbrev pub without_job : Publishing → ℕ → Option Stored → Publishing
+without_job p number stored = publishing (with_entry p.directory number stored) (with_entry p.jobs number None)
 
 -- Nothing is pending and no job is under way.
 pub record IsSettled (p : Publishing) (files : Files) : Type 0 where

@@ -19,7 +19,7 @@ impl Job {
         self.number
     }
 
-    /// The bytes to write; None where the file is to be removed.
+    /// The bytes to write; None if the file is to be removed.
     pub fn bytes(&self) -> Option<&[u8]>
         ensures { option_copied result ≡ self.now.bytes }
     {

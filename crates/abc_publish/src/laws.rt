@@ -2,7 +2,7 @@
 
 ghost use Rattle.abc_publish.specs.Laws.{CurrentIsSettled, JobOnce, SettledIsCurrent};
 
-/// All is settled exactly where no number is pending and no job is under way.
+/// All is settled exactly if no number is pending and no job is under way.
 pub fn settled_is_current()
     ensures current { SettledIsCurrent }
     ensures settled { CurrentIsSettled }

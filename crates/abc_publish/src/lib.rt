@@ -3,12 +3,11 @@
 #![tactic(auto)]
 
 mod job;
-mod laws;
+pub mod laws;
 mod publisher;
 mod slot;
 
-pub use abc_compiler::Compiler;
 pub use abc_live::{LiveSession, Session};
+pub use abc_tune_compiler::Compiler;
 pub use job::Job;
-pub use laws::{job_once, settled_is_current};
 pub use publisher::Publisher;

@@ -1,23 +1,25 @@
 //! A directory of MIDI files that is brought up to date.
 
-ghost use Rattle.std.specs.Prelude.{◌≡◌, ◌↔◌, ℕ, ◌==◌, ◌≤◌, ◌<◌, ⊤, true, false, None, Some, IfSome, All, is_some, option_copied, IfOk, IsOk, IsTrue, MatchOption, OnErr, OnOk};
+ghost use Rattle.std.specs.Prelude.{◌≡◌, ◌↔◌, ℕ, ◌==◌, ◌≤◌, ◌<◌, ⊤, true, false, None, Some, IfSome, All, is_some, option_copied};
+ghost use Rattle.std.specs.Prelude.{IfOk, IsOk, IsTrue, MatchOption, OnErr, OnOk};
 ghost use Rattle.std.specs.List.Sorted.{IsStrictlyIncreasing};
 ghost use Rattle.abc_live.specs.Session.{book_in};
-ghost use Rattle.abc_publish.specs.Publisher.{begun, ended, is_pending, is_wanted, maps_of, publishing, slot_at, stored_as, HasBegun, HasNone, IsNext, IsNextJob, IsSettled};
+ghost use Rattle.abc_publish.specs.Publisher.{with_job, without_job, is_pending, is_wanted, maps_of, publishing, slot_at};
+ghost use Rattle.abc_publish.specs.Publisher.{stored_as, HasBegun, HasNone, IsNext, IsNextJob, IsSettled};
 ghost use Rattle.abc_publish.specs.declared.slot.Stored.TheVariants.{Unknown};
 
 use crate::job::Job;
 use crate::slot::{Slot, Stored};
-use abc_compiler::Compiler;
 use abc_live::LiveSession;
 use abc_text::Sequence;
+use abc_tune_compiler::Compiler;
 use std::alloc::{AllocError, Global};
 use std::collections::BTreeMap;
 use std::marker::Model;
 
 /// A directory with the file of each reference number, as the jobs that have ended left it, and the jobs that are under
-/// way. Contracts read both by `maps_of`, as maps from numbers; they see a list of slots, and several lists may say the
-/// same maps.
+/// way. Contracts read both by `maps_of`, as maps from numbers; they see a list of slots, and several lists may give
+/// the same maps.
 #[derive(Drop)]
 pub struct Publisher {
     alloc: Global,
@@ -33,7 +35,7 @@ impl Model for Publisher {
 }
 
 impl Publisher {
-    /// No file is in the directory, none is unknown, and no job is under way. It takes no memory yet.
+    /// No file is in the directory, none is unknown, and no job is under way. It allocates nothing yet.
     pub fn new(alloc: Global) -> Result<Publisher, AllocError>
         ensures succeeds { IsOk result }
         ensures empty { IfOk result (λ p. maps_of p ≡ publishing (λ _. None) (λ _. None)) }
@@ -44,18 +46,17 @@ impl Publisher {
         })
     }
 
-    /// A job for the least pending number that has none under way. None where there is no such number. After an error
-    /// nothing is changed. What `done` and `failed` need is allocated here.
+    /// A job for the least pending number that has none under way; None if there is no such number. An error changes
+    /// nothing. The memory that `done` and `failed` need is allocated here.
     pub fn take<C: Compiler>(&mut self, session: &LiveSession<C>) -> Result<Option<Job>, AllocError>
         ensures job { IfOk result (IsNextJob (maps_of self.old) (book_in C.steps C.rules session.now).files 0) }
         ensures after { IfOk result (HasBegun self.old self.new) }
-        ensures refused { OnErr result (self.new ≡ self.old) }
+        ensures unchanged { OnErr result (self.new ≡ self.old) }
     {
         self.take_from(session, 0)
     }
 
-    /// The same of the numbers from `from` on, itself included, for a caller who goes on behind the number of the last
-    /// job.
+    /// The same for the numbers from `from` on, for a caller who goes on after the number of the last job.
     pub fn take_from<C: Compiler>(
         &mut self,
         session: &LiveSession<C>,
@@ -63,7 +64,7 @@ impl Publisher {
     ) -> Result<Option<Job>, AllocError>
         ensures job { IfOk result (IsNextJob (maps_of self.old) (book_in C.steps C.rules session.now).files from) }
         ensures after { IfOk result (HasBegun self.old self.new) }
-        ensures refused { OnErr result (self.new ≡ self.old) }
+        ensures unchanged { OnErr result (self.new ≡ self.old) }
     {
         match self.next_wanted(session, from) {
             Some(number) => {
@@ -74,11 +75,11 @@ impl Publisher {
         }
     }
 
-    /// Ends a job whose file was written, or removed. The job is one of this publisher that is still under way. No memory
-    /// is taken.
+    /// Ends a job whose file was written, or removed. The job is one of this publisher that is still under way. It
+    /// allocates nothing.
     pub fn done(&mut self, job: Job)
         requires { (maps_of self.old).jobs job.number ≡ Some job.bytes }
-        ensures { maps_of self.new ≡ ended (maps_of self.old) job.number (stored_as job.bytes) }
+        ensures { maps_of self.new ≡ without_job (maps_of self.old) job.number (stored_as job.bytes) }
     {
         let Job { number, bytes } = job;
         match bytes {
@@ -89,11 +90,11 @@ impl Publisher {
         }
     }
 
-    /// Ends a job of which nobody knows what it left in the directory. The job is one of this publisher that is still
-    /// under way. No memory is taken.
+    /// Ends a job that left an unknown file in the directory. The job is one of this publisher that is still under way.
+    /// It allocates nothing.
     pub fn failed(&mut self, job: Job)
         requires { (maps_of self.old).jobs job.number ≡ Some job.bytes }
-        ensures { maps_of self.new ≡ ended (maps_of self.old) job.number (Some Unknown) }
+        ensures { maps_of self.new ≡ without_job (maps_of self.old) job.number (Some Unknown) }
     {
         let Job { number, bytes: _ } = job;
         self.store(number, Stored::Unknown);
@@ -137,7 +138,8 @@ impl Publisher {
 
     /// The least number from another one on that is pending and has no job under way.
     fn next_wanted<C: Compiler>(&self, session: &LiveSession<C>, from: u32) -> Option<u32>
-        ensures { let files = (book_in C.steps C.rules session.now).files in MatchOption result (HasNone (maps_of self.now) files from) (IsNext (maps_of self.now) files from) }
+        ensures { let files = (book_in C.steps C.rules session.now).files in MatchOption result
+            (HasNone (maps_of self.now) files from) (IsNext (maps_of self.now) files from) }
     {
         let mut at = from;
         while let Some(number) = self.next_number(session, at) {
@@ -152,7 +154,8 @@ impl Publisher {
     /// The least number from another one on that has a slot or a file.
     fn next_number<C: Compiler>(&self, session: &LiveSession<C>, at: u32) -> Option<u32>
         ensures from { IfSome result (λ number. at ≤ number) }
-        ensures none { let files = (book_in C.steps C.rules session.now).files in (n : ℕ) → at ≤ n → MatchOption result ⊤ (λ number. n < number) → is_wanted (maps_of self.now) files n ≡ false }
+        ensures none { let files = (book_in C.steps C.rules session.now).files in (n : ℕ) → at ≤ n
+            → MatchOption result ⊤ (λ number. n < number) → is_wanted (maps_of self.now) files n ≡ false }
     {
         match (self.next_slot(at), next_in(session.numbers(), at)) {
             (Some(slot), Some(file)) => Some(slot.min(file)),
@@ -173,8 +176,8 @@ impl Publisher {
     /// Begins a job for a number.
     fn begin(&mut self, number: u32, file: Option<&[u8]>) -> Result<Job, AllocError>
         ensures job { IfOk result (λ j. (j.number ≡ number) × (j.bytes ≡ option_copied file.entry)) }
-        ensures after { IfOk result (λ j. maps_of self.new ≡ begun (maps_of self.old) number (option_copied file.entry)) }
-        ensures refused { OnErr result (self.new ≡ self.old) }
+        ensures after { IfOk result (λ j. maps_of self.new ≡ with_job (maps_of self.old) number (option_copied file.entry)) }
+        ensures unchanged { OnErr result (self.new ≡ self.old) }
     {
         let bytes = match file {
             Some(bytes) => Some(Sequence::from_slice(self.alloc, bytes)?),
@@ -186,23 +189,23 @@ impl Publisher {
 
     /// Notes a job for a number.
     fn note(&mut self, number: u32, bytes: &Option<Sequence<u8>>) -> Result<(), AllocError>
-        ensures after { OnOk result (maps_of self.new ≡ begun (maps_of self.old) number bytes.now) }
-        ensures refused { OnErr result (self.new ≡ self.old) }
+        ensures after { OnOk result (maps_of self.new ≡ with_job (maps_of self.old) number bytes.now) }
+        ensures unchanged { OnErr result (self.new ≡ self.old) }
     {
         if let Some(slot) = self.slots.get_mut(&number) {
             slot.begin(bytes);
             return Ok(());
         }
-        self.slots.insert(number, Slot::begun(bytes))?;
+        self.slots.insert(number, Slot::with_job(bytes))?;
         Ok(())
     }
 
-    /// Stores what is known of a number whose job has ended. Its slot is there, so no memory is taken.
+    /// Stores what is known of a number whose job has ended. Its slot is there, so nothing is allocated.
     fn store(&mut self, number: u32, stored: Stored)
         requires { is_some (slot_at self.old number) ≡ true }
-        ensures { maps_of self.new ≡ ended (maps_of self.old) number (Some stored) }
+        ensures { maps_of self.new ≡ without_job (maps_of self.old) number (Some stored) }
     {
-        let _ = self.slots.insert(number, Slot::ended(stored));
+        let _ = self.slots.insert(number, Slot::without_job(stored));
     }
 }
 

@@ -1,4 +1,4 @@
--- A strain behind its common part.
+-- A strain after its common part.
 use Rattle.std.proofs.Common.{◌≡◌, ℕ, zero, suc, ◌+◌, ◌-◌, List, [], ◌∷◌, length, take, drop, refl, ap, ◌∙◌, arith}
 use Rattle.abc_repeat.specs.declared.mark.Mark.{Mark}
 use Rattle.abc_repeat.specs.declared.mark.Mark.TheVariants as marks
@@ -22,7 +22,7 @@ behind_front : (text front : List Mark) (n : ℕ) → front ≡ (strain_of text)
 behind_front text front n is long =
     ap strain_of (rest_of n text) ∙ ap (λ k. strain_of (drop k text)) (long ∙ ap length is) ∙ without_common text
 
--- the ending of a pass is found behind the common part as in the whole
+-- the ending of a pass is found after the common part as in the whole
 pub ending_behind : (text front : List Mark) (at n pass : ℕ) → front ≡ (strain_of text).common → n ≡ length front
     → ending_of (at + n) (strain_of (take (length text - n) (drop n text))) pass ≡ ending_of at (strain_of text) pass
 ending_behind text front at n pass is long =

@@ -3,7 +3,7 @@ use Rattle.std.proofs.Common.{◌≡◌, ℕ, zero, suc, ◌+◌, ◌*◌, ◌<�
 use Rattle.std.proofs.lemmas.Nat.{mul-le}
 use Rattle.abc_repeat.specs.declared.mark.Mark.{Mark}
 use Rattle.abc_repeat.specs.declared.mark.Mark.TheVariants as marks
-use Rattle.abc_repeat.specs.Mark.{is_ending, names, opens_next}
+use Rattle.abc_repeat.specs.Mark.{is_ending, has_number, opens_next}
 use Rattle.abc_repeat.specs.Strain.{Ending, Strain, ends_strain, endings_text, put_first, strain_of, text_of, texts_of}
 use Rattle.abc_repeat.specs.Play.{ending_of, first_ending, most_passes, pass_of, places_from, play_of, plays_from, strain_play}
 use Rattle.abc_repeat.proofs.Cuts.{text_back}
@@ -22,7 +22,8 @@ first_within pass at (ending ∷ endings) =
     let own = places_within (at + 1) ending.run in
     let rest = first_within pass (at + 1 + length ending.run) endings in
     let long = length-append ending.run (endings_text endings) in
-    elim (names ending.numbers pass) as (λ b. length (cond b (places_from (at + 1) ending.run) (first_ending pass (at + 1 + length ending.run) endings)) ≤ suc (length (ending.run ++ endings_text endings))) [
+    elim (has_number ending.numbers pass) as (λ b. length (cond b (places_from (at + 1) ending.run)
+    (first_ending pass (at + 1 + length ending.run) endings)) ≤ suc (length (ending.run ++ endings_text endings))) [
       | true ↦ omega arith
       | false ↦ omega arith
     ]

@@ -1,13 +1,13 @@
--- Copies of the end of a list, put behind it.
+-- Copies of the end of a list, put after it.
 use Rattle.std.proofs.Common.{◌≡◌, ℕ, zero, suc, ◌+◌, ◌-◌, ◌<◌, ◌≤◌, List, [], ◌++◌, length, take, drop, replicate, refl, sym, ap, ◌∙◌, arith, length-append, length-drop, append_assoc, append-nil}
 use Rattle.std.specs.List.{concat, slice_range}
 use Rattle.std.proofs.lemmas.List.{take-append-drop, take_all, take_at, drop_all, drop-append-le}
 
--- the end stands there once
+-- the end is there once
 pub copies_once : (begin : ℕ) (xs : List ℕ) → xs ≡ take begin xs ++ (drop begin xs ++ [])
 copies_once begin xs = sym (take-append-drop begin xs) ∙ ap (λ l. take begin xs ++ l) (sym (append-nil (drop begin xs)))
 
--- nothing stands there
+-- nothing is there
 nothing_copied : (n : ℕ) → concat (replicate n []) ≡ []
 nothing_copied zero = refl
 nothing_copied (suc n) = nothing_copied n

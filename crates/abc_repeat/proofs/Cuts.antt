@@ -5,7 +5,7 @@ use Rattle.std.proofs.lemmas.Bool.{cases_Bool, cond-true, cond-false}
 use Rattle.abc_repeat.specs.declared.mark.Mark.{Mark}
 use Rattle.abc_repeat.specs.declared.mark.Mark.TheVariants as marks
 use Rattle.abc_repeat.specs.Mark.{is_ending, opens_next}
-use Rattle.abc_repeat.specs.Strain.{text_of, strain_of, ends_strain, put_first, texts_of, front_of, first_text, opens_behind, strains_from}
+use Rattle.abc_repeat.specs.Strain.{text_of, strain_of, ends_strain, put_first, texts_of, front_of, first_text, opens_after, strains_from}
 use Rattle.abc_repeat.specs.Play.{plays_from, strain_play}
 
 -- the marks of a strain that a text is are that text
@@ -39,12 +39,12 @@ one_or_cut opened inside (m ∷ rest) = ⊎_elim
     (one_or_cut opened (Rattle.std.specs.Prelude.◌||◌ inside (is_ending m)) rest))
     (cases_Bool (ends_strain opened inside m rest))
 
-opens_last : (opened : Bool) (front : List Mark) (bar : Mark) → opens_behind opened (front ++ bar ∷ []) ≡ opens_next bar
+opens_last : (opened : Bool) (front : List Mark) (bar : Mark) → opens_after opened (front ++ bar ∷ []) ≡ opens_next bar
 opens_last opened [] bar = refl
 opens_last opened (m ∷ front) bar = opens_last (opens_next m) front bar
 
 -- the last of some marks opens
-pub opens_at_last : (opened : Bool) (ms : List Mark) (d : Mark) → 0 < length ms → opens_next (get_or ms (length ms - 1) d) ≡ opens_behind opened ms
+pub opens_at_last : (opened : Bool) (ms : List Mark) (d : Mark) → 0 < length ms → opens_next (get_or ms (length ms - 1) d) ≡ opens_after opened ms
 opens_at_last opened [] d h = absurd (omega arith)
 opens_at_last opened (m ∷ []) d h = refl
 opens_at_last opened (m ∷ k ∷ ms) d h =
@@ -61,13 +61,13 @@ drop_whole (m ∷ ms) = drop_whole ms
 
 -- the play of the first strain, then that of the others
 pub plays_more : (at : ℕ) (opened : Bool) (ms text : List Mark) → text ≡ first_text opened ms
-    → plays_from at (strains_from opened ms) ≡ strain_play at (strain_of text) ++ plays_from (at + length text) (strains_from (opens_behind false text) (drop (length text) ms))
+    → plays_from at (strains_from opened ms) ≡ strain_play at (strain_of text) ++ plays_from (at + length text) (strains_from (opens_after false text) (drop (length text) ms))
 unfolding first_text
 plays_more at opened ms text is = ⊎_elim
     (λ one.
     let same : text ≡ ms = is ∙ ap front_of one in
-    let none : plays_from (at + length text) (strains_from (opens_behind false text) (drop (length text) ms)) ≡ [] =
-    ap (λ l. plays_from (at + length text) (strains_from (opens_behind false text) l)) (ap (λ l. drop (length l) ms) same ∙ drop_whole ms) ∙ nothing_left (at + length text) (opens_behind false text) in
+    let none : plays_from (at + length text) (strains_from (opens_after false text) (drop (length text) ms)) ≡ [] =
+    ap (λ l. plays_from (at + length text) (strains_from (opens_after false text) l)) (ap (λ l. drop (length l) ms) same ∙ drop_whole ms) ∙ nothing_left (at + length text) (opens_after false text) in
     ap (λ l. plays_from at (map strain_of l)) one ∙ ap (λ l. strain_play at (strain_of l) ++ []) (sym same) ∙ ap (λ l. strain_play at (strain_of text) ++ l) (sym none))
     (λ cut.
     let same : text ≡ cut.front ++ cut.bar ∷ [] = is ∙ ap front_of cut.texts in
@@ -75,10 +75,10 @@ plays_more at opened ms text is = ⊎_elim
     ap (λ l. drop (length l) ms) same
     ∙ ap (drop (length (cut.front ++ cut.bar ∷ []))) (cut.whole ∙ sym (append_assoc cut.front (cut.bar ∷ []) cut.rest))
     ∙ drop-append_seam (cut.front ++ cut.bar ∷ []) cut.rest in
-    let opens : opens_behind false text ≡ opens_next cut.bar = ap (opens_behind false) same ∙ opens_last false cut.front cut.bar in
+    let opens : opens_after false text ≡ opens_next cut.bar = ap (opens_after false) same ∙ opens_last false cut.front cut.bar in
     ap (λ l. plays_from at (map strain_of l)) cut.texts
     ∙ ap (λ l. strain_play at (strain_of l) ++ plays_from (at + length (text_of (strain_of l))) (strains_from (opens_next cut.bar) cut.rest)) (sym same)
     ∙ ap (λ l. strain_play at (strain_of text) ++ plays_from (at + length l) (strains_from (opens_next cut.bar) cut.rest)) (text_back text)
     ∙ ap (λ o. strain_play at (strain_of text) ++ plays_from (at + length text) (strains_from o cut.rest)) (sym opens)
-    ∙ ap (λ l. strain_play at (strain_of text) ++ plays_from (at + length text) (strains_from (opens_behind false text) l)) (sym left))
+    ∙ ap (λ l. strain_play at (strain_of text) ++ plays_from (at + length text) (strains_from (opens_after false text) l)) (sym left))
     (one_or_cut opened false ms)

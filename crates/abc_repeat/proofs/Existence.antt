@@ -6,22 +6,25 @@ use Rattle.std.proofs.lemmas.List.Elements.{All-nil, All-cons, All-head, All-tai
 use Rattle.abc_repeat.specs.declared.mark.Mark.{Mark}
 use Rattle.abc_repeat.specs.declared.mark.Mark.TheVariants as marks
 use Rattle.abc_repeat.specs.Mark.{is_ending, is_single, opens_next, closes_common, closes_ending}
-use Rattle.abc_repeat.specs.Strain.{Ending, Strain, without_endings, endings_text, in_common, in_ending, leads_to_ending, goes_on, IsInnerRun, straight, barred, AreEndings, to_the_end, to_a_bar, another, IsStrains, last_common, last_endings, common_part, with_endings, put_first, texts_of, with_mark, strain_of, strains_from}
+use Rattle.abc_repeat.specs.Strain.{Ending, Strain, without_endings, endings_text, in_common, in_ending, leads_to_ending, goes_on, IsInnerRun}
+use Rattle.abc_repeat.specs.Strain.{straight, barred, AreEndings, to_the_end, to_a_bar, another, IsStrains, last_common, last_endings, common_part}
+use Rattle.abc_repeat.specs.Strain.{with_endings, put_first, texts_of, with_mark, strain_of, strains_from}
 use Rattle.std.proofs.Common.{ltb, arith}
 use Rattle.std.proofs.lemmas.Bool.Decides.{nat_tests}
 use Rattle.abc_repeat.proofs.Cuts.{one_or_cut}
 use Rattle.abc_repeat.proofs.Readings.{single_stays, stays, ends, inside_stays, bar_stays, bar_ends, sign_stays}
 
--- what stands inside an ending, and the strains that it makes, of which the first's common part is the run
+-- what is inside an ending, and the strains that it makes, of which the first's common part is the run
 data IsInside : List Mark → List Strain → Type 0 where
   last_run : (body : List Mark) → AllPass in_ending body → IsInside body (without_endings body ∷ [])
   closed_run : (body rest : List Mark) (bar : Mark) (strains : List Strain) → AllPass in_ending body → closes_ending bar ≡ true → goes_on bar rest ≡ false → IsStrains (opens_next bar) rest strains
       → IsInside (body ++ bar ∷ rest) (without_endings (body ++ bar ∷ []) ∷ strains)
   run_to_end : (run : List Mark) (endings : List Ending) → IsInnerRun run → AreEndings endings None → IsInside (run ++ endings_text endings) (record { common = run; endings = endings } ∷ [])
-  run_to_bar : (run rest : List Mark) (endings : List Ending) (bar : Mark) (strains : List Strain) → IsInnerRun run → AreEndings endings (Some bar) → goes_on bar rest ≡ false → IsStrains (opens_next bar) rest strains
+  run_to_bar : (run rest : List Mark) (endings : List Ending) (bar : Mark) (strains : List Strain) → IsInnerRun run
+      → AreEndings endings (Some bar) → goes_on bar rest ≡ false → IsStrains (opens_next bar) rest strains
       → IsInside ((run ++ endings_text endings) ++ rest) (record { common = run; endings = endings } ∷ strains)
 
--- a mark in front of the first of some strains
+-- a mark before the first of some strains
 abbrev on_first : Mark → List Strain → List Strain
 on_first m [] = []
 on_first m (strain ∷ strains) = with_mark m strain ∷ strains
@@ -57,7 +60,7 @@ with_plain marks.Play strain e = refl
 with_plain (marks.Bar closes opens double) strain e = refl
 with_plain (marks.Ending numbers) strain e = cc
 
--- a mark in front of a run
+-- a mark before a run
 run_more : (m : Mark) (run : List Mark) → in_ending m ≡ true → IsInnerRun run → IsInnerRun (m ∷ run)
 run_more m run e (straight body h) = straight (m ∷ body) (All-cons (λ x. in_ending x ≡ true) m body e h)
 run_more m run e (barred body gap bar h closes opens singles) = barred (m ∷ body) gap bar (All-cons (λ x. in_ending x ≡ true) m body e h) closes opens singles
@@ -69,12 +72,14 @@ inside_more m ms strains e plain (closed_run body rest bar later h closes stops 
     subst (λ s. IsInside (m ∷ (body ++ bar ∷ rest)) (s ∷ later)) (sym (with_plain m (without_endings (body ++ bar ∷ [])) plain))
     (closed_run (m ∷ body) rest bar later (All-cons (λ x. in_ending x ≡ true) m body e h) closes stops behind)
 inside_more m ms strains e plain (run_to_end run endings inner are) =
-    subst (λ s. IsInside (m ∷ (run ++ endings_text endings)) (s ∷ [])) (sym (with_plain m (record { common = run; endings = endings }) plain)) (run_to_end (m ∷ run) endings (run_more m run e inner) are)
+    subst (λ s. IsInside (m ∷ (run ++ endings_text endings)) (s ∷ []))
+    (sym (with_plain m (record { common = run; endings = endings }) plain)) (run_to_end (m ∷ run) endings (run_more m run e inner) are)
 inside_more m ms strains e plain (run_to_bar run rest endings bar later inner are stops behind) =
     subst (λ s. IsInside (m ∷ ((run ++ endings_text endings) ++ rest)) (s ∷ later)) (sym (with_plain m (record { common = run; endings = endings }) plain))
     (run_to_bar (m ∷ run) rest endings bar later (run_more m run e inner) are stops behind)
 
-outside_more : (opened : Bool) (m : Mark) (ms : List Mark) (strains : List Strain) → in_common opened m ≡ true → is_ending m ≡ false → IsStrains opened ms strains → IsStrains opened (m ∷ ms) (on_first m strains)
+outside_more : (opened : Bool) (m : Mark) (ms : List Mark) (strains : List Strain) → in_common opened m ≡ true → is_ending m ≡ false
+    → IsStrains opened ms strains → IsStrains opened (m ∷ ms) (on_first m strains)
 outside_more o m ms strains e plain (last_common same common h) =
     subst (λ s. IsStrains same (m ∷ common) (s ∷ [])) (sym (with_plain m (without_endings common) plain)) (last_common same (m ∷ common) (All-cons (λ x. in_common same x ≡ true) m common e h))
 outside_more o m ms strains e plain (last_endings same common endings h are) =
@@ -93,7 +98,7 @@ leads_single marks.Play rest e f = cc
 leads_single (marks.Bar closes opens double) rest e f = f
 leads_single (marks.Ending numbers) rest e f = cc
 
--- a body that leads to an ending behind it is a gap, and so is what follows it up to that sign
+-- a body that leads to an ending after it is a gap, and so is what follows it up to that sign
 body_gap : (body rest : List Mark) → AllPass in_ending body → leads_to_ending (body ++ rest) ≡ true → AllPass is_single body × (leads_to_ending rest ≡ true)
 body_gap [] rest h e = (All-nil (λ m. is_single m ≡ true), e)
 body_gap (m ∷ body) rest h e =
@@ -115,7 +120,8 @@ closing_single (marks.Ending numbers) e = cc
 -- a bar that closes leads to no ending
 closing_leads : (bar : Mark) (rest : List Mark) → closes_ending bar ≡ true → leads_to_ending (bar ∷ rest) ≡ true → ⊥
 closing_leads marks.Play rest e f = cc
-closing_leads (marks.Bar closes opens double) rest e f = let no = closing_single (marks.Bar closes opens double) e in let yes = (and_parts (is_single (marks.Bar closes opens double)) (leads_to_ending rest) f).0 in cc
+closing_leads (marks.Bar closes opens double) rest e f = let no = closing_single (marks.Bar closes opens double) e in let yes =
+    (and_parts (is_single (marks.Bar closes opens double)) (leads_to_ending rest) f).0 in cc
 closing_leads (marks.Ending numbers) rest e f = cc
 
 inner_gap : (run rest : List Mark) → IsInnerRun run → leads_to_ending (run ++ rest) ≡ true → AllPass is_single run
@@ -123,8 +129,9 @@ inner_gap run rest (straight body h) e = (body_gap body rest h e).0
 inner_gap run rest (barred body gap bar h closes opens singles) e =
     absurd (closing_leads bar (gap ++ rest) closes (body_gap body (bar ∷ (gap ++ rest)) h (subst (λ l. leads_to_ending l ≡ true) (append_assoc body (bar ∷ gap) rest) e)).1)
 
--- a bar behind which the strain goes on stands in a run
-bar_more : (bar : Mark) (ms : List Mark) (strains : List Strain) → closes_ending bar ≡ true → opens_next bar ≡ false → is_ending bar ≡ false → leads_to_ending ms ≡ true → IsInside ms strains → IsInside (bar ∷ ms) (on_first bar strains)
+-- a bar after which the strain goes on is in a run
+bar_more : (bar : Mark) (ms : List Mark) (strains : List Strain) → closes_ending bar ≡ true → opens_next bar ≡ false
+    → is_ending bar ≡ false → leads_to_ending ms ≡ true → IsInside ms strains → IsInside (bar ∷ ms) (on_first bar strains)
 bar_more bar ms strains closes opens plain leads (last_run body h) =
     let none = body_gap body [] h (subst (λ l. leads_to_ending l ≡ true) (sym (append-nil body)) leads) in cc
 bar_more bar ms strains closes opens plain leads (closed_run body rest end later h ends stops behind) = absurd (closing_leads end rest ends (body_gap body (end ∷ rest) h leads).1)
@@ -134,7 +141,8 @@ bar_more bar ms strains closes opens plain leads (run_to_end run endings inner a
 bar_more bar ms strains closes opens plain leads (run_to_bar run rest endings end later inner are stops behind) =
     subst (λ s. IsInside (bar ∷ ((run ++ endings_text endings) ++ rest)) (s ∷ later)) (sym (with_plain bar (record { common = run; endings = endings }) plain))
     (run_to_bar (bar ∷ run) rest endings end later
-    (barred [] run bar (All-nil (λ m. in_ending m ≡ true)) closes opens (inner_gap run (endings_text endings ++ rest) inner (subst (λ l. leads_to_ending l ≡ true) (append_assoc run (endings_text endings) rest) leads)))
+    (barred [] run bar (All-nil (λ m. in_ending m ≡ true)) closes opens
+    (inner_gap run (endings_text endings ++ rest) inner (subst (λ l. leads_to_ending l ≡ true) (append_assoc run (endings_text endings) rest) leads)))
     are stops behind)
 
 map_first : (m : Mark) (opened inside : Bool) (ms : List Mark) → map strain_of (put_first m (texts_of opened inside ms)) ≡ on_first m (map strain_of (texts_of opened inside ms))
@@ -143,7 +151,8 @@ map_first m opened inside ms = ⊎_elim
     (λ cut. same (cut.front ++ cut.bar ∷ []) (texts_of (opens_next cut.bar) false cut.rest) cut.texts)
     (one_or_cut opened inside ms)
   where
-    same : (text : List Mark) (texts : List (List Mark)) → texts_of opened inside ms ≡ text ∷ texts → map strain_of (put_first m (texts_of opened inside ms)) ≡ on_first m (map strain_of (texts_of opened inside ms))
+    same : (text : List Mark) (texts : List (List Mark)) → texts_of opened inside ms ≡ text ∷ texts
+        → map strain_of (put_first m (texts_of opened inside ms)) ≡ on_first m (map strain_of (texts_of opened inside ms))
     same text texts e = ap (λ l. map strain_of (put_first m l)) e ∙ sym (ap (λ l. on_first m (map strain_of l)) e)
 
 zero_below : (n : ℕ) → ltb 0 n ≡ false → n ≡ 0
@@ -189,7 +198,8 @@ inside_sign opened numbers ms rest = subst (IsInside (marks.Ending numbers ∷ m
     (sym (ap (map strain_of) (sign_stays opened true numbers ms) ∙ map_first (marks.Ending numbers) opened true ms))
     (sign_inner numbers ms (map strain_of (texts_of opened true ms)) (rest.inside opened))
 
-inside_plain : (opened : Bool) (m : Mark) (ms : List Mark) → in_ending m ≡ true → closes_ending m ≡ false → is_ending m ≡ false → Readings ms → IsInside (m ∷ ms) (map strain_of (texts_of opened true (m ∷ ms)))
+inside_plain : (opened : Bool) (m : Mark) (ms : List Mark) → in_ending m ≡ true → closes_ending m ≡ false → is_ending m ≡ false
+    → Readings ms → IsInside (m ∷ ms) (map strain_of (texts_of opened true (m ∷ ms)))
 inside_plain opened m ms within unclosed plain rest = subst (IsInside (m ∷ ms))
     (sym (ap (map strain_of) (inside_stays opened m ms unclosed) ∙ map_first m opened true ms))
     (inside_more m ms (map strain_of (texts_of opened true ms)) within plain (rest.inside opened))

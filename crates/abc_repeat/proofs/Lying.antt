@@ -1,16 +1,16 @@
--- What is played stands in the section, and each of its places is that of something played.
+-- What is played is in the section, and each of its places is that of something played.
 use Rattle.std.proofs.Common.{◌≡◌, ℕ, ◌+◌, Bool, true, false, cond, Some, List, [], ◌∷◌, ◌++◌, length, map, All, refl, sym, ap, ◌∙◌, arith, append_assoc, append-nil, length-append}
 use Rattle.std.specs.Prelude.{slice_get}
 use Rattle.std.specs.List.{flat_map, range_with_len}
 use Rattle.std.proofs.lemmas.List.Elements.{All-nil, All-cons, All-append}
 use Rattle.abc_repeat.specs.declared.mark.Mark.{Mark}
 use Rattle.abc_repeat.specs.declared.mark.Mark.TheVariants as marks
-use Rattle.abc_repeat.specs.Mark.{is_ending, names, opens_next}
+use Rattle.abc_repeat.specs.Mark.{is_ending, has_number, opens_next}
 use Rattle.abc_repeat.specs.Strain.{Ending, Strain, endings_text, text_of, ends_strain, put_first, texts_of, strain_of, strains_of}
 use Rattle.abc_repeat.specs.Play.{places_from, first_ending, pass_of, strain_play, plays_from, most_passes, play_of, IsPlayed}
 use Rattle.abc_repeat.proofs.Cuts.{text_back}
 
--- these marks stand in the whole from this place on
+-- these marks are in the whole from this place on
 pub record Lies (whole : List Mark) (at : ℕ) (ms : List Mark) : Type 0 where
   pub front : List Mark
   pub back : List Mark
@@ -49,7 +49,7 @@ ending_played : (whole : List Mark) (pass at : ℕ) (endings : List Ending) → 
 ending_played whole pass at [] h = All-nil (IsPlayed whole)
 ending_played whole pass at (ending ∷ endings) h =
     let behind : Lies whole (at + 1) (ending.run ++ endings_text endings) = back_lies (marks.Ending ending.numbers ∷ []) (ending.run ++ endings_text endings) h in
-    elim (names ending.numbers pass) as (λ b. All (IsPlayed whole) (cond b (places_from (at + 1) ending.run) (first_ending pass (at + 1 + length ending.run) endings))) [
+    elim (has_number ending.numbers pass) as (λ b. All (IsPlayed whole) (cond b (places_from (at + 1) ending.run) (first_ending pass (at + 1 + length ending.run) endings))) [
       | true ↦ places_played whole (at + 1) ending.run (front_lies ending.run (endings_text endings) behind)
       | false ↦ ending_played whole pass (at + 1 + length ending.run) endings (back_lies ending.run (endings_text endings) behind)
     ]
@@ -88,7 +88,8 @@ joined-first m (text ∷ texts) = ap (λ l. l ++ joined (map strain_of texts)) (
 joined_back : (opened inside : Bool) (ms : List Mark) → joined (map strain_of (texts_of opened inside ms)) ≡ ms
 joined_back opened inside [] = refl
 joined_back opened inside (m ∷ ms) =
-    elim (ends_strain opened inside m ms) as (λ b. joined (map strain_of (cond b ((m ∷ []) ∷ texts_of (opens_next m) false ms) (put_first m (texts_of opened (Rattle.std.specs.Prelude.◌||◌ inside (is_ending m)) ms)))) ≡ m ∷ ms) [
+    elim (ends_strain opened inside m ms) as (λ b. joined (map strain_of
+    (cond b ((m ∷ []) ∷ texts_of (opens_next m) false ms) (put_first m (texts_of opened (Rattle.std.specs.Prelude.◌||◌ inside (is_ending m)) ms)))) ≡ m ∷ ms) [
       | true ↦ ap (λ l. l ++ joined (map strain_of (texts_of (opens_next m) false ms))) (text_back (m ∷ [])) ∙ ap (λ l. m ∷ l) (joined_back (opens_next m) false ms)
       | false ↦
           joined-first m (texts_of opened (Rattle.std.specs.Prelude.◌||◌ inside (is_ending m)) ms)

@@ -51,6 +51,7 @@ pub told_too_long : (most : ℕ) (order : Option (List ℕ)) (letters : List ℕ
 told_too_long most order letters said long is unknown = (λ e. (long, (let same : said ≡ unknown = cc in sym same ∙ is)), λ h. ap (λ u. Err (TooLong u)) (is ∙ sym h.1))
 
 -- another answer
-pub not_too_long : (most : ℕ) (order : Option (List ℕ)) (letters : List ℕ) (result : Result Played OrderFault) → length (sections_of order letters) ≤ most → ((unknown : Bool) → result ≡ Err (TooLong unknown) → ⊥)
+pub not_too_long : (most : ℕ) (order : Option (List ℕ)) (letters : List ℕ) (result : Result Played OrderFault)
+    → length (sections_of order letters) ≤ most → ((unknown : Bool) → result ≡ Err (TooLong unknown) → ⊥)
     → (unknown : Bool) → ◌↔◌ (result ≡ Err (TooLong unknown)) (IsTooLong most order letters unknown)
 not_too_long most order letters result few other unknown = (λ e. absurd (other unknown e), λ h. absurd (omega (arith, h.0)))

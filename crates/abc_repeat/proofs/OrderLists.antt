@@ -14,7 +14,7 @@ pub length-copies : (n : ℕ) (xs : List ℕ) → length (concat (replicate n xs
 length-copies zero xs = omega arith
 length-copies (suc n) xs = length-append xs (concat (replicate n xs)) ∙ ap (λ k. length xs + k) (length-copies n xs) ∙ omega arith
 
--- two lists with one element behind each
+-- two lists with one element after each
 push_same : (xs ys : List ℕ) (j k : ℕ) → xs ++ j ∷ [] ≡ ys ++ k ∷ [] → (xs ≡ ys) × (j ≡ k)
 push_same [] [] j k e = (refl, cc)
 push_same [] (y ∷ ys) j k e = absurd (omega (arith, ap length e, length-append ys (k ∷ [])))

@@ -1,5 +1,6 @@
 -- What the front of an order plays, byte by byte.
-use Rattle.std.proofs.Common.{◌≡◌, ℕ, ◌+◌, ◌<◌, ◌≤◌, false, true, List, [], ◌∷◌, ◌++◌, length, take, drop, replicate, Option, None, Some, IsSome, Vec, Global, refl, sym, ap, ◌∙◌, subst, arith, length-append, append_assoc, append-nil}
+use Rattle.std.proofs.Common.{◌≡◌, ℕ, ◌+◌, ◌<◌, ◌≤◌, false, true, List, [], ◌∷◌, ◌++◌, length, take, drop, replicate, Option, None, Some, IsSome, Vec}
+use Rattle.std.proofs.Common.{Global, refl, sym, ap, ◌∙◌, subst, arith, length-append, append_assoc, append-nil}
 use Rattle.std.specs.List.{concat, cons_option, filter_map}
 use Rattle.std.specs.Option.{option_to_list, unwrap_or}
 use Rattle.std.specs.Char.{is_ascii_digit, is_ascii_uppercase}
@@ -23,7 +24,8 @@ begins_inside section played play is =
     omega (arith, whole, is.begin, length-append (sections_with section (letters_around played.around ++ played.before)) (filter_map section played.item))
 
 -- the last item is played as often as its count says
-pub item_ended : (section : ℕ → Option ℕ) (around before item items : List ℕ) (begin n : ℕ) → items ≡ sections_with section (around ++ before ++ item) → begin ≡ length (sections_with section (around ++ before))
+pub item_ended : (section : ℕ → Option ℕ) (around before item items : List ℕ) (begin n : ℕ)
+    → items ≡ sections_with section (around ++ before ++ item) → begin ≡ length (sections_with section (around ++ before))
     → take begin items ++ concat (replicate n (drop begin items)) ≡ sections_with section (around ++ (before ++ concat (replicate n item)))
 item_ended section around before item items begin n is begins =
     let front = sections_with section (around ++ before) in
@@ -49,12 +51,13 @@ end_played section played play sections begin is whole begins = record {
   count = refl;
 }
 
--- one letter, behind an item that is ended
+-- one letter, after an item that is ended
 one_section : (o : Option ℕ) → cons_option o [] ≡ option_to_list o
 one_section None = refl
 one_section (Some k) = refl
 
-pub letter_played : (section : ℕ → Option ℕ) (played : Played) (play : OrderPlay) (sections : Vec ℕ Global) (b : ℕ) → is_ascii_uppercase b ≡ true → IsPlayOf section (with_item played.around (letters_so_far played) []) play
+pub letter_played : (section : ℕ → Option ℕ) (played : Played) (play : OrderPlay) (sections : Vec ℕ Global) (b : ℕ)
+    → is_ascii_uppercase b ≡ true → IsPlayOf section (with_item played.around (letters_so_far played) []) play
     → sections.items ≡ play.sections.items ++ option_to_list (section b) → IsPlayOf section (read_on played b) (record play { sections = sections })
 letter_played section played play sections b upper is pushed =
     let front = letters_around played.around ++ letters_so_far played in

@@ -8,7 +8,7 @@ use Rattle.std.proofs.lemmas.List.Elements.{filter_map-append}
 use Rattle.arrayvec.specs.ArrayVec.{ArrayVec}
 use Rattle.abc_fields.specs.Letters.{Played, count_or_once, letters_so_far, close_group, count_on, is_order_byte, read_on}
 use Rattle.abc_fields.proofs.Fronts.{reads_letter, reads_open, reads_close, reads_digit, reads_silent}
-use Rattle.abc_repeat.specs.declared.order_size.Size.{Size}
+use Rattle.abc_repeat.specs.declared.order_size.OrderSize.{OrderSize}
 use Rattle.abc_repeat.specs.OrderSize.{size_of, sizes_of, IsSizeOf}
 use Rattle.abc_repeat.proofs.Numbers.{min-product, sizes_join}
 use Rattle.abc_repeat.proofs.OrderLists.{filter_map-copies, length-copies, popped, popped_none}
@@ -35,47 +35,49 @@ one_size : (o : Option ℕ) → bool_byte (is_some o) ≡ min (length (cons_opti
 one_size None = refl
 one_size (Some k) = refl
 
-pub letter_sized : (section : ℕ → Option ℕ) (played : Played) (size : Size) (b so_far i : ℕ) → IsSizeOf section played size → is_ascii_uppercase b ≡ true → so_far ≡ size_of section (letters_so_far played)
-    → i ≡ bool_byte (is_some (section b)) → IsSizeOf section (read_on played b) (record { around = size.around; before = so_far; item = i; count = None })
-letter_sized section played size b so_far i is upper far one =
-    subst (λ p. IsSizeOf section p (record { around = size.around; before = so_far; item = i; count = None })) (sym (reads_letter played b upper))
+pub letter_sized : (section : ℕ → Option ℕ) (played : Played) (size : OrderSize) (b total i : ℕ) → IsSizeOf section played size
+    → is_ascii_uppercase b ≡ true → total ≡ size_of section (letters_so_far played)
+    → i ≡ bool_byte (is_some (section b)) → IsSizeOf section (read_on played b) (record { around = size.around; before = total; item = i; count = None })
+letter_sized section played size b total i is upper far one =
+    subst (λ p. IsSizeOf section p (record { around = size.around; before = total; item = i; count = None })) (sym (reads_letter played b upper))
     (record { around = is.around; before = far; item = one ∙ one_size (section b); count = refl })
 
 -- the beginning of a group
-pub open_sized : (section : ℕ → Option ℕ) (played : Played) (size : Size) (around : ArrayVec ℕ) (b so_far : ℕ) → IsSizeOf section played size → b ≡ 40 → so_far ≡ size_of section (letters_so_far played)
-    → around.items ≡ size.around.items ++ so_far ∷ [] → IsSizeOf section (read_on played b) (record { around = around; before = 0; item = 0; count = None })
-open_sized section played size around b so_far is opens far pushed =
+pub open_sized : (section : ℕ → Option ℕ) (played : Played) (size : OrderSize) (around : ArrayVec ℕ) (b total : ℕ)
+    → IsSizeOf section played size → b ≡ 40 → total ≡ size_of section (letters_so_far played)
+    → around.items ≡ size.around.items ++ total ∷ [] → IsSizeOf section (read_on played b) (record { around = around; before = 0; item = 0; count = None })
+open_sized section played size around b total is opens far pushed =
     subst (λ p. IsSizeOf section p (record { around = around; before = 0; item = 0; count = None })) (sym (ap (read_on played) opens ∙ reads_open played))
-    (record { around = pushed ∙ ap (λ l. l ++ so_far ∷ []) is.around ∙ ap (λ k. sizes_of section played.around ++ k ∷ []) far; before = refl; item = refl; count = refl })
+    (record { around = pushed ∙ ap (λ l. l ++ total ∷ []) is.around ∙ ap (λ k. sizes_of section played.around ++ k ∷ []) far; before = refl; item = refl; count = refl })
 
 -- the end of a group
-closed_size : (section : ℕ → Option ℕ) (outer : List (List ℕ)) (inner : List ℕ) (around rest : ArrayVec ℕ) (last : Option ℕ) (so_far : ℕ) → around.items ≡ sizes_of section outer
-    → around.items ≡ rest.items ++ option_to_list last → (0 < length around.items → IsSome last) → so_far ≡ size_of section inner
-    → IsSizeOf section (close_group outer inner) (record { around = rest; before = unwrap_or last 0; item = so_far; count = None })
-closed_size section [] inner around rest last so_far is split some far =
+closed_size : (section : ℕ → Option ℕ) (outer : List (List ℕ)) (inner : List ℕ) (around rest : ArrayVec ℕ) (last : Option ℕ) (total : ℕ) → around.items ≡ sizes_of section outer
+    → around.items ≡ rest.items ++ option_to_list last → (0 < length around.items → IsSome last) → total ≡ size_of section inner
+    → IsSizeOf section (close_group outer inner) (record { around = rest; before = unwrap_or last 0; item = total; count = None })
+closed_size section [] inner around rest last total is split some far =
     let none = popped_none around.items rest.items last is split in
     record { around = none.0; before = ap (λ o. unwrap_or o 0) none.1; item = far; count = refl }
-closed_size section (before ∷ outer) inner around rest last so_far is split some far =
+closed_size section (before ∷ outer) inner around rest last total is split some far =
     let one = popped around.items (sizes_of section outer) rest.items (size_of section before) last is split some in
     record { around = one.0; before = ap (λ o. unwrap_or o 0) one.1; item = far; count = refl }
 
-pub close_sized : (section : ℕ → Option ℕ) (played : Played) (size : Size) (rest : ArrayVec ℕ) (last : Option ℕ) (b so_far before : ℕ) → IsSizeOf section played size → b ≡ 41
-    → size.around.items ≡ rest.items ++ option_to_list last → (0 < length size.around.items → IsSome last) → before ≡ unwrap_or last 0 → so_far ≡ size_of section (letters_so_far played)
-    → IsSizeOf section (read_on played b) (record { around = rest; before = before; item = so_far; count = None })
-close_sized section played size rest last b so_far before is closes split some outside far =
-    subst (λ k. IsSizeOf section (read_on played b) (record { around = rest; before = k; item = so_far; count = None })) (sym outside)
-    (subst (λ p. IsSizeOf section p (record { around = rest; before = unwrap_or last 0; item = so_far; count = None })) (sym (ap (read_on played) closes ∙ reads_close played))
-    (closed_size section played.around (letters_so_far played) size.around rest last so_far is.around split some far))
+pub close_sized : (section : ℕ → Option ℕ) (played : Played) (size : OrderSize) (rest : ArrayVec ℕ) (last : Option ℕ) (b total before : ℕ) → IsSizeOf section played size → b ≡ 41
+    → size.around.items ≡ rest.items ++ option_to_list last → (0 < length size.around.items → IsSome last) → before ≡ unwrap_or last 0 → total ≡ size_of section (letters_so_far played)
+    → IsSizeOf section (read_on played b) (record { around = rest; before = before; item = total; count = None })
+close_sized section played size rest last b total before is closes split some outside far =
+    subst (λ k. IsSizeOf section (read_on played b) (record { around = rest; before = k; item = total; count = None })) (sym outside)
+    (subst (λ p. IsSizeOf section p (record { around = rest; before = unwrap_or last 0; item = total; count = None })) (sym (ap (read_on played) closes ∙ reads_close played))
+    (closed_size section played.around (letters_so_far played) size.around rest last total is.around split some far))
 
 -- one digit
-pub digit_sized : (section : ℕ → Option ℕ) (played : Played) (size : Size) (b n : ℕ) → IsSizeOf section played size → is_ascii_digit b ≡ true → n ≡ count_on size.count b
+pub digit_sized : (section : ℕ → Option ℕ) (played : Played) (size : OrderSize) (b n : ℕ) → IsSizeOf section played size → is_ascii_digit b ≡ true → n ≡ count_on size.count b
     → IsSizeOf section (read_on played b) (record size { count = Some n })
 digit_sized section played size b n is digit longer =
     subst (λ p. IsSizeOf section p (record size { count = Some n })) (sym (reads_digit played b digit))
     (record { around = is.around; before = is.before; item = is.item; count = ap Some (longer ∙ ap (λ o. count_on o b) is.count) })
 
 -- a byte that says nothing
-pub silent_sized : (section : ℕ → Option ℕ) (played : Played) (size : Size) (b : ℕ) → IsSizeOf section played size → is_order_byte b ≡ false → IsSizeOf section (read_on played b) size
+pub silent_sized : (section : ℕ → Option ℕ) (played : Played) (size : OrderSize) (b : ℕ) → IsSizeOf section played size → is_order_byte b ≡ false → IsSizeOf section (read_on played b) size
 silent_sized section played size b is silent = subst (λ p. IsSizeOf section p size) (sym (reads_silent played b silent)) is
 
 -- as many groups are open

@@ -1,11 +1,12 @@
 -- The passes of a strain, one after another.
-use Rattle.std.proofs.Common.{◌≡◌, ℕ, zero, suc, ◌+◌, ◌*◌, ◌<◌, ◌≤◌, Bool, true, false, cond, leb, ◌&&◌, List, [], ◌∷◌, ◌++◌, length, count_by, refl, sym, ap, ◌∙◌, ⊎_elim, arith, add-zero, append-nil, length-append}
+use Rattle.std.proofs.Common.{◌≡◌, ℕ, zero, suc, ◌+◌, ◌*◌, ◌<◌, ◌≤◌, Bool, true, false, cond, leb, ◌&&◌, List, [], ◌∷◌, ◌++◌, length, count_by, refl}
+use Rattle.std.proofs.Common.{sym, ap, ◌∙◌, ⊎_elim, arith, add-zero, append-nil, length-append}
 use Rattle.std.specs.List.{flat_map, range_with_len}
 use Rattle.std.proofs.lemmas.Bool.{cases_lt}
 use Rattle.std.proofs.lemmas.Bool.Decides.{nat_tests}
 use Rattle.std.proofs.lemmas.List.Concat.{flat_map-append}
 use Rattle.abc_repeat.specs.declared.mark.Mark.{Mark}
-use Rattle.abc_repeat.specs.Mark.{is_play, names}
+use Rattle.abc_repeat.specs.Mark.{is_play, has_number}
 use Rattle.abc_repeat.specs.Strain.{Ending, Strain, text_of}
 use Rattle.abc_repeat.specs.Play.{places_from, first_ending, ending_of, pass_of, most_passes, endings_size, strain_play}
 use Rattle.abc_repeat.proofs.Places.{length-places}
@@ -31,8 +32,8 @@ and_false : (a b : Bool) → a ≡ false → (a && b) ≡ false
 and_false true b e = cc
 and_false false b e = refl
 
-late : (numbers pass : ℕ) → 32 < pass → names numbers pass ≡ false
-unfolding names
+late : (numbers pass : ℕ) → 32 < pass → has_number numbers pass ≡ false
+unfolding has_number
 late numbers pass h = let no : leb pass 32 ≡ false = grind (arith, nat_tests) in and_false (leb pass 32) _ no
 
 -- no ending is for a pass beyond the 32nd
@@ -46,7 +47,8 @@ late_ending pass at (ending ∷ endings) h =
 pub length-first_ending : (pass at other : ℕ) (endings : List Ending) → length (first_ending pass at endings) ≡ length (first_ending pass other endings)
 length-first_ending pass at other [] = refl
 length-first_ending pass at other (ending ∷ endings) =
-    elim (names ending.numbers pass) as (λ b. length (cond b (places_from (at + 1) ending.run) (first_ending pass (at + 1 + length ending.run) endings)) ≡ length (cond b (places_from (other + 1) ending.run) (first_ending pass (other + 1 + length ending.run) endings))) [
+    elim (has_number ending.numbers pass) as (λ b. length (cond b (places_from (at + 1) ending.run)
+    (first_ending pass (at + 1 + length ending.run) endings)) ≡ length (cond b (places_from (other + 1) ending.run) (first_ending pass (other + 1 + length ending.run) endings))) [
       | true ↦ length-places (at + 1) ending.run ∙ sym (length-places (other + 1) ending.run)
       | false ↦ length-first_ending pass (at + 1 + length ending.run) (other + 1 + length ending.run) endings
     ]
@@ -56,14 +58,16 @@ unfolding endings_size
 length-passes at strain zero = omega arith
 length-passes at strain (suc n) =
     let more : length (passes_to at strain (suc n)) ≡ length (passes_to at strain n) + (length (places_from at strain.common) + length (ending_of at strain (suc n))) =
-    ap length (passes_more at strain n) ∙ length-append (passes_to at strain n) (pass_of at strain (suc n)) ∙ ap (λ k. length (passes_to at strain n) + k) (length-append (places_from at strain.common) (ending_of at strain (suc n))) in
+    ap length (passes_more at strain n) ∙ length-append (passes_to at strain n) (pass_of at strain (suc n))
+    ∙ ap (λ k. length (passes_to at strain n) + k) (length-append (places_from at strain.common) (ending_of at strain (suc n))) in
     let common = length-places at strain.common in
     let ending = length-first_ending (suc n) (at + length strain.common) (length strain.common) strain.endings in
     let before = length-passes at strain n in
     omega arith
 
 -- how many places the play of a strain has, wherever it begins
-pub length-strain_play : (at : ℕ) (strain : Strain) → length (strain_play at strain) ≡ most_passes (text_of strain) * count_by is_play strain.common + endings_size strain (most_passes (text_of strain))
+pub length-strain_play : (at : ℕ) (strain : Strain) → length (strain_play at strain)
+    ≡ most_passes (text_of strain) * count_by is_play strain.common + endings_size strain (most_passes (text_of strain))
 unfolding strain_play
 length-strain_play at strain = length-passes at strain (most_passes (text_of strain))
 
@@ -79,7 +83,7 @@ endings_size-late strain (suc n) top h k = ⊎_elim
     omega arith)
     (cases_lt n top)
 
--- passes beyond the 32nd play nothing where the common part plays nothing
+-- passes beyond the 32nd play nothing if the common part plays nothing
 pub passes_to-late : (at : ℕ) (strain : Strain) (n top : ℕ) → places_from at strain.common ≡ [] → 32 ≤ top → top ≤ n → passes_to at strain n ≡ passes_to at strain top
 passes_to-late at strain zero top none h k = let e : 0 ≡ top = omega arith in ap (passes_to at strain) e
 passes_to-late at strain (suc n) top none h k = ⊎_elim

@@ -6,13 +6,15 @@ use Rattle.std.proofs.lemmas.List.Elements.{All-nil, All-cons, All-head, All-tai
 use Rattle.abc_repeat.specs.declared.mark.Mark.{Mark}
 use Rattle.abc_repeat.specs.declared.mark.Mark.TheVariants as marks
 use Rattle.abc_repeat.specs.Mark.{is_ending, is_single, opens_next, closes_common, closes_ending}
-use Rattle.abc_repeat.specs.Strain.{Ending, Strain, without_endings, endings_text, in_common, in_ending, leads_to_ending, goes_on, IsInnerRun, straight, barred, AreEndings, to_the_end, to_a_bar, another, IsStrains, last_common, last_endings, common_part, with_endings, ends_strain, put_first, texts_of, with_mark, strain_of, strains_from}
+use Rattle.abc_repeat.specs.Strain.{Ending, Strain, without_endings, endings_text, in_common, in_ending, leads_to_ending, goes_on, IsInnerRun}
+use Rattle.abc_repeat.specs.Strain.{straight, barred, AreEndings, to_the_end, to_a_bar, another, IsStrains, last_common, last_endings, common_part}
+use Rattle.abc_repeat.specs.Strain.{with_endings, ends_strain, put_first, texts_of, with_mark, strain_of, strains_from}
 
 or_second : (a b : Bool) → b ≡ true → (a || b) ≡ true
 or_second true b e = refl
 or_second false b e = e
 
--- marks in front of the first of some texts
+-- marks before the first of some texts
 abbrev pub put_front : List Mark → List (List Mark) → List (List Mark)
 put_front [] texts = texts
 put_front (m ∷ ms) texts = put_first m (put_front ms texts)
@@ -26,7 +28,8 @@ put_front-append [] ns texts = refl
 put_front-append (m ∷ ms) ns texts = ap (put_first m) (put_front-append ms ns texts)
 
 -- a mark that does not end its strain
-pub stays : (opened inside : Bool) (m : Mark) (rest : List Mark) → ends_strain opened inside m rest ≡ false → texts_of opened inside (m ∷ rest) ≡ put_first m (texts_of opened (inside || is_ending m) rest)
+pub stays : (opened inside : Bool) (m : Mark) (rest : List Mark) → ends_strain opened inside m rest ≡ false
+    → texts_of opened inside (m ∷ rest) ≡ put_first m (texts_of opened (inside || is_ending m) rest)
 stays opened inside m rest e = cond-false (ends_strain opened inside m rest) _ _ e
 
 -- a mark that ends it
@@ -75,7 +78,8 @@ gap_front opened (m ∷ gap) rest h =
 gap_leads : (gap rest : List Mark) (numbers : ℕ) → AllPass is_single gap → leads_to_ending (gap ++ marks.Ending numbers ∷ rest) ≡ true
 gap_leads [] rest numbers h = refl
 gap_leads (m ∷ gap) rest numbers h =
-    or_second (is_ending m) _ (ap (λ b. b && leads_to_ending (gap ++ marks.Ending numbers ∷ rest)) (All-head (λ x. is_single x ≡ true) m gap h) ∙ gap_leads gap rest numbers (All-tail (λ x. is_single x ≡ true) m gap h))
+    or_second (is_ending m) _ (ap (λ b. b && leads_to_ending (gap ++ marks.Ending numbers ∷ rest))
+    (All-head (λ x. is_single x ≡ true) m gap h) ∙ gap_leads gap rest numbers (All-tail (λ x. is_single x ≡ true) m gap h))
 
 going_on : (bar : Mark) (rest : List Mark) → opens_next bar ≡ false → leads_to_ending rest ≡ true → goes_on bar rest ≡ true
 going_on bar rest e f = ap (λ b. not b && leads_to_ending rest) e ∙ f
@@ -84,12 +88,13 @@ and_not : (a b : Bool) → b ≡ true → (a && not b) ≡ false
 and_not true b e = ap not e
 and_not false b e = refl
 
--- a bar behind which the strain goes on
+-- a bar after which the strain goes on
 pub bar_stays : (opened : Bool) (bar : Mark) (rest : List Mark) → goes_on bar rest ≡ true → texts_of opened true (bar ∷ rest) ≡ put_first bar (texts_of opened true rest)
 bar_stays opened bar rest e = stays opened true bar rest (and_not (closes_ending bar) (goes_on bar rest) e)
 
 -- a bar that ends its ending and the strain
-pub bar_ends : (opened : Bool) (bar : Mark) (rest : List Mark) → closes_ending bar ≡ true → goes_on bar rest ≡ false → texts_of opened true (bar ∷ rest) ≡ (bar ∷ []) ∷ texts_of (opens_next bar) false rest
+pub bar_ends : (opened : Bool) (bar : Mark) (rest : List Mark) → closes_ending bar ≡ true → goes_on bar rest ≡ false
+    → texts_of opened true (bar ∷ rest) ≡ (bar ∷ []) ∷ texts_of (opens_next bar) false rest
 bar_ends opened bar rest e f = ends opened true bar rest (ap (λ b. b && not (goes_on bar rest)) e ∙ ap not f)
 
 -- an ending's sign
@@ -97,7 +102,8 @@ pub sign_stays : (opened inside : Bool) (numbers : ℕ) (rest : List Mark) → t
 sign_stays opened true numbers rest = refl
 sign_stays opened false numbers rest = refl
 
-inner_front : (opened : Bool) (run rest : List Mark) (numbers : ℕ) → IsInnerRun run → texts_of opened true (run ++ marks.Ending numbers ∷ rest) ≡ put_front run (texts_of opened true (marks.Ending numbers ∷ rest))
+inner_front : (opened : Bool) (run rest : List Mark) (numbers : ℕ) → IsInnerRun run
+    → texts_of opened true (run ++ marks.Ending numbers ∷ rest) ≡ put_front run (texts_of opened true (marks.Ending numbers ∷ rest))
 inner_front opened run rest numbers (straight body h) = run_front opened body (marks.Ending numbers ∷ rest) h
 inner_front opened run rest numbers (barred body gap bar h closes opens singles) =
     let behind = marks.Ending numbers ∷ rest in
@@ -107,12 +113,12 @@ inner_front opened run rest numbers (barred body gap bar h closes opens singles)
     ∙ ap (λ l. put_front body (put_first bar l)) (gap_front opened gap behind singles)
     ∙ sym (put_front-append body (bar ∷ gap) (texts_of opened true behind))
 
--- what may stand behind endings that such a bar ends
+-- what may be after endings that such a bar ends
 abbrev Behind : Option Mark → List Mark → Type 0
 Behind None rest = rest ≡ []
 Behind (Some bar) rest = goes_on bar rest ≡ false
 
--- the texts behind such endings
+-- the texts after such endings
 abbrev later : Option Mark → List Mark → List (List Mark)
 later None rest = []
 later (Some bar) rest = texts_of (opens_next bar) false rest
@@ -135,11 +141,13 @@ endings_cut : (opened inside : Bool) {endings : List Ending} {closing : Option M
     → texts_of opened inside (endings_text endings ++ rest) ≡ endings_text endings ∷ later closing rest
 endings_cut opened inside (to_the_end numbers body h) rest none =
     sign_stays opened inside numbers ((body ++ []) ++ rest)
-    ∙ ap (put_first (marks.Ending numbers)) (ap (λ r. texts_of opened true ((body ++ []) ++ r)) none ∙ ap (texts_of opened true) (append-nil (body ++ [])) ∙ run_front opened body [] h ∙ put_front-cons body [] [])
+    ∙ ap (put_first (marks.Ending numbers)) (ap (λ r. texts_of opened true ((body ++ []) ++ r)) none
+    ∙ ap (texts_of opened true) (append-nil (body ++ [])) ∙ run_front opened body [] h ∙ put_front-cons body [] [])
 endings_cut opened inside (to_a_bar numbers body bar h closes) rest stops =
     sign_stays opened inside numbers (((body ++ bar ∷ []) ++ []) ++ rest)
     ∙ ap (put_first (marks.Ending numbers))
-    (ap (texts_of opened true) (bar_seam body rest bar) ∙ run_front opened body (bar ∷ rest) h ∙ ap (put_front body) (bar_ends opened bar rest closes stops) ∙ put_front-cons body (bar ∷ []) (texts_of (opens_next bar) false rest)
+    (ap (texts_of opened true) (bar_seam body rest bar) ∙ run_front opened body (bar ∷ rest) h
+    ∙ ap (put_front body) (bar_ends opened bar rest closes stops) ∙ put_front-cons body (bar ∷ []) (texts_of (opens_next bar) false rest)
     ∙ ap (λ l. l ∷ texts_of (opens_next bar) false rest) (sym (append-nil (body ++ bar ∷ []))))
 endings_cut opened inside (another numbers run endings closing inner are) rest behind =
     let s = signed are in

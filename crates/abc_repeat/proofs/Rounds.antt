@@ -63,7 +63,8 @@ rounds_end at e p rounds top text [] wide passes is turns done short =
     silent_rounds at e p (most_passes text) top (strain_of text) (sym is) wide passes (done ∙ turns) ∙ sym (play_is at text)
 rounds_end at e p rounds top text (x ∷ xs) wide passes is turns done short =
     let count : length (x ∷ xs) ≡ count_by is_play (strain_of text).common = ap length is ∙ length-places at (strain_of text).common in
-    let many : most_passes text ≤ top = loud_passes (most_passes text) (count_by is_play (strain_of text).common) (endings_size (strain_of text) (most_passes text)) (length (strain_play at (strain_of text))) top (omega arith) (length-play at text) short in
+    let many : most_passes text ≤ top = loud_passes (most_passes text) (count_by is_play (strain_of text).common)
+    (endings_size (strain_of text) (most_passes text)) (length (strain_play at (strain_of text))) top (omega arith) (length-play at text) short in
     let turned : rounds ≡ p = turns ∙ some_rounds (length xs) p in
     let same : e ≡ most_passes text = omega arith in
     ap (passes_to at (strain_of text)) same ∙ sym (play_is at text)

@@ -136,7 +136,8 @@ leads_told (marks.Ending numbers ∷ rest) e = ([], numbers, rest, All-nil IsBet
 gap_leads : (gap rest : List Mark) (numbers : ℕ) → All IsBetween gap → leads_to_ending (gap ++ marks.Ending numbers ∷ rest) ≡ true
 gap_leads [] rest numbers h = refl
 gap_leads (m ∷ gap) rest numbers h =
-    or_right (is_ending m) _ (and_both (is_single m) (leads_to_ending (gap ++ marks.Ending numbers ∷ rest)) (between_tested m (All-head IsBetween m gap h)) (gap_leads gap rest numbers (All-tail IsBetween m gap h)))
+    or_right (is_ending m) _ (and_both (is_single m) (leads_to_ending (gap ++ marks.Ending numbers ∷ rest))
+    (between_tested m (All-head IsBetween m gap h)) (gap_leads gap rest numbers (All-tail IsBetween m gap h)))
 
 pub leads_tested : (ms : List Mark) → SignComes ms → leads_to_ending ms ≡ true
 leads_tested ms h = ap leads_to_ending h.4 ∙ gap_leads h.0 h.2 h.1 h.3

@@ -8,66 +8,67 @@ use Rattle.std.proofs.lemmas.Bool.Decides.{nat_tests}
 use Rattle.std.proofs.lemmas.List.Elements.{All-nil, All-cons, All-contains}
 use Rattle.abc_repeat.specs.declared.mark.Mark.{Mark}
 use Rattle.abc_repeat.specs.declared.mark.Mark.TheVariants as marks
-use Rattle.abc_repeat.specs.Mark.{names, greatest_to, greatest, passes_of}
+use Rattle.abc_repeat.specs.Mark.{has_number, greatest_number_to, greatest_number, passes_of}
 use Rattle.abc_repeat.specs.Strain.{Ending, Strain, text_of}
 use Rattle.abc_repeat.specs.Play.{places_from, first_ending, most_passes, strain_play}
-use Rattle.abc_repeat.specs.PlayLaws.{PlacedEnding, placed, HasNumber, AsksFor, once, by_bar, by_ending, IsPassCount, turns_from, PlaysEnding, none, first, later, PlaysPasses, not_yet, once_more, IsStrainPlay}
+use Rattle.abc_repeat.specs.PlayLaws.{PlacedEnding, placed_ending, HasNumber, AsksFor, once, by_bar, by_ending, IsPassCount, turns_from, PlaysEnding}
+use Rattle.abc_repeat.specs.PlayLaws.{none, first, later, PlaysPasses, not_yet, once_more, IsStrainPlay}
 use Rattle.abc_repeat.proofs.Passes.{passes_to, passes_more, most_passes-some}
 
 -- numbers of an ending
-pub number_tested : (numbers i : ℕ) → HasNumber numbers i → names numbers i ≡ true
-unfolding names
+pub number_tested : (numbers i : ℕ) → HasNumber numbers i → has_number numbers i ≡ true
+unfolding has_number
 number_tested numbers i h =
     let few : leb i 32 ≡ true = let bound : i ≤ 32 = h.1 in grind (arith, nat_tests) in
     ap (λ b. b && eqb (bit_at numbers (i - 1)) 1) few ∙ ap (λ k. eqb k 1) h.2
 
-pub number_told : (numbers i : ℕ) → 0 < i → names numbers i ≡ true → HasNumber numbers i
-unfolding names
+pub number_told : (numbers i : ℕ) → 0 < i → has_number numbers i ≡ true → HasNumber numbers i
+unfolding has_number
 number_told numbers i some e =
     let parts = and_parts (leb i 32) (eqb (bit_at numbers (i - 1)) 1) e in
     let few : i ≤ 32 = let test : leb i 32 ≡ true = parts.0 in grind (arith, nat_tests) in
     (some, few, eqb-true (bit_at numbers (i - 1)) 1 parts.1)
 
-unnamed : (numbers i : ℕ) → ¬ HasNumber numbers i → 0 < i → names numbers i ≡ false
-unnamed numbers i h some = ⊎_elim (λ k. absurd (h (number_told numbers i some k))) (λ k. k) (cases_Bool (names numbers i))
+unnamed : (numbers i : ℕ) → ¬ HasNumber numbers i → 0 < i → has_number numbers i ≡ false
+unnamed numbers i h some = ⊎_elim (λ k. absurd (h (number_told numbers i some k))) (λ k. k) (cases_Bool (has_number numbers i))
 
-unnumbered : (numbers i : ℕ) → names numbers i ≡ false → ¬ HasNumber numbers i
+unnumbered : (numbers i : ℕ) → has_number numbers i ≡ false → ¬ HasNumber numbers i
 unnumbered numbers i e h = let yes = number_tested numbers i h in cc
 
 -- the greatest of them
-greatest_to-above : (numbers i n : ℕ) → i ≤ n → names numbers i ≡ true → i ≤ greatest_to numbers n
-unfolding greatest_to
-greatest_to-above numbers i zero le e = le
-greatest_to-above numbers i (suc n) le e = ⊎_elim
-    (λ named. let is : greatest_to numbers (suc n) ≡ suc n = cond-true (names numbers (suc n)) _ _ named in omega arith)
+greatest_number_to-above : (numbers i n : ℕ) → i ≤ n → has_number numbers i ≡ true → i ≤ greatest_number_to numbers n
+unfolding greatest_number_to
+greatest_number_to-above numbers i zero le e = le
+greatest_number_to-above numbers i (suc n) le e = ⊎_elim
+    (λ named. let is : greatest_number_to numbers (suc n) ≡ suc n = cond-true (has_number numbers (suc n)) _ _ named in omega arith)
     (λ unnamed.
-    let is : greatest_to numbers (suc n) ≡ greatest_to numbers n = cond-false (names numbers (suc n)) _ _ unnamed in
+    let is : greatest_number_to numbers (suc n) ≡ greatest_number_to numbers n = cond-false (has_number numbers (suc n)) _ _ unnamed in
     ⊎_elim
-    (λ less. let here = greatest_to-above numbers i n (omega arith) e in omega arith)
-    (λ more. let same : i ≡ suc n = omega arith in let yes : names numbers (suc n) ≡ true = ap (names numbers) (sym same) ∙ e in cc)
+    (λ less. let here = greatest_number_to-above numbers i n (omega arith) e in omega arith)
+    (λ more. let same : i ≡ suc n = omega arith in let yes : has_number numbers (suc n) ≡ true = ap (has_number numbers) (sym same) ∙ e in cc)
     (cases_lt i (suc n)))
-    (cases_Bool (names numbers (suc n)))
+    (cases_Bool (has_number numbers (suc n)))
 
-greatest_to-named : (numbers n : ℕ) → (greatest_to numbers n ≡ 0) ⊎ (names numbers (greatest_to numbers n) ≡ true)
-unfolding greatest_to
-greatest_to-named numbers zero = inl refl
-greatest_to-named numbers (suc n) = ⊎_elim
-    (λ named. inr (ap (names numbers) (cond-true (names numbers (suc n)) (suc n) (greatest_to numbers n) named) ∙ named))
+greatest_number_to-named : (numbers n : ℕ) → (greatest_number_to numbers n ≡ 0) ⊎ (has_number numbers (greatest_number_to numbers n) ≡ true)
+unfolding greatest_number_to
+greatest_number_to-named numbers zero = inl refl
+greatest_number_to-named numbers (suc n) = ⊎_elim
+    (λ named. inr (ap (has_number numbers) (cond-true (has_number numbers (suc n)) (suc n) (greatest_number_to numbers n) named) ∙ named))
     (λ unnamed.
-    let is : greatest_to numbers (suc n) ≡ greatest_to numbers n = cond-false (names numbers (suc n)) _ _ unnamed in
-    ⊎_elim (λ none. inl (is ∙ none)) (λ named. inr (ap (names numbers) is ∙ named)) (greatest_to-named numbers n))
-    (cases_Bool (names numbers (suc n)))
+    let is : greatest_number_to numbers (suc n) ≡ greatest_number_to numbers n = cond-false (has_number numbers (suc n)) _ _ unnamed in
+    ⊎_elim (λ none. inl (is ∙ none)) (λ named. inr (ap (has_number numbers) is ∙ named)) (greatest_number_to-named numbers n))
+    (cases_Bool (has_number numbers (suc n)))
 
-greatest-above : (numbers i : ℕ) → HasNumber numbers i → i ≤ greatest numbers
-unfolding greatest
-greatest-above numbers i h = greatest_to-above numbers i 32 h.1 (number_tested numbers i h)
+greatest-above : (numbers i : ℕ) → HasNumber numbers i → i ≤ greatest_number numbers
+unfolding greatest_number
+greatest-above numbers i h = greatest_number_to-above numbers i 32 h.1 (number_tested numbers i h)
 
-greatest-had : (numbers : ℕ) → 0 < greatest numbers → HasNumber numbers (greatest numbers)
-unfolding greatest
+greatest-had : (numbers : ℕ) → 0 < greatest_number numbers → HasNumber numbers (greatest_number numbers)
+unfolding greatest_number
 greatest-had numbers some = ⊎_elim
     (λ none. absurd (omega arith))
-    (λ named. number_told numbers (greatest numbers) some named)
-    (greatest_to-named numbers 32)
+    (λ named. number_told numbers (greatest_number numbers) some named)
+    (greatest_number_to-named numbers 32)
 
 -- no mark asks for more passes than there are
 all_below : (ms : List Mark) (n : ℕ) → most_passes ms ≤ n → All (λ m. passes_of m ≤ n) ms
@@ -79,7 +80,7 @@ asked_below ms _ once = most_passes-some ms
 asked_below ms _ (by_bar closes opens double has) =
     All-contains (λ m. passes_of m ≤ most_passes ms) ms (marks.Bar closes opens double) (all_below ms (most_passes ms) (omega arith)) has
 asked_below ms _ (by_ending numbers i has number) =
-    let top : greatest numbers ≤ most_passes ms = All-contains (λ m. passes_of m ≤ most_passes ms) ms (marks.Ending numbers) (all_below ms (most_passes ms) (omega arith)) has in
+    let top : greatest_number numbers ≤ most_passes ms = All-contains (λ m. passes_of m ≤ most_passes ms) ms (marks.Ending numbers) (all_below ms (most_passes ms) (omega arith)) has in
     let here = greatest-above numbers i number in
     omega arith
 
@@ -98,7 +99,7 @@ asked_behind m ms _ (by_ending numbers i has number) = by_ending numbers i (has_
 asked_here : (m : Mark) (ms : List Mark) → 1 < passes_of m → AsksFor (m ∷ ms) (passes_of m)
 asked_here marks.Play ms h = once
 asked_here (marks.Bar closes opens double) ms h = by_bar closes opens double (has_head (marks.Bar closes opens double) ms)
-asked_here (marks.Ending numbers) ms h = by_ending numbers (greatest numbers) (has_head (marks.Ending numbers) ms) (greatest-had numbers (omega arith))
+asked_here (marks.Ending numbers) ms h = by_ending numbers (greatest_number numbers) (has_head (marks.Ending numbers) ms) (greatest-had numbers (omega arith))
 
 most_asked : (ms : List Mark) → AsksFor ms (most_passes ms)
 most_asked [] = once
@@ -126,35 +127,37 @@ turns_are at (marks.Ending numbers ∷ ms) = turns_are (at + 1) ms
 -- endings with their places
 abbrev pub all_placed : ℕ → List Ending → List PlacedEnding
 all_placed at [] = []
-all_placed at (ending ∷ endings) = placed at ending.numbers ending.run ∷ all_placed (at + 1 + length ending.run) endings
+all_placed at (ending ∷ endings) = placed_ending at ending.numbers ending.run ∷ all_placed (at + 1 + length ending.run) endings
 
 ending_played : (pass at : ℕ) (endings : List Ending) → 0 < pass → PlaysEnding pass (all_placed at endings) (first_ending pass at endings)
 ending_played pass at [] some = none
 ending_played pass at (ending ∷ endings) some = ⊎_elim
     (λ named. subst (PlaysEnding pass (all_placed at (ending ∷ endings)))
-    (turns_are (at + 1) ending.run ∙ sym (cond-true (names ending.numbers pass) _ _ named))
-    (first (placed at ending.numbers ending.run) (all_placed (at + 1 + length ending.run) endings) (number_told ending.numbers pass some named)))
+    (turns_are (at + 1) ending.run ∙ sym (cond-true (has_number ending.numbers pass) _ _ named))
+    (first (placed_ending at ending.numbers ending.run) (all_placed (at + 1 + length ending.run) endings) (number_told ending.numbers pass some named)))
     (λ unnamed. subst (PlaysEnding pass (all_placed at (ending ∷ endings)))
-    (sym (cond-false (names ending.numbers pass) _ _ unnamed))
-    (later (placed at ending.numbers ending.run) (all_placed (at + 1 + length ending.run) endings) _ (unnumbered ending.numbers pass unnamed) (ending_played pass (at + 1 + length ending.run) endings some)))
-    (cases_Bool (names ending.numbers pass))
+    (sym (cond-false (has_number ending.numbers pass) _ _ unnamed))
+    (later (placed_ending at ending.numbers ending.run) (all_placed (at + 1 + length ending.run) endings) _
+    (unnumbered ending.numbers pass unnamed) (ending_played pass (at + 1 + length ending.run) endings some)))
+    (cases_Bool (has_number ending.numbers pass))
 
 -- the play of a pass is that of the first ending that is for it
-ending_one : (pass at : ℕ) (endings : List Ending) (others : List PlacedEnding) (play : List ℕ) → 0 < pass → others ≡ all_placed at endings → PlaysEnding pass others play → play ≡ first_ending pass at endings
+ending_one : (pass at : ℕ) (endings : List Ending) (others : List PlacedEnding) (play : List ℕ) → 0 < pass
+    → others ≡ all_placed at endings → PlaysEnding pass others play → play ≡ first_ending pass at endings
 ending_one pass at [] _ _ some is none = refl
 ending_one pass at [] _ _ some is (first ending endings has) = cc
 ending_one pass at [] _ _ some is (later ending endings play not behind) = cc
 ending_one pass at (own ∷ rest) _ _ some is none = cc
 ending_one pass at (own ∷ rest) _ _ some is (first ending endings has) =
-    let same : ending ≡ placed at own.numbers own.run = cc in
+    let same : ending ≡ placed_ending at own.numbers own.run = cc in
     ap (λ (e : PlacedEnding). turns_from e.from e.run) same
     ∙ turns_are (at + 1) own.run
-    ∙ sym (cond-true (names own.numbers pass) _ _ (number_tested own.numbers pass (subst (λ (e : PlacedEnding). HasNumber e.numbers pass) same has)))
+    ∙ sym (cond-true (has_number own.numbers pass) _ _ (number_tested own.numbers pass (subst (λ (e : PlacedEnding). HasNumber e.numbers pass) same has)))
 ending_one pass at (own ∷ rest) _ _ some is (later ending endings play not behind) =
-    let same : ending ≡ placed at own.numbers own.run = cc in
+    let same : ending ≡ placed_ending at own.numbers own.run = cc in
     let more : endings ≡ all_placed (at + 1 + length own.run) rest = cc in
     ending_one pass (at + 1 + length own.run) rest endings play some more behind
-    ∙ sym (cond-false (names own.numbers pass) _ _ (unnamed own.numbers pass (subst (λ (e : PlacedEnding). ¬ HasNumber e.numbers pass) same not) some))
+    ∙ sym (cond-false (has_number own.numbers pass) _ _ (unnamed own.numbers pass (subst (λ (e : PlacedEnding). ¬ HasNumber e.numbers pass) same not) some))
 
 -- passes
 passes_played : (at : ℕ) (strain : Strain) (n : ℕ) → PlaysPasses (turns_from at strain.common) (all_placed (at + length strain.common) strain.endings) n (passes_to at strain n)

@@ -4,15 +4,18 @@ use Rattle.std.specs.List.{AllPass}
 use Rattle.abc_repeat.specs.declared.mark.Mark.{Mark}
 use Rattle.abc_repeat.specs.declared.mark.Mark.TheVariants as marks
 use Rattle.abc_repeat.specs.Mark.{is_single, opens_next, closes_common, closes_ending}
-use Rattle.abc_repeat.specs.Strain.{Ending, Strain, without_endings, endings_text, text_of, in_common, in_ending, IsInnerRun, straight, barred, AreEndings, to_the_end, to_a_bar, another, IsStrains, last_common, last_endings, common_part, with_endings}
+use Rattle.abc_repeat.specs.Strain.{Ending, Strain, without_endings, endings_text, text_of, in_common, in_ending, IsInnerRun, straight, barred}
+use Rattle.abc_repeat.specs.Strain.{AreEndings, to_the_end, to_a_bar, another, IsStrains, last_common, last_endings, common_part, with_endings}
 use Rattle.abc_repeat.specs.Play.{strain_play, plays_from, play_of}
-use Rattle.abc_repeat.specs.PlayLaws.{PlacedEnding, placed, IsEndBar, AreEndingsFrom, until_end, until_bar, until_sign, past_bar, IsStrainPlay, IsPlayFrom, ends_in_common, ends_in_ending, after_common, after_endings, IsByTheRules, HasNoOtherPlay}
+use Rattle.abc_repeat.specs.PlayLaws.{PlacedEnding, placed_ending, IsEndBar, AreEndingsFrom, until_end, until_bar, until_sign, past_bar, IsStrainPlay}
+use Rattle.abc_repeat.specs.PlayLaws.{IsPlayFrom, ends_in_common, ends_in_ending, after_common, after_endings, IsByTheRules, HasNoOtherPlay}
 use Rattle.abc_repeat.proofs.Existence.{computed_reading}
 use Rattle.abc_repeat.proofs.Readings.{reading_computed}
-use Rattle.abc_repeat.proofs.RuleMarks.{test_none, end_tested, end_told, common_tested, common_told, last_tested, last_told, all_inside_told, all_inside_tested, all_between_told, all_between_tested, all_common_told, all_common_tested}
+use Rattle.abc_repeat.proofs.RuleMarks.{test_none, end_tested, end_told, common_tested, common_told, last_tested, last_told, all_inside_told}
+use Rattle.abc_repeat.proofs.RuleMarks.{all_inside_tested, all_between_told, all_between_tested, all_common_told, all_common_tested}
 use Rattle.abc_repeat.proofs.RulePasses.{all_placed, strain_played, strain_one}
 
--- an ending with the marks of those behind it
+-- an ending with the marks of those after it
 abbrev ended : ℕ → List Mark → Ending
 ended numbers run = record { numbers = numbers; run = run }
 
@@ -32,7 +35,7 @@ past at numbers body gap (marks.Bar c o double) endings closing h closes opens s
     (all_inside_told body h) is (all_between_told gap singles) more in
     subst Past none zero (end_told (marks.Bar c o double) closes) behind
 
--- an ending with another one behind it
+-- an ending with another one after it
 inner_placed : (at numbers : ℕ) {run : List Mark} (endings : List Ending) (closing : Option Mark) → IsInnerRun run
     → ((k : ℕ) → AreEndingsFrom k (all_placed k endings) (endings_text endings) closing)
     → AreEndingsFrom at (all_placed at (ended numbers run ∷ endings)) (endings_text (ended numbers run ∷ endings)) closing
@@ -44,9 +47,9 @@ inner_placed at numbers endings closing (barred body gap bar h closes opens sing
 -- endings have the rules
 endings_placed : {endings : List Ending} {closing : Option Mark} → AreEndings endings closing → (at : ℕ) → AreEndingsFrom at (all_placed at endings) (endings_text endings) closing
 endings_placed (to_the_end numbers body h) at =
-    subst (λ l. AreEndingsFrom at (placed at numbers body ∷ []) (marks.Ending numbers ∷ l) None) (sym (append-nil body)) (until_end at numbers body (all_inside_told body h))
+    subst (λ l. AreEndingsFrom at (placed_ending at numbers body ∷ []) (marks.Ending numbers ∷ l) None) (sym (append-nil body)) (until_end at numbers body (all_inside_told body h))
 endings_placed (to_a_bar numbers body bar h closes) at =
-    subst (λ l. AreEndingsFrom at (placed at numbers (body ++ bar ∷ []) ∷ []) (marks.Ending numbers ∷ l) (Some bar)) (sym (append-nil (body ++ bar ∷ [])))
+    subst (λ l. AreEndingsFrom at (placed_ending at numbers (body ++ bar ∷ []) ∷ []) (marks.Ending numbers ∷ l) (Some bar)) (sym (append-nil (body ++ bar ∷ [])))
     (until_bar at numbers body bar (all_inside_told body h) (end_told bar closes))
 endings_placed (another numbers run endings closing inner are) at = inner_placed at numbers endings closing inner (endings_placed are)
 
@@ -124,7 +127,7 @@ read_endings (until_sign at numbers body text endings closing h behind) =
     record {
       endings = ended numbers body ∷ rest.endings;
       are = another numbers body rest.endings closing (straight body (all_inside_tested body h)) rest.are;
-      places = ap (λ l. placed at numbers body ∷ l) rest.places;
+      places = ap (λ l. placed_ending at numbers body ∷ l) rest.places;
       whole = ap (λ l. marks.Ending numbers ∷ (body ++ l)) rest.whole;
     }
 read_endings (past_bar at numbers closes double body gap text endings closing h is singles behind) =
@@ -134,7 +137,7 @@ read_endings (past_bar at numbers closes double body gap text endings closing h 
     record {
       endings = ended numbers run ∷ rest.endings;
       are = another numbers run rest.endings closing (barred body gap bar (all_inside_tested body h) (end_tested bar is) refl (all_between_tested gap singles)) rest.are;
-      places = ap (λ l. placed at numbers run ∷ l) rest.places;
+      places = ap (λ l. placed_ending at numbers run ∷ l) rest.places;
       whole = ap (λ l. marks.Ending numbers ∷ (run ++ l)) rest.whole;
     }
 

@@ -1,12 +1,12 @@
--- Where the run of an ending stands in a strain.
+-- Where the run of an ending is in a strain.
 use Rattle.std.proofs.Common.{◌≡◌, ℕ, suc, ◌+◌, true, false, cond, List, [], ◌∷◌, length, drop, refl, ap, ◌∙◌, arith}
 use Rattle.abc_repeat.specs.declared.mark.Mark.{Mark}
 use Rattle.abc_repeat.specs.declared.mark.Mark.TheVariants as marks
-use Rattle.abc_repeat.specs.Mark.{names}
+use Rattle.abc_repeat.specs.Mark.{has_number}
 use Rattle.abc_repeat.specs.Strain.{strain_of}
 use Rattle.abc_repeat.specs.Play.{places_from, first_ending, run_start}
 
--- the places of the run that begins behind so many marks
+-- the places of the run that begins after so many marks
 abbrev run_at : ℕ → ℕ → List Mark → List ℕ
 run_at at start ms = places_from (at + start) (strain_of (drop start ms)).common
 
@@ -31,7 +31,8 @@ first_ending_at pass at (marks.Ending numbers ∷ ms) =
     let strain = strain_of ms in
     let here : at + 0 + 1 ≡ at + 1 = omega arith in
     let there : at + 0 + 1 + length strain.common ≡ at + 1 + length strain.common = omega arith in
-    elim (names numbers pass) as (λ b. cond b (places_from (at + 0 + 1) strain.common) (first_ending pass (at + 0 + 1 + length strain.common) strain.endings) ≡ run_at at (cond b 1 (1 + run_start pass ms)) (marks.Ending numbers ∷ ms)) [
+    elim (has_number numbers pass) as (λ b. cond b (places_from (at + 0 + 1) strain.common)
+    (first_ending pass (at + 0 + 1 + length strain.common) strain.endings) ≡ run_at at (cond b 1 (1 + run_start pass ms)) (marks.Ending numbers ∷ ms)) [
       | true ↦ ap (λ k. places_from k strain.common) here
       | false ↦
           ap (λ k. first_ending pass k strain.endings) there ∙ first_ending_at pass (at + 1) ms ∙ run_more at (run_start pass ms) (marks.Ending numbers) ms

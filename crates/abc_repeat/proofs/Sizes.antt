@@ -3,7 +3,7 @@ use Rattle.std.proofs.Common.{◌≡◌, ℕ, suc, ◌+◌, ◌-◌, ◌*◌, �
 use Rattle.std.proofs.lemmas.Bool.{cases_lt}
 use Rattle.abc_repeat.specs.declared.mark.Mark.{Mark}
 use Rattle.abc_repeat.specs.Mark.{is_play}
-use Rattle.abc_repeat.specs.Strain.{strain_of, first_text, opens_behind, strains_from}
+use Rattle.abc_repeat.specs.Strain.{strain_of, first_text, opens_after, strains_from}
 use Rattle.abc_repeat.specs.Play.{first_ending, run_start, most_passes, endings_size, strain_play, plays_from}
 use Rattle.abc_repeat.proofs.Cuts.{text_back}
 use Rattle.abc_repeat.proofs.Numbers.{min-product, sizes_join}
@@ -36,7 +36,8 @@ endings_all text p many top h is = ⊎_elim
     (λ more. let e : min p 32 ≡ 32 = omega arith in ap (endings_size (strain_of text)) e ∙ sym (endings_size-late (strain_of text) many 32 (omega arith) more))
     (cases_lt many 32)
 
-pub length-play : (at : ℕ) (text : List Mark) → length (strain_play at (strain_of text)) ≡ most_passes text * count_by is_play (strain_of text).common + endings_size (strain_of text) (most_passes text)
+pub length-play : (at : ℕ) (text : List Mark) → length (strain_play at (strain_of text))
+    ≡ most_passes text * count_by is_play (strain_of text).common + endings_size (strain_of text) (most_passes text)
 length-play at text =
     length-strain_play at (strain_of text)
     ∙ ap (λ l. most_passes l * count_by is_play (strain_of text).common + endings_size (strain_of text) (most_passes l)) (text_back text)
@@ -52,7 +53,8 @@ strain_total text common p c product endings total top wide passes is counted mu
     let times : product ≡ min (most_passes text * count_by is_play (strain_of text).common) top =
     multiplied ∙ ap (λ q. min (q * c) top) passes ∙ min-product (most_passes text) c top ∙ ap (λ k. min (most_passes text * k) top) count in
     let ends : endings ≡ min (endings_size (strain_of text) (most_passes text)) top = ended ∙ ap (λ k. min k top) last in
-    added ∙ sizes_join product endings (most_passes text * count_by is_play (strain_of text).common) (endings_size (strain_of text) (most_passes text)) (length (strain_play 0 (strain_of text))) top times ends whole
+    added ∙ sizes_join product endings (most_passes text * count_by is_play (strain_of text).common)
+    (endings_size (strain_of text) (most_passes text)) (length (strain_play 0 (strain_of text))) top times ends whole
 
 length-play_at : (at : ℕ) (text : List Mark) → length (strain_play at (strain_of text)) ≡ length (strain_play 0 (strain_of text))
 length-play_at at text = length-play at text ∙ sym (length-play 0 text)
@@ -61,11 +63,11 @@ sums_join : (size one next a b z top : ℕ) → one ≡ min a top → next ≡ m
 sums_join size one next a b z top e f g = omega arith
 
 -- one strain more
-pub total_more : (at size one next top : ℕ) (opened behind : Bool) (ms text : List Mark) → text ≡ first_text opened (take (length ms - at) (drop at ms)) → behind ≡ opens_behind false text
+pub total_more : (at size one next top : ℕ) (opened behind : Bool) (ms text : List Mark) → text ≡ first_text opened (take (length ms - at) (drop at ms)) → behind ≡ opens_after false text
     → one ≡ min (length (strain_play 0 (strain_of text))) top → next ≡ min (size + one) top
     → min (next + length (plays_from (at + length text) (strains_from behind (drop (at + length text) ms)))) top ≡ min (size + length (plays_from at (strains_from opened (drop at ms)))) top
 total_more at size one next top opened behind ms text is opens single added =
-    let rest = plays_from (at + length text) (strains_from (opens_behind false text) (drop (at + length text) ms)) in
+    let rest = plays_from (at + length text) (strains_from (opens_after false text) (drop (at + length text) ms)) in
     let whole : length (plays_from at (strains_from opened (drop at ms))) ≡ length (strain_play 0 (strain_of text)) + length rest =
     ap length (rest_more at opened ms text is) ∙ length-append (strain_play at (strain_of text)) rest ∙ ap (λ k. k + length rest) (length-play_at at text) in
     ap (λ o. min (next + length (plays_from (at + length text) (strains_from o (drop (at + length text) ms)))) top) opens

@@ -1,5 +1,6 @@
 -- The table of first sections, letter by letter.
-use Rattle.std.proofs.Common.{◌≡◌, ℕ, ◌+◌, ◌-◌, ◌<◌, ◌≤◌, ◌≢◌, true, false, ◌==◌, cond, List, ◌∷◌, length, drop, set, get_or, replicate, Option, Some, None, refl, sym, ap, ◌∙◌, arith, add-one, drop-cons}
+use Rattle.std.proofs.Common.{◌≡◌, ℕ, ◌+◌, ◌-◌, ◌<◌, ◌≤◌, ◌≢◌, true, false, ◌==◌, cond, List, ◌∷◌, length, drop, set, get_or, replicate, Option, Some}
+use Rattle.std.proofs.Common.{None, refl, sym, ap, ◌∙◌, arith, add-one, drop-cons}
 use Rattle.std.specs.List.{position_from}
 use Rattle.std.specs.Option.{option_or}
 use Rattle.std.specs.Char.{is_ascii_uppercase}
@@ -52,7 +53,8 @@ table_none letter rest upper =
 
 -- a section without a letter A to Z
 pub table_kept : (table : List (Option ℕ)) (letters : List ℕ) (at letter : ℕ) → at < length letters → is_ascii_uppercase (get_or letters at 0) ≡ false → is_ascii_uppercase letter ≡ true
-    → option_or (get_or table (letter - 65) None) (first_from letter ((at + 1) + 1) (drop (at + 1) letters)) ≡ option_or (get_or table (letter - 65) None) (first_from letter (at + 1) (drop at letters))
+    → option_or (get_or table (letter - 65) None) (first_from letter ((at + 1) + 1) (drop (at + 1) letters))
+    ≡ option_or (get_or table (letter - 65) None) (first_from letter (at + 1) (drop at letters))
 table_kept table letters at letter inside other upper =
     other_kept (get_or table (letter - 65) None) letters at letter inside (differs_upper (get_or letters at 0) letter other upper)
 
@@ -60,8 +62,10 @@ table_kept table letters at letter inside other upper =
 places_differ : (x letter : ℕ) → (x == letter) ≡ false → 65 ≤ x → 65 ≤ letter → letter - 65 ≢ x - 65
 places_differ x letter differs low high = grind (arith, nat_tests)
 
-pub table_set : (table : List (Option ℕ)) (letters : List ℕ) (at letter : ℕ) → length table ≡ 26 → at < length letters → is_ascii_uppercase (get_or letters at 0) ≡ true → is_ascii_uppercase letter ≡ true
-    → option_or (get_or (set table (get_or letters at 0 - 65) (option_or (get_or table (get_or letters at 0 - 65) None) (Some (at + 1)))) (letter - 65) None) (first_from letter ((at + 1) + 1) (drop (at + 1) letters))
+pub table_set : (table : List (Option ℕ)) (letters : List ℕ) (at letter : ℕ) → length table ≡ 26 → at < length letters
+    → is_ascii_uppercase (get_or letters at 0) ≡ true → is_ascii_uppercase letter ≡ true
+    → option_or (get_or (set table (get_or letters at 0 - 65)
+    (option_or (get_or table (get_or letters at 0 - 65) None) (Some (at + 1)))) (letter - 65) None) (first_from letter ((at + 1) + 1) (drop (at + 1) letters))
     ≡ option_or (get_or table (letter - 65) None) (first_from letter (at + 1) (drop at letters))
 table_set table letters at letter wide inside upper_x upper =
     let x = get_or letters at 0 in
@@ -69,7 +73,8 @@ table_set table letters at letter wide inside upper_x upper =
     let range_x = upper_range x upper_x in
     let rest = first_from letter ((at + 1) + 1) (drop (at + 1) letters) in
     let made = option_or (get_or table (x - 65) None) (Some (at + 1)) in
-    elim (x == letter) as (λ t. (x == letter) ≡ t → option_or (get_or (set table (x - 65) made) (letter - 65) None) rest ≡ option_or (get_or table (letter - 65) None) (first_from letter (at + 1) (drop at letters))) [
+    elim (x == letter) as (λ t. (x == letter) ≡ t → option_or (get_or (set table (x - 65) made) (letter - 65) None) rest
+    ≡ option_or (get_or table (letter - 65) None) (first_from letter (at + 1) (drop at letters))) [
       | true ↦
           λ same.
           let is : x ≡ letter = eqb-true x letter same in
@@ -89,6 +94,7 @@ pub table_whole : (table : List (Option ℕ)) (letters : List ℕ) (at letter : 
     → section_of (record { by_letter = table }) letter ≡ first_section letters letter
 table_whole table letters at letter past told =
     elim (is_ascii_uppercase letter) as (λ t. is_ascii_uppercase letter ≡ t → cond t (get_or table (letter - 65) None) None ≡ cond t (first_from letter 1 letters) None) [
-      | true ↦ λ upper. sym (or_none (get_or table (letter - 65) None)) ∙ ap (λ l. option_or (get_or table (letter - 65) None) (first_from letter (at + 1) l)) (sym (drop_all at letters past)) ∙ told upper
+      | true ↦ λ upper. sym (or_none (get_or table (letter - 65) None))
+          ∙ ap (λ l. option_or (get_or table (letter - 65) None) (first_from letter (at + 1) l)) (sym (drop_all at letters past)) ∙ told upper
       | false ↦ λ other. refl
     ] refl

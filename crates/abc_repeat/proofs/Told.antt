@@ -5,7 +5,7 @@ use Rattle.std.specs.List.{flat_map, range_with_len}
 use Rattle.std.proofs.lemmas.List.Concat.{flat_map-append}
 use Rattle.abc_repeat.specs.declared.mark.Mark.{Mark}
 use Rattle.abc_repeat.specs.declared.mark.Mark.TheVariants as marks
-use Rattle.abc_repeat.specs.Mark.{is_ending, names, greatest, opens_next}
+use Rattle.abc_repeat.specs.Mark.{is_ending, has_number, greatest_number, opens_next}
 use Rattle.abc_repeat.specs.Strain.{ends_strain, put_first, strain_of, text_of, texts_of}
 use Rattle.abc_repeat.specs.Play.{ending_of, first_ending, most_passes, pass_of, places_from, play_of, plays_from, strain_play}
 use Rattle.abc_repeat.specs.Runs.{Run, items_at, items_played, marks_in}
@@ -22,15 +22,15 @@ pub record Told (A : Type 0) : Type 0 where
 abbrev pub nothing : {A : Type 0} → Told A
 nothing = record { passes = 1; common = []; endings = [] }
 
--- a run in front of a strain, by its items and its mark
+-- a run before a strain, by its items and its mark
 abbrev pub told_with : {A : Type 0} → List A → Mark → Told A → Told A
 told_with items marks.Play told = record { passes = max 1 told.passes; common = items ++ told.common; endings = told.endings }
 told_with items (marks.Bar closes opens double) told =
     record { passes = max (1 + closes) told.passes; common = told.common; endings = told.endings }
 told_with items (marks.Ending numbers) told =
-    record { passes = max 1 (max (greatest numbers) told.passes); common = []; endings = (numbers, told.common) ∷ told.endings }
+    record { passes = max 1 (max (greatest_number numbers) told.passes); common = []; endings = (numbers, told.common) ∷ told.endings }
 
--- a run in front of the first of some strains
+-- a run before the first of some strains
 abbrev pub told_first : {A : Type 0} → Run A → List (Told A) → List (Told A)
 told_first run [] = told_with run.items run.mark nothing ∷ []
 told_first run (told ∷ others) = told_with run.items run.mark told ∷ others
@@ -46,7 +46,7 @@ tolds opened inside (run ∷ rest) =
 -- what a pass plays of endings
 abbrev pub told_ending : {A : Type 0} → ℕ → List (ℕ × List A) → List A
 told_ending pass [] = []
-told_ending pass (ending ∷ endings) = cond (names ending.0 pass) ending.1 (told_ending pass endings)
+told_ending pass (ending ∷ endings) = cond (has_number ending.0 pass) ending.1 (told_ending pass endings)
 
 -- what a pass plays of a strain
 abbrev pub told_pass : {A : Type 0} → Told A → ℕ → List A
@@ -56,7 +56,7 @@ told_pass told pass = told.common ++ told_ending pass told.endings
 abbrev pub told_play : {A : Type 0} → Told A → List A
 told_play told = flat_map (told_pass told) (range_with_len 1 told.passes)
 
--- what stands at the places from one on is what runs say
+-- what is at the places from one on is what runs say
 abbrev StandAt : {A : Type 0} → (ℕ → List A) → ℕ → List (Run A) → Type 0
 StandAt found at [] = ⊤
 StandAt found at (run ∷ rest) = (found at ≡ run.items) × StandAt found (at + 1) rest
@@ -103,8 +103,9 @@ more_told found at items (marks.Ending numbers) text told here rest =
       passes = omega (arith, rest.passes);
       common = refl;
       ending = λ pass.
-          ap (λ k. flat_map found (cond (names numbers pass) (places_from k own.common) (first_ending pass (k + length own.common) own.endings))) begin
-          ∙ elim (names numbers pass) as (λ b. flat_map found (cond b (places_from (at + 1) own.common) (first_ending pass (at + 1 + length own.common) own.endings)) ≡ cond b told.common (told_ending pass told.endings)) [
+          ap (λ k. flat_map found (cond (has_number numbers pass) (places_from k own.common) (first_ending pass (k + length own.common) own.endings))) begin
+          ∙ elim (has_number numbers pass) as (λ b. flat_map found
+          (cond b (places_from (at + 1) own.common) (first_ending pass (at + 1 + length own.common) own.endings)) ≡ cond b told.common (told_ending pass told.endings)) [
             | true ↦ rest.common
             | false ↦ rest.ending pass
           ];

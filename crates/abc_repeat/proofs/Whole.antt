@@ -4,12 +4,12 @@ use Rattle.std.specs.List.{flat_map}
 use Rattle.std.proofs.lemmas.Bool.{and_parts, eqb-true, not-true}
 use Rattle.abc_repeat.specs.declared.mark.Mark.{Mark}
 use Rattle.abc_repeat.specs.declared.mark.Mark.TheVariants as marks
-use Rattle.abc_repeat.specs.Mark.{is_ending, is_single, closes_common, closes_ending, opens_next, greatest}
+use Rattle.abc_repeat.specs.Mark.{is_ending, is_single, closes_common, closes_ending, opens_next, greatest_number}
 use Rattle.abc_repeat.specs.Strain.{ends_strain, leads_to_ending}
 use Rattle.abc_repeat.specs.Runs.{Run, turn, marks_in, items_played, AreJoined, PassesSingleBars}
 use Rattle.abc_repeat.proofs.Told.{Told, nothing, told_with, told_first, tolds, told_play, played_told}
 
--- runs that make the same strains whatever stands before them
+-- runs that make the same strains whatever is before them
 record AreAlike {A : Type 0} (runs others : List (Run A)) : Type 0 where
   leads : leads_to_ending (marks_in runs) ≡ leads_to_ending (marks_in others)
   strains : (opened inside : Bool) → tolds opened inside runs ≡ tolds opened inside others
@@ -43,7 +43,7 @@ played_alike before runs others alike =
     ∙ ap (flat_map told_play) ((some_before before runs others alike).strains false false)
     ∙ sym (played_told (before ++ others))
 
--- two runs in front of a strain are one
+-- two runs before a strain are one
 two_told : {A : Type 0} (first second : List A) (told : Told A)
     → told_with first marks.Play (told_with second marks.Play told) ≡ told_with (first ++ second) marks.Play told
 two_told first second told =
@@ -91,7 +91,7 @@ bar_told items own (marks.Bar closes opens double) told =
     let passes : max 1 (max (1 + closes) told.passes) ≡ max (1 + closes) told.passes = omega arith in
     ap (λ (k : ℕ). record { passes = k; common = told.common; endings = told.endings }) passes
 bar_told items own (marks.Ending numbers) told =
-    let passes : max 1 (max 1 (max (greatest numbers) told.passes)) ≡ max 1 (max (greatest numbers) told.passes) = omega arith in
+    let passes : max 1 (max 1 (max (greatest_number numbers) told.passes)) ≡ max 1 (max (greatest_number numbers) told.passes) = omega arith in
     ap (λ (k : ℕ). record { passes = k; common = []; endings = (numbers, told.common) ∷ told.endings }) passes
 
 bar_first : {A : Type 0} (items : List A) (run : Run A) (strains : List (Told A))

@@ -23,7 +23,7 @@ is_repeat marks.Play = false
 is_repeat (marks.Bar closes opens double) = nat_lt 0 closes || nat_lt 0 opens
 is_repeat (marks.Ending numbers) = false
 
--- A bar line whose middle is not a single thin line. ABC 2.1 section 4.8; what double means is our own.
+-- A bar line whose middle is not a single thin line. ABC 2.1 section 4.8; what double means is not in ABC 2.1.
 abbrev pub is_double : Mark → Bool
 is_double marks.Play = false
 is_double (marks.Bar closes opens double) = double
@@ -35,43 +35,43 @@ is_single marks.Play = false
 is_single (marks.Bar closes opens double) = (closes == 0) && (opens == 0) && not double
 is_single (marks.Ending numbers) = false
 
--- A repeat bar with colons behind it opens the strain that follows. ABC 2.1 section 4.8; strains are our own.
+-- A repeat bar with colons after it opens the strain that follows. ABC 2.1 section 4.8; strains are not in ABC 2.1.
 abbrev pub opens_next : Mark → Bool
 opens_next marks.Play = false
 opens_next (marks.Bar closes opens double) = nat_lt 0 opens
 opens_next (marks.Ending numbers) = false
 
--- The common part of a strain runs to a repeat bar or, where the strain is not opened, a double bar. Our own.
+-- The common part of a strain runs to a repeat bar or, if the strain is not opened, a double bar. Not in ABC 2.1.
 abbrev pub closes_common : Bool → Mark → Bool
 closes_common opened m = is_repeat m || (is_double m && not opened)
 
--- An ending runs to a repeat bar or a double bar. Our own.
+-- An ending runs to a repeat bar or a double bar. Not in ABC 2.1.
 abbrev pub closes_ending : Mark → Bool
 closes_ending m = is_repeat m || is_double m
 
 -- Whether an ending with these numbers is for a pass: bit i - 1 is pass i. ABC 2.1 section 4.10; that
--- there are 32 is our own.
-unfoldable pub names : ℕ → ℕ → Bool
-names numbers pass = nat_le pass LAST_PASS && (bit_at numbers (pass - 1) == 1)
+-- there are 32 is not in ABC 2.1.
+unfoldable pub has_number : ℕ → ℕ → Bool
+has_number numbers pass = nat_le pass LAST_PASS && (bit_at numbers (pass - 1) == 1)
 
--- The greatest of the numbers up to one that an ending has, 0 where it has none.
-unfoldable pub greatest_to : ℕ → ℕ → ℕ
-greatest_to numbers zero = 0
-greatest_to numbers (suc n) = if names numbers (suc n) then suc n else greatest_to numbers n
+-- The greatest of the numbers up to one that an ending has, 0 if it has none.
+unfoldable pub greatest_number_to : ℕ → ℕ → ℕ
+greatest_number_to numbers zero = 0
+greatest_number_to numbers (suc n) = if has_number numbers (suc n) then suc n else greatest_number_to numbers n
 
 -- The greatest number of an ending.
-unfoldable pub greatest : ℕ → ℕ
-greatest numbers = greatest_to numbers LAST_PASS
+unfoldable pub greatest_number : ℕ → ℕ
+greatest_number numbers = greatest_number_to numbers LAST_PASS
 
 -- How many passes a mark asks for: a repeat bar one more than it has colons before it, an ending its
--- greatest number. Our own.
+-- greatest number. Not in ABC 2.1.
 abbrev pub passes_of : Mark → ℕ
 passes_of marks.Play = 1
 passes_of (marks.Bar closes opens double) = 1 + closes
-passes_of (marks.Ending numbers) = greatest numbers
+passes_of (marks.Ending numbers) = greatest_number numbers
 
 -- A mark that begins an ending for a pass.
 abbrev pub is_for : ℕ → Mark → Bool
 is_for pass marks.Play = false
 is_for pass (marks.Bar closes opens double) = false
-is_for pass (marks.Ending numbers) = names numbers pass
+is_for pass (marks.Ending numbers) = has_number numbers pass

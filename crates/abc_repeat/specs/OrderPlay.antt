@@ -3,7 +3,7 @@ use Rattle.std.specs.Prelude.{◌≡◌, ℕ, List, [], ◌∷◌, ◌++◌, len
 use Rattle.abc_fields.specs.Letters.{Played}
 use Rattle.abc_repeat.specs.declared.order_play.OrderPlay.{OrderPlay}
 
--- The letters in front of the innermost of the open groups.
+-- The letters before the innermost of the open groups.
 abbrev pub letters_around : List (List ℕ) → List ℕ
 letters_around [] = []
 letters_around (before ∷ around) = letters_around around ++ before
@@ -15,7 +15,8 @@ sections_with section letters = 0 ∷ filter_map section letters
 -- Where each open group begins in what is written, the innermost last.
 abbrev pub group_begins : (ℕ → Option ℕ) → List (List ℕ) → List ℕ
 group_begins section [] = []
-group_begins section (before ∷ around) = group_begins section around ++ length (sections_with section (letters_around (before ∷ around))) ∷ []
+group_begins section (before ∷ around) = group_begins section around
+    ++ length (sections_with section (letters_around (before ∷ around))) ∷ []
 
 -- What the front of an order plays is written.
 pub record IsPlayOf (section : ℕ → Option ℕ) (played : Played) (play : OrderPlay) : Type 0 where

@@ -1,13 +1,14 @@
 -- The play of a section. ABC 2.1 sections 4.8 to 4.10.
-use Rattle.std.specs.Prelude.{◌≡◌, ℕ, zero, suc, ◌+◌, ◌<◌, min, max, ◌==◌, if◌then◌else◌, List, [], ◌∷◌, ◌++◌, length, Some, slice_get}
+use Rattle.std.specs.Prelude.{◌≡◌, ℕ, zero, suc, ◌+◌, ◌<◌, min, max, ◌==◌, if◌then◌else◌, List, [], ◌∷◌, ◌++◌, length, Some}
+use Rattle.std.specs.Prelude.{slice_get}
 use Rattle.std.specs.List.{flat_map, range_with_len}
 use Rattle.abc_text.specs.declared.passes.TheConstants.{LAST_PASS}
 use Rattle.abc_repeat.specs.declared.mark.Mark.{Mark}
 use Rattle.abc_repeat.specs.declared.mark.Mark.TheVariants as marks
-use Rattle.abc_repeat.specs.Mark.{is_play, is_for, names, passes_of}
+use Rattle.abc_repeat.specs.Mark.{is_play, is_for, has_number, passes_of}
 use Rattle.abc_repeat.specs.Strain.{Ending, Strain, text_of, strains_of}
 
--- The places of what is played of some marks, of which the first stands at this place.
+-- The places of the played items of marks, the first of which is at this place.
 abbrev pub places_from : ℕ → List Mark → List ℕ
 places_from at [] = []
 places_from at (m ∷ ms) = if is_play m then at ∷ places_from (at + 1) ms else places_from (at + 1) ms
@@ -16,7 +17,7 @@ places_from at (m ∷ ms) = if is_play m then at ∷ places_from (at + 1) ms els
 abbrev pub first_ending : ℕ → ℕ → List Ending → List ℕ
 first_ending pass at [] = []
 first_ending pass at (ending ∷ endings) =
-    if names ending.numbers pass then places_from (at + 1) ending.run
+    if has_number ending.numbers pass then places_from (at + 1) ending.run
     else first_ending pass (at + 1 + length ending.run) endings
 
 -- The ending of a pass, of a strain that begins at this place.
@@ -27,12 +28,12 @@ ending_of at strain pass = first_ending pass (at + length strain.common) strain.
 abbrev pub pass_of : ℕ → Strain → ℕ → List ℕ
 pass_of at strain pass = places_from at strain.common ++ ending_of at strain pass
 
--- Where the run of the first ending for a pass begins; behind all marks if there is none.
+-- The place at which the run of the first ending for a pass begins; after all marks if there is none.
 abbrev pub run_start : ℕ → List Mark → ℕ
 run_start pass [] = 0
 run_start pass (m ∷ ms) = if is_for pass m then 1 else 1 + run_start pass ms
 
--- How often marks are passed: as often as the mark that asks for most passes says, once where none does. Our own.
+-- The number of passes through marks: the most that one of them asks for, one if none does. Not in ABC 2.1.
 abbrev pub most_passes : List Mark → ℕ
 most_passes [] = 1
 most_passes (m ∷ ms) = max (passes_of m) (most_passes ms)
@@ -61,6 +62,6 @@ plays_from at (strain ∷ strains) = strain_play at strain ++ plays_from (at + l
 unfoldable pub play_of : List Mark → List ℕ
 play_of ms = plays_from 0 (strains_of ms)
 
--- At this place of a section stands something that is played.
+-- A played item is at this place of a section.
 abbrev pub IsPlayed : List Mark → ℕ → Type 0
 IsPlayed ms at = (at < length ms) × (slice_get ms at ≡ Some marks.Play)

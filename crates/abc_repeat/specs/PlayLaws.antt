@@ -1,6 +1,8 @@
--- The play of a section in the words of the rules, apart from the definitions by which it is computed. ABC 2.1 sections 4.8 to 4.10.
+-- The play of a section in the words of the rules, apart from the definitions by which it is computed. ABC 2.1 sections 4.8 to
+-- 4.10.
 -- What is a double bar, where strains and endings begin and end, and how often a strain is passed are not in ABC 2.1.
-use Rattle.std.specs.Prelude.{◌≡◌, ℕ, ◌+◌, ◌-◌, ◌/◌, ◌%◌, ◌^◌, ◌<◌, ◌≤◌, ◌⊎◌, Bool, true, ⊤, List, [], ◌∷◌, ◌++◌, length, All, Option, Some, None}
+use Rattle.std.specs.Prelude.{◌≡◌, ℕ, ◌+◌, ◌-◌, ◌/◌, ◌%◌, ◌^◌, ◌<◌, ◌≤◌, ◌⊎◌, Bool, true, ⊤, List, [], ◌∷◌, ◌++◌, length, All}
+use Rattle.std.specs.Prelude.{Option, Some, None}
 use Rattle.std.specs.List.{Contains}
 use Rattle.abc_repeat.specs.declared.mark.Mark.{Mark}
 use Rattle.abc_repeat.specs.declared.mark.Mark.TheVariants as marks
@@ -57,24 +59,28 @@ pub record PlacedEnding : Type 0 where
   pub run : List Mark
 
 -- The ending whose sign is at a place.
-abbrev pub placed : ℕ → ℕ → List Mark → PlacedEnding
-placed at numbers run = record { numbers = numbers; from = at + 1; run = run }
+abbrev pub placed_ending : ℕ → ℕ → List Mark → PlacedEnding
+placed_ending at numbers run = record { numbers = numbers; from = at + 1; run = run }
 
--- The endings of a strain, of which the first sign is at this place; their marks; and the bar that ends the last one, if the section
--- does not. After an ending another one of the strain comes if its sign ends it, or if a bar with no colons after it does and the sign
+-- The endings of a strain, of which the first sign is at this place; their marks; and the bar that ends the last one, if the
+-- section
+-- does not. After an ending another one of the strain comes if its sign ends it, or if a bar with no colons after it does and the
+-- sign
 -- is the next mark but for those between. Not in ABC 2.1.
 pub data AreEndingsFrom : ℕ → List PlacedEnding → List Mark → Option Mark → Type 0 where
   until_end : (at numbers : ℕ) (body : List Mark) → All (λ m. ¬ EndsEnding m) body
-      → AreEndingsFrom at (placed at numbers body ∷ []) (marks.Ending numbers ∷ body) None
+      → AreEndingsFrom at (placed_ending at numbers body ∷ []) (marks.Ending numbers ∷ body) None
   until_bar : (at numbers : ℕ) (body : List Mark) (bar : Mark) → All (λ m. ¬ EndsEnding m) body → IsEndBar bar
-      → AreEndingsFrom at (placed at numbers (body ++ bar ∷ []) ∷ []) (marks.Ending numbers ∷ (body ++ bar ∷ [])) (Some bar)
-  until_sign : (at numbers : ℕ) (body text : List Mark) (endings : List PlacedEnding) (closing : Option Mark) → All (λ m. ¬ EndsEnding m) body
+      → AreEndingsFrom at (placed_ending at numbers (body ++ bar ∷ []) ∷ []) (marks.Ending numbers ∷ (body ++ bar ∷ [])) (Some bar)
+  until_sign : (at numbers : ℕ) (body text : List Mark) (endings : List PlacedEnding) (closing : Option Mark)
+      → All (λ m. ¬ EndsEnding m) body
       → AreEndingsFrom (at + 1 + length body) endings text closing
-      → AreEndingsFrom at (placed at numbers body ∷ endings) (marks.Ending numbers ∷ (body ++ text)) closing
-  past_bar : (at numbers closes : ℕ) (double : Bool) (body gap text : List Mark) (endings : List PlacedEnding) (closing : Option Mark)
+      → AreEndingsFrom at (placed_ending at numbers body ∷ endings) (marks.Ending numbers ∷ (body ++ text)) closing
+  past_bar : (at numbers closes : ℕ) (double : Bool) (body gap text : List Mark) (endings : List PlacedEnding)
+      (closing : Option Mark)
       → All (λ m. ¬ EndsEnding m) body → IsEndBar (marks.Bar closes 0 double) → All IsBetween gap
       → AreEndingsFrom (at + 1 + length (body ++ marks.Bar closes 0 double ∷ gap)) endings text closing
-      → AreEndingsFrom at (placed at numbers (body ++ marks.Bar closes 0 double ∷ gap) ∷ endings)
+      → AreEndingsFrom at (placed_ending at numbers (body ++ marks.Bar closes 0 double ∷ gap) ∷ endings)
       (marks.Ending numbers ∷ ((body ++ marks.Bar closes 0 double ∷ gap) ++ text)) closing
 
 -- An ending has a number, of which bit 0 is the first and which go up to 32. ABC 2.1 section 4.10; the bound is not in ABC 2.1.
@@ -107,10 +113,11 @@ pub data PlaysEnding (pass : ℕ) : List PlacedEnding → List ℕ → Type 0 wh
   later : (ending : PlacedEnding) (endings : List PlacedEnding) (play : List ℕ) → ¬ HasNumber ending.numbers pass
       → PlaysEnding pass endings play → PlaysEnding pass (ending ∷ endings) play
 
--- The first so many passes of a strain: each plays the common part, then an ending. ABC 2.1 section 4.9.
+-- The first passes of a strain: each plays the common part, then an ending. ABC 2.1 section 4.9.
 pub data PlaysPasses (common : List ℕ) (endings : List PlacedEnding) : ℕ → List ℕ → Type 0 where
   not_yet : PlaysPasses common endings 0 []
-  once_more : (passes : ℕ) (before ending : List ℕ) → PlaysPasses common endings passes before → PlaysEnding (passes + 1) endings ending
+  once_more : (passes : ℕ) (before ending : List ℕ) → PlaysPasses common endings passes before
+      → PlaysEnding (passes + 1) endings ending
       → PlaysPasses common endings (passes + 1) (before ++ (common ++ ending))
 
 -- The play of a strain with these marks: its common part is at this place.
@@ -120,7 +127,8 @@ pub record IsStrainPlay (at : ℕ) (text common : List Mark) (endings : List Pla
   pub played : PlaysPasses (turns_from at common) endings passes play
 
 -- The play of marks from the beginning of a strain to the section's end. The bar before them has so many colons after it; the first
--- of them is at this place. The next strain begins after a bar that ends the common part; or after a bar that ends an ending, if it has
+-- of them is at this place. The next strain begins after a bar that ends the common part; or after a bar that ends an ending, if it
+-- has
 -- colons after it or no sign comes. Not in ABC 2.1.
 pub data IsPlayFrom : ℕ → ℕ → List Mark → List ℕ → Type 0 where
   ends_in_common : (before at : ℕ) (common : List Mark) (play : List ℕ) → All (λ m. ¬ EndsCommon before m) common
@@ -135,8 +143,10 @@ pub data IsPlayFrom : ℕ → ℕ → List Mark → List ℕ → Type 0 where
       → IsStrainPlay at (body ++ marks.Bar closes opens double ∷ []) (body ++ marks.Bar closes opens double ∷ []) [] play
       → IsPlayFrom opens (at + length (body ++ marks.Bar closes opens double ∷ [])) rest others
       → IsPlayFrom before at (body ++ marks.Bar closes opens double ∷ rest) (play ++ others)
-  after_endings : (before at closes opens : ℕ) (double : Bool) (common text rest : List Mark) (endings : List PlacedEnding) (play others : List ℕ)
-      → All (λ m. ¬ EndsCommon before m) common → AreEndingsFrom (at + length common) endings text (Some (marks.Bar closes opens double))
+  after_endings : (before at closes opens : ℕ) (double : Bool) (common text rest : List Mark) (endings : List PlacedEnding)
+      (play others : List ℕ)
+      → All (λ m. ¬ EndsCommon before m) common → AreEndingsFrom (at + length common) endings text
+      (Some (marks.Bar closes opens double))
       → (0 < opens) ⊎ (¬ SignComes rest)
       → IsStrainPlay at (common ++ text) common endings play
       → IsPlayFrom opens (at + length (common ++ text)) rest others

@@ -1,4 +1,4 @@
--- Runs: stretches of what takes its turn that stand in front of the next mark, played as one. Our own.
+-- Runs: stretches of played items up to the next mark, played as one. Not in ABC 2.1.
 use Rattle.std.specs.Prelude.{◌≡◌, ℕ, true, List, [], ◌∷◌, ◌++◌, map, slice_index_or}
 use Rattle.std.specs.List.{flat_map}
 use Rattle.abc_repeat.specs.declared.mark.Mark.{Mark}
@@ -6,12 +6,12 @@ use Rattle.abc_repeat.specs.declared.mark.Mark.TheVariants as marks
 use Rattle.abc_repeat.specs.Mark.{is_single}
 use Rattle.abc_repeat.specs.Play.{play_of}
 
--- A mark, and what is played where its turn comes.
+-- A mark, and the items that are played at its turn.
 pub record Run (A : Type 0) : Type 0 where
   pub mark : Mark
   pub items : List A
 
--- What takes its turn as one.
+-- A run of played items.
 abbrev pub turn : {A : Type 0} → List A → Run A
 turn items = record { mark = marks.Play; items = items }
 
@@ -19,11 +19,11 @@ turn items = record { mark = marks.Play; items = items }
 abbrev pub marks_in : {A : Type 0} → List (Run A) → List Mark
 marks_in runs = map (λ run. run.mark) runs
 
--- What stands in the run at a place.
+-- The items of the run at a place.
 abbrev pub items_at : {A : Type 0} → List (Run A) → ℕ → List A
 items_at runs at = slice_index_or (map (λ run. run.items) runs) at []
 
--- What is played of runs, in order of play: each run whole where its turn comes.
+-- The items that are played of runs, in order of play: each run whole at its turn.
 abbrev pub items_played : {A : Type 0} → List (Run A) → List A
 items_played runs = flat_map (items_at runs) (play_of (marks_in runs))
 

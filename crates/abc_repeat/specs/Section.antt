@@ -9,7 +9,7 @@ abbrev pub letter_a : ℕ
 letter_a = 65
 
 -- The first section of a letter A to Z, of sections with these letters, counted from 1. That it is the
--- first is our own.
+-- first is not in ABC 2.1.
 abbrev pub first_section : List ℕ → ℕ → Option ℕ
 first_section letters letter = if is_ascii_uppercase letter then position_from (λ own. own == letter) 1 letters else None
 

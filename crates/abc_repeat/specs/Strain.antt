@@ -1,12 +1,13 @@
 -- Strains: what repeat bars, double bars and endings make of the marks of a voice in a section. ABC 2.1
--- sections 4.8 and 4.9; where they begin and end is our own.
-use Rattle.std.specs.Prelude.{◌≡◌, ℕ, Bool, true, false, not, ◌&&◌, ◌||◌, if◌then◌else◌, List, [], ◌∷◌, ◌++◌, map, Option, Some, None}
+-- sections 4.8 and 4.9; where they begin and end is not in ABC 2.1.
+use Rattle.std.specs.Prelude.{◌≡◌, ℕ, Bool, true, false, not, ◌&&◌, ◌||◌, if◌then◌else◌, List, [], ◌∷◌, ◌++◌, map, Option, Some}
+use Rattle.std.specs.Prelude.{None}
 use Rattle.std.specs.List.{AllPass}
 use Rattle.abc_repeat.specs.declared.mark.Mark.{Mark}
 use Rattle.abc_repeat.specs.declared.mark.Mark.TheVariants as marks
 use Rattle.abc_repeat.specs.Mark.{is_play, is_ending, is_single, opens_next, closes_common, closes_ending}
 
--- An ending: its numbers, and the marks behind its sign up to the next ending's sign or the strain's end.
+-- An ending: its numbers, and the marks after its sign up to the next ending's sign or the strain's end.
 pub record Ending : Type 0 where
   pub numbers : ℕ
   pub run : List Mark
@@ -29,61 +30,67 @@ endings_text (ending ∷ endings) = marks.Ending ending.numbers ∷ (ending.run 
 abbrev pub text_of : Strain → List Mark
 text_of strain = strain.common ++ endings_text strain.endings
 
--- What may stand in a common part in front of its end. Our own.
+-- What may be in a common part before its end. Not in ABC 2.1.
 abbrev pub in_common : Bool → Mark → Bool
 in_common opened m = not (is_ending m) && not (closes_common opened m)
 
--- What may stand in an ending in front of its end. Our own.
+-- What may be in an ending before its end. Not in ABC 2.1.
 abbrev pub in_ending : Mark → Bool
 in_ending m = is_play m || is_single m
 
--- The next ending's sign comes behind nothing but single bars.
+-- The next ending's sign comes after nothing but single bars.
 abbrev pub leads_to_ending : List Mark → Bool
 leads_to_ending [] = false
 leads_to_ending (m ∷ rest) = is_ending m || (is_single m && leads_to_ending rest)
 
--- Behind a bar that ends an ending, another ending of the same strain comes. Our own.
+-- After a bar that ends an ending, another ending of the same strain comes. Not in ABC 2.1.
 abbrev pub goes_on : Mark → List Mark → Bool
 goes_on bar rest = not (opens_next bar) && leads_to_ending rest
 
--- The run of an ending with another behind it: up to that one's sign, or up to a bar that opens nothing
--- and single bars behind it. Our own.
+-- The run of an ending with another after it: up to that one's sign, or up to a bar that opens nothing
+-- and single bars after it. Not in ABC 2.1.
 pub data IsInnerRun : List Mark → Type 0 where
   straight : (body : List Mark) → AllPass in_ending body → IsInnerRun body
-  barred : (body gap : List Mark) (bar : Mark) → AllPass in_ending body → closes_ending bar ≡ true → opens_next bar ≡ false → AllPass is_single gap
+  barred : (body gap : List Mark) (bar : Mark) → AllPass in_ending body → closes_ending bar ≡ true → opens_next bar ≡ false
+      → AllPass is_single gap
       → IsInnerRun (body ++ bar ∷ gap)
 
--- The endings of a strain, and the bar that ends the last one, if the section does not. Our own.
+-- The endings of a strain, and the bar that ends the last one, if the section does not. Not in ABC 2.1.
 pub data AreEndings : List Ending → Option Mark → Type 0 where
-  to_the_end : (numbers : ℕ) (body : List Mark) → AllPass in_ending body → AreEndings (record { numbers = numbers; run = body } ∷ []) None
+  to_the_end : (numbers : ℕ) (body : List Mark) → AllPass in_ending body
+      → AreEndings (record { numbers = numbers; run = body } ∷ []) None
   to_a_bar : (numbers : ℕ) (body : List Mark) (bar : Mark) → AllPass in_ending body → closes_ending bar ≡ true
       → AreEndings (record { numbers = numbers; run = body ++ bar ∷ [] } ∷ []) (Some bar)
-  another : (numbers : ℕ) (run : List Mark) (endings : List Ending) (closing : Option Mark) → IsInnerRun run → AreEndings endings closing
+  another : (numbers : ℕ) (run : List Mark) (endings : List Ending) (closing : Option Mark) → IsInnerRun run
+      → AreEndings endings closing
       → AreEndings (record { numbers = numbers; run = run } ∷ endings) closing
 
 -- The marks are these strains one after another, of which the first is opened or not. The last one runs
 -- to the section's end; each other ends with a bar, whose colons say whether the next is opened.
 pub data IsStrains : Bool → List Mark → List Strain → Type 0 where
-  last_common : (opened : Bool) (common : List Mark) → AllPass (in_common opened) common → IsStrains opened common (without_endings common ∷ [])
-  last_endings : (opened : Bool) (common : List Mark) (endings : List Ending) → AllPass (in_common opened) common → AreEndings endings None
+  last_common : (opened : Bool) (common : List Mark) → AllPass (in_common opened) common
+      → IsStrains opened common (without_endings common ∷ [])
+  last_endings : (opened : Bool) (common : List Mark) (endings : List Ending) → AllPass (in_common opened) common
+      → AreEndings endings None
       → IsStrains opened (common ++ endings_text endings) (record { common = common; endings = endings } ∷ [])
   common_part : (opened : Bool) (body rest : List Mark) (bar : Mark) (strains : List Strain) → AllPass (in_common opened) body
       → closes_common opened bar ≡ true → IsStrains (opens_next bar) rest strains
       → IsStrains opened (body ++ bar ∷ rest) (without_endings (body ++ bar ∷ []) ∷ strains)
   with_endings : (opened : Bool) (common rest : List Mark) (endings : List Ending) (bar : Mark) (strains : List Strain)
-      → AllPass (in_common opened) common → AreEndings endings (Some bar) → goes_on bar rest ≡ false → IsStrains (opens_next bar) rest strains
+      → AllPass (in_common opened) common → AreEndings endings (Some bar) → goes_on bar rest ≡ false
+      → IsStrains (opens_next bar) rest strains
       → IsStrains opened ((common ++ endings_text endings) ++ rest) (record { common = common; endings = endings } ∷ strains)
 
--- Whether a mark ends its strain, in its common part or inside an ending, with the rest behind it.
+-- Whether a mark ends its strain, in its common part or inside an ending, with the rest after it.
 abbrev pub ends_strain : Bool → Bool → Mark → List Mark → Bool
 ends_strain opened inside m rest = if inside then closes_ending m && not (goes_on m rest) else closes_common opened m
 
--- A mark in front of the first of some texts.
+-- A mark before the first of some texts.
 abbrev pub put_first : Mark → List (List Mark) → List (List Mark)
 put_first m [] = (m ∷ []) ∷ []
 put_first m (text ∷ texts) = (m ∷ text) ∷ texts
 
--- The texts of the strains: cut behind each mark that ends one.
+-- The texts of the strains: cut after each mark that ends one.
 abbrev pub texts_of : Bool → Bool → List Mark → List (List Mark)
 texts_of opened inside [] = [] ∷ []
 texts_of opened inside (m ∷ rest) =
@@ -99,12 +106,12 @@ front_of (text ∷ texts) = text
 unfoldable pub first_text : Bool → List Mark → List Mark
 first_text opened ms = front_of (texts_of opened false ms)
 
--- Whether the strain behind some marks is opened: their last one says so.
-abbrev pub opens_behind : Bool → List Mark → Bool
-opens_behind opened [] = opened
-opens_behind opened (m ∷ ms) = opens_behind (opens_next m) ms
+-- Whether the strain after some marks is opened: their last one says so.
+abbrev pub opens_after : Bool → List Mark → Bool
+opens_after opened [] = opened
+opens_after opened (m ∷ ms) = opens_after (opens_next m) ms
 
--- A mark in front of a strain: an ending's sign takes what was common behind it for its run.
+-- A mark before a strain: an ending's sign takes what was common after it for its run.
 abbrev pub with_mark : Mark → Strain → Strain
 with_mark marks.Play strain = record strain { common = marks.Play ∷ strain.common }
 with_mark (marks.Bar closes opens double) strain = record strain { common = marks.Bar closes opens double ∷ strain.common }
@@ -116,7 +123,7 @@ abbrev pub strain_of : List Mark → Strain
 strain_of [] = without_endings []
 strain_of (m ∷ text) = with_mark m (strain_of text)
 
--- The strains of the marks behind a strain's end, or of a section's from its beginning.
+-- The strains of the marks after a strain's end, or of a section's from its beginning.
 abbrev pub strains_from : Bool → List Mark → List Strain
 strains_from opened ms = map strain_of (texts_of opened false ms)
 

@@ -6,10 +6,10 @@ ghost use Rattle.abc_fields.specs.Letters.{count_on};
 
 use abc_fields::DEEPEST_GROUP;
 
-/// How many groups are open at once at most.
+/// The greatest number of groups that are open at once.
 pub(crate) const MOST_GROUPS: usize = DEEPEST_GROUP as usize;
 
-/// A count with one digit more.
+/// Returns a count with one more digit.
 pub(crate) fn longer_count(count: Option<u32>, digit: u8) -> u32
     requires digit { is_ascii_digit digit ≡ true }
     requires short { count_on count digit < 2 ^ 32 }

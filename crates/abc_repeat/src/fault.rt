@@ -1,4 +1,4 @@
-//! Why a play is refused.
+//! The errors of plays and orders.
 
 ghost use Rattle.std.specs.Prelude.{◌≡◌};
 ghost use Rattle.abc_repeat.specs.declared.fault.RepeatFault.TheVariants.{OutOfMemory};
@@ -6,13 +6,13 @@ ghost use Rattle.abc_repeat.specs.declared.fault.RepeatFault.TheVariants.{OutOfM
 use std::alloc::{AllocError, AllocFailed};
 use thiserror::Error;
 
-/// Why the play of a section is not given: the first of these that applies.
+/// The reason why a section has no play: the first of these that applies.
 #[derive(Clone, Copy, Debug, PartialEq, Eq, Error)]
 pub enum RepeatFault {
     /// More than 1,000,000 places would be played.
     #[error("more than 1,000,000 notes, chords, rests, fields and programs would be played")]
     TooLong,
-    /// There is no memory.
+    /// An allocation failed.
     #[error("out of memory")]
     OutOfMemory,
 }
@@ -25,7 +25,7 @@ impl From<AllocError> for RepeatFault {
     }
 }
 
-/// Why the order of sections is not given: the first of these that applies.
+/// The reason why sections have no order of play: the first of these that applies.
 #[derive(Clone, Copy, Debug, PartialEq, Eq, Error)]
 pub enum OrderFault {
     /// More than 4,096 sections would be played.
@@ -34,7 +34,7 @@ pub enum OrderFault {
         /// Whether the order has a letter without a section.
         unknown: bool,
     },
-    /// There is no memory.
+    /// An allocation failed.
     #[error("out of memory")]
     OutOfMemory,
 }

@@ -3,22 +3,18 @@
 
 mod count;
 mod fault;
+pub mod laws;
 mod mark;
 mod order;
 mod order_play;
 mod order_size;
 mod pass;
 mod play;
-mod play_laws;
 mod section;
 mod size;
 mod strain;
-mod whole_runs;
 
 pub use fault::{OrderFault, RepeatFault};
 pub use mark::Mark;
-pub use order::{MOST_SECTIONS, Played, order_limits, play_order};
-pub use play::{MOST_PLACES, expand, expand_within, play_limits};
-pub use play_laws::plays_by_the_rules;
-pub use strain::one_reading;
-pub use whole_runs::runs_are_whole;
+pub use order::{MOST_SECTIONS, Played, play_order};
+pub use play::{MOST_PLACES, expand, expand_within};

@@ -1,43 +1,44 @@
 //! The marks of a voice in a section.
 
 ghost use Rattle.std.specs.Prelude.{◌≡◌, ◌-◌, ◌^◌, ◌<◌, min};
-ghost use Rattle.abc_repeat.specs.Mark.{is_play, is_ending, is_single, opens_next, closes_common, closes_ending, names, greatest, passes_of, is_for};
+ghost use Rattle.abc_repeat.specs.Mark.{is_play, is_ending, is_single, opens_next, closes_common, closes_ending, has_number};
+ghost use Rattle.abc_repeat.specs.Mark.{greatest_number, passes_of, is_for};
 
 use abc_text::LAST_PASS;
 
-/// A mark of one voice in one section, which says how it is played (ABC 2.1 sections 4.8 to 4.10).
+/// A mark of one voice in one section (ABC 2.1 sections 4.8 to 4.10).
 #[derive(Clone, Copy, Debug, PartialEq, Eq)]
 pub enum Mark {
-    /// What takes its turn in the play: a note, a chord, a rest, a bar rest, a field or a program.
+    /// A played item: a note, a chord, a rest, a bar rest, a field or a program.
     Play,
-    /// A bar line with so many colons before and behind it; double where its middle is not a single thin line.
+    /// A bar line: its colons before and after it, and whether its middle is other than a single thin line.
     Bar {
         closes: usize,
         opens: usize,
         double: bool,
     },
-    /// The beginning of an ending, as `[1` or `[2,4`: bit `i - 1` is set where it is for pass `i`, of 32.
+    /// The beginning of an ending, as `[1` or `[2,4`: bit `i - 1` is set if it is for pass `i`, of 32.
     Ending(u32),
 }
 
 /// Whether an ending with these numbers is for a pass, counted from 1.
-#[tactic(auto, unfolding(crate::specs::Mark::names))]
-fn names(numbers: u32, pass: u64) -> bool
+#[tactic(auto, unfolding(crate::specs::Mark::has_number))]
+fn has_number(numbers: u32, pass: u64) -> bool
     requires { 0 < pass }
-    ensures { result ≡ names numbers pass }
+    ensures { result ≡ has_number numbers pass }
 {
     pass <= LAST_PASS as u64 && (numbers >> (pass - 1)) & 1 == 1
 }
 
-/// The greatest of an ending's numbers, 0 where it has none.
-fn greatest(numbers: u32) -> u32
-    ensures { result ≡ greatest numbers }
+/// Returns the greatest of an ending's numbers, 0 if it has none.
+fn greatest_number(numbers: u32) -> u32
+    ensures { result ≡ greatest_number numbers }
 {
     u32::BITS - numbers.leading_zeros()
 }
 
 impl Mark {
-    /// Whether it takes its turn in the play.
+    /// Whether it is a played item.
     pub(crate) fn is_play(self) -> bool
         ensures { result ≡ is_play self }
     {
@@ -65,7 +66,7 @@ impl Mark {
         }
     }
 
-    /// Whether it is a repeat bar that opens the strain behind it.
+    /// Whether it is a repeat bar that opens the strain after it.
     pub fn opens_next(self) -> bool
         ensures { result ≡ opens_next self }
     {
@@ -75,7 +76,7 @@ impl Mark {
         }
     }
 
-    /// Whether it ends the common part of a strain, which is opened or not.
+    /// Whether it ends the common part of a strain, opened or not.
     pub(crate) fn closes_common(self, opened: bool) -> bool
         ensures { result ≡ closes_common opened self }
     {
@@ -96,14 +97,14 @@ impl Mark {
         self.closes_common(false)
     }
 
-    /// How many passes it asks for; of 2^64 it says 2^64 - 1.
+    /// Returns the number of passes that it asks for, at most 2^64 - 1.
     pub(crate) fn passes(self) -> u64
         ensures { result ≡ min (passes_of self) (2 ^ 64 - 1) }
     {
         match self {
             Mark::Play => 1,
             Mark::Bar { closes, .. } => (closes as u64).saturating_add(1),
-            Mark::Ending(numbers) => greatest(numbers) as u64,
+            Mark::Ending(numbers) => greatest_number(numbers) as u64,
         }
     }
 
@@ -113,7 +114,7 @@ impl Mark {
         ensures { result ≡ is_for pass self }
     {
         match self {
-            Mark::Ending(numbers) => names(numbers, pass),
+            Mark::Ending(numbers) => has_number(numbers, pass),
             _ => false,
         }
     }

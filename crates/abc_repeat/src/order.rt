@@ -1,6 +1,6 @@
 //! The order in which the sections of a tune are played.
 
-ghost use Rattle.std.specs.Prelude.{◌≡◌, ◌<◌, ◌↔◌, ◌^◌, Bool, ◌&&◌, option_copied, IfOk};
+ghost use Rattle.std.specs.Prelude.{◌≡◌, ◌<◌, ◌↔◌, Bool, ◌&&◌, option_copied, IfOk};
 ghost use Rattle.std.specs.List.{list_any, range_with_len};
 ghost use Rattle.std.specs.Option.{is_none, ForSome};
 ghost use Rattle.std.specs.Char.{is_ascii_uppercase};
@@ -14,18 +14,15 @@ use crate::order_size::order_size;
 use crate::section::FirstSections;
 use std::alloc::{AllocError, Global};
 
-/// How many sections are played at most, the opening section among them.
+/// The greatest number of sections that are played, the opening section among them.
 pub const MOST_SECTIONS: u64 = 4096;
 
-/// 4,096 sections are played at most.
-pub fn order_limits()
-    ensures { MOST_SECTIONS ≡ 2 ^ 12 }
-{}
+const _: () = prove!(MOST_SECTIONS == 1 << 12);
 
 /// The sections that are played.
 #[derive(Debug, Drop)]
 pub struct Played {
-    /// In order of play: 0 is the opening section, the others are counted from 1 as they stand in the text.
+    /// In order of play: 0 is the opening section, the others are counted from 1 in the order of the text.
     pub sections: Vec<usize>,
     /// Whether the order has a letter without a section.
     pub unknown: bool,
@@ -38,19 +35,20 @@ fn has_unknown(order: &[u8], sections: &FirstSections) -> bool
     order.iter().any(|byte| byte.is_ascii_uppercase() && sections.get(*byte).is_none())
 }
 
-/// The numbers of this many sections, as they stand in the text.
+/// Returns the numbers of the opening section and `count - 1` others, in the order of the text.
 fn all_sections(alloc: Global, count: usize) -> Result<Vec<usize>, AllocError>
     ensures { IfOk result (λ sections. sections.items ≡ range_with_len 0 count) }
 {
     (0..count).collect(alloc)
 }
 
-/// All sections, as they stand in the text.
+/// Returns all sections, in the order of the text.
 #[tactic(auto, unfolding(crate::specs::Order::has_unknown))]
 fn play_all(alloc: Global, letters: &[u8]) -> Result<Played, OrderFault>
     ensures sections { IfOk result (λ played. played.sections.items ≡ sections_of None letters.now) }
     ensures unknown { IfOk result (λ played. played.unknown ≡ has_unknown None letters.now) }
-    ensures too_long { (unknown : Bool) → (result ≡ Err (OrderFault.TooLong unknown)) ↔ IsTooLong MOST_SECTIONS None letters.now unknown }
+    ensures refused { (unknown : Bool) → (result ≡ Err (OrderFault.TooLong unknown))
+        ↔ IsTooLong MOST_SECTIONS None letters.now unknown }
 {
     if letters.len() as u64 >= MOST_SECTIONS {
         return Err(OrderFault::TooLong { unknown: false });
@@ -62,12 +60,13 @@ fn play_all(alloc: Global, letters: &[u8]) -> Result<Played, OrderFault>
     })
 }
 
-/// The opening section and the sections of an order.
+/// Returns the opening section and the sections of an order.
 fn play_parts(alloc: Global, order: &[u8], letters: &[u8]) -> Result<Played, OrderFault>
     requires { parts_of order.now ≡ Ok tt }
     ensures sections { IfOk result (λ played. played.sections.items ≡ sections_of (Some order.now) letters.now) }
     ensures unknown { IfOk result (λ played. played.unknown ≡ has_unknown (Some order.now) letters.now) }
-    ensures too_long { (unknown : Bool) → (result ≡ Err (OrderFault.TooLong unknown)) ↔ IsTooLong MOST_SECTIONS (Some order.now) letters.now unknown }
+    ensures refused { (unknown : Bool) → (result ≡ Err (OrderFault.TooLong unknown))
+        ↔ IsTooLong MOST_SECTIONS (Some order.now) letters.now unknown }
 {
     let firsts = FirstSections::of(letters);
     let unknown = has_unknown(order, &firsts);
@@ -79,16 +78,16 @@ fn play_parts(alloc: Global, order: &[u8], letters: &[u8]) -> Result<Played, Ord
     Ok(Played { sections, unknown })
 }
 
-/// The sections that are played, of a tune whose body has parts with these letters (ABC 2.1 section 3.1.9): the
+/// Returns the sections that are played, of a tune whose body has parts with these letters (ABC 2.1 section 3.1.9): the
 /// opening section, then the sections of the order in its header or, without one, all of them.
 ///
-/// No contract says how long it takes. As it is written, it goes through the order, the letters and the sections that are
-/// played.
+/// No contract bounds its time. The body goes through the order, the letters and the sections that are played.
 pub fn play_order(alloc: Global, order: Option<&[u8]>, letters: &[u8]) -> Result<Played, OrderFault>
     requires { ForSome (option_copied order) (λ text. parts_of text ≡ Ok tt) }
     ensures sections { IfOk result (λ played. played.sections.items ≡ sections_of (option_copied order.entry) letters.now) }
     ensures unknown { IfOk result (λ played. played.unknown ≡ has_unknown (option_copied order.entry) letters.now) }
-    ensures too_long { (unknown : Bool) → (result ≡ Err (OrderFault.TooLong unknown)) ↔ IsTooLong MOST_SECTIONS (option_copied order.entry) letters.now unknown }
+    ensures refused { (unknown : Bool) → (result ≡ Err (OrderFault.TooLong unknown))
+        ↔ IsTooLong MOST_SECTIONS (option_copied order.entry) letters.now unknown }
 {
     match order {
         None => play_all(alloc, letters),

@@ -1,12 +1,14 @@
 //! The sections that an order plays, written one after another.
 
-ghost use Rattle.std.specs.Prelude.{◌≡◌, ℕ, ◌<◌, ◌≤◌, ◌^◌, ◌++◌, [], true, false, take, drop, replicate, OnOk, IfOk, Option, vec_len};
+ghost use Rattle.std.specs.Prelude.{◌≡◌, ℕ, ◌<◌, ◌≤◌, ◌^◌, ◌++◌, [], true, false, take, drop, replicate, OnOk, IfOk, Option};
+ghost use Rattle.std.specs.Prelude.{vec_len};
 ghost use Rattle.std.specs.List.{concat};
 ghost use Rattle.std.specs.Char.{is_ascii_digit};
 ghost use Rattle.arrayvec.specs.ArrayVec.{array_vec_len};
 ghost use Rattle.abc_text.specs.Byte.{open_parenthesis};
 ghost use Rattle.abc_fields.specs.Parts.{parts_of};
-ghost use Rattle.abc_fields.specs.Letters.{Played, nothing_played, count_or_once, letters_so_far, with_item, count_on, is_order_byte, read_on, letters_of};
+ghost use Rattle.abc_fields.specs.Letters.{Played, nothing_played, count_or_once, letters_so_far, with_item, count_on};
+ghost use Rattle.abc_fields.specs.Letters.{is_order_byte, read_on, letters_of};
 ghost use Rattle.abc_repeat.specs.Section.{section_of};
 ghost use Rattle.abc_repeat.specs.OrderPlay.{sections_with, IsPlayOf};
 
@@ -15,11 +17,12 @@ use crate::section::FirstSections;
 use arrayvec::ArrayVec;
 use std::alloc::{AllocError, Global};
 
-/// Repeats what stands from `begin` on, so that it stands there this many times. Nothing is not repeated one by one.
+/// Repeats the sections from `begin` on, so that they are there this many times. No loop runs if there are none.
 fn put_copies(sections: &mut Vec<usize>, begin: usize, times: u32) -> Result<(), AllocError>
     requires inside { begin ≤ vec_len sections.old }
     requires some { 0 < times }
-    ensures { OnOk result (sections.new.items ≡ take begin sections.old.items ++ concat (replicate times (drop begin sections.old.items))) }
+    ensures { OnOk result (sections.new.items
+        ≡ take begin sections.old.items ++ concat (replicate times (drop begin sections.old.items))) }
 {
     let end = sections.len();
     if begin < end {
@@ -30,21 +33,21 @@ fn put_copies(sections: &mut Vec<usize>, begin: usize, times: u32) -> Result<(),
     Ok(())
 }
 
-/// What the front of an order plays.
+/// The sections that the front of an order plays.
 #[derive(Drop)]
 struct OrderPlay {
-    /// The sections that are played so far; the last item stands there once.
+    /// The sections that are played so far, with the last item once.
     sections: Vec<usize>,
-    /// Where each open group begins, the innermost last.
+    /// The beginning of each open group, the innermost last.
     groups: ArrayVec<usize, MOST_GROUPS>,
-    /// Where the last item begins.
+    /// The beginning of the last item.
     begin: usize,
     /// Its count so far.
     count: Option<u32>,
 }
 
 impl OrderPlay {
-    /// The opening section is played, with room for so many sections behind it.
+    /// Returns the play of the opening section, with room for `room` sections after it.
     fn new(alloc: Global, room: usize) -> Result<OrderPlay, AllocError>
         requires { room < 2 ^ 32 }
         ensures { IfOk result (λ play. (sections : FirstSections) → IsPlayOf (section_of sections) nothing_played play) }

@@ -1,4 +1,4 @@
-//! How many sections an order plays, counted without memory.
+//! The number of sections that an order plays, counted without an allocation.
 
 ghost use Rattle.std.specs.Prelude.{◌≡◌, ℕ, ◌<◌, ◌^◌, true, Option};
 ghost use Rattle.std.specs.Char.{is_ascii_digit};
@@ -13,12 +13,12 @@ use crate::count::{MOST_GROUPS, longer_count};
 use crate::section::FirstSections;
 use arrayvec::ArrayVec;
 
-/// How many sections the front of an order plays, and 2^64 - 1 for more.
+/// The number of sections that the front of an order plays, at most 2^64 - 1.
 #[derive(Drop)]
-struct Size {
-    /// In front of each open group, inside the one around it; the innermost last.
+struct OrderSize {
+    /// Before each open group, inside the one around it; the innermost last.
     around: ArrayVec<u64, MOST_GROUPS>,
-    /// In the innermost group, in front of its last item.
+    /// In the innermost group, before its last item.
     before: u64,
     /// That item, played once.
     item: u64,
@@ -26,12 +26,12 @@ struct Size {
     count: Option<u32>,
 }
 
-impl Size {
-    /// Nothing stands in front.
-    fn new() -> Size
+impl OrderSize {
+    /// Returns the size of an empty front.
+    fn new() -> OrderSize
         ensures { (sections : FirstSections) → IsSizeOf (section_of sections) nothing_played result }
     {
-        Size {
+        OrderSize {
             around: ArrayVec::new(),
             before: 0,
             item: 0,
@@ -39,9 +39,10 @@ impl Size {
         }
     }
 
-    /// What the innermost group plays so far.
-    fn so_far(&self) -> u64
-        ensures { (section : ℕ → Option ℕ) → (played : Played) → IsSizeOf section played self.now → result ≡ size_of section (letters_so_far played) }
+    /// Returns the number of sections that the innermost group plays so far.
+    fn total(&self) -> u64
+        ensures { (section : ℕ → Option ℕ) → (played : Played) → IsSizeOf section played self.now
+            → result ≡ size_of section (letters_so_far played) }
     {
         let times = self.count.unwrap_or(1);
         self.before
@@ -52,23 +53,24 @@ impl Size {
     fn read(&mut self, byte: u8, sections: &FirstSections)
         requires room { byte ≡ open_parenthesis → array_vec_len self.old.around < MOST_GROUPS }
         requires short { is_ascii_digit byte ≡ true → count_on self.old.count byte < 2 ^ 32 }
-        ensures { (played : Played) → IsSizeOf (section_of sections.now) played self.old → IsSizeOf (section_of sections.now) (read_on played byte) self.new }
+        ensures { (played : Played) → IsSizeOf (section_of sections.now) played self.old
+            → IsSizeOf (section_of sections.now) (read_on played byte) self.new }
     {
         match byte {
             b'A'..=b'Z' => {
-                self.before = self.so_far();
+                self.before = self.total();
                 self.item = sections.get(byte).is_some() as u64;
                 self.count = None;
             }
             b'(' => {
-                let so_far = self.so_far();
-                self.around.push(so_far);
+                let total = self.total();
+                self.around.push(total);
                 self.before = 0;
                 self.item = 0;
                 self.count = None;
             }
             b')' => {
-                self.item = self.so_far();
+                self.item = self.total();
                 self.before = self.around.pop().unwrap_or(0);
                 self.count = None;
             }
@@ -78,14 +80,14 @@ impl Size {
     }
 }
 
-/// How many sections the letters of an order play, and 2^64 - 1 for more.
+/// Returns the number of sections that the letters of an order play, at most 2^64 - 1.
 pub(crate) fn order_size(order: &[u8], sections: &FirstSections) -> u64
     requires { parts_of order.now ≡ Ok tt }
     ensures { result ≡ size_of (section_of sections.now) (letters_of order.now) }
 {
-    let mut size = Size::new();
+    let mut size = OrderSize::new();
     for byte in order {
         size.read(*byte, sections);
     }
-    size.so_far()
+    size.total()
 }

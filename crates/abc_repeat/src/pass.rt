@@ -6,7 +6,7 @@ ghost use Rattle.abc_repeat.specs.Play.{most_passes, run_start};
 
 use crate::mark::Mark;
 
-/// How often marks are passed; of 2^64 it says 2^64 - 1.
+/// Returns the number of passes through marks, at most 2^64 - 1.
 pub(crate) fn most_passes(text: &[Mark]) -> u64
     ensures { result ≡ min (most_passes text.now) (2 ^ 64 - 1) }
 {
@@ -17,7 +17,8 @@ pub(crate) fn most_passes(text: &[Mark]) -> u64
     most
 }
 
-/// Where the run of the first ending for a pass begins, counted from 1; behind the text if there is none.
+/// Returns the place at which the first ending for a pass begins; the end of the text if there is none. Passes are
+/// counted from 1.
 pub(crate) fn run_start(text: &[Mark], pass: u64) -> usize
     requires { 0 < pass }
     ensures value { result ≡ run_start pass text.now }
@@ -31,7 +32,7 @@ pub(crate) fn run_start(text: &[Mark], pass: u64) -> usize
     text.len()
 }
 
-/// How many of the marks take their turn in a play.
+/// Returns the number of played items among marks.
 pub(crate) fn count_played(marks: &[Mark]) -> u64
     ensures { result ≡ count_by is_play marks.now }
 {

@@ -8,19 +8,16 @@ use crate::fault::RepeatFault;
 use crate::mark::Mark;
 use crate::pass::{most_passes, run_start};
 use crate::size::room_for;
-use crate::strain::{first_strain, opens_behind, up_to_ending};
+use crate::strain::{first_strain, opens_after, up_to_ending};
 use abc_text::LAST_PASS;
 use std::alloc::{AllocError, Global};
 
-/// How many places are played at most.
+/// The greatest number of places that are played.
 pub const MOST_PLACES: u64 = 1_000_000;
 
-/// A play has a million places at most.
-pub fn play_limits()
-    ensures { MOST_PLACES ≡ 10 ^ 6 }
-{}
+const _: () = prove!(MOST_PLACES == 1000 * 1000);
 
-/// Puts the places of what is played of some marks, of which the first stands at `from`.
+/// Appends the places of the played items of marks, the first of which is at `from`.
 fn put_places(play: &mut Vec<usize>, marks: &[Mark], from: usize) -> Result<(), AllocError>
     requires { from + length marks.now < 2 ^ 64 }
     ensures { OnOk result (play.new.items ≡ play.old.items ++ places_from from marks.now) }
@@ -33,7 +30,7 @@ fn put_places(play: &mut Vec<usize>, marks: &[Mark], from: usize) -> Result<(), 
     Ok(())
 }
 
-/// Puts what a pass plays of the endings of a strain that begins at `from`.
+/// Appends what a pass plays of the endings of a strain that begins at `from`.
 fn put_ending(
     play: &mut Vec<usize>,
     text: &[Mark],
@@ -51,7 +48,7 @@ fn put_ending(
     put_places(play, up_to_ending(&text[start..]), from + start)
 }
 
-/// How many of its passes a strain is played through: those that play nothing are left out.
+/// Returns how many of its passes a strain is played through. Passes that play nothing are left out.
 fn rounds(common: &[usize], passes: u64) -> u64
     ensures { result ≡ rounds_of (length common.now) passes }
 {
@@ -62,8 +59,8 @@ fn rounds(common: &[usize], passes: u64) -> u64
     }
 }
 
-/// Puts the play of a strain that begins at `from`. Passes that play nothing are left out, and none looks for its ending
-/// among what stands in front of the first.
+/// Appends the play of a strain that begins at `from`. Passes that play nothing are left out. The search for an ending
+/// begins at the first ending.
 fn put_strain(
     alloc: Global,
     play: &mut Vec<usize>,
@@ -86,7 +83,7 @@ fn put_strain(
     Ok(())
 }
 
-/// Puts the play of a section.
+/// Appends the play of a section.
 fn put_play(alloc: Global, play: &mut Vec<usize>, marks: &[Mark]) -> Result<(), AllocError>
     requires { length (play_of marks.now) < 2 ^ 64 }
     ensures { OnOk result (play.new.items ≡ play.old.items ++ play_of marks.now) }
@@ -97,20 +94,20 @@ fn put_play(alloc: Global, play: &mut Vec<usize>, marks: &[Mark]) -> Result<(), 
         let text = first_strain(&marks[at..], opened);
         put_strain(alloc, play, text, at)?;
         at += text.len();
-        opened = opens_behind(text);
+        opened = opens_after(text);
     }
     Ok(())
 }
 
-/// The places of what is played, in order of play (ABC 2.1 sections 4.8 to 4.10); `TooLong` where there are more than
-/// `room` or `MOST_PLACES`. Fields that are played with an ending are to stand behind its sign.
+/// Returns the places of the played items, in order of play (ABC 2.1 sections 4.8 to 4.10), or `TooLong` if there are more
+/// than `room` or `MOST_PLACES`. The caller puts fields that are played with an ending after its sign.
 ///
-/// No contract says how long it takes. As it is written, it goes through the marks and through the places that are played.
+/// No contract bounds its time. The body goes through the marks and through the places that are played.
 #[inline(never)]
 pub fn expand_within(alloc: Global, marks: &[Mark], room: u64) -> Result<Vec<usize>, RepeatFault>
     ensures value { IfOk result (λ places. places.items ≡ play_of marks.now) }
     ensures played { IfOk result (λ places. All (IsPlayed marks.now) places.items) }
-    ensures too_long { (result ≡ Err RepeatFault.TooLong) ↔ (min room MOST_PLACES < length (play_of marks.now)) }
+    ensures refused { (result ≡ Err RepeatFault.TooLong) ↔ (min room MOST_PLACES < length (play_of marks.now)) }
 {
     let most = room.min(MOST_PLACES);
     let size = room_for(marks, most);
@@ -122,11 +119,11 @@ pub fn expand_within(alloc: Global, marks: &[Mark], room: u64) -> Result<Vec<usi
     Ok(play)
 }
 
-/// The places of what is played, of `MOST_PLACES` at most.
+/// Returns the places of the played items, in order of play, at most `MOST_PLACES`.
 pub fn expand(alloc: Global, marks: &[Mark]) -> Result<Vec<usize>, RepeatFault>
     ensures value { IfOk result (λ places. places.items ≡ play_of marks.now) }
     ensures played { IfOk result (λ places. All (IsPlayed marks.now) places.items) }
-    ensures too_long { (result ≡ Err RepeatFault.TooLong) ↔ (MOST_PLACES < length (play_of marks.now)) }
+    ensures refused { (result ≡ Err RepeatFault.TooLong) ↔ (MOST_PLACES < length (play_of marks.now)) }
 {
     expand_within(alloc, marks, MOST_PLACES)
 }

@@ -4,7 +4,7 @@ ghost use Rattle.std.specs.Prelude.{◌≡◌, ℕ, ◌+◌, ◌<◌};
 ghost use Rattle.std.specs.Char.{is_ascii_uppercase};
 ghost use Rattle.abc_repeat.specs.Section.{first_section, section_of};
 
-/// How many letters a section may have.
+/// The number of letters that a section may have.
 const LETTERS: usize = 26;
 
 /// The first section of each letter A to Z, of the sections counted from 1.
@@ -14,7 +14,7 @@ pub(crate) struct FirstSections {
 }
 
 impl FirstSections {
-    /// Those of the sections with these letters.
+    /// Returns the first sections of the sections with these letters.
     pub(crate) fn of(letters: &[u8]) -> FirstSections
         ensures { (letter : ℕ) → section_of result letter ≡ first_section letters.now letter }
     {
@@ -28,7 +28,7 @@ impl FirstSections {
         FirstSections { by_letter }
     }
 
-    /// The first section of a letter; none for another byte.
+    /// Returns the first section of a letter; none for another byte.
     pub(crate) fn get(&self, letter: u8) -> Option<usize>
         ensures { result ≡ section_of self.now letter }
     {

@@ -1,4 +1,4 @@
-//! How many places a play has, counted without memory.
+//! The number of places of a play, counted without an allocation.
 
 ghost use Rattle.std.specs.Prelude.{◌≡◌, ◌<◌, ◌≤◌, ◌-◌, ◌^◌, length, min};
 ghost use Rattle.abc_text.specs.declared.passes.TheConstants.{LAST_PASS};
@@ -8,10 +8,10 @@ ghost use Rattle.abc_repeat.specs.Strain.{strain_of};
 
 use crate::mark::Mark;
 use crate::pass::{count_played, most_passes, run_start};
-use crate::strain::{first_strain, opens_behind, up_to_ending};
+use crate::strain::{first_strain, opens_after, up_to_ending};
 use abc_text::LAST_PASS;
 
-/// How many places the endings of a strain play in this many passes, and 2^64 - 1 for more.
+/// Returns how many places the endings of a strain play in this many passes, at most 2^64 - 1.
 fn endings_size(text: &[Mark], passes: u64) -> u64
     ensures { result ≡ min (endings_size (strain_of text.now) (min passes LAST_PASS)) (2 ^ 64 - 1) }
 {
@@ -23,7 +23,7 @@ fn endings_size(text: &[Mark], passes: u64) -> u64
     size
 }
 
-/// How many places the play of a strain has, and 2^64 - 1 for more.
+/// Returns the number of places of the play of a strain, at most 2^64 - 1.
 fn strain_size(text: &[Mark]) -> u64
     ensures { result ≡ min (length (strain_play 0 (strain_of text.now))) (2 ^ 64 - 1) }
 {
@@ -34,7 +34,7 @@ fn strain_size(text: &[Mark]) -> u64
     passes.saturating_mul(common).saturating_add(endings)
 }
 
-/// How many places the play of a section has, and 2^64 - 1 for more.
+/// Returns the number of places of the play of a section, at most 2^64 - 1.
 pub(crate) fn play_size(marks: &[Mark]) -> u64
     ensures { result ≡ min (length (play_of marks.now)) (2 ^ 64 - 1) }
 {
@@ -45,13 +45,13 @@ pub(crate) fn play_size(marks: &[Mark]) -> u64
         let text = first_strain(&marks[at..], opened);
         size = size.saturating_add(strain_size(text));
         at += text.len();
-        opened = opens_behind(text);
+        opened = opens_after(text);
     }
     size
 }
 
-/// Room enough for the play of a section: a number that it does not pass, or how many places it has where only that
-/// tells whether they are more than `most`. Few marks that are passed a few times need not be counted out.
+/// Returns room enough for the play of a section. The room is an upper bound if that is at most `most`, otherwise the
+/// exact number of places.
 pub(crate) fn room_for(marks: &[Mark], most: u64) -> u64
     requires { most ≤ MOST_PLACES }
     ensures enough { result ≤ most → length (play_of marks.now) ≤ result }

@@ -1,11 +1,11 @@
-//! Strains: where each begins and ends.
+//! The beginnings and ends of strains.
 
 ghost use Rattle.std.specs.Prelude.{◌≡◌, false, ◌<◌, ◌≤◌, length};
-ghost use Rattle.abc_repeat.specs.Strain.{leads_to_ending, ends_strain, strain_of, first_text, opens_behind, HasStrains, HasOneReading};
+ghost use Rattle.abc_repeat.specs.Strain.{leads_to_ending, ends_strain, strain_of, first_text, opens_after};
 
 use crate::mark::Mark;
 
-/// Whether the next ending's sign comes behind nothing but single bars.
+/// Whether only single bars come before the next ending's sign.
 fn leads_to_ending(marks: &[Mark]) -> bool
     ensures { result ≡ leads_to_ending marks.now }
 {
@@ -17,7 +17,7 @@ fn leads_to_ending(marks: &[Mark]) -> bool
     false
 }
 
-/// Whether a mark ends its strain, in its common part or inside an ending, with the rest behind it.
+/// Whether a mark ends its strain, in its common part or inside an ending; `rest` comes after the mark.
 fn ends_strain(opened: bool, inside: bool, mark: Mark, rest: &[Mark]) -> bool
     ensures { result ≡ ends_strain opened inside mark rest.now }
 {
@@ -28,7 +28,7 @@ fn ends_strain(opened: bool, inside: bool, mark: Mark, rest: &[Mark]) -> bool
     }
 }
 
-/// The marks of the first strain, which is opened or not.
+/// Returns the marks of the first strain, opened or not.
 #[tactic(auto, unfolding(crate::specs::Strain::first_text))]
 pub(crate) fn first_strain(marks: &[Mark], opened: bool) -> &[Mark]
     ensures value { result.now ≡ first_text opened marks.now }
@@ -45,15 +45,14 @@ pub(crate) fn first_strain(marks: &[Mark], opened: bool) -> &[Mark]
     marks
 }
 
-/// Whether the strain behind some marks is opened: their last one says so.
-pub(crate) fn opens_behind(marks: &[Mark]) -> bool
-    ensures { result ≡ opens_behind false marks.now }
+/// Whether the strain after these marks is opened, which depends on the last one.
+pub(crate) fn opens_after(marks: &[Mark]) -> bool
+    ensures { result ≡ opens_after false marks.now }
 {
     !marks.is_empty() && marks[marks.len() - 1].opens_next()
 }
 
-/// The common part of a strain's marks, or the run of an ending: what stands in front of the next
-/// ending's sign.
+/// Returns the marks before the next ending's sign: the common part of a strain, or the run of an ending.
 pub(crate) fn up_to_ending(text: &[Mark]) -> &[Mark]
     ensures value { result.now ≡ (strain_of text.now).common }
     ensures bounded { length result.now ≤ length text.now }
@@ -65,9 +64,3 @@ pub(crate) fn up_to_ending(text: &[Mark]) -> &[Mark]
     }
     text
 }
-
-/// The marks of a voice in a section are a list of strains in one way only.
-pub fn one_reading()
-    ensures exists { HasStrains }
-    ensures once { HasOneReading }
-{}

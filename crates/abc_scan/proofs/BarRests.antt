@@ -29,7 +29,8 @@ bar_rest_longest text front rest bars cut is =
       same = λ e. l.1 (omega (arith, long, e));
     }
 
-bar_rest_here : (b : ℕ) (rest : List ℕ) → is_bar_rest_letter b ≡ true → IsFront (b ∷ rest) (1 + (optional_number_at rest).1) × IsBarRest (take (1 + (optional_number_at rest).1) (b ∷ rest)) (optional_number_at rest).0
+bar_rest_here : (b : ℕ) (rest : List ℕ) → is_bar_rest_letter b ≡ true
+    → IsFront (b ∷ rest) (1 + (optional_number_at rest).1) × IsBarRest (take (1 + (optional_number_at rest).1) (b ∷ rest)) (optional_number_at rest).0
 bar_rest_here b rest test =
     let n = (optional_number_at rest).1 in
     let size : n ≤ length rest = optional_number-le rest in

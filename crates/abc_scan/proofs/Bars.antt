@@ -1,5 +1,6 @@
 -- The bar line at the front of a text is the longest one that the grammar has there.
-use Rattle.std.proofs.Common.{◌≡◌, ℕ, zero, suc, ◌+◌, ◌-◌, ◌<◌, ◌≤◌, Bool, true, false, cond, Some, List, [], ◌∷◌, ◌++◌, length, take, drop, replicate, refl, sym, ap, ◌∙◌, subst, inl, inr, ⊎_elim, arith, append_assoc, length-append, length-drop, length-take-le, add-zero}
+use Rattle.std.proofs.Common.{◌≡◌, ℕ, zero, suc, ◌+◌, ◌-◌, ◌<◌, ◌≤◌, Bool, true, false, cond, Some, List, [], ◌∷◌, ◌++◌, length, take, drop, replicate, refl, sym, ap, ◌∙◌, subst, inl, inr, ⊎_elim}
+use Rattle.std.proofs.Common.{arith, append_assoc, length-append, length-drop, length-take-le, add-zero}
 use Rattle.std.specs.Prelude.{◌==◌, ◌&&◌, ◌||◌, nat_lt}
 use Rattle.std.specs.List.{AllPass}
 use Rattle.std.proofs.lemmas.Bool.{cond-true, cond-false, cases_Bool, cases_eq, cases_lt, eqb-false, eq-eqb, ne_eqb, or_from, and_left, and_right, ltb-false, le-ltb}
@@ -8,7 +9,7 @@ use Rattle.std.proofs.lemmas.List.Sums.{prefix_len-le-length}
 use Rattle.abc_scan.specs.declared.bar.BarLine.{BarLine}
 use Rattle.abc_scan.specs.Byte.{colon}
 use Rattle.abc_scan.specs.Note.{begins_with_byte}
-use Rattle.abc_scan.specs.Bar.{Strokes, strokes_text, middle_text, is_double, HasStrokes, HasColons, IsBar, colons, goes_on, middle_from, middle_size, colons_alone, with_middle, bar_behind, bar_at}
+use Rattle.abc_scan.specs.Bar.{Strokes, strokes_text, middle_text, is_double, HasStrokes, HasColons, IsBar, colons, goes_on, middle_from, middle_size, bar_of_colons, with_middle, bar_behind, bar_at}
 use Rattle.abc_scan.proofs.Marks.{one_more, some_where_false, cut_in_three, all_same, same_pass}
 use Rattle.abc_text.proofs.Fronts.{front_passes, front_append, front_exact, take_exact, drop_exact}
 use Rattle.abc_scan.proofs.Readings.{Finds, IsFront}
@@ -53,7 +54,8 @@ counts_middle (g ∷ gs) before rest =
     counts_append before (strokes_text g) (middle_text gs) rest (λ r. counts_group before g.opened g.more g.closed r) (λ last. counts_middle gs last rest)
 
 -- it is not empty, and begins with no colon
-strokes_first : (opened : Bool) (more : ℕ) (tail : List ℕ) → (colons (opening opened ++ ((124 ∷ replicate more 124) ++ tail)) ≡ 0) × (0 < length (opening opened ++ ((124 ∷ replicate more 124) ++ tail)))
+strokes_first : (opened : Bool) (more : ℕ) (tail : List ℕ)
+    → (colons (opening opened ++ ((124 ∷ replicate more 124) ++ tail)) ≡ 0) × (0 < length (opening opened ++ ((124 ∷ replicate more 124) ++ tail)))
 strokes_first true more tail = (refl, omega arith)
 strokes_first false more tail = (refl, omega arith)
 
@@ -61,12 +63,13 @@ middle_first : (groups : List Strokes) (rest : List ℕ) → 0 < length groups �
 middle_first [] rest some = absurd (omega arith)
 middle_first (g ∷ gs) rest some =
     let whole : middle_text (g ∷ gs) ++ rest ≡ opening g.opened ++ ((124 ∷ replicate g.more 124) ++ (closing g.closed ++ (middle_text gs ++ rest))) =
-    append_assoc (strokes_text g) (middle_text gs) rest ∙ append_assoc (opening g.opened) ((124 ∷ replicate g.more 124) ++ closing g.closed) (middle_text gs ++ rest) ∙ ap (λ l. opening g.opened ++ l) (append_assoc (124 ∷ replicate g.more 124) (closing g.closed) (middle_text gs ++ rest)) in
+    append_assoc (strokes_text g) (middle_text gs) rest ∙ append_assoc (opening g.opened) ((124 ∷ replicate g.more 124) ++ closing g.closed) (middle_text gs ++ rest) ∙ ap (λ l. opening g.opened ++
+    l) (append_assoc (124 ∷ replicate g.more 124) (closing g.closed) (middle_text gs ++ rest)) in
     let first = strokes_first g.opened g.more (closing g.closed ++ (middle_text gs ++ rest)) in
     let size = (strokes_first g.opened g.more (closing g.closed)).1 in
     (ap colons whole ∙ first.0, omega (arith, size, length-append (strokes_text g) (middle_text gs)))
 
--- what is read behind the colons that close
+-- what is read after the colons that close
 bar_from : (text behind : List ℕ) (closes : ℕ) → colons text ≡ closes → drop closes text ≡ behind → bar_at text ≡ bar_behind closes behind
 unfolding bar_at
 bar_from text behind closes count cut = let e : drop (colons text) text ≡ behind = ap (λ k. drop k text) count ∙ cut in λ i. bar_behind (count i) (e i)
@@ -118,7 +121,8 @@ strokes_longest text front rest bar cut is =
     let opens = opens_of middle rest bar.opens first.1 (counts_middle is.groups 32 (opening_colons ++ rest)) in
     let found : BarLine × ℕ = with_middle bar.closes (middle_size behind) behind in
     let long : length front ≡ bar.closes + (length middle + bar.opens) =
-    ap length is.spelling ∙ length-append closing_colons (middle ++ opening_colons) ∙ (λ i. length-replicate bar.closes colon i + length-append middle opening_colons i) ∙ ap (λ n. bar.closes + (length middle + n)) (length-replicate bar.opens colon) in
+    ap length is.spelling ∙ length-append closing_colons (middle ++ opening_colons) ∙ (λ i. length-replicate bar.closes colon i + length-append middle opening_colons i) ∙ ap (λ n. bar.closes +
+    (length middle + n)) (length-replicate bar.opens colon) in
     record {
       found = found.0;
       size = found.1;
@@ -131,7 +135,7 @@ strokes_longest text front rest bar cut is =
     }
 
 -- colons alone
-alone_some : (count : ℕ) → 2 ≤ count → colons_alone count ≡ Some (record { closes = count - 1; opens = count - 1; double = true }, count)
+alone_some : (count : ℕ) → 2 ≤ count → bar_of_colons count ≡ Some (record { closes = count - 1; opens = count - 1; double = true }, count)
 alone_some count several = cond-false _ _ _ (le-ltb count 2 several)
 
 colons_found : (text front : List ℕ) (bar : BarLine) (behind : List ℕ) (count : ℕ) → HasColons front bar → bar_at text ≡ bar_behind count behind → length front ≤ count → Finds (bar_at text) front bar
@@ -179,9 +183,11 @@ record Outer (before : ℕ) (text : List ℕ) : Type 0 where
 take_one_more : (n b : ℕ) (bs : List ℕ) → take (1 + n) (b ∷ bs) ≡ b ∷ take n bs
 take_one_more n b bs = ap (λ k. take k (b ∷ bs)) (one_more n)
 
-group_first : (opened : Bool) (more : ℕ) (closed : Bool) (groups : List Strokes) → opening opened ++ (124 ∷ (replicate more 124 ++ (closing closed ++ middle_text groups))) ≡ middle_text ((let s : Strokes = record { opened = opened; more = more; closed = closed } in s) ∷ groups)
+group_first : (opened : Bool) (more : ℕ) (closed : Bool) (groups : List Strokes) → opening opened ++ (124 ∷
+    (replicate more 124 ++ (closing closed ++ middle_text groups))) ≡ middle_text ((let s : Strokes = record { opened = opened; more = more; closed = closed } in s) ∷ groups)
 group_first opened more closed groups =
-    sym (append_assoc (opening opened) ((124 ∷ replicate more 124) ++ closing closed) (middle_text groups) ∙ ap (λ l. opening opened ++ l) (append_assoc (124 ∷ replicate more 124) (closing closed) (middle_text groups)))
+    sym (append_assoc (opening opened) ((124 ∷ replicate more 124) ++ closing closed) (middle_text groups) ∙ ap (λ l. opening opened ++ l)
+    (append_assoc (124 ∷ replicate more 124) (closing closed) (middle_text groups)))
 
 outer_stroke : (before : ℕ) (bs : List ℕ) → Inner bs → Outer before (124 ∷ bs)
 outer_stroke before bs h = record {
@@ -192,7 +198,8 @@ outer_stroke before bs h = record {
 outer_bracket : (before : ℕ) (cs : List ℕ) → Inner cs → Outer before (91 ∷ 124 ∷ cs)
 outer_bracket before cs h = record {
   groups = record { opened = true; more = h.more; closed = h.closed } ∷ h.groups;
-  spelling = take_one_more (1 + middle_from 124 cs) 91 (124 ∷ cs) ∙ ap (λ l. 91 ∷ l) (take_one_more (middle_from 124 cs) 124 cs ∙ ap (λ l. 124 ∷ l) h.spelling) ∙ group_first true h.more h.closed h.groups;
+  spelling =
+      take_one_more (1 + middle_from 124 cs) 91 (124 ∷ cs) ∙ ap (λ l. 91 ∷ l) (take_one_more (middle_from 124 cs) 124 cs ∙ ap (λ l. 124 ∷ l) h.spelling) ∙ group_first true h.more h.closed h.groups;
 }
 
 inner_stroke : (bs : List ℕ) → Inner bs → Inner (124 ∷ bs)
@@ -233,7 +240,8 @@ outer_at before b bs opens inner more = ⊎_elim
     (λ e. subst (λ x. Outer before (x ∷ bs)) (sym e) (outer_stroke before bs inner))
     (λ no_stroke. ⊎_elim
     (λ e. subst (λ x. Outer before (x ∷ bs)) (sym e) (at_bracket before bs more))
-    (λ no_open. outer_none before b bs (stops before b bs no_stroke (and_left _ _ (ne_eqb b 91 no_open)) (⊎_elim (λ e. and_right _ _ (ne_eqb before 124 (λ was. opens was e))) (λ ne. and_left _ _ (ne_eqb b 93 ne)) (cases_eq b 93))))
+    (λ no_open. outer_none before b bs (stops before b bs no_stroke (and_left _ _ (ne_eqb b 91 no_open))
+    (⊎_elim (λ e. and_right _ _ (ne_eqb before 124 (λ was. opens was e))) (λ ne. and_left _ _ (ne_eqb b 93 ne)) (cases_eq b 93))))
     (cases_eq b 91))
     (cases_eq b 124)
 
@@ -292,7 +300,7 @@ strokes_sound text some =
       }),
     )
 
-alone_sound : (text : List ℕ) (bar : BarLine) (size : ℕ) → colons_alone (colons text) ≡ Some (bar, size) → IsFront text size × IsBar (take size text) bar
+alone_sound : (text : List ℕ) (bar : BarLine) (size : ℕ) → bar_of_colons (colons text) ≡ Some (bar, size) → IsFront text size × IsBar (take size text) bar
 alone_sound text bar size e =
     let count = colons text in
     let alone : BarLine = record { closes = count - 1; opens = count - 1; double = true } in

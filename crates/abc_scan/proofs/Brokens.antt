@@ -33,7 +33,8 @@ broken_read (b ∷ bs) direction n rest cut =
     let first : b ≡ mark_of direction = cc in
     ap (option_map (marks_of (b ∷ bs))) (ap direction_of first ∙ direction_known direction)
 
-longest_of : (text rest : List ℕ) (direction : Direction) (n : ℕ) → text ≡ replicate n (mark_of direction) ++ rest → 1 ≤ n → n ≤ 3 → Finds (broken_at text) (replicate n (mark_of direction)) (let value : BrokenRhythm = record { direction = direction; marks = n } in value)
+longest_of : (text rest : List ℕ) (direction : Direction) (n : ℕ) → text ≡ replicate n (mark_of direction) ++ rest → 1 ≤ n → n ≤ 3
+    → Finds (broken_at text) (replicate n (mark_of direction)) (let value : BrokenRhythm = record { direction = direction; marks = n } in value)
 longest_of text rest direction zero cut some few = absurd (omega arith)
 longest_of text rest direction (suc n) cut some few =
     let mark = mark_of direction in
@@ -56,7 +57,8 @@ broken_longest text front rest value cut is =
 marks_some : (mark b : ℕ) (bs : List ℕ) → b ≡ mark → 0 < marks_at mark (b ∷ bs)
 marks_some mark b bs e = let first = cond-true (b == mark) (1 + prefix_len (λ x. x == mark) (take 2 bs)) 0 (eq-eqb b mark e) in omega (arith, first)
 
-marks_sound : (b : ℕ) (bs : List ℕ) (direction : Direction) → b ≡ mark_of direction → IsFront (b ∷ bs) (marks_of (b ∷ bs) direction).1 × IsBroken (take (marks_of (b ∷ bs) direction).1 (b ∷ bs)) (marks_of (b ∷ bs) direction).0
+marks_sound : (b : ℕ) (bs : List ℕ) (direction : Direction) → b ≡ mark_of direction
+    → IsFront (b ∷ bs) (marks_of (b ∷ bs) direction).1 × IsBroken (take (marks_of (b ∷ bs) direction).1 (b ∷ bs)) (marks_of (b ∷ bs) direction).0
 marks_sound b bs direction e =
     let mark = mark_of direction in
     let text = b ∷ bs in
@@ -72,7 +74,8 @@ marks_sound b bs direction e =
       },
     )
 
-marks_known : (b : ℕ) (bs : List ℕ) (o : Option Direction) (value : BrokenRhythm) (size : ℕ) → direction_of b ≡ o → option_map (marks_of (b ∷ bs)) o ≡ Some (value, size) → IsFront (b ∷ bs) size × IsBroken (take size (b ∷ bs)) value
+marks_known : (b : ℕ) (bs : List ℕ) (o : Option Direction) (value : BrokenRhythm) (size : ℕ) → direction_of b ≡ o → option_map (marks_of (b ∷ bs)) o ≡ Some (value, size)
+    → IsFront (b ∷ bs) size × IsBroken (take size (b ∷ bs)) value
 marks_known b bs None value size known e = cc
 marks_known b bs (Some direction) value size known e =
     let same : marks_of (b ∷ bs) direction ≡ (value, size) = cc in

@@ -1,4 +1,4 @@
--- The cells of a line are its tokens, cut behind each bar line and nowhere else.
+-- The cells of a line are its tokens, cut after each bar line and nowhere else.
 use Rattle.std.proofs.Common.{◌≡◌, ℕ, suc, ◌+◌, ◌-◌, ◌<◌, ◌≤◌, true, false, List, [], ◌∷◌, ◌++◌, length, take, drop, get_or, refl, sym, ap, ◌∙◌, subst, ⊎_elim, arith, append_assoc, append-nil}
 use Rattle.std.specs.Prelude.{All, ◌==◌}
 use Rattle.std.proofs.Math.Seq.{drop-cons}
@@ -53,7 +53,8 @@ put_cells t tokens (cell ∷ next ∷ cells) plain are =
     record {
       whole = ap (λ l. t ∷ l) are.whole;
       each = All-cons IsCell (t ∷ cell) (next ∷ cells) (longer t cell plain (All-head IsCell cell (next ∷ cells) are.each)) (All-tail IsCell cell (next ∷ cells) are.each);
-      closed = subst (All EndsWithBar) (sym (but_last-cons (t ∷ cell) next cells)) (All-cons EndsWithBar (t ∷ cell) (but_last (next ∷ cells)) (still_closed t cell (All-head EndsWithBar cell (but_last (next ∷ cells)) closed)) (All-tail EndsWithBar cell (but_last (next ∷ cells)) closed));
+      closed = subst (All EndsWithBar) (sym (but_last-cons (t ∷ cell) next cells)) (All-cons EndsWithBar (t ∷ cell) (but_last (next ∷ cells))
+          (still_closed t cell (All-head EndsWithBar cell (but_last (next ∷ cells)) closed)) (All-tail EndsWithBar cell (but_last (next ∷ cells)) closed));
     }
 
 bar_cells : (t : Spanned TokenKind) (tokens : Tokens) (cells : List Tokens) → ends_cell t ≡ true → AreCells tokens cells → AreCells (t ∷ tokens) ((t ∷ []) ∷ cells)
@@ -84,10 +85,12 @@ first-bar t ts bar = cond-true (ends_cell t) 1 (suc (first_size ts)) bar
 first-plain : (t : Spanned TokenKind) (ts : Tokens) → ends_cell t ≡ false → first_size (t ∷ ts) ≡ suc (first_size ts)
 first-plain t ts plain = cond-false (ends_cell t) 1 (suc (first_size ts)) plain
 
-put_front : (t : Spanned TokenKind) (ts : Tokens) → cells_of ts ≡ take (first_size ts) ts ∷ cells_of (drop (first_size ts) ts) → put_first t (cells_of ts) ≡ take (suc (first_size ts)) (t ∷ ts) ∷ cells_of (drop (suc (first_size ts)) (t ∷ ts))
+put_front : (t : Spanned TokenKind) (ts : Tokens) → cells_of ts ≡ take (first_size ts) ts ∷ cells_of (drop (first_size ts) ts)
+    → put_first t (cells_of ts) ≡ take (suc (first_size ts)) (t ∷ ts) ∷ cells_of (drop (suc (first_size ts)) (t ∷ ts))
 put_front t ts e = ap (put_first t) e
 
-either_cell : (t : Spanned TokenKind) (ts : Tokens) → put_first t (cells_of ts) ≡ take (suc (first_size ts)) (t ∷ ts) ∷ cells_of (drop (suc (first_size ts)) (t ∷ ts)) → cells_of (t ∷ ts) ≡ take (first_size (t ∷ ts)) (t ∷ ts) ∷ cells_of (drop (first_size (t ∷ ts)) (t ∷ ts))
+either_cell : (t : Spanned TokenKind) (ts : Tokens) → put_first t (cells_of ts) ≡ take (suc (first_size ts)) (t ∷ ts) ∷ cells_of (drop (suc (first_size ts)) (t ∷ ts))
+    → cells_of (t ∷ ts) ≡ take (first_size (t ∷ ts)) (t ∷ ts) ∷ cells_of (drop (first_size (t ∷ ts)) (t ∷ ts))
 either_cell t ts more = ⊎_elim
     (λ bar.
     cond-true (ends_cell t) ((t ∷ []) ∷ cells_of ts) (put_first t (cells_of ts)) bar
@@ -176,7 +179,8 @@ pub still_no_bar : (token : Spanned TokenKind) (begun : Tokens) → HasNoBar beg
 still_no_bar token begun none plain = All-append (λ t. ends_cell t ≡ false) begun (token ∷ []) none (All-cons (λ t. ends_cell t ≡ false) token [] plain (All-nil (λ t. ends_cell t ≡ false)))
 
 -- a bar line closes the begun cell
-pub is_closed : (token : Spanned TokenKind) (cells all : List Tokens) (begun more : Tokens) → HasNoBar begun → ends_cell token ≡ true → all ≡ cells ++ (begun ++ token ∷ []) ∷ [] → more ≡ [] → GoOnWith token cells begun all more
+pub is_closed : (token : Spanned TokenKind) (cells all : List Tokens) (begun more : Tokens) → HasNoBar begun → ends_cell token ≡ true → all ≡ cells ++ (begun ++ token ∷ []) ∷ [] → more ≡ []
+    → GoOnWith token cells begun all more
 is_closed token cells all begun more plain bar e none rest =
     (λ i. e i ++ cells_of (none i ++ rest))
     ∙ append_assoc cells ((begun ++ token ∷ []) ∷ []) (cells_of rest)

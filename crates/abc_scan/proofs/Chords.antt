@@ -1,10 +1,11 @@
 -- The chord at the front of a text is the longest that the grammar has there, and its inside has one cutting.
-use Rattle.std.proofs.Common.{◌≡◌, ℕ, Bool, false, Option, Some, None, List, [], ◌∷◌, ◌++◌, length, take, drop, refl, sym, ap, ◌∙◌, subst, inl, inr, ⊎_elim, arith, append_assoc, append-nil, take-append-drop}
+use Rattle.std.proofs.Common.{◌≡◌, ℕ, Bool, false, Option, Some, None, List, [], ◌∷◌, ◌++◌, length, take, drop, refl, sym, ap, ◌∙◌, subst, inl, inr, ⊎_elim, arith, append_assoc, append-nil}
+use Rattle.std.proofs.Common.{take-append-drop}
 use Rattle.std.specs.Option.{option_map}
 use Rattle.abc_scan.specs.declared.chord.Chord.{Chord}
 use Rattle.abc_scan.specs.declared.frame.Frame.{Frame}
-use Rattle.abc_scan.specs.declared.parts.ChordPartKind.{ChordPartKind}
-use Rattle.abc_scan.specs.declared.parts.ChordPartKind.TheVariants as kinds
+use Rattle.abc_scan.specs.declared.chord_part.ChordPartKind.{ChordPartKind}
+use Rattle.abc_scan.specs.declared.chord_part.ChordPartKind.TheVariants as kinds
 use Rattle.abc_scan.specs.declared.start.Start.{Start}
 use Rattle.abc_scan.specs.declared.start.Start.TheVariants as starts
 use Rattle.abc_scan.specs.Chord.{SpellsPart, part_kinds, part_grammar, inside_of, IsChord, part_by, part_reading_at, parts_of, chord_of, chord_at}
@@ -26,15 +27,18 @@ use Rattle.abc_scan.proofs.Starts.{note_starts, tie_starts, blank_starts, delimi
 use Rattle.abc_scan.proofs.Wraps.{finds-wrapped, finds-sized, finds-one, wrapped-sound, sized-sound, one-sound}
 
 -- what is read by the first byte is read
-by_start : (start : Start) (after_bar : Bool) (text front : List ℕ) (kind : ChordPartKind) → start_of text ≡ start → Finds (part_by start text) front kind → Finds (part_reading_at after_bar text) front kind
+by_start : (start : Start) (after_bar : Bool) (text front : List ℕ) (kind : ChordPartKind) → start_of text ≡ start → Finds (part_by start text) front kind
+    → Finds (part_reading_at after_bar text) front kind
 unfolding part_reading_at
 by_start start after_bar text front kind e found = subst (λ s. Finds (part_by s text) front kind) (sym e) found
 
 silent_longest : (after_bar : Bool) (text front rest : List ℕ) → text ≡ front ++ rest → HasNoEffect front → Finds (part_reading_at after_bar text) front kinds.NoEffect
 silent_longest after_bar text front rest cut is = ⊎_elim
-    (λ (d : IsDelimited front). by_start starts.Delimited after_bar text front kinds.NoEffect (delimited_starts text front rest cut d) (finds-sized kinds.NoEffect (delimited_at text) front (length front) (delimited_longest text front rest cut d) (omega arith)))
+    (λ (d : IsDelimited front). by_start starts.Delimited after_bar text front kinds.NoEffect (delimited_starts text front rest cut d)
+    (finds-sized kinds.NoEffect (delimited_at text) front (length front) (delimited_longest text front rest cut d) (omega arith)))
     (λ other. ⊎_elim
-    (λ (s : IsExtraSpace front). let l = extra_space_longest text front rest cut s in by_start starts.Space after_bar text front kinds.NoEffect (space_starts text front rest cut s) (finds-sized kinds.NoEffect (extra_space_at text) front l.size l.is_read l.long))
+    (λ (s : IsExtraSpace front). let l = extra_space_longest text front rest cut s in by_start starts.Space after_bar text front kinds.NoEffect (space_starts text front rest cut s)
+    (finds-sized kinds.NoEffect (extra_space_at text) front l.size l.is_read l.long))
     (λ (one : IsSingle front).
     let long : length front ≡ 1 = ap length one.spelling in
     ⊎_elim
@@ -46,7 +50,8 @@ silent_longest after_bar text front rest cut is = ⊎_elim
 
 part_longest : (after_bar : Bool) (text front rest : List ℕ) (kind : ChordPartKind) → text ≡ front ++ rest → SpellsPart after_bar front kind → Finds (part_reading_at after_bar text) front kind
 part_longest after_bar text front rest (kinds.Note note) cut is =
-    by_start starts.Note after_bar text front (kinds.Note note) (note_starts text front rest note cut is) (finds-wrapped (λ n. kinds.Note n) (note_at text) front note (note_longest text front rest note cut is))
+    by_start starts.Note after_bar text front (kinds.Note note) (note_starts text front rest note cut is) (finds-wrapped (λ n. kinds.Note n) (note_at text) front note
+    (note_longest text front rest note cut is))
 part_longest after_bar text front rest kinds.Tie cut is =
     by_start starts.Tie after_bar text front kinds.Tie (tie_starts text front rest cut is) (finds-one kinds.Tie front (ap length is))
 part_longest after_bar text front rest kinds.NoEffect cut is = ⊎_elim
@@ -59,7 +64,8 @@ part_longest after_bar text front rest kinds.BadByte cut is = absurd is
 abbrev IsPart : Bool → List ℕ → ChordPartKind → ℕ → Type 0
 IsPart after_bar text kind size = IsFront text size × SpellsPart after_bar (take size text) kind
 
-part_by_sound : (start : Start) (after_bar : Bool) (b : ℕ) (rest : List ℕ) (kind : ChordPartKind) (size : ℕ) → Known b start → part_by start (b ∷ rest) ≡ Some (kind, size) → IsPart after_bar (b ∷ rest) kind size
+part_by_sound : (start : Start) (after_bar : Bool) (b : ℕ) (rest : List ℕ) (kind : ChordPartKind) (size : ℕ) → Known b start → part_by start (b ∷ rest) ≡ Some (kind, size)
+    → IsPart after_bar (b ∷ rest) kind size
 part_by_sound starts.Note after_bar b rest kind size known e =
     wrapped-sound (λ n. kinds.Note n) (IsPart after_bar (b ∷ rest)) (note_at (b ∷ rest)) kind size (λ x n read. note_sound (b ∷ rest) x n read) e
 part_by_sound starts.Rest after_bar b rest kind size known e = cc
@@ -131,14 +137,16 @@ chord_here text frame size sound =
         frame = frame;
         framed = sound.1;
         length_is = refl;
-        parts_are = subst (λ l. IsCuttingFrom part_grammar false 1 l (parts_of (inside_of frame text))) (sym inside) (cuts_from part_kinds SpellsPart part_reading_at reads_parts (length (inside_of frame text)) false 1 (inside_of frame text) (omega arith));
+        parts_are = subst (λ l. IsCuttingFrom part_grammar false 1 l (parts_of (inside_of frame text))) (sym inside) (cuts_from part_kinds SpellsPart part_reading_at reads_parts
+            (length (inside_of frame text)) false 1 (inside_of frame text) (omega arith));
       },
     )
 
 abbrev with_parts : List ℕ → Frame × ℕ → Chord × ℕ
 with_parts text r = (chord_of r.0 text, r.1)
 
-chord_found : (text : List ℕ) (o : Option (Frame × ℕ)) (chord : Chord) (size : ℕ) → frame_at text ≡ o → option_map (with_parts text) o ≡ Some (chord, size) → IsFront text size × IsChord (take size text) chord
+chord_found : (text : List ℕ) (o : Option (Frame × ℕ)) (chord : Chord) (size : ℕ) → frame_at text ≡ o → option_map (with_parts text) o ≡ Some (chord, size)
+    → IsFront text size × IsChord (take size text) chord
 chord_found text None chord size read e = cc
 chord_found text (Some r) chord size read e =
     let same : (chord_of r.0 text, r.1) ≡ (chord, size) = cc in

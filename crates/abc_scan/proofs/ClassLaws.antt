@@ -1,7 +1,8 @@
 -- Each class stands exactly where its words hold.
 use Rattle.std.proofs.Common.{◌≡◌, ℕ, Bool, true, false, cond, not, ◌&&◌, Option, Some, None, List, [], ◌∷◌, ◌++◌, refl, sym, ap, ◌∙◌, subst, ⊎_elim, IsTrue}
 use Rattle.std.specs.Prelude.{◌↔◌, ◌==◌}
-use Rattle.std.proofs.lemmas.Bool.{eqb-true, eq-eqb, eqb-false, and_parts, and_from, or_from, cases_Bool, both_ways, not_from_true, not_from_false, false_from_ne_true, not-true, cond-true, cond-false, false≢true}
+use Rattle.std.proofs.lemmas.Bool.{eqb-true, eq-eqb, eqb-false, and_parts, and_from, or_from, cases_Bool, both_ways, not_from_true, not_from_false, false_from_ne_true, not-true, cond-true, cond-false}
+use Rattle.std.proofs.lemmas.Bool.{false≢true}
 use Rattle.std.proofs.lemmas.List.Elements.{All-nil, All-cons, All-head, All-tail}
 use Rattle.abc_scan.specs.declared.class.LineClass.{LineClass}
 use Rattle.abc_scan.specs.declared.class.LineClass.TheVariants.{Blank, Comment, Field, Directive, Music}
@@ -10,7 +11,7 @@ use Rattle.abc_scan.specs.Class.{first_visible, names_field, is_music_letter, be
 use Rattle.abc_scan.specs.Directive.{is_directive, IsDirectiveLine}
 use Rattle.abc_scan.proofs.Directives.{directive-line, line-directive, directive-percent}
 
--- the first visible byte behind a blank, and in front
+-- the first visible byte after a blank, and in front
 visible_later : (b : ℕ) (bs : List ℕ) → is_blank b ≡ true → first_visible (b ∷ bs) ≡ first_visible bs
 visible_later b bs e = cond-false _ _ _ (not_from_true _ e)
 
@@ -41,7 +42,8 @@ comment_to [] rest h = refl
 comment_to (b ∷ bs) rest h = visible_later b (bs ++ 37 ∷ rest) (All-head (λ b. IsTrue (is_blank b)) b bs h) ∙ comment_to bs rest (All-tail (λ b. IsTrue (is_blank b)) b bs h)
 
 -- the test of a field, as its words
-field_at : (a b : ℕ) (rest : List ℕ) (letter : ℕ) → (t : Bool) → t ≡ (names_field a && (b == 58) && not (is_music_letter a && begins_bar rest)) → cond t (Some a) None ≡ Some letter → IsFieldLine (a ∷ b ∷ rest) letter
+field_at : (a b : ℕ) (rest : List ℕ) (letter : ℕ) → (t : Bool) → t ≡ (names_field a && (b == 58) && not (is_music_letter a && begins_bar rest)) → cond t (Some a) None ≡ Some letter
+    → IsFieldLine (a ∷ b ∷ rest) letter
 field_at a b rest letter false s e = cc
 field_at a b rest letter true s e =
     let same : a ≡ letter = cc in
@@ -158,7 +160,13 @@ laws_music b directive differs t = record {
   directive = (λ e. cc, λ h. let k = t.directive_seen h in absurd (differs cc));
   field = λ m. (λ e. cc, λ h. let k = t.is_field m h in cc);
   music = (
-    λ _. (λ h. let k : Some b ≡ None = t.is_blank h in cc, λ h. let k = t.is_percent h.0 in differs cc, λ h. let k = t.directive_seen h in differs cc, λ m h. let k : None ≡ Some m = t.is_field m h in cc),
+    λ _. (
+      λ h. let k : Some b ≡ None = t.is_blank h in cc,
+      λ h. let k = t.is_percent h.0 in differs cc,
+      λ h. let k = t.directive_seen h in differs cc,
+      λ m h. let k : None ≡ Some m = t.is_field m h in
+          cc,
+    ),
     λ _. refl,
   );
 }
@@ -171,7 +179,8 @@ laws_percent : (letter : Option ℕ) (directive : Bool) {B P D : Type 0} {F : �
 laws_percent letter true t = laws_directive letter t
 laws_percent letter false t = laws_comment letter t
 
-laws_some : (b : ℕ) (letter : Option ℕ) (directive test : Bool) {B P D : Type 0} {F : ℕ → Type 0} → (b == 37) ≡ test → Told (Some b) letter directive B P D F → Laws (cond test (cond directive Directive Comment) (field_or_music letter)) B P D F
+laws_some : (b : ℕ) (letter : Option ℕ) (directive test : Bool) {B P D : Type 0} {F : ℕ → Type 0} → (b == 37) ≡ test → Told (Some b) letter directive B P D F
+    → Laws (cond test (cond directive Directive Comment) (field_or_music letter)) B P D F
 laws_some b letter directive true {B} {P} {D} {F} e t = laws_percent letter directive (subst (λ x. Told (Some x) letter directive B P D F) (eqb-true b 37 e) t)
 laws_some b letter directive false e t = laws_seen b letter directive (eqb-false b 37 e) t
 

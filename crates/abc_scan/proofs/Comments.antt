@@ -21,7 +21,8 @@ comment_here before b bs test =
     }
 
 -- or not yet
-escaped_later : (before b : ℕ) (read : List ℕ) → ((b == 37) && not (before == 92)) ≡ false → ((front rest : List ℕ) → read ≡ front ++ 37 ∷ rest → last_or b front ≡ 92) → (front rest : List ℕ) → b ∷ read ≡ front ++ 37 ∷ rest → last_or before front ≡ 92
+escaped_later : (before b : ℕ) (read : List ℕ) → ((b == 37) && not (before == 92)) ≡ false → ((front rest : List ℕ) → read ≡ front ++ 37 ∷ rest → last_or b front ≡ 92) → (front rest : List ℕ)
+    → b ∷ read ≡ front ++ 37 ∷ rest → last_or before front ≡ 92
 escaped_later before b read test later [] rest e =
     let percent : b ≡ 37 = cc in
     ⊎_elim (λ other. absurd (eqb-false b 37 other percent)) (λ slash. eqb-true before 92 (not-false _ slash)) (and_cases _ _ test)

@@ -1,17 +1,18 @@
 -- The token between delimiters at the front of a text is the one that the grammar has there.
-use Rattle.std.proofs.Common.{◌≡◌, ℕ, suc, ◌+◌, true, Option, Some, None, List, [], ◌∷◌, ◌++◌, length, take, drop, refl, sym, ap, ◌∙◌, subst, inl, inr, ⊎_elim, arith, append_assoc, length-append, length-take-le}
+use Rattle.std.proofs.Common.{◌≡◌, ℕ, suc, ◌+◌, true, Option, Some, None, List, [], ◌∷◌, ◌++◌, length, take, drop, refl, sym, ap, ◌∙◌, subst, inl, inr, ⊎_elim, arith, append_assoc, length-append}
+use Rattle.std.proofs.Common.{length-take-le}
 use Rattle.std.specs.Prelude.{◌==◌}
 use Rattle.std.specs.Option.{option_map}
 use Rattle.std.proofs.Math.Seq.{take-append-add}
 use Rattle.std.proofs.lemmas.Bool.{cond-true, cond-false, cases_Bool, eqb-true}
-use Rattle.abc_text.specs.Cut.{Without}
+use Rattle.abc_text.specs.Cut.{HasNoByte}
 use Rattle.abc_scan.specs.Byte.{quote, exclamation, opening_brace, closing_brace}
-use Rattle.abc_scan.specs.Closing.{place_of}
+use Rattle.abc_scan.specs.KnownAbsent.{place_of}
 use Rattle.abc_scan.specs.Delimited.{AreDelimiters, IsDelimited, closed_by, delimited_at}
 use Rattle.abc_scan.proofs.Closings.{IsFirst, place-first, place-sound}
 use Rattle.abc_scan.proofs.Readings.{IsFront}
 
-closed_read : (closing : ℕ) (inside rest : List ℕ) → Without closing inside → closed_by closing (inside ++ closing ∷ rest) ≡ Some (length inside + 2)
+closed_read : (closing : ℕ) (inside rest : List ℕ) → HasNoByte closing inside → closed_by closing (inside ++ closing ∷ rest) ≡ Some (length inside + 2)
 closed_read closing inside rest lacks = ap (option_map (λ place. place + 2)) (place-first closing inside rest lacks)
 
 opened_read : (opening closing : ℕ) (rest : List ℕ) → AreDelimiters opening closing → delimited_at (opening ∷ rest) ≡ closed_by closing rest
@@ -33,7 +34,8 @@ delimited_longest text front rest cut is =
     ap delimited_at parts ∙ opened_read is.opening is.closing (is.inside ++ is.closing ∷ rest) is.delimiters ∙ closed_read is.closing is.inside rest is.first_closing ∙ ap Some long
 
 -- what is read is such a token
-closed_here : (opening closing : ℕ) (rest : List ℕ) (place : ℕ) → AreDelimiters opening closing → IsFirst closing rest place → IsFront (opening ∷ rest) (place + 2) × IsDelimited (take (place + 2) (opening ∷ rest))
+closed_here : (opening closing : ℕ) (rest : List ℕ) (place : ℕ) → AreDelimiters opening closing → IsFirst closing rest place
+    → IsFront (opening ∷ rest) (place + 2) × IsDelimited (take (place + 2) (opening ∷ rest))
 closed_here opening closing rest place delimiters first =
     let sum : place + 2 ≡ suc (place + 1) = omega arith in
     let long : length (take place rest) ≡ place = length-take-le place rest (omega (arith, first.inside)) in
@@ -50,13 +52,15 @@ closed_here opening closing rest place delimiters first =
       },
     )
 
-closed_known : (opening closing : ℕ) (rest : List ℕ) (o : Option ℕ) (size : ℕ) → AreDelimiters opening closing → place_of closing rest ≡ o → option_map (λ place. place + 2) o ≡ Some size → IsFront (opening ∷ rest) size × IsDelimited (take size (opening ∷ rest))
+closed_known : (opening closing : ℕ) (rest : List ℕ) (o : Option ℕ) (size : ℕ) → AreDelimiters opening closing → place_of closing rest ≡ o → option_map (λ place. place + 2) o ≡ Some size
+    → IsFront (opening ∷ rest) size × IsDelimited (take size (opening ∷ rest))
 closed_known opening closing rest None size delimiters known e = cc
 closed_known opening closing rest (Some place) size delimiters known e =
     let same : place + 2 ≡ size = cc in
     subst (λ n. IsFront (opening ∷ rest) n × IsDelimited (take n (opening ∷ rest))) same (closed_here opening closing rest place delimiters (place-sound closing rest place known))
 
-closed_sound : (b opening closing : ℕ) (rest : List ℕ) (size : ℕ) → (b == opening) ≡ true → AreDelimiters opening closing → closed_by closing rest ≡ Some size → IsFront (b ∷ rest) size × IsDelimited (take size (b ∷ rest))
+closed_sound : (b opening closing : ℕ) (rest : List ℕ) (size : ℕ) → (b == opening) ≡ true → AreDelimiters opening closing → closed_by closing rest ≡ Some size
+    → IsFront (b ∷ rest) size × IsDelimited (take size (b ∷ rest))
 closed_sound b opening closing rest size is delimiters e =
     subst (λ x. IsFront (x ∷ rest) size × IsDelimited (take size (x ∷ rest))) (sym (eqb-true b opening is)) (closed_known opening closing rest (place_of closing rest) size delimiters refl e)
 

@@ -1,5 +1,6 @@
 -- What is read of a line is the directive that it spells.
-use Rattle.std.proofs.Common.{◌≡◌, ℕ, ◌≤◌, true, false, cond, Option, Some, None, List, [], ◌∷◌, ◌++◌, codes, length, take, drop, refl, sym, ap, ◌∙◌, subst, inl, inr, ⊎_elim, arith, length-take-le, take-append-drop}
+use Rattle.std.proofs.Common.{◌≡◌, ℕ, ◌≤◌, true, false, cond, Option, Some, None, List, [], ◌∷◌, ◌++◌, codes, length, take, drop, refl, sym, ap, ◌∙◌, subst, inl, inr, ⊎_elim, arith, length-take-le}
+use Rattle.std.proofs.Common.{take-append-drop}
 use Rattle.std.specs.Prelude.{◌⊎◌, ◌==◌, is_some}
 use Rattle.std.specs.List.{prefix_len, AllPass}
 use Rattle.std.proofs.lemmas.Bool.{cond-true, cond-false, cases_Bool, eqb-true, eqb-false, ne_eqb, or_from, or_cases}
@@ -16,18 +17,20 @@ use Rattle.abc_scan.specs.declared.directive.Directive.{Directive}
 use Rattle.abc_scan.specs.declared.directive.Directive.TheVariants as directives
 use Rattle.abc_scan.specs.declared.directive.Reach.{Reach}
 use Rattle.abc_scan.specs.declared.directive.Reach.TheVariants.{Not, Octave, Pitch}
-use Rattle.abc_scan.specs.Directive.{IsGap, IsEnd, IsProgramLine, name_of, IsReachLine, IsDirective, IsDirectiveLine, begins_with, behind_gap, is_comment_or_none, ended, numbered_by, numbered, named, reaching, directive_of, is_directive, ReadsDirectives}
+use Rattle.abc_scan.specs.Directive.{IsGap, IsEnd, IsProgramLine, name_of, IsReachLine, IsDirective, IsDirectiveLine, begins_with, after_gap, is_comment_or_none, directive_at_end, program_by}
+use Rattle.abc_scan.specs.Directive.{program_directive, midi_directive, reach_directive, directive_of, is_directive, ReadsDirectives}
 use Rattle.abc_scan.specs.Number.{number_at}
 use Rattle.abc_scan.proofs.Numbers.{number_exact, number_sound}
 
 -- blanks between two words
-gap-read : (reading : List ℕ → Option Directive) (gap text : List ℕ) → IsGap gap → leading_blanks text ≡ 0 → behind_gap reading (gap ++ text) ≡ reading text
+gap-read : (reading : List ℕ → Option Directive) (gap text : List ℕ) → IsGap gap → leading_blanks text ≡ 0 → after_gap reading (gap ++ text) ≡ reading text
 gap-read reading gap text is none =
     let count : leading_blanks (gap ++ text) ≡ length gap = front_exact is_blank gap text is.1 none in
     cond-false _ _ _ (ne_eqb (leading_blanks (gap ++ text)) 0 (λ e. absurd (omega (arith, e, count, is.0))))
     ∙ ap reading (drop_exact (leading_blanks (gap ++ text)) gap text count)
 
-gap-sound : (reading : List ℕ → Option Directive) (text : List ℕ) (found : Directive) → behind_gap reading text ≡ Some found → IsGap (take (leading_blanks text) text) × (reading (drop (leading_blanks text) text) ≡ Some found)
+gap-sound : (reading : List ℕ → Option Directive) (text : List ℕ) (found : Directive) → after_gap reading text ≡ Some found
+    → IsGap (take (leading_blanks text) text) × (reading (drop (leading_blanks text) text) ≡ Some found)
 gap-sound reading text found e =
     let n = leading_blanks text in
     ⊎_elim
@@ -43,14 +46,14 @@ word-sound : (word text : List ℕ) → begins_with word text ≡ true → text 
 word-sound word text e =
     sym (take-append-drop (length word) text) ∙ ap (λ l. l ++ drop (length word) text) ((bytes_eq-Decides (take (length word) text) word).0 e)
 
--- what stands behind
+-- what follows
 comment-blanks : (comment : List ℕ) → (comment ≡ []) ⊎ ((rest : List ℕ) × (comment ≡ 37 ∷ rest)) → (leading_blanks comment ≡ 0) × (is_comment_or_none comment ≡ true)
 comment-blanks comment is = ⊎_elim
     (λ none. subst (λ l. (leading_blanks l ≡ 0) × (is_comment_or_none l ≡ true)) (sym none) (refl, refl))
     (λ some. subst (λ l. (leading_blanks l ≡ 0) × (is_comment_or_none l ≡ true)) (sym some.1) (refl, refl))
     is
 
-end-read : (directive : Directive) (end : List ℕ) → IsEnd end → ended directive end ≡ Some directive
+end-read : (directive : Directive) (end : List ℕ) → IsEnd end → directive_at_end directive end ≡ Some directive
 end-read directive end is =
     let known = comment-blanks is.comment is.comment_is in
     let count : leading_blanks end ≡ length is.blanks = ap leading_blanks is.spelling ∙ front_exact is_blank is.blanks is.comment is.blanks_are known.0 in
@@ -61,7 +64,7 @@ comment-sound : (text : List ℕ) → is_comment_or_none text ≡ true → (text
 comment-sound [] e = inl refl
 comment-sound (b ∷ bs) e = inr (bs, ap (λ x. x ∷ bs) (eqb-true b 37 e))
 
-end-sound : (directive : Directive) (end : List ℕ) (found : Directive) → ended directive end ≡ Some found → (directive ≡ found) × IsEnd end
+end-sound : (directive : Directive) (end : List ℕ) (found : Directive) → directive_at_end directive end ≡ Some found → (directive ≡ found) × IsEnd end
 end-sound directive end found e =
     let n = leading_blanks end in
     ⊎_elim
@@ -80,7 +83,7 @@ end-sound directive end found e =
     (λ fails. let k : None ≡ Some found = sym (cond-false _ _ _ fails) ∙ e in cc)
     (cases_Bool (is_comment_or_none (drop n end)))
 
--- a number is no blank, and what may stand behind it no digit
+-- a number is no blank, and what may stand after it no digit
 digit-no_blank : (d : ℕ) → is_digit d ≡ true → is_blank d ≡ false
 digit-no_blank d is =
     let range = digit_range d is in
@@ -104,30 +107,30 @@ end-no_digit : (end : List ℕ) → IsEnd end → prefix_len is_digit end ≡ 0
 end-no_digit end is = ap (prefix_len is_digit) is.spelling ∙ blanks-no_digit is.blanks is.comment is.blanks_are (comment-no_digit is.comment is.comment_is)
 
 -- the program
-numbered-read : (digits end : List ℕ) (number : ℕ) → IsNumber digits number → IsEnd end → numbered (digits ++ end) ≡ Some (directives.Program number)
-numbered-read digits end number is end_is =
-    ap (numbered_by (digits ++ end)) (number_exact digits end number is (end-no_digit end end_is))
-    ∙ ap (ended (directives.Program number)) (drop_exact (length digits) digits end refl)
+program_directive-read : (digits end : List ℕ) (number : ℕ) → IsNumber digits number → IsEnd end → program_directive (digits ++ end) ≡ Some (directives.Program number)
+program_directive-read digits end number is end_is =
+    ap (program_by (digits ++ end)) (number_exact digits end number is (end-no_digit end end_is))
+    ∙ ap (directive_at_end (directives.Program number)) (drop_exact (length digits) digits end refl)
     ∙ end-read (directives.Program number) end end_is
 
-midi-word : (text : List ℕ) → directive_of (codes "%%MIDI" ++ text) ≡ behind_gap named text
+midi-word : (text : List ℕ) → directive_of (codes "%%MIDI" ++ text) ≡ after_gap midi_directive text
 unfolding directive_of
 midi-word text = refl
 
-program-word : (text : List ℕ) → named (codes "program" ++ text) ≡ behind_gap numbered text
+program-word : (text : List ℕ) → midi_directive (codes "program" ++ text) ≡ after_gap program_directive text
 program-word text = refl
 
 pub program-read : (text : List ℕ) (number : ℕ) → IsProgramLine text number → directive_of text ≡ Some (directives.Program number)
 program-read text number is =
     ap directive_of is.spelling
     ∙ midi-word (is.gap ++ (codes "program" ++ (is.second_gap ++ (is.digits ++ is.end))))
-    ∙ gap-read named is.gap (codes "program" ++ (is.second_gap ++ (is.digits ++ is.end))) is.gap_is refl
+    ∙ gap-read midi_directive is.gap (codes "program" ++ (is.second_gap ++ (is.digits ++ is.end))) is.gap_is refl
     ∙ program-word (is.second_gap ++ (is.digits ++ is.end))
-    ∙ gap-read numbered is.second_gap (is.digits ++ is.end) is.second_gap_is (number-no_blank is.digits is.end is.number_is.some is.number_is.digits)
-    ∙ numbered-read is.digits is.end number is.number_is is.end_is
+    ∙ gap-read program_directive is.second_gap (is.digits ++ is.end) is.second_gap_is (number-no_blank is.digits is.end is.number_is.some is.number_is.digits)
+    ∙ program_directive-read is.digits is.end number is.number_is is.end_is
 
 -- how far accidentals reach
-reach-word : (text : List ℕ) → directive_of (codes "%%propagate-accidentals" ++ text) ≡ behind_gap reaching text
+reach-word : (text : List ℕ) → directive_of (codes "%%propagate-accidentals" ++ text) ≡ after_gap reach_directive text
 unfolding directive_of
 reach-word text = refl
 
@@ -136,7 +139,7 @@ name-no_blank Not end = refl
 name-no_blank Octave end = refl
 name-no_blank Pitch end = refl
 
-name-read : (reach : Reach) (end : List ℕ) → reaching (name_of reach ++ end) ≡ ended (directives.Reach reach) end
+name-read : (reach : Reach) (end : List ℕ) → reach_directive (name_of reach ++ end) ≡ directive_at_end (directives.Reach reach) end
 name-read Not end = refl
 name-read Octave end = refl
 name-read Pitch end = refl
@@ -145,7 +148,7 @@ pub reach-read : (text : List ℕ) (reach : Reach) → IsReachLine text reach �
 reach-read text reach is =
     ap directive_of is.spelling
     ∙ reach-word (is.gap ++ (name_of reach ++ is.end))
-    ∙ gap-read reaching is.gap (name_of reach ++ is.end) is.gap_is (name-no_blank reach is.end)
+    ∙ gap-read reach_directive is.gap (name_of reach ++ is.end) is.gap_is (name-no_blank reach is.end)
     ∙ name-read reach is.end
     ∙ end-read (directives.Reach reach) is.end is.end_is
 
@@ -163,9 +166,9 @@ record IsNumbered (text : List ℕ) (found : Directive) : Type 0 where
   end_is : IsEnd end
   same : directives.Program number ≡ found
 
-numbered-by-sound : (text : List ℕ) (o : Option (ℕ × ℕ)) (found : Directive) → number_at text ≡ o → numbered_by text o ≡ Some found → IsNumbered text found
-numbered-by-sound text None found read e = cc
-numbered-by-sound text (Some number) found read e =
+program_directive-by-sound : (text : List ℕ) (o : Option (ℕ × ℕ)) (found : Directive) → number_at text ≡ o → program_by text o ≡ Some found → IsNumbered text found
+program_directive-by-sound text None found read e = cc
+program_directive-by-sound text (Some number) found read e =
     let sound = number_sound text number.0 number.1 read in
     let behind = end-sound (directives.Program number.0) (drop number.1 text) found e in
     record {
@@ -179,18 +182,18 @@ numbered-by-sound text (Some number) found read e =
     }
 
 -- a program
-program-sound : (text behind : List ℕ) (found : Directive) → text ≡ codes "%%MIDI" ++ behind → behind_gap named behind ≡ Some found → IsDirective text found
+program-sound : (text behind : List ℕ) (found : Directive) → text ≡ codes "%%MIDI" ++ behind → after_gap midi_directive behind ≡ Some found → IsDirective text found
 program-sound text behind found cut e =
     let n = leading_blanks behind in
-    let first = gap-sound named behind found e in
+    let first = gap-sound midi_directive behind found e in
     let after = drop n behind in
     ⊎_elim
     (λ yes.
     let later = drop 7 after in
     let word : after ≡ codes "program" ++ later = word-sound (codes "program") after yes in
-    let second = gap-sound numbered later found (sym (cond-true _ _ _ yes) ∙ first.1) in
+    let second = gap-sound program_directive later found (sym (cond-true _ _ _ yes) ∙ first.1) in
     let m = leading_blanks later in
-    let number = numbered-by-sound (drop m later) (number_at (drop m later)) found refl second.1 in
+    let number = program_directive-by-sound (drop m later) (number_at (drop m later)) found refl second.1 in
     let whole : later ≡ take m later ++ (number.digits ++ number.end) = sym (take-append-drop m later) ∙ ap (λ l. take m later ++ l) number.spelling in
     let all : behind ≡ take n behind ++ (codes "program" ++ (take m later ++ (number.digits ++ number.end))) =
     sym (take-append-drop n behind) ∙ ap (λ l. take n behind ++ l) (word ∙ ap (λ l. codes "program" ++ l) whole) in
@@ -216,7 +219,8 @@ record IsReaching (text : List ℕ) (found : Directive) : Type 0 where
   end_is : IsEnd end
   same : directives.Reach reach ≡ found
 
-one-reach : (reach : Reach) (text : List ℕ) (other : Option Directive) (found : Directive) → (other ≡ Some found → IsReaching text found) → cond (begins_with (name_of reach) text) (ended (directives.Reach reach) (drop (length (name_of reach)) text)) other ≡ Some found → IsReaching text found
+one-reach : (reach : Reach) (text : List ℕ) (other : Option Directive) (found : Directive) → (other ≡ Some found → IsReaching text found)
+    → cond (begins_with (name_of reach) text) (directive_at_end (directives.Reach reach) (drop (length (name_of reach)) text)) other ≡ Some found → IsReaching text found
 one-reach reach text other found more e =
     let size = length (name_of reach) in
     ⊎_elim
@@ -226,14 +230,14 @@ one-reach reach text other found more e =
     (λ fails. more (sym (cond-false _ _ _ fails) ∙ e))
     (cases_Bool (begins_with (name_of reach) text))
 
-reaching-sound : (text : List ℕ) (found : Directive) → reaching text ≡ Some found → IsReaching text found
-reaching-sound text found e = one-reach Not text _ found (one-reach Octave text _ found (one-reach Pitch text None found (λ none. cc))) e
+reach_directive-sound : (text : List ℕ) (found : Directive) → reach_directive text ≡ Some found → IsReaching text found
+reach_directive-sound text found e = one-reach Not text _ found (one-reach Octave text _ found (one-reach Pitch text None found (λ none. cc))) e
 
-reach-sound : (text behind : List ℕ) (found : Directive) → text ≡ codes "%%propagate-accidentals" ++ behind → behind_gap reaching behind ≡ Some found → IsDirective text found
+reach-sound : (text behind : List ℕ) (found : Directive) → text ≡ codes "%%propagate-accidentals" ++ behind → after_gap reach_directive behind ≡ Some found → IsDirective text found
 reach-sound text behind found cut e =
     let n = leading_blanks behind in
-    let first = gap-sound reaching behind found e in
-    let is = reaching-sound (drop n behind) found first.1 in
+    let first = gap-sound reach_directive behind found e in
+    let is = reach_directive-sound (drop n behind) found first.1 in
     let all : behind ≡ take n behind ++ (name_of is.reach ++ is.end) = sym (take-append-drop n behind) ∙ ap (λ l. take n behind ++ l) is.spelling in
     subst (IsDirective text) is.same (record {
       gap = take n behind;

@@ -3,7 +3,7 @@ use Rattle.std.proofs.Common.{◌≡◌, ℕ, true, cond, Option, Some, None, Li
 use Rattle.std.proofs.lemmas.Bool.{cond-true, cond-false, cases_Bool}
 use Rattle.std.proofs.lemmas.List.Elements.{All-nil, All-cons}
 use Rattle.std.proofs.lemmas.Slice.Eq.{bytes_eq-Decides}
-use Rattle.abc_text.specs.Cut.{Without}
+use Rattle.abc_text.specs.Cut.{HasNoByte}
 use Rattle.abc_scan.specs.declared.dynamic.Dynamic.{Dynamic}
 use Rattle.abc_scan.specs.declared.dynamic.Dynamic.TheVariants.{Ppp, Pp, P, Mp, Mf, F, Ff, Fff}
 use Rattle.abc_scan.specs.Delimited.{IsDelimited}
@@ -11,7 +11,8 @@ use Rattle.abc_scan.specs.Dynamic.{name_of, IsDynamic, dynamic_of}
 use Rattle.abc_scan.proofs.Closings.{is_other}
 
 -- one word of those that are tried
-tried : (text word : List ℕ) (dynamic : Dynamic) (other : Option Dynamic) (found : Dynamic) → IsDynamic word dynamic → (other ≡ Some found → IsDynamic text found) → cond (bytes_eq text word) (Some dynamic) other ≡ Some found → IsDynamic text found
+tried : (text word : List ℕ) (dynamic : Dynamic) (other : Option Dynamic) (found : Dynamic) → IsDynamic word dynamic → (other ≡ Some found → IsDynamic text found)
+    → cond (bytes_eq text word) (Some dynamic) other ≡ Some found → IsDynamic text found
 tried text word dynamic other found spelled more e = ⊎_elim
     (λ yes.
     let chosen : Some dynamic ≡ Some found = sym (cond-true _ _ _ yes) ∙ e in
@@ -56,16 +57,16 @@ pub dynamic-none : (text : List ℕ) → ((dynamic : Dynamic) → IsDynamic text
 dynamic-none text none = none_by text (dynamic_of text) refl none
 
 -- a dynamic stands between delimiters
-one_lacks : (a : ℕ) → is_other 33 a ≡ true → Without 33 (a ∷ [])
+one_lacks : (a : ℕ) → is_other 33 a ≡ true → HasNoByte 33 (a ∷ [])
 one_lacks a other = All-cons (λ x. is_other 33 x ≡ true) a [] other (All-nil (λ x. is_other 33 x ≡ true))
 
-two_lack : (a b : ℕ) → is_other 33 a ≡ true → is_other 33 b ≡ true → Without 33 (a ∷ b ∷ [])
+two_lack : (a b : ℕ) → is_other 33 a ≡ true → is_other 33 b ≡ true → HasNoByte 33 (a ∷ b ∷ [])
 two_lack a b other more = All-cons (λ x. is_other 33 x ≡ true) a (b ∷ []) other (one_lacks b more)
 
-three_lack : (a : ℕ) → is_other 33 a ≡ true → Without 33 (a ∷ a ∷ a ∷ [])
+three_lack : (a : ℕ) → is_other 33 a ≡ true → HasNoByte 33 (a ∷ a ∷ a ∷ [])
 three_lack a other = All-cons (λ x. is_other 33 x ≡ true) a (a ∷ a ∷ []) other (two_lack a a other other)
 
-name-lacks : (dynamic : Dynamic) → Without 33 (name_of dynamic)
+name-lacks : (dynamic : Dynamic) → HasNoByte 33 (name_of dynamic)
 name-lacks Ppp = three_lack 112 refl
 name-lacks Pp = two_lack 112 112 refl refl
 name-lacks P = one_lacks 112 refl

@@ -1,5 +1,6 @@
 -- The ending mark at the front of a text is the longest one that the grammar has there.
-use Rattle.std.proofs.Common.{◌≡◌, ℕ, suc, ◌+◌, ◌<◌, Bool, true, Option, Some, None, List, [], ◌∷◌, ◌++◌, length, take, drop, refl, sym, ap, ◌∙◌, subst, inl, inr, ⊎_elim, arith, append_assoc, length-append}
+use Rattle.std.proofs.Common.{◌≡◌, ℕ, suc, ◌+◌, ◌<◌, Bool, true, Option, Some, None, List, [], ◌∷◌, ◌++◌, length, take, drop, refl, sym, ap, ◌∙◌, subst, inl, inr, ⊎_elim, arith, append_assoc}
+use Rattle.std.proofs.Common.{length-append}
 use Rattle.std.specs.Prelude.{◌==◌, ◌||◌, ◌⊎◌, fold}
 use Rattle.std.specs.List.{AllPass}
 use Rattle.std.specs.Option.{option_map}
@@ -9,21 +10,26 @@ use Rattle.std.proofs.lemmas.List.Elements.{All-head, All-append, All-cons, All-
 use Rattle.abc_text.specs.Digit.{is_digit}
 use Rattle.abc_text.specs.Number.{IsNumber}
 use Rattle.abc_scan.specs.declared.ending.PassRange.{PassRange}
-use Rattle.abc_scan.specs.Ending.{IsOnePass, IsFromTo, IsRange, IsRanges, ArePasses, with_range, passes_of, IsEnding, range_behind, range_at, next_range, and_more, more_from, ranges_behind, ranges_at, as_passes, passes_at, with_bracket, ending_at}
+use Rattle.abc_scan.specs.Ending.{IsOnePass, IsFromTo, IsRange, IsRanges, ArePasses, with_range, passes_of, IsEnding, range_behind, range_at, next_range, and_more, more_from, ranges_behind, ranges_at}
+use Rattle.abc_scan.specs.Ending.{as_passes, passes_at, with_bracket, ending_at}
 use Rattle.abc_scan.proofs.Readings.{Finds, IsFront}
 use Rattle.abc_scan.proofs.Numbers.{number_none}
 use Rattle.abc_scan.proofs.Passes.{passes_are, one_outcome}
 use Rattle.abc_scan.proofs.Ranges.{more_at, ranges_from, ranges_longest, ranges_sound}
 
 -- the loop over the ranges: the first one, one more, and none at all
-pub passes_first : (text : List ℕ) (range : PassRange) (size : ℕ) → range_at text ≡ Some (range, size) → passes_at text ≡ Some (fold with_range (with_range (Some 0) range) (more_from 0 (drop size text)).0, size + (more_from 0 (drop size text)).1)
+pub passes_first : (text : List ℕ) (range : PassRange) (size : ℕ) → range_at text ≡ Some (range, size)
+    → passes_at text ≡ Some (fold with_range (with_range (Some 0) range) (more_from 0 (drop size text)).0, size + (more_from 0 (drop size text)).1)
 unfolding passes_at
 passes_first text range size read = ap (option_map as_passes) (ranges_from text (range, size) read)
 
-pub passes_next : (text : List ℕ) (size : ℕ) (passes : Option ℕ) (range : PassRange) (more : ℕ) → next_range (drop size text) ≡ Some (range, more) → passes_at text ≡ Some (fold with_range passes (more_from 0 (drop size text)).0, size + (more_from 0 (drop size text)).1) → passes_at text ≡ Some (fold with_range (with_range passes range) (more_from 0 (drop (size + more) text)).0, size + more + (more_from 0 (drop (size + more) text)).1)
+pub passes_next : (text : List ℕ) (size : ℕ) (passes : Option ℕ) (range : PassRange) (more : ℕ) → next_range (drop size text) ≡ Some (range, more)
+    → passes_at text ≡ Some (fold with_range passes (more_from 0 (drop size text)).0, size + (more_from 0 (drop size text)).1)
+    → passes_at text ≡ Some (fold with_range (with_range passes range) (more_from 0 (drop (size + more) text)).0, size + more + (more_from 0 (drop (size + more) text)).1)
 passes_next text size passes range more read before =
     let behind = drop size text in
-    let next : more_from 0 behind ≡ and_more (Some (range, more)) (more_from 0 (drop (size + more) text)) = more_at behind (Some (range, more)) read ∙ ap (λ l. and_more (Some (range, more)) (more_from 0 l)) (drop-drop more size text) in
+    let next : more_from 0 behind ≡ and_more (Some (range, more)) (more_from 0 (drop (size + more) text)) = more_at behind (Some (range, more)) read ∙ ap (λ l. and_more (Some (range, more))
+    (more_from 0 l)) (drop-drop more size text) in
     let sum : size + (more + (more_from 0 (drop (size + more) text)).1) ≡ size + more + (more_from 0 (drop (size + more) text)).1 = omega arith in
     before ∙ (λ i. Some (fold with_range passes (next i).0, size + (next i).1)) ∙ ap (λ n. Some (fold with_range (with_range passes range) (more_from 0 (drop (size + more) text)).0, n)) sum
 
@@ -63,7 +69,8 @@ bracket_read : (after_bar : Bool) (bs : List ℕ) → ending_at after_bar (91 �
 unfolding ending_at
 bracket_read after_bar bs = refl
 
-ending_by : (after_bar : Bool) (bracket written rest : List ℕ) (passes : Option ℕ) → (bracket ≡ 91 ∷ []) ⊎ ((bracket ≡ []) × (after_bar ≡ true)) → Finds (passes_at (written ++ rest)) written passes → 0 < length written → Finds (ending_at after_bar (bracket ++ (written ++ rest))) (bracket ++ written) passes
+ending_by : (after_bar : Bool) (bracket written rest : List ℕ) (passes : Option ℕ) → (bracket ≡ 91 ∷ []) ⊎ ((bracket ≡ []) × (after_bar ≡ true)) → Finds (passes_at (written ++ rest)) written passes
+    → 0 < length written → Finds (ending_at after_bar (bracket ++ (written ++ rest))) (bracket ++ written) passes
 ending_by after_bar bracket written rest passes is found some = ⊎_elim
     (λ (one : bracket ≡ 91 ∷ []). subst (λ l. Finds (ending_at after_bar (l ++ (written ++ rest))) (l ++ written) passes) (sym one) (record {
       found = found.found;
@@ -94,13 +101,15 @@ joined_pass front b rest one two three = All-append (λ x. is_range_byte x ≡ t
 range_bytes : (text : List ℕ) (range : PassRange) → IsRange text range → AllPass is_range_byte text
 range_bytes text range is = ⊎_elim
     (λ (one : IsOnePass text range). digits_pass text one.first_is.digits)
-    (λ (two : IsFromTo text range). subst (AllPass is_range_byte) (sym two.spelling) (joined_pass two.first_text 45 two.last_text (digits_pass two.first_text two.first_is.digits) refl (digits_pass two.last_text two.last_is.digits)))
+    (λ (two : IsFromTo text range). subst (AllPass is_range_byte) (sym two.spelling)
+    (joined_pass two.first_text 45 two.last_text (digits_pass two.first_text two.first_is.digits) refl (digits_pass two.last_text two.last_is.digits)))
     is
 
 ranges_bytes : (ranges : List PassRange) (text : List ℕ) → IsRanges text ranges → AllPass is_range_byte text
 ranges_bytes [] text is = absurd is
 ranges_bytes (range ∷ []) text is = range_bytes text range is
-ranges_bytes (range ∷ next ∷ more) text (front, rest, spelling, one, several) = subst (AllPass is_range_byte) (sym spelling) (joined_pass front 44 rest (range_bytes front range one) refl (ranges_bytes (next ∷ more) rest several))
+ranges_bytes (range ∷ next ∷ more) text (front, rest, spelling, one, several) =
+    subst (AllPass is_range_byte) (sym spelling) (joined_pass front 44 rest (range_bytes front range one) refl (ranges_bytes (next ∷ more) rest several))
 
 -- they begin with a digit
 abbrev BeginsWithDigit : List ℕ → Type 0
@@ -124,7 +133,7 @@ ranges_begin [] text is = absurd is
 ranges_begin (range ∷ []) text is = range_begins text range is
 ranges_begin (range ∷ next ∷ more) text (front, rest, spelling, one, several) = begins_append text front (44 ∷ rest) spelling (range_begins front range one)
 
--- every byte of an ending behind its bracket is a digit, a comma or a dash, and the first is a digit
+-- every byte of an ending after its bracket is a digit, a comma or a dash, and the first is a digit
 pub ending_bytes : (after_bar : Bool) (front : List ℕ) (passes : Option ℕ) (is : IsEnding after_bar front passes) → AllPass is_range_byte is.written
 ending_bytes after_bar front passes is = ranges_bytes is.ranges is.written is.ranges_are
 
@@ -136,7 +145,8 @@ ending_longest after_bar text front rest passes cut is =
     let (digit, more, first, digit_is) = ending_begins after_bar front passes is in
     let parts : text ≡ is.bracket ++ (is.written ++ rest) = cut ∙ ap (λ l. l ++ rest) is.spelling ∙ append_assoc is.bracket is.written rest in
     let found = passes_longest (is.written ++ rest) is.written rest is.ranges refl is.ranges_are in
-    let same : Finds (passes_at (is.written ++ rest)) is.written passes = subst (Finds (passes_at (is.written ++ rest)) is.written) (one_outcome is.ranges (passes_of is.ranges) passes (passes_are is.ranges) is.passes_are) found in
+    let same : Finds (passes_at (is.written ++ rest)) is.written passes = subst (Finds (passes_at (is.written ++ rest)) is.written) (one_outcome is.ranges (passes_of is.ranges) passes
+    (passes_are is.ranges) is.passes_are) found in
     let whole = ending_by after_bar is.bracket is.written rest passes is.bracket_is same (omega (arith, ap length first)) in
     subst (λ l. Finds (ending_at after_bar l) front passes) (sym parts) (subst (λ l. Finds (ending_at after_bar (is.bracket ++ (is.written ++ rest))) l passes) (sym is.spelling) whole)
 

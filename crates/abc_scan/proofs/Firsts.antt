@@ -5,14 +5,14 @@ use Rattle.abc_scan.specs.declared.note.Note.{Note}
 use Rattle.abc_scan.specs.declared.start.Start.TheVariants as starts
 use Rattle.abc_scan.specs.declared.token.TokenKind.{TokenKind}
 use Rattle.abc_scan.specs.declared.token.TokenKind.TheVariants as kinds
-use Rattle.abc_scan.specs.Cutting.{as_kind, alone_at}
+use Rattle.abc_scan.specs.Cutting.{as_kind, unmatched_at}
 use Rattle.abc_scan.specs.Note.{IsShort}
 use Rattle.abc_scan.specs.Start.{byte_start, start_of}
 use Rattle.abc_scan.specs.Token.{reading_by, reading_at, line_kinds, ComesFirst}
 use Rattle.abc_scan.proofs.Starts.{signed_starts}
 
 abbrev read_as : List ℕ → Option (TokenKind × ℕ) → TokenKind × ℕ
-read_as text found = unwrap_or found (alone_at line_kinds text, 1)
+read_as text found = unwrap_or found (unmatched_at line_kinds text, 1)
 
 pub blank_first : (rest : List ℕ) → ComesFirst (kinds.Blank, 1) (32 ∷ rest)
 unfolding reading_at byte_start

@@ -1,5 +1,6 @@
 -- The frame of a chord at the front of a text is the longest one that the grammar has there.
-use Rattle.std.proofs.Common.{◌≡◌, ℕ, suc, ◌+◌, false, Some, None, List, [], ◌∷◌, ◌++◌, length, take, drop, refl, sym, ap, ◌∙◌, subst, arith, append_assoc, length-append, length-take-le, take-append-drop, ⊎_elim}
+use Rattle.std.proofs.Common.{◌≡◌, ℕ, suc, ◌+◌, false, Some, None, List, [], ◌∷◌, ◌++◌, length, take, drop, refl, sym, ap, ◌∙◌, subst, arith, append_assoc, length-append, length-take-le}
+use Rattle.std.proofs.Common.{take-append-drop, ⊎_elim}
 use Rattle.std.specs.Prelude.{◌==◌, ◌&&◌, not}
 use Rattle.std.proofs.Math.Seq.{take-append-add}
 use Rattle.std.proofs.lemmas.Bool.{cond-true, cond-false, cases_Bool, eqb-true, and_parts, and_from, and_right, not-true, not_from_false}
@@ -14,7 +15,7 @@ use Rattle.abc_text.proofs.Fronts.{front_passes, front_exact, front_none, drop_e
 use Rattle.abc_scan.proofs.Lengths.{length_longest, length_sound, length_size-le}
 use Rattle.abc_scan.proofs.Readings.{Finds, IsFront}
 
--- what stands behind the inside makes no field of it
+-- what follows the inside makes no field of it
 begins_inside : (inside rest : List ℕ) → begins_field (inside ++ closing_bracket ∷ rest) ≡ begins_field inside
 begins_inside [] [] = refl
 begins_inside [] (x ∷ xs) = refl
@@ -52,7 +53,8 @@ frame_longest text front rest frame cut is =
 
 -- what is read is such a frame
 frame_here : (rest inside behind : List ℕ) → rest ≡ inside ++ closing_bracket ∷ behind → AllPass is_inside inside → begins_field inside ≡ false
-    → IsFront (opening_bracket ∷ rest) (length inside + 2 + length_size behind) × IsFrame (take (length inside + 2 + length_size behind) (opening_bracket ∷ rest)) (record { inside = length inside; length = length_at behind })
+    → IsFront (opening_bracket ∷ rest) (length inside + 2 + length_size behind) × IsFrame (take (length inside + 2 + length_size behind) (opening_bracket ∷ rest)) (record
+    { inside = length inside; length = length_at behind })
 frame_here rest inside behind cut inside_is no_field =
     let total : length rest ≡ length inside + suc (length behind) = ap length cut ∙ length-append inside (closing_bracket ∷ behind) in
     let written = length_size-le behind in
@@ -69,7 +71,8 @@ frame_here rest inside behind cut inside_is no_field =
       },
     )
 
-frame_closed : (rest inside behind : List ℕ) (frame : Frame) (size : ℕ) → rest ≡ inside ++ behind → AllPass is_inside inside → begins_field rest ≡ false → closed_frame (length inside) behind ≡ Some (frame, size)
+frame_closed : (rest inside behind : List ℕ) (frame : Frame) (size : ℕ) → rest ≡ inside ++ behind → AllPass is_inside inside → begins_field rest ≡ false
+    → closed_frame (length inside) behind ≡ Some (frame, size)
     → IsFront (opening_bracket ∷ rest) size × IsFrame (take size (opening_bracket ∷ rest)) frame
 frame_closed rest inside [] frame size cut inside_is no_field e = cc
 frame_closed rest inside (b ∷ behind) frame size cut inside_is no_field e = ⊎_elim
@@ -96,6 +99,7 @@ frame_sound [] frame size e = cc
 frame_sound (b ∷ rest) frame size e = ⊎_elim
     (λ yes.
     let parts = and_parts _ _ yes in
-    subst (λ x. IsFront (x ∷ rest) size × IsFrame (take size (x ∷ rest)) frame) (sym (eqb-true b opening_bracket parts.0)) (frame_begun rest frame size (not-true _ parts.1) (sym (cond-true _ _ _ yes) ∙ e)))
+    subst (λ x. IsFront (x ∷ rest) size × IsFrame (take size (x ∷ rest)) frame) (sym (eqb-true b opening_bracket parts.0)) (frame_begun rest frame size (not-true _ parts.1)
+    (sym (cond-true _ _ _ yes) ∙ e)))
     (λ fails. let none : None ≡ Some (frame, size) = sym (cond-false _ _ _ fails) ∙ e in cc)
     (cases_Bool ((b == opening_bracket) && not (begins_field rest)))

@@ -1,15 +1,16 @@
 -- The inline field at the front of a text is the one that the grammar has there.
-use Rattle.std.proofs.Common.{◌≡◌, ℕ, zero, suc, ◌+◌, ◌<◌, true, Option, Some, None, List, [], ◌∷◌, ◌++◌, length, take, drop, refl, sym, ap, ◌∙◌, subst, arith, append_assoc, length-append, length-take-le, ⊎_elim}
+use Rattle.std.proofs.Common.{◌≡◌, ℕ, zero, suc, ◌+◌, ◌<◌, true, Option, Some, None, List, [], ◌∷◌, ◌++◌, length, take, drop, refl, sym, ap, ◌∙◌, subst, arith, append_assoc, length-append}
+use Rattle.std.proofs.Common.{length-take-le, ⊎_elim}
 use Rattle.std.specs.Prelude.{◌==◌, ◌&&◌}
 use Rattle.std.specs.Char.{is_ascii_alphabetic}
 use Rattle.std.specs.Option.{option_map}
 use Rattle.std.proofs.Math.Seq.{take-append-add}
 use Rattle.std.proofs.lemmas.Bool.{cond-true, cond-false, cases_Bool, eqb-true, ne_eqb, and_parts, and_from, not_from_false, false≢true}
 use Rattle.std.proofs.lemmas.List.Elements.{All-cons, All-tail}
-use Rattle.abc_text.specs.Cut.{Without}
+use Rattle.abc_text.specs.Cut.{HasNoByte}
 use Rattle.abc_scan.specs.declared.field.Field.{Field}
 use Rattle.abc_scan.specs.Byte.{opening_bracket, closing_bracket, colon}
-use Rattle.abc_scan.specs.Closing.{place_of}
+use Rattle.abc_scan.specs.KnownAbsent.{place_of}
 use Rattle.abc_scan.specs.Field.{begins_field, field_of}
 use Rattle.abc_scan.specs.InlineField.{IsInlineField, closed_field, inline_field_at}
 use Rattle.abc_scan.proofs.Closings.{is_other, IsFirst, place-first, place-sound}
@@ -20,11 +21,12 @@ use Rattle.abc_scan.proofs.Readings.{Finds, IsFront}
 letter_other : (letter : ℕ) → is_ascii_alphabetic letter ≡ true → is_other closing_bracket letter ≡ true
 letter_other letter h = not_from_false _ (ne_eqb letter closing_bracket (λ e. false≢true (sym (ap is_ascii_alphabetic e) ∙ h)))
 
-field_lacks : (letter : ℕ) (behind : List ℕ) → is_ascii_alphabetic letter ≡ true → Without closing_bracket behind → Without closing_bracket (letter ∷ colon ∷ behind)
+field_lacks : (letter : ℕ) (behind : List ℕ) → is_ascii_alphabetic letter ≡ true → HasNoByte closing_bracket behind → HasNoByte closing_bracket (letter ∷ colon ∷ behind)
 field_lacks letter behind h lacks =
     All-cons (λ b. is_other closing_bracket b ≡ true) letter (colon ∷ behind) (letter_other letter h) (All-cons (λ b. is_other closing_bracket b ≡ true) colon behind refl lacks)
 
-inline_read : (letter : ℕ) (behind rest : List ℕ) → is_ascii_alphabetic letter ≡ true → Without closing_bracket behind → inline_field_at (opening_bracket ∷ letter ∷ colon ∷ (behind ++ closing_bracket ∷ rest)) ≡ Some (field_of (letter ∷ colon ∷ behind), length behind + 4)
+inline_read : (letter : ℕ) (behind rest : List ℕ) → is_ascii_alphabetic letter ≡ true → HasNoByte closing_bracket behind
+    → inline_field_at (opening_bracket ∷ letter ∷ colon ∷ (behind ++ closing_bracket ∷ rest)) ≡ Some (field_of (letter ∷ colon ∷ behind), length behind + 4)
 unfolding inline_field_at
 inline_read letter behind rest h lacks =
     let own = letter ∷ colon ∷ behind in
@@ -80,9 +82,11 @@ inline_known letter sign rest None field size alphabetic is_colon known e = cc
 inline_known letter sign rest (Some place) field size alphabetic is_colon known e =
     let text = opening_bracket ∷ letter ∷ sign ∷ rest in
     let same : (field_of (take place (letter ∷ sign ∷ rest)), place + 2) ≡ (field, size) = cc in
-    subst (λ (x : Field × ℕ). IsFront text x.1 × IsInlineField (take x.1 text) x.0) same (inline_here letter sign rest place alphabetic is_colon (place-sound closing_bracket (letter ∷ sign ∷ rest) place known))
+    subst (λ (x : Field × ℕ). IsFront text x.1 × IsInlineField (take x.1 text) x.0) same (inline_here letter sign rest place alphabetic is_colon
+    (place-sound closing_bracket (letter ∷ sign ∷ rest) place known))
 
-inline_begun : (inside : List ℕ) (field : Field) (size : ℕ) → begins_field inside ≡ true → closed_field inside ≡ Some (field, size) → IsFront (opening_bracket ∷ inside) size × IsInlineField (take size (opening_bracket ∷ inside)) field
+inline_begun : (inside : List ℕ) (field : Field) (size : ℕ) → begins_field inside ≡ true → closed_field inside ≡ Some (field, size)
+    → IsFront (opening_bracket ∷ inside) size × IsInlineField (take size (opening_bracket ∷ inside)) field
 inline_begun [] field size begins e = cc
 inline_begun (letter ∷ []) field size begins e = cc
 inline_begun (letter ∷ sign ∷ rest) field size begins e =
@@ -95,6 +99,7 @@ inline_field_sound [] field size e = cc
 inline_field_sound (b ∷ inside) field size e = ⊎_elim
     (λ yes.
     let parts = and_parts _ _ yes in
-    subst (λ x. IsFront (x ∷ inside) size × IsInlineField (take size (x ∷ inside)) field) (sym (eqb-true b opening_bracket parts.0)) (inline_begun inside field size parts.1 (sym (cond-true _ _ _ yes) ∙ e)))
+    subst (λ x. IsFront (x ∷ inside) size × IsInlineField (take size (x ∷ inside)) field) (sym (eqb-true b opening_bracket parts.0)) (inline_begun inside field size parts.1
+    (sym (cond-true _ _ _ yes) ∙ e)))
     (λ fails. let none : None ≡ Some (field, size) = sym (cond-false _ _ _ fails) ∙ e in cc)
     (cases_Bool ((b == opening_bracket) && begins_field inside))

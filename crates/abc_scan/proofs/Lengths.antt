@@ -1,5 +1,6 @@
 -- The length at the front of a text is the longest one that the grammar has there.
-use Rattle.std.proofs.Common.{◌≡◌, ℕ, zero, suc, ◌+◌, ◌-◌, ◌<◌, ◌≤◌, true, false, Some, None, List, [], ◌∷◌, ◌++◌, length, take, drop, replicate, refl, sym, ap, ◌∙◌, subst, ⊎_elim, arith, append_assoc, length-append, length-drop}
+use Rattle.std.proofs.Common.{◌≡◌, ℕ, zero, suc, ◌+◌, ◌-◌, ◌<◌, ◌≤◌, true, false, Some, None, List, [], ◌∷◌, ◌++◌, length, take, drop, replicate, refl, sym, ap, ◌∙◌, subst, ⊎_elim, arith}
+use Rattle.std.proofs.Common.{append_assoc, length-append, length-drop}
 use Rattle.std.specs.Prelude.{◌==◌, if◌then◌else◌}
 use Rattle.std.specs.List.{prefix_len, AllPass}
 use Rattle.std.proofs.lemmas.Bool.{cond-true, cond-false, cond_both, cases_Bool, cases_lt, eqb-true, eq-eqb, ne_eqb, or_parts}
@@ -38,7 +39,8 @@ tail_of s [] rest digits one =
     }
 tail_of s (d ∷ ds) rest digits one =
     let text = replicate s 47 ++ ((d ∷ ds) ++ rest) in
-    let count : slashes_size text ≡ s = front_exact is_slash (replicate s 47) ((d ∷ ds) ++ rest) (slashes_pass s) (front_none is_slash d (ds ++ rest) (digit_no_slash d (All-head (λ b. is_digit b ≡ true) d ds digits))) ∙ length-replicate s 47 in
+    let count : slashes_size text ≡ s = front_exact is_slash (replicate s 47) ((d ∷ ds) ++ rest) (slashes_pass s) (front_none is_slash d (ds ++ rest)
+    (digit_no_slash d (All-head (λ b. is_digit b ≡ true) d ds digits))) ∙ length-replicate s 47 in
     let is_one : slashes_size text ≡ 1 = count ∙ one (omega arith) in
     let behind : drop (slashes_size text) text ≡ (d ∷ ds) ++ rest = drop_exact (slashes_size text) (replicate s 47) ((d ∷ ds) ++ rest) (count ∙ sym (length-replicate s 47)) in
     let many : under_size text ≡ length (d ∷ ds) + prefix_len is_digit rest =
@@ -54,9 +56,11 @@ size_from : (text rest : List ℕ) (n : ℕ) → over_size text ≡ n → drop n
 unfolding length_size
 size_from text rest n count cut = let e : drop (over_size text) text ≡ rest = ap (λ k. drop k text) count ∙ cut in λ i. count i + slashes_size (e i) + under_size (e i)
 
-value_from : (text rest : List ℕ) (n : ℕ) → over_size text ≡ n → drop n text ≡ rest → length_at text ≡ written_length (take n text) (slashes_size rest) (take (under_size rest) (drop (slashes_size rest) rest))
+value_from : (text rest : List ℕ) (n : ℕ) → over_size text ≡ n → drop n text ≡ rest
+    → length_at text ≡ written_length (take n text) (slashes_size rest) (take (under_size rest) (drop (slashes_size rest) rest))
 unfolding length_at
-value_from text rest n count cut = let e : drop (over_size text) text ≡ rest = ap (λ k. drop k text) count ∙ cut in λ i. written_length (take (count i) text) (slashes_size (e i)) (take (under_size (e i)) (drop (slashes_size (e i)) (e i)))
+value_from text rest n count cut = let e : drop (over_size text) text ≡ rest = ap (λ k. drop k text) count ∙ cut in λ i. written_length (take (count i) text) (slashes_size (e i)) (take
+    (under_size (e i)) (drop (slashes_size (e i)) (e i)))
 
 -- no digit stands where slashes begin
 no_digits : (s : ℕ) (under rest : List ℕ) → (0 < length under → s ≡ 1) → 0 < s + length under → prefix_len is_digit (replicate s 47 ++ (under ++ rest)) ≡ 0
@@ -103,13 +107,15 @@ covers over s under rest over_digits under_digits one =
     (λ none. covers_tail over s under tail over_digits (tail_of s under rest under_digits one) (omega arith))
     (cases_lt 0 (prefix_len is_digit tail))
 
-pub length_longest : (text front rest : List ℕ) (value : WrittenLength) → text ≡ front ++ rest → IsLength front value → (length front ≤ length_size text) × (length front ≡ length_size text → value ≡ length_at text)
+pub length_longest : (text front rest : List ℕ) (value : WrittenLength) → text ≡ front ++ rest → IsLength front value
+    → (length front ≤ length_size text) × (length front ≡ length_size text → value ≡ length_at text)
 length_longest text front rest value cut is =
     let tail = replicate is.slashes 47 ++ is.under in
     let parts : text ≡ is.over ++ (replicate is.slashes 47 ++ (is.under ++ rest)) =
     cut ∙ ap (λ l. l ++ rest) is.spelling ∙ append_assoc is.over tail rest ∙ ap (λ l. is.over ++ l) (append_assoc (replicate is.slashes 47) is.under rest) in
     let long : length front ≡ length is.over + (is.slashes + length is.under) =
-    ap length is.spelling ∙ length-append is.over tail ∙ ap (λ n. length is.over + n) (length-append (replicate is.slashes 47) is.under ∙ ap (λ n. n + length is.under) (length-replicate is.slashes 47)) in
+    ap length is.spelling ∙ length-append is.over tail ∙ ap (λ n. length is.over + n) (length-append (replicate is.slashes 47) is.under ∙ ap (λ n. n + length is.under)
+    (length-replicate is.slashes 47)) in
     let c : Covers is.over is.slashes is.under text = subst (Covers is.over is.slashes is.under) (sym parts) (covers is.over is.slashes is.under rest is.over_digits is.under_digits is.one_slash) in
     (omega (arith, long, c.size), λ e. is.value_is ∙ c.same (sym long ∙ e))
 
@@ -123,12 +129,14 @@ slashes_are (x ∷ xs) = ⊎_elim
     (cases_Bool (is_slash x))
 
 under_digits_of : (rest : List ℕ) → AllPass is_digit (take (under_size rest) (drop (slashes_size rest) rest))
-under_digits_of rest = cond_both (slashes_size rest == 1) (prefix_len is_digit (drop (slashes_size rest) rest)) 0 (λ n. AllPass is_digit (take n (drop (slashes_size rest) rest))) (λ _. front_passes is_digit (drop (slashes_size rest) rest)) (λ _. All-nil _)
+under_digits_of rest = cond_both (slashes_size rest == 1) (prefix_len is_digit (drop (slashes_size rest) rest)) 0 (λ n. AllPass is_digit (take n (drop (slashes_size rest) rest))) (λ _. front_passes
+    is_digit (drop (slashes_size rest) rest)) (λ _. All-nil _)
 
 one_slash_of : (rest : List ℕ) → 0 < length (take (under_size rest) (drop (slashes_size rest) rest)) → slashes_size rest ≡ 1
 one_slash_of rest some = ⊎_elim
     (λ yes. eqb-true (slashes_size rest) 1 yes)
-    (λ fails. let none : take (under_size rest) (drop (slashes_size rest) rest) ≡ [] = ap (λ n. take n (drop (slashes_size rest) rest)) (cond-false _ _ _ fails) in absurd (omega (arith, some, ap length none)))
+    (λ fails. let none : take (under_size rest) (drop (slashes_size rest) rest) ≡ [] = ap (λ n. take n (drop (slashes_size rest) rest)) (cond-false _ _ _ fails) in absurd
+    (omega (arith, some, ap length none)))
     (cases_Bool (slashes_size rest == 1))
 
 -- and it is one
@@ -149,7 +157,8 @@ length_sound text =
     }
 
 under_size-le : (rest : List ℕ) → under_size rest ≤ length (drop (slashes_size rest) rest)
-under_size-le rest = cond_both (slashes_size rest == 1) (prefix_len is_digit (drop (slashes_size rest) rest)) 0 (λ n. n ≤ length (drop (slashes_size rest) rest)) (λ _. prefix_len-le-length is_digit (drop (slashes_size rest) rest)) (λ _. omega arith)
+under_size-le rest = cond_both (slashes_size rest == 1) (prefix_len is_digit (drop (slashes_size rest) rest)) 0 (λ n. n ≤ length (drop (slashes_size rest) rest)) (λ _. prefix_len-le-length is_digit
+    (drop (slashes_size rest) rest)) (λ _. omega arith)
 
 pub length_size-le : (text : List ℕ) → length_size text ≤ length text
 length_size-le text =
@@ -171,7 +180,7 @@ unwritten b bs digit slash =
       value_from text text 0 over refl ∙ (λ i. written_length (take 0 text) (slashes i) (take (under i) (drop (slashes i) text))),
     )
 
--- one digit with no length behind it
+-- one digit with no length after it
 record NoneBehind (rest : List ℕ) : Type 0 where
   pub over : over_size rest ≡ 0
   pub slashes : slashes_size rest ≡ 0

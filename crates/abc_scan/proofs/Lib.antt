@@ -23,7 +23,7 @@ pub mod ClassLaws
 pub mod Starts
 pub mod Firsts
 pub mod Chords
-pub mod Laws
+pub mod TokenLaws
 pub mod Spans
 pub mod CellLaws
 pub mod CellCuts

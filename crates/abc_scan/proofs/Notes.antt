@@ -1,10 +1,12 @@
 -- The note or rest at the front of a text is the longest one that the grammar has there.
-use Rattle.std.proofs.Common.{◌≡◌, ℕ, zero, suc, ◌+◌, ◌-◌, ◌<◌, ◌≤◌, true, false, Option, Some, None, List, [], ◌∷◌, ◌++◌, length, take, drop, replicate, refl, sym, ap, ◌∙◌, subst, inl, inr, ⊎_elim, arith, append_assoc, length-append, length-drop, take-add}
+use Rattle.std.proofs.Common.{◌≡◌, ℕ, zero, suc, ◌+◌, ◌-◌, ◌<◌, ◌≤◌, true, false, Option, Some, None, List, [], ◌∷◌, ◌++◌, length, take, drop, replicate, refl, sym, ap, ◌∙◌, subst, inl, inr, ⊎_elim}
+use Rattle.std.proofs.Common.{arith, append_assoc, length-append, length-drop, take-add}
 use Rattle.std.specs.Prelude.{ℤ, pos, ◌⊎◌, ◌==◌, ◌||◌}
 use Rattle.std.specs.List.{prefix_len, AllPass}
 use Rattle.std.specs.Option.{option_map}
 use Rattle.std.proofs.Math.Seq.{take-append-add}
-use Rattle.std.proofs.lemmas.Bool.{cond-true, cond-false, cond_both, cases_Bool, and_from, and_parts, cases_lt, eqb-true, eq-eqb, le-leb, leb-true, ne_eqb, not-true, or_cases, or_from, or_left, or_parts, or_right}
+use Rattle.std.proofs.lemmas.Bool.{cond-true, cond-false, cond_both, cases_Bool, and_from, and_parts, cases_lt, eqb-true, eq-eqb, le-leb, leb-true, ne_eqb, not-true, or_cases, or_from, or_left}
+use Rattle.std.proofs.lemmas.Bool.{or_parts, or_right}
 use Rattle.std.proofs.lemmas.Int.{ints}
 use Rattle.std.proofs.lemmas.List.Elements.{All-head}
 use Rattle.std.proofs.lemmas.List.Sums.{prefix_len-le-length}
@@ -20,7 +22,8 @@ use Rattle.abc_text.proofs.Decimals.{digit_range}
 use Rattle.abc_text.proofs.Letters.{letter_of-is, letter_exact}
 use Rattle.abc_scan.specs.declared.note.Note.{Note}
 use Rattle.abc_scan.specs.Length.{IsLength, is_slash, begins_length, length_at, length_size}
-use Rattle.abc_scan.specs.Note.{accidental_text, is_octave_mark, letter_octave, octave, ends_letter, is_factor, plain_note, IsPlain, IsShort, IsNote, IsRest, begins_with_byte, accidental_at, accidental_size, marks_size, note_of, note_behind, note_at, is_rest_letter, rest_at}
+use Rattle.abc_scan.specs.Note.{accidental_text, is_octave_mark, letter_octave, octave, ends_letter, is_factor, plain_note, IsPlain, IsShort, IsNote, IsRest, begins_with_byte, accidental_at}
+use Rattle.abc_scan.specs.Note.{accidental_size, marks_size, note_of, note_behind, note_at, is_rest_letter, rest_at}
 use Rattle.abc_text.proofs.Fronts.{front_passes, front_append, take_exact, drop_exact, front_none}
 use Rattle.abc_scan.proofs.Readings.{Finds, IsFront}
 use Rattle.abc_scan.proofs.Lengths.{length_longest, length_sound, length_size-le, unwritten, one_digit}
@@ -73,11 +76,12 @@ accidental_sound (b ∷ bs) =
     (λ flat. cond_both (begins_with_byte 95 bs) _ _ (λ a. Stands a (b ∷ bs)) (λ two. doubled 95 b bs (eqb-true b 95 flat) two) (λ _. ap (λ x. x ∷ bs) (eqb-true b 95 flat)))
     (λ _. cond_both (b == 61) _ _ (λ a. Stands a (b ∷ bs)) (λ natural. ap (λ x. x ∷ bs) (eqb-true b 61 natural)) (λ _. refl)))
 
--- behind the marks of a note stands nothing that is one
+-- after the marks of a note stands nothing that is one
 digit_no_mark : (b : ℕ) → is_digit b ≡ true → is_octave_mark b ≡ false
 digit_no_mark b h = let range = digit_range b h in or_from _ _ (ne_eqb b 39 (λ e. absurd (omega arith))) (ne_eqb b 44 (λ e. absurd (omega arith)))
 
-no_mark : (over : List ℕ) (s : ℕ) (under rest : List ℕ) → AllPass is_digit over → (0 < length under → s ≡ 1) → 0 < length (over ++ (replicate s 47 ++ under)) → prefix_len is_octave_mark ((over ++ (replicate s 47 ++ under)) ++ rest) ≡ 0
+no_mark : (over : List ℕ) (s : ℕ) (under rest : List ℕ) → AllPass is_digit over → (0 < length under → s ≡ 1) → 0 < length (over ++ (replicate s 47 ++ under))
+    → prefix_len is_octave_mark ((over ++ (replicate s 47 ++ under)) ++ rest) ≡ 0
 no_mark [] zero [] rest digits one some = absurd (omega arith)
 no_mark [] zero (d ∷ ds) rest digits one some = let e : zero ≡ 1 = one (omega arith) in absurd (omega arith)
 no_mark [] (suc s) under rest digits one some = front_none is_octave_mark 47 ((replicate s 47 ++ under) ++ rest) refl
@@ -88,13 +92,15 @@ marks_end written rest value is some =
     ap (λ l. prefix_len is_octave_mark (l ++ rest)) is.spelling ∙ no_mark is.over is.slashes is.under rest is.over_digits is.one_slash (subst (λ l. 0 < length l) is.spelling some)
 
 -- either nothing that is a mark follows, or the length text is empty
-after_marks : (written rest : List ℕ) (value : WrittenLength) → IsLength written value → (prefix_len is_octave_mark (written ++ rest) ≡ 0) ⊎ ((0 < prefix_len is_octave_mark (written ++ rest)) × (length written ≡ 0))
+after_marks : (written rest : List ℕ) (value : WrittenLength) → IsLength written value
+    → (prefix_len is_octave_mark (written ++ rest) ≡ 0) ⊎ ((0 < prefix_len is_octave_mark (written ++ rest)) × (length written ≡ 0))
 after_marks written rest value is = ⊎_elim
     (λ some. inl (marks_end written rest value is some))
     (λ none. ⊎_elim (λ more. inr (more, omega arith)) (λ no_more. inl (omega arith)) (cases_lt 0 (prefix_len is_octave_mark (written ++ rest))))
     (cases_lt 0 (length written))
 
-note_read : (text rest : List ℕ) (note : Note) (b : ℕ) → text ≡ accidental_text note.accidental ++ (b ∷ rest) → IsLetter b note.letter → note_at text ≡ Some (note_of note.accidental b rest note.letter)
+note_read : (text rest : List ℕ) (note : Note) (b : ℕ) → text ≡ accidental_text note.accidental ++ (b ∷ rest) → IsLetter b note.letter
+    → note_at text ≡ Some (note_of note.accidental b rest note.letter)
 unfolding note_at
 note_read text rest note b cut letter =
     let sign : accidental_at text ≡ note.accidental = ap accidental_at cut ∙ accidental_read note.accidental b rest (letter_no_sign b note.letter letter) in
@@ -102,7 +108,7 @@ note_read text rest note b cut letter =
     (λ i. drop (accidental_size (sign i)) (cut i)) ∙ drop_exact (accidental_size note.accidental) (accidental_text note.accidental) (b ∷ rest) refl in
     (λ i. note_behind (sign i) (behind i)) ∙ ap (option_map (note_of note.accidental b rest)) (letter_read b note.letter letter)
 
--- a letter alone is read where neither an octave mark nor a length stands behind it
+-- a letter alone is read where neither an octave mark nor a length stands after it
 record Alone (rest : List ℕ) : Type 0 where
   pub marks : marks_size rest ≡ 0
   pub size : length_size rest ≡ 0
@@ -123,7 +129,8 @@ octave_alone b = omega (arith, ints)
 abbrev read_plain : Letter → ℤ → WrittenLength → ℕ → Option (Note × ℕ)
 read_plain letter octaves value size = Some (record { accidental = None; letter = letter; octave = octaves; length = value }, size)
 
-plain_read : (b : ℕ) (rest : List ℕ) (num size : ℕ) (note : Note) → IsPlain b num note → marks_size rest ≡ 0 → length_size rest ≡ size → length_at rest ≡ Factor num 1 → IsShort (b ∷ rest) (note, 1 + size)
+plain_read : (b : ℕ) (rest : List ℕ) (num size : ℕ) (note : Note) → IsPlain b num note → marks_size rest ≡ 0 → length_size rest ≡ size → length_at rest ≡ Factor num 1
+    → IsShort (b ∷ rest) (note, 1 + size)
 plain_read b rest num size note is marks long written =
     let letter = note.letter in
     let own : IsLetter b letter = (letter_exact b letter).0 is.letter in
@@ -136,7 +143,7 @@ plain_read b rest num size note is marks long written =
     record { byte = b; rest = rest; spelling = refl; letter = own; is_read = read ∙ ap (λ n. Some (n, 1 + size)) (sym is.plain) }
 
 pub letter_alone : (b : ℕ) (rest : List ℕ) (note : Note) → IsPlain b 1 note → ends_letter rest ≡ true → IsShort (b ∷ rest) (note, 1)
-letter_alone b rest note is ends = let alone = alone_before rest ends in plain_read b rest 1 0 note is alone.marks alone.size alone.value
+letter_alone b rest note is ends = let unmatched = alone_before rest ends in plain_read b rest 1 0 note is alone.marks alone.size alone.value
 
 pub letter_digit : (b d : ℕ) (rest : List ℕ) (note : Note) → IsPlain b (d - 48) note → is_factor d ≡ true → begins_length rest ≡ false → IsShort (b ∷ d ∷ rest) (note, 2)
 letter_digit b d rest note is factor none =
@@ -146,7 +153,8 @@ letter_digit b d rest note is factor none =
     let length_of = one_digit d rest least digit none in
     plain_read b (d ∷ rest) (d - 48) 1 note is (front_none is_octave_mark d rest (digit_no_mark d digit)) length_of.0 length_of.1
 
-longest_here : (text front rest : List ℕ) (note : Note) (is : IsNote front note) → note_at text ≡ Some (note_of note.accidental is.letter (is.marks ++ (is.written ++ rest)) note.letter) → Finds (note_at text) front note
+longest_here : (text front rest : List ℕ) (note : Note) (is : IsNote front note) → note_at text ≡ Some (note_of note.accidental is.letter (is.marks ++ (is.written ++ rest)) note.letter)
+    → Finds (note_at text) front note
 longest_here text front rest note is read =
     let behind = is.marks ++ (is.written ++ rest) in
     let sign = length (accidental_text note.accidental) in
@@ -187,7 +195,8 @@ note_longest text front rest note cut is =
     longest_here text front rest note is (note_read text (is.marks ++ (is.written ++ rest)) note is.letter parts is.letter_is)
 
 -- what is read as a note is one
-note_here : (a : Option Accidental) (text : List ℕ) (b : ℕ) (rest : List ℕ) (letter : Letter) → text ≡ accidental_text a ++ (b ∷ rest) → letter_of b ≡ Some letter → IsFront text (note_of a b rest letter).1 × IsNote (take (note_of a b rest letter).1 text) (note_of a b rest letter).0
+note_here : (a : Option Accidental) (text : List ℕ) (b : ℕ) (rest : List ℕ) (letter : Letter) → text ≡ accidental_text a ++ (b ∷ rest) → letter_of b ≡ Some letter
+    → IsFront text (note_of a b rest letter).1 × IsNote (take (note_of a b rest letter).1 text) (note_of a b rest letter).0
 note_here a text b rest letter cut known =
     let size = (note_of a b rest letter).1 in
     let behind = drop (marks_size rest) rest in
@@ -200,7 +209,8 @@ note_here a text b rest letter cut known =
         letter = b;
         marks = take (marks_size rest) rest;
         written = take (length_size behind) behind;
-        spelling = (λ i. take (sum i) (cut i)) ∙ take-append-add (accidental_text a) (b ∷ rest) (suc (marks_size rest + length_size behind)) ∙ ap (λ l. accidental_text a ++ (b ∷ l)) (take-add (marks_size rest) (length_size behind) rest);
+        spelling = (λ i. take (sum i) (cut i)) ∙ take-append-add (accidental_text a) (b ∷ rest) (suc (marks_size rest + length_size behind)) ∙ ap (λ l. accidental_text a ++ (b ∷ l)) (take-add
+            (marks_size rest) (length_size behind) rest);
         letter_is = letter_of-is b letter known;
         octave_marks = front_passes is_octave_mark rest;
         octave_is = refl;
@@ -208,13 +218,15 @@ note_here a text b rest letter cut known =
       },
     )
 
-note_known : (a : Option Accidental) (text : List ℕ) (b : ℕ) (rest : List ℕ) (o : Option Letter) (note : Note) (size : ℕ) → text ≡ accidental_text a ++ (b ∷ rest) → letter_of b ≡ o → option_map (note_of a b rest) o ≡ Some (note, size) → IsFront text size × IsNote (take size text) note
+note_known : (a : Option Accidental) (text : List ℕ) (b : ℕ) (rest : List ℕ) (o : Option Letter) (note : Note) (size : ℕ) → text ≡ accidental_text a ++ (b ∷ rest) → letter_of b ≡ o
+    → option_map (note_of a b rest) o ≡ Some (note, size) → IsFront text size × IsNote (take size text) note
 note_known a text b rest None note size cut known e = cc
 note_known a text b rest (Some letter) note size cut known e =
     let same : note_of a b rest letter ≡ (note, size) = cc in
     subst (λ (x : Note × ℕ). IsFront text x.1 × IsNote (take x.1 text) x.0) same (note_here a text b rest letter cut known)
 
-note_behind_sound : (a : Option Accidental) (text behind : List ℕ) (note : Note) (size : ℕ) → text ≡ accidental_text a ++ behind → note_behind a behind ≡ Some (note, size) → IsFront text size × IsNote (take size text) note
+note_behind_sound : (a : Option Accidental) (text behind : List ℕ) (note : Note) (size : ℕ) → text ≡ accidental_text a ++ behind → note_behind a behind ≡ Some (note, size)
+    → IsFront text size × IsNote (take size text) note
 note_behind_sound a text [] note size cut e = cc
 note_behind_sound a text (b ∷ rest) note size cut e = note_known a text b rest (letter_of b) note size cut refl e
 

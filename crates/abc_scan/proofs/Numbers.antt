@@ -18,7 +18,8 @@ prefix_take p zero [] = refl
 prefix_take p (suc n) [] = omega arith
 prefix_take p zero (x ∷ xs) = omega arith
 prefix_take p (suc n) (x ∷ xs) = ⊎_elim
-    (λ yes. let more = prefix_take p n xs in let front = cond-true (p x) (1 + prefix_len p (take n xs)) 0 yes in let whole = cond-true (p x) (1 + prefix_len p xs) 0 yes in front ∙ (let e : 1 + prefix_len p (take n xs) ≡ min (1 + prefix_len p xs) (suc n) = omega arith in e) ∙ ap (λ k. min k (suc n)) (sym whole))
+    (λ yes. let more = prefix_take p n xs in let front = cond-true (p x) (1 + prefix_len p (take n xs)) 0 yes in let whole = cond-true (p x) (1 + prefix_len p xs) 0 yes in front ∙
+    (let e : 1 + prefix_len p (take n xs) ≡ min (1 + prefix_len p xs) (suc n) = omega arith in e) ∙ ap (λ k. min k (suc n)) (sym whole))
     (λ fails. cond-false (p x) (1 + prefix_len p (take n xs)) 0 fails ∙ (let e : 0 ≡ min 0 (suc n) = omega arith in e) ∙ ap (λ k. min k (suc n)) (sym (cond-false (p x) (1 + prefix_len p xs) 0 fails)))
     (cases_Bool (p x))
 
@@ -84,7 +85,8 @@ number_none text none =
     ap (λ (k : ℕ). cond (k == 0) None (Some (decimal (take k text), k))) count
 
 -- the same of a number that may be wanting
-optional_found : (text front rest : List ℕ) (o : Option (ℕ × ℕ)) (value : Option ℕ) → number_at text ≡ o → text ≡ front ++ rest → IsOptionalNumber front value → (length front ≤ (optional o).1) × (length front ≡ (optional o).1 → value ≡ (optional o).0)
+optional_found : (text front rest : List ℕ) (o : Option (ℕ × ℕ)) (value : Option ℕ) → number_at text ≡ o → text ≡ front ++ rest → IsOptionalNumber front value
+    → (length front ≤ (optional o).1) × (length front ≡ (optional o).1 → value ≡ (optional o).0)
 optional_found text front rest None None read cut is = (omega (arith, ap length is), λ e. refl)
 optional_found text front rest (Some number) None read cut is =
     let size = (number_sound text number.0 number.1 read).0.some in
@@ -100,7 +102,8 @@ optional_found text front rest (Some number) (Some n) read cut is =
     let size : number.1 ≡ found.size = cc in
     (omega (arith, found.long, size), λ e. ap Some (found.same (e ∙ size) ∙ sym value))
 
-pub optional_number_longest : (text front rest : List ℕ) (value : Option ℕ) → text ≡ front ++ rest → IsOptionalNumber front value → (length front ≤ (optional_number_at text).1) × (length front ≡ (optional_number_at text).1 → value ≡ (optional_number_at text).0)
+pub optional_number_longest : (text front rest : List ℕ) (value : Option ℕ) → text ≡ front ++ rest → IsOptionalNumber front value
+    → (length front ≤ (optional_number_at text).1) × (length front ≡ (optional_number_at text).1 → value ≡ (optional_number_at text).0)
 optional_number_longest text front rest value cut is = optional_found text front rest (number_at text) value refl cut is
 
 optional_is : (text : List ℕ) (o : Option (ℕ × ℕ)) → number_at text ≡ o → ((optional o).1 ≤ length text) × IsOptionalNumber (take (optional o).1 text) (optional o).0

@@ -53,12 +53,12 @@ more_bits IsPass bits range are order = record {
   bounded = or_lt 32 bits (range_bits range) are.bounded (mask_bounded range order);
   set = λ pass some.
       let mask = range_bits range in
-      let joined = bit_at_or bits mask (pass - 1) in
+      let join_cells = bit_at_or bits mask (pass - 1) in
       let one = either (bit_at bits (pass - 1)) (bit_at mask (pass - 1)) (bit_at-lt bits (pass - 1)) (bit_at-lt mask (pass - 1)) in
       let old = are.set pass some in
       let new = mask_set range pass order some in (
-        λ e. ⊎_elim (λ a. inl (old.0 a)) (λ b. inr (new.0 b)) (one.0 (sym joined ∙ e)),
-        λ h. joined ∙ one.1 (⊎_elim (λ a. inl (old.1 a)) (λ b. inr (new.1 b)) h),
+        λ e. ⊎_elim (λ a. inl (old.0 a)) (λ b. inr (new.0 b)) (one.0 (sym join_cells ∙ e)),
+        λ h. join_cells ∙ one.1 (⊎_elim (λ a. inl (old.1 a)) (λ b. inr (new.1 b)) h),
       );
 }
 
@@ -77,7 +77,8 @@ none_stays : (ranges : List PassRange) → fold with_range None ranges ≡ None
 none_stays [] = refl
 none_stays (range ∷ more) = none_stays more
 
-regrouped : (IsPass : ℕ → Type 0) (range : PassRange) (more : List PassRange) (outcome : Option ℕ) → is_accepted range ≡ true → Outcome (λ pass. IsPass pass ⊎ Names range pass) more outcome → Outcome IsPass (range ∷ more) outcome
+regrouped : (IsPass : ℕ → Type 0) (range : PassRange) (more : List PassRange) (outcome : Option ℕ) → is_accepted range ≡ true → Outcome (λ pass. IsPass pass ⊎ Names range pass) more outcome
+    → Outcome IsPass (range ∷ more) outcome
 regrouped IsPass range more None accepted h = λ all. h (All-tail (λ r. IsTrue (is_accepted r)) range more all)
 regrouped IsPass range more (Some bits) accepted h = (
   All-cons (λ r. IsTrue (is_accepted r)) range more accepted h.0,
@@ -92,9 +93,11 @@ fold_is [] IsPass bits are = (All-nil (λ r. IsTrue (is_accepted r)), same_bits 
 fold_is (range ∷ more) IsPass bits are = ⊎_elim
     (λ yes.
     let next = fold_is more (λ pass. IsPass pass ⊎ Names range pass) (bit_or bits (range_bits range)) (more_bits IsPass bits range are (accepted_order range yes)) in
-    subst (λ (o : Option ℕ). Outcome IsPass (range ∷ more) (fold with_range o more)) (sym (cond-true _ _ _ yes)) (regrouped IsPass range more (fold with_range (Some (bit_or bits (range_bits range))) more) yes next))
+    subst (λ (o : Option ℕ). Outcome IsPass (range ∷ more) (fold with_range o more)) (sym (cond-true _ _ _ yes)) (regrouped IsPass range more
+    (fold with_range (Some (bit_or bits (range_bits range))) more) yes next))
     (λ fails.
-    subst (Outcome IsPass (range ∷ more)) (sym (ap (λ (o : Option ℕ). fold with_range o more) (cond-false _ _ _ fails) ∙ none_stays more)) (λ all. false≢true (sym fails ∙ All-head (λ r. IsTrue (is_accepted r)) range more all)))
+    subst (Outcome IsPass (range ∷ more)) (sym (ap (λ (o : Option ℕ). fold with_range o more) (cond-false _ _ _ fails) ∙ none_stays more)) (λ all. false≢true
+    (sym fails ∙ All-head (λ r. IsTrue (is_accepted r)) range more all)))
     (cases_Bool (is_accepted range))
 
 none_yet : AreBits (λ pass. ⊥) 0

@@ -1,5 +1,6 @@
 -- The list of ranges at the front of a text is the longest one that the grammar has there.
-use Rattle.std.proofs.Common.{◌≡◌, ℕ, zero, suc, ◌+◌, ◌-◌, ◌≤◌, Option, Some, None, List, [], ◌∷◌, ◌++◌, length, take, drop, refl, sym, ap, ◌∙◌, subst, inl, inr, ⊎_elim, arith, append_assoc, length-append, length-drop, take-add}
+use Rattle.std.proofs.Common.{◌≡◌, ℕ, zero, suc, ◌+◌, ◌-◌, ◌≤◌, Option, Some, None, List, [], ◌∷◌, ◌++◌, length, take, drop, refl, sym, ap, ◌∙◌, subst, inl, inr, ⊎_elim, arith, append_assoc}
+use Rattle.std.proofs.Common.{length-append, length-drop, take-add}
 use Rattle.std.specs.Prelude.{◌==◌, ◌⊎◌}
 use Rattle.std.specs.Option.{option_map}
 use Rattle.std.proofs.lemmas.Bool.{cond-true, cond-false, cases_Bool, eqb-true}
@@ -16,7 +17,8 @@ unfolding range_at
 range_from text first size read = ap (option_map (range_behind text)) read
 
 -- one number
-one_or_more : (first size : ℕ) (o : Option (ℕ × ℕ)) → (size ≤ (range_of first size o).1) × ((range_of first size o).1 ≡ size → (range_of first size o).0 ≡ (let range : PassRange = record { first = first; last = first } in range))
+one_or_more : (first size : ℕ) (o : Option (ℕ × ℕ))
+    → (size ≤ (range_of first size o).1) × ((range_of first size o).1 ≡ size → (range_of first size o).0 ≡ (let range : PassRange = record { first = first; last = first } in range))
 one_or_more first size None = (omega arith, λ e. refl)
 one_or_more first size (Some last) = (omega arith, λ e. absurd (omega arith))
 
@@ -41,7 +43,8 @@ one_longest text front rest range cut is =
 from_to_read : (low high rest : List ℕ) (range : PassRange) → IsNumber low range.first → range_at (low ++ (45 ∷ (high ++ rest))) ≡ Some (range_of range.first (length low) (number_at (high ++ rest)))
 from_to_read low high rest range low_is =
     let text = low ++ (45 ∷ (high ++ rest)) in
-    range_from text range.first (length low) (number_exact low (45 ∷ (high ++ rest)) range.first low_is refl) ∙ ap (λ l. Some (range_of range.first (length low) (last_at l))) (drop_exact (length low) low (45 ∷ (high ++ rest)) refl)
+    range_from text range.first (length low) (number_exact low (45 ∷ (high ++ rest)) range.first low_is refl) ∙ ap (λ l. Some (range_of range.first (length low) (last_at l))) (drop_exact (length low)
+    low (45 ∷ (high ++ rest)) refl)
 
 from_to_parts : (text front rest : List ℕ) (range : PassRange) → text ≡ front ++ rest → (is : IsFromTo front range) → text ≡ is.first_text ++ (45 ∷ (is.last_text ++ rest))
 from_to_parts text front rest range cut is = cut ∙ ap (λ l. l ++ rest) is.spelling ∙ append_assoc is.first_text (45 ∷ is.last_text) rest
@@ -71,7 +74,11 @@ range_exact : (front rest : List ℕ) (range : PassRange) → IsRange front rang
 range_exact front rest range is = ⊎_elim
     (λ (one : IsOnePass front range).
     let text = front ++ (44 ∷ rest) in
-    let value : Some ((let r : PassRange = record { first = range.first; last = range.first } in r), length front) ≡ Some (range, length front) = λ i. Some (record { first = range.first; last = sym one.last_is i }, length front) in
+    let value : Some ((let r : PassRange = record { first = range.first; last = range.first } in r), length front) ≡ Some (range, length front) = λ i. Some (
+      record
+          { first = range.first; last = sym one.last_is i },
+      length front,
+    ) in
     range_from text range.first (length front) (number_exact front (44 ∷ rest) range.first one.first_is refl)
     ∙ ap (λ l. Some (range_of range.first (length front) (last_at l))) (drop_exact (length front) front (44 ∷ rest) refl) ∙ value)
     (λ (two : IsFromTo front range).
@@ -166,7 +173,7 @@ more_by b bs (Some (range, suc k)) read =
     let e : suc k - 1 ≡ k = omega arith in
     ap (λ n. and_more (Some (range, suc k)) (more_from n bs)) e ∙ ap (and_more (Some (range, suc k))) (more_inside k bs)
 
--- the first range, and the ranges behind it
+-- the first range, and the ranges after it
 pub more_first : (text : List ℕ) → more_from 0 text ≡ and_more (next_range text) (more_from 0 (drop (range_size (next_range text)) text))
 more_first [] = refl
 more_first (b ∷ bs) = more_by b bs (next_range (b ∷ bs)) refl
@@ -189,8 +196,9 @@ pub ranges_from : (text : List ℕ) (first : PassRange × ℕ) → range_at text
 unfolding ranges_at
 ranges_from text first read = ap (option_map (ranges_behind text)) read
 
--- a comma, and what is read behind it as a list
-list_behind : (bs : List ℕ) (o : Option (PassRange × ℕ)) (ranges : List PassRange) (size : ℕ) → range_at bs ≡ o → option_map (ranges_behind bs) o ≡ Some (ranges, size) → more_from 0 (44 ∷ bs) ≡ (ranges, 1 + size)
+-- a comma, and what is read after it as a list
+list_behind : (bs : List ℕ) (o : Option (PassRange × ℕ)) (ranges : List PassRange) (size : ℕ) → range_at bs ≡ o → option_map (ranges_behind bs) o ≡ Some (ranges, size)
+    → more_from 0 (44 ∷ bs) ≡ (ranges, 1 + size)
 list_behind bs None ranges size read e = cc
 list_behind bs (Some first) ranges size read e =
     let same : ranges_behind bs first ≡ (ranges, size) = cc in
@@ -245,7 +253,8 @@ IsMore text more = (more.1 ≤ length text) × (((more.0 ≡ []) × (more.1 ≡ 
 abbrev AreRanges : List ℕ → List PassRange × ℕ → Type 0
 AreRanges text r = IsFront text r.1 × IsRanges (take r.1 text) r.0
 
-with_more : (text : List ℕ) (range : PassRange) (size : ℕ) (ranges : List PassRange) (more : ℕ) → IsFront text size → IsRange (take size text) range → IsMore (drop size text) (ranges, more) → AreRanges text (range ∷ ranges, size + more)
+with_more : (text : List ℕ) (range : PassRange) (size : ℕ) (ranges : List PassRange) (more : ℕ) → IsFront text size → IsRange (take size text) range → IsMore (drop size text) (ranges, more)
+    → AreRanges text (range ∷ ranges, size + more)
 with_more text range size [] more front is (inside, tail) = ⊎_elim
     (λ (none : ([] ≡ []) × (more ≡ 0)).
     let sum : size ≡ size + more = omega (arith, none.1) in
@@ -261,7 +270,8 @@ with_more text range size (next ∷ others) more front is (inside, tail) = ⊎_e
     ))
     tail
 
-comma_more : (text : List ℕ) (range : PassRange) (size : ℕ) (more : List PassRange × ℕ) → next_range text ≡ Some (range, size) → IsMore (drop size text) more → IsMore text (range ∷ more.0, size + more.1)
+comma_more : (text : List ℕ) (range : PassRange) (size : ℕ) (more : List PassRange × ℕ) → next_range text ≡ Some (range, size) → IsMore (drop size text) more
+    → IsMore text (range ∷ more.0, size + more.1)
 comma_more text range size more read is =
     let comma = next_known text range size read in
     let sound = range_sound comma.rest range comma.range_len comma.is_read in
@@ -282,7 +292,8 @@ more_is (suc fuel) text (Some range) read enough =
     let less : length behind ≤ fuel = omega (arith, length-drop range.1 text, front.some) in
     subst (IsMore text) (sym (more_at text (Some range) read)) (comma_more text range.0 range.1 (more_from 0 behind) read (more_is fuel behind (next_range behind) refl less))
 
-ranges_known : (text : List ℕ) (o : Option (PassRange × ℕ)) (ranges : List PassRange) (size : ℕ) → range_at text ≡ o → option_map (ranges_behind text) o ≡ Some (ranges, size) → AreRanges text (ranges, size)
+ranges_known : (text : List ℕ) (o : Option (PassRange × ℕ)) (ranges : List PassRange) (size : ℕ) → range_at text ≡ o → option_map (ranges_behind text) o ≡ Some (ranges, size)
+    → AreRanges text (ranges, size)
 ranges_known text None ranges size read e = cc
 ranges_known text (Some first) ranges size read e =
     let same : ranges_behind text first ≡ (ranges, size) = cc in

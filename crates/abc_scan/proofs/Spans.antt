@@ -10,8 +10,8 @@ use Rattle.abc_scan.specs.declared.class.LineClass.{LineClass}
 use Rattle.abc_scan.specs.declared.class.LineClass.TheVariants as classes
 use Rattle.abc_scan.specs.declared.chord.Chord.{Chord}
 use Rattle.abc_scan.specs.declared.length.WrittenLength.{WrittenLength}
-use Rattle.abc_scan.specs.declared.parts.ChordPartKind.{ChordPartKind}
-use Rattle.abc_scan.specs.declared.parts.ChordPartKind.TheVariants as parts
+use Rattle.abc_scan.specs.declared.chord_part.ChordPartKind.{ChordPartKind}
+use Rattle.abc_scan.specs.declared.chord_part.ChordPartKind.TheVariants as parts
 use Rattle.abc_scan.specs.declared.spanned.Spanned.{Spanned}
 use Rattle.abc_scan.specs.declared.token.TokenKind.{TokenKind}
 use Rattle.abc_scan.specs.declared.token.TokenKind.TheVariants as kinds
@@ -20,9 +20,9 @@ use Rattle.abc_scan.specs.Length.{number_or, factor, written_length, IsLength, H
 use Rattle.abc_scan.specs.Directive.{IsDirectiveLine, directive_of}
 use Rattle.abc_scan.specs.Text.{before_comment, without_comment}
 use Rattle.abc_scan.specs.Chord.{SpellsPart, part_kinds, inside_of, IsChord}
-use Rattle.abc_scan.specs.Cutting.{alone_at, IsCuttingFrom, IsSpan, JoinFromTo}
+use Rattle.abc_scan.specs.Cutting.{unmatched_at, IsCuttingFrom, IsSpan, JoinFromTo}
 use Rattle.abc_scan.specs.Line.{cutting_of, directive_token, tokens_in, tokens_of, covered_in, covered_of, HasPartLength, HasLength}
-use Rattle.abc_scan.specs.Token.{Spells, opens, alone_of, is_bar, line_kinds, line_grammar, reading_at, next_token}
+use Rattle.abc_scan.specs.Token.{Spells, opens, unmatched_byte, is_bar, line_kinds, line_grammar, reading_at, next_token}
 use Rattle.abc_text.specs.Digit.{is_digit, decimal}
 use Rattle.abc_text.specs.LineEnd.{without_return}
 use Rattle.abc_text.proofs.Decimals.{decimal-lt}
@@ -30,7 +30,7 @@ use Rattle.abc_text.proofs.LineEnds.{without_return-le}
 use Rattle.abc_scan.proofs.ClassLaws.{laws, field_visible}
 use Rattle.abc_scan.proofs.Directives.{directive-read, directive-percent}
 use Rattle.abc_scan.proofs.Cuttings.{next_only, next_size, cut-all}
-use Rattle.abc_scan.proofs.Laws.{reads_tokens, cuts_each}
+use Rattle.abc_scan.proofs.TokenLaws.{reads_tokens, cuts_each}
 
 -- an accepted number is from 1 to 999,999,999
 abbrev InRange : Option ℕ → Type 0
@@ -55,7 +55,8 @@ halves-range k few = let most : 2 ^ k ≤ 2 ^ 29 = pow-le-pow_right (omega arith
 written-range : (over : List ℕ) (slashes : ℕ) (under : List ℕ) → AllPass is_digit over → AllPass is_digit under → HasFactor (written_length over slashes under)
 written-range over slashes under over_digits under_digits =
     cond_both (nat_lt 29 slashes) _ _ HasFactor (λ _. tt)
-    (λ few. factor-range (number_or over 1) (number_or under (2 ^ slashes)) (number_or-range over 1 over_digits (omega arith, omega arith)) (number_or-range under (2 ^ slashes) under_digits (halves-range slashes (ltb-false 29 slashes few))))
+    (λ few. factor-range (number_or over 1) (number_or under (2 ^ slashes)) (number_or-range over 1 over_digits (omega arith, omega arith))
+    (number_or-range under (2 ^ slashes) under_digits (halves-range slashes (ltb-false 29 slashes few))))
 
 length-range : (text : List ℕ) (value : WrittenLength) → IsLength text value → HasFactor value
 length-range text value is = subst HasFactor (sym is.value_is) (written-range is.over is.slashes is.under is.over_digits is.under_digits)
@@ -66,7 +67,7 @@ part-range after_bar text parts.Tie is = tt
 part-range after_bar text parts.NoEffect is = tt
 part-range after_bar text parts.BadByte is = tt
 
-part-alone : (text : List ℕ) → HasPartLength (alone_at part_kinds text)
+part-alone : (text : List ℕ) → HasPartLength (unmatched_at part_kinds text)
 part-alone [] = tt
 part-alone (b ∷ bs) = tt
 
@@ -95,20 +96,21 @@ token-range after_bar text (kinds.Directive directive) is = tt
 token-range after_bar text kinds.Unclosed is = tt
 token-range after_bar text kinds.BadByte is = tt
 
-byte-alone : (b : ℕ) → HasLength (alone_of b)
+byte-alone : (b : ℕ) → HasLength (unmatched_byte b)
 byte-alone b = cond_both (opens b) kinds.Unclosed kinds.BadByte HasLength (λ _. tt) (λ _. tt)
 
-token-alone : (text : List ℕ) → HasLength (alone_at line_kinds text)
+token-alone : (text : List ℕ) → HasLength (unmatched_at line_kinds text)
 token-alone [] = tt
 token-alone (b ∷ bs) = byte-alone b
 
 -- of every cutting
 pub record Laid (at : ℕ) (tokens : List (Spanned TokenKind)) (end len : ℕ) : Type 0 where
   pub spans : All (IsSpan len) tokens
-  pub joined : JoinFromTo at tokens end
+  pub join_cells : JoinFromTo at tokens end
   pub lengths : All (λ t. HasLength t.kind) tokens
 
-laid_cut : (after_bar : Bool) (at : ℕ) (text : List ℕ) (tokens : List (Spanned TokenKind)) (len : ℕ) → IsCuttingFrom line_grammar after_bar at text tokens → at + length text ≤ len → All (IsSpan len) tokens × JoinFromTo at tokens (at + length text)
+laid_cut : (after_bar : Bool) (at : ℕ) (text : List ℕ) (tokens : List (Spanned TokenKind)) (len : ℕ) → IsCuttingFrom line_grammar after_bar at text tokens → at + length text ≤ len
+    → All (IsSpan len) tokens × JoinFromTo at tokens (at + length text)
 laid_cut after_bar at text [] len is fits = (All-nil (IsSpan len), let none = ap length is in omega (arith, none))
 laid_cut after_bar at text (t ∷ ts) len (front, rest, cut, first, from, to, more) fits =
     let only : (next_token after_bar text).1 ≡ length front = ap (λ (x : TokenKind × ℕ). x.1) (next_only line_kinds Spells reading_at reads_tokens after_bar text front rest t.kind cut first) in
@@ -123,7 +125,8 @@ laid_cut after_bar at text (t ∷ ts) len (front, rest, cut, first, from, to, mo
 -- what is read of a line is no longer than the line, and of a field not empty
 before_comment-le : (before : ℕ) (text : List ℕ) → length (before_comment before text) ≤ length text
 before_comment-le before [] = omega arith
-before_comment-le before (b ∷ bs) = cond_both ((b == 37) && not (before == 92)) [] (b ∷ before_comment b bs) (λ l. length l ≤ length (b ∷ bs)) (λ _. omega arith) (λ _. let rest = before_comment-le b bs in omega (arith, rest))
+before_comment-le before (b ∷ bs) =
+    cond_both ((b == 37) && not (before == 92)) [] (b ∷ before_comment b bs) (λ l. length l ≤ length (b ∷ bs)) (λ _. omega arith) (λ _. let rest = before_comment-le b bs in omega (arith, rest))
 
 read-le : (line : List ℕ) → length (without_comment (without_return line)) ≤ length line
 read-le line = let a = before_comment-le 32 (without_return line) in let b = without_return-le line in omega (arith, a, b)
@@ -141,19 +144,19 @@ directive-laid text len is fits =
     let some : 0 < length text = omega (arith, ap length first.1) in
     subst (λ o. Laid 0 (directive_token o (length text)) (length text) len) (sym (directive-read text is.0 is.1)) (record {
       spans = All-cons (IsSpan len) _ [] (some, fits) (All-nil (IsSpan len));
-      joined = (refl, refl);
+      join_cells = (refl, refl);
       lengths = All-cons (λ t. HasLength t.kind) _ [] tt (All-nil (λ t. HasLength t.kind));
     })
 
 laid_in : (line : List ℕ) (class : LineClass) → class_of line ≡ class → Laid 0 (tokens_in class (without_return line)) (covered_in class (without_return line)) (length line)
-laid_in line classes.Blank e = record { spans = All-nil (IsSpan (length line)); joined = refl; lengths = All-nil (λ t. HasLength t.kind) }
-laid_in line classes.Comment e = record { spans = All-nil (IsSpan (length line)); joined = refl; lengths = All-nil (λ t. HasLength t.kind) }
+laid_in line classes.Blank e = record { spans = All-nil (IsSpan (length line)); join_cells = refl; lengths = All-nil (λ t. HasLength t.kind) }
+laid_in line classes.Comment e = record { spans = All-nil (IsSpan (length line)); join_cells = refl; lengths = All-nil (λ t. HasLength t.kind) }
 laid_in line (classes.Field letter) e =
     let field = ((laws (without_return line) (class_of line) refl).field letter).0 e in
     let some = field_some (without_return line) letter field in
     record {
       spans = All-cons (IsSpan (length line)) _ [] (some, read-le line) (All-nil (IsSpan (length line)));
-      joined = (refl, refl);
+      join_cells = (refl, refl);
       lengths = All-cons (λ t. HasLength t.kind) _ [] tt (All-nil (λ t. HasLength t.kind));
     }
 laid_in line classes.Directive e =
@@ -166,7 +169,7 @@ laid_in line classes.Music e =
     let l = laid_cut false 0 text (cutting_of text) (length line) is (omega (arith, short)) in
     record {
       spans = l.0;
-      joined = subst (JoinFromTo 0 (cutting_of text)) sum l.1;
+      join_cells = subst (JoinFromTo 0 (cutting_of text)) sum l.1;
       lengths = cut-all line_kinds Spells HasLength token-range token-alone false 0 text (cutting_of text) is;
     }
 

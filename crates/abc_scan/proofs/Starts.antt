@@ -1,5 +1,6 @@
 -- What tokens begin with, and what is read by that.
-use Rattle.std.proofs.Common.{◌≡◌, ◌≢◌, ℕ, zero, suc, ◌<◌, ◌≤◌, Bool, true, false, Option, Some, None, List, [], ◌∷◌, ◌++◌, length, replicate, refl, sym, ap, ◌∙◌, subst, inl, inr, ⊎_elim, arith, append_assoc}
+use Rattle.std.proofs.Common.{◌≡◌, ◌≢◌, ℕ, zero, suc, ◌<◌, ◌≤◌, Bool, true, false, Option, Some, None, List, [], ◌∷◌, ◌++◌, length, replicate, refl, sym, ap, ◌∙◌, subst, inl, inr, ⊎_elim, arith}
+use Rattle.std.proofs.Common.{append_assoc}
 use Rattle.std.specs.Prelude.{◌⊎◌, ◌==◌, ◌||◌, ◌&&◌}
 use Rattle.std.specs.Char.{is_ascii_alphabetic, is_ascii_digit}
 use Rattle.std.specs.List.{AllPass}
@@ -41,7 +42,8 @@ use Rattle.abc_text.proofs.Decimals.{digit_range}
 use Rattle.abc_scan.proofs.Endings.{ending_begins}
 
 -- what is no field, no bracket and no delimiter is read as a mark
-pub mark_reading : (start : Start) (after_bar : Bool) (text : List ℕ) → start ≢ starts.InlineField → start ≢ starts.Bracket → start ≢ starts.Delimited → reading_by start after_bar text ≡ mark_by start after_bar text
+pub mark_reading : (start : Start) (after_bar : Bool) (text : List ℕ) → start ≢ starts.InlineField → start ≢ starts.Bracket → start ≢ starts.Delimited
+    → reading_by start after_bar text ≡ mark_by start after_bar text
 mark_reading starts.Note after_bar text a b c = refl
 mark_reading starts.Rest after_bar text a b c = refl
 mark_reading starts.BarRest after_bar text a b c = refl
@@ -111,7 +113,8 @@ unfolding bracket_start
 stroke_starts [] = refl
 stroke_starts (b ∷ bs) = refl
 
-group_starts : (opened : Bool) (more : ℕ) (closed : Bool) (groups behind : List ℕ) → start_of ((strokes_text (record { opened = opened; more = more; closed = closed }) ++ groups) ++ behind) ≡ starts.BarLine
+group_starts : (opened : Bool) (more : ℕ) (closed : Bool) (groups behind : List ℕ)
+    → start_of ((strokes_text (record { opened = opened; more = more; closed = closed }) ++ groups) ++ behind) ≡ starts.BarLine
 unfolding byte_start
 group_starts true more closed groups behind = stroke_starts _
 group_starts false more closed groups behind = refl
@@ -182,7 +185,8 @@ bracket_digit d [] is = bracket_digit_none d is
 bracket_digit d (c ∷ rest) is = bracket_digit_more d c rest is
 
 -- an ending begins with `[` or with a digit
-pub ending_starts : (after_bar : Bool) (text front rest : List ℕ) (passes : Option ℕ) → text ≡ front ++ rest → (is : IsEnding after_bar front passes) → ((front ≡ 91 ∷ is.written) × (start_of text ≡ starts.Bracket)) ⊎ (start_of text ≡ starts.Digit)
+pub ending_starts : (after_bar : Bool) (text front rest : List ℕ) (passes : Option ℕ) → text ≡ front ++ rest → (is : IsEnding after_bar front passes)
+    → ((front ≡ 91 ∷ is.written) × (start_of text ≡ starts.Bracket)) ⊎ (start_of text ≡ starts.Digit)
 ending_starts after_bar text front rest passes cut is =
     let (digit, more, first, digit_is) = ending_begins after_bar front passes is in
     ⊎_elim

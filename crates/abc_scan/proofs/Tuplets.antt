@@ -1,5 +1,6 @@
 -- The tuplet mark at the front of a text is the longest one that the grammar has there.
-use Rattle.std.proofs.Common.{◌≡◌, ℕ, suc, ◌+◌, ◌≤◌, Option, Some, None, List, [], ◌∷◌, ◌++◌, length, take, drop, refl, sym, ap, ◌∙◌, subst, inl, inr, ⊎_elim, arith, append_assoc, length-append, length-drop, length-take-le}
+use Rattle.std.proofs.Common.{◌≡◌, ℕ, suc, ◌+◌, ◌≤◌, Option, Some, None, List, [], ◌∷◌, ◌++◌, length, take, drop, refl, sym, ap, ◌∙◌, subst, inl, inr, ⊎_elim, arith, append_assoc, length-append}
+use Rattle.std.proofs.Common.{length-drop, length-take-le}
 use Rattle.std.specs.Prelude.{◌==◌}
 use Rattle.std.specs.List.{prefix_len}
 use Rattle.std.specs.Option.{option_map}
@@ -80,7 +81,8 @@ p_alone digits rest tuplet p_is no_q no_r =
     }
 
 -- p and q
-p_and_q : (digits q_text rest : List ℕ) (tuplet : Tuplet) → IsNumber digits tuplet.p → HasColon q_text tuplet.q → tuplet.r ≡ None → Reads (40 ∷ (digits ++ (q_text ++ rest))) (40 ∷ (digits ++ q_text)) tuplet
+p_and_q : (digits q_text rest : List ℕ) (tuplet : Tuplet) → IsNumber digits tuplet.p → HasColon q_text tuplet.q → tuplet.r ≡ None
+    → Reads (40 ∷ (digits ++ (q_text ++ rest))) (40 ∷ (digits ++ q_text)) tuplet
 p_and_q digits q_text rest tuplet p_is q_is no_r =
     let tail = q_text ++ rest in
     let text = digits ++ tail in
@@ -103,7 +105,8 @@ p_and_q digits q_text rest tuplet p_is q_is no_r =
     }
 
 -- p, q and r
-all_three : (digits q_text r_text rest : List ℕ) (tuplet : Tuplet) → IsNumber digits tuplet.p → HasColon q_text tuplet.q → HasColon r_text tuplet.r → Reads (40 ∷ (digits ++ (q_text ++ (r_text ++ rest)))) (40 ∷ (digits ++ (q_text ++ r_text))) tuplet
+all_three : (digits q_text r_text rest : List ℕ) (tuplet : Tuplet) → IsNumber digits tuplet.p → HasColon q_text tuplet.q → HasColon r_text tuplet.r
+    → Reads (40 ∷ (digits ++ (q_text ++ (r_text ++ rest)))) (40 ∷ (digits ++ (q_text ++ r_text))) tuplet
 all_three digits q_text r_text rest tuplet p_is q_is r_is =
     let tail = q_text ++ (r_text ++ rest) in
     let text = digits ++ tail in
@@ -116,7 +119,8 @@ all_three digits q_text r_text rest tuplet p_is q_is r_is =
     let q_same : tuplet.q ≡ q.0 = sym (ap (λ (x : Option ℕ × ℕ). x.0) q_is_read) in
     let after_q : drop q.1 behind ≡ r_text ++ rest = ap (drop q.1) behind_is ∙ drop_exact q.1 q_text (r_text ++ rest) q_size in
     let found = further_longest (drop q.1 behind) r_text rest tuplet.r after_q (inr r_is) in
-    let long : length (40 ∷ (digits ++ (q_text ++ r_text))) ≡ suc (size + (length q_text + length r_text)) = ap suc (length-append digits (q_text ++ r_text) ∙ ap (λ n. size + n) (length-append q_text r_text)) in
+    let long : length (40 ∷ (digits ++ (q_text ++ r_text))) ≡ suc (size + (length q_text + length r_text)) = ap suc (length-append digits (q_text ++ r_text) ∙ ap (λ n. size + n)
+    (length-append q_text r_text)) in
     record {
       found = (tuplet_of tuplet.p size behind).0;
       size = (tuplet_of tuplet.p size behind).1;
@@ -128,7 +132,8 @@ all_three digits q_text r_text rest tuplet p_is q_is r_is =
     }
 
 -- by how many of them are written
-longest_by : (p_text q_text r_text rest : List ℕ) (tuplet : Tuplet) → IsNumber p_text tuplet.p → IsFurther q_text tuplet.q → IsFurther r_text tuplet.r → (q_text ≡ [] → r_text ≡ []) → Reads (40 ∷ (p_text ++ (q_text ++ (r_text ++ rest)))) (40 ∷ (p_text ++ (q_text ++ r_text))) tuplet
+longest_by : (p_text q_text r_text rest : List ℕ) (tuplet : Tuplet) → IsNumber p_text tuplet.p → IsFurther q_text tuplet.q → IsFurther r_text tuplet.r → (q_text ≡ [] → r_text ≡ [])
+    → Reads (40 ∷ (p_text ++ (q_text ++ (r_text ++ rest)))) (40 ∷ (p_text ++ (q_text ++ r_text))) tuplet
 longest_by p_text q_text r_text rest tuplet p_is q_is r_is q_first = ⊎_elim
     (λ (no_q : (q_text ≡ []) × (tuplet.q ≡ None)).
     let no_r : r_text ≡ [] = q_first no_q.0 in
@@ -141,7 +146,8 @@ longest_by p_text q_text r_text rest tuplet p_is q_is r_is q_first = ⊎_elim
     (λ (no_r : (r_text ≡ []) × (tuplet.r ≡ None)).
     let front : q_text ++ r_text ≡ q_text = ap (λ l. q_text ++ l) no_r.0 ∙ append-nil q_text in
     let whole : q_text ++ (r_text ++ rest) ≡ q_text ++ rest = ap (λ l. q_text ++ (l ++ rest)) no_r.0 in
-    subst (λ l. Reads (40 ∷ (p_text ++ l)) (40 ∷ (p_text ++ (q_text ++ r_text))) tuplet) (sym whole) (subst (λ l. Reads (40 ∷ (p_text ++ (q_text ++ rest))) (40 ∷ (p_text ++ l)) tuplet) (sym front) (p_and_q p_text q_text rest tuplet p_is some_q no_r.1)))
+    subst (λ l. Reads (40 ∷ (p_text ++ l)) (40 ∷ (p_text ++ (q_text ++ r_text))) tuplet) (sym whole) (subst (λ l. Reads (40 ∷ (p_text ++ (q_text ++ rest))) (40 ∷ (p_text ++ l)) tuplet) (sym front)
+    (p_and_q p_text q_text rest tuplet p_is some_q no_r.1)))
     (λ (some_r : HasColon r_text tuplet.r). all_three p_text q_text r_text rest tuplet p_is some_q some_r)
     r_is)
     q_is
@@ -150,7 +156,8 @@ pub tuplet_longest : (text front rest : List ℕ) (tuplet : Tuplet) → text ≡
 tuplet_longest text front rest tuplet cut is =
     let parts : text ≡ 40 ∷ (is.p_text ++ (is.q_text ++ (is.r_text ++ rest))) =
     cut ∙ ap (λ l. l ++ rest) is.spelling ∙ ap (λ l. 40 ∷ l) (append_assoc is.p_text (is.q_text ++ is.r_text) rest ∙ ap (λ l. is.p_text ++ l) (append_assoc is.q_text is.r_text rest)) in
-    subst (λ l. Reads l front tuplet) (sym parts) (subst (λ l. Reads (40 ∷ (is.p_text ++ (is.q_text ++ (is.r_text ++ rest)))) l tuplet) (sym is.spelling) (longest_by is.p_text is.q_text is.r_text rest tuplet is.p_is is.q_is is.r_is is.q_first))
+    subst (λ l. Reads l front tuplet) (sym parts) (subst (λ l. Reads (40 ∷ (is.p_text ++ (is.q_text ++ (is.r_text ++ rest)))) l tuplet) (sym is.spelling)
+    (longest_by is.p_text is.q_text is.r_text rest tuplet is.p_is is.q_is is.r_is is.q_first))
 
 -- and it is one
 further_sound : (text : List ℕ) → ((further_at text).1 ≤ length text) × IsFurther (take (further_at text).1 text) (further_at text).0
@@ -177,7 +184,8 @@ further_twice text empty =
     let none : (further_at text).1 ≡ 0 = omega (arith, ap length empty, length-take-le (further_at text).1 text inside) in
     ap (λ n. take (further_at (drop n text)).1 (drop n text)) none ∙ empty
 
-tuplet_here : (rest : List ℕ) (p size : ℕ) → IsFront rest size → IsNumber (take size rest) p → IsFront (40 ∷ rest) (tuplet_of p size (drop size rest)).1 × IsTuplet (take (tuplet_of p size (drop size rest)).1 (40 ∷ rest)) (tuplet_of p size (drop size rest)).0
+tuplet_here : (rest : List ℕ) (p size : ℕ) → IsFront rest size → IsNumber (take size rest) p
+    → IsFront (40 ∷ rest) (tuplet_of p size (drop size rest)).1 × IsTuplet (take (tuplet_of p size (drop size rest)).1 (40 ∷ rest)) (tuplet_of p size (drop size rest)).0
 tuplet_here rest p size front p_is =
     let behind = drop size rest in
     let q = further_at behind in
@@ -198,7 +206,8 @@ tuplet_here rest p size front p_is =
       },
     )
 
-tuplet_known : (rest : List ℕ) (o : Option (ℕ × ℕ)) (tuplet : Tuplet) (size : ℕ) → number_at rest ≡ o → option_map (tuplet_behind rest) o ≡ Some (tuplet, size) → IsFront (40 ∷ rest) size × IsTuplet (take size (40 ∷ rest)) tuplet
+tuplet_known : (rest : List ℕ) (o : Option (ℕ × ℕ)) (tuplet : Tuplet) (size : ℕ) → number_at rest ≡ o → option_map (tuplet_behind rest) o ≡ Some (tuplet, size)
+    → IsFront (40 ∷ rest) size × IsTuplet (take size (40 ∷ rest)) tuplet
 tuplet_known rest None tuplet size read e = cc
 tuplet_known rest (Some p) tuplet size read e =
     let same : tuplet_behind rest p ≡ (tuplet, size) = cc in
@@ -209,6 +218,7 @@ pub tuplet_sound : (text : List ℕ) (tuplet : Tuplet) (size : ℕ) → tuplet_a
 unfolding tuplet_at
 tuplet_sound [] tuplet size e = cc
 tuplet_sound (b ∷ rest) tuplet size e = ⊎_elim
-    (λ yes. subst (λ x. IsFront (x ∷ rest) size × IsTuplet (take size (x ∷ rest)) tuplet) (sym (eqb-true b 40 yes)) (tuplet_known rest (number_at rest) tuplet size refl (sym (cond-true _ _ _ yes) ∙ e)))
+    (λ yes. subst (λ x. IsFront (x ∷ rest) size × IsTuplet (take size (x ∷ rest)) tuplet) (sym (eqb-true b 40 yes))
+    (tuplet_known rest (number_at rest) tuplet size refl (sym (cond-true _ _ _ yes) ∙ e)))
     (λ fails. let none : ◌≡◌ {A = Option (Tuplet × ℕ)} None (Some (tuplet, size)) = sym (cond-false _ _ _ fails) ∙ e in cc)
     (cases_Bool (b == 40))

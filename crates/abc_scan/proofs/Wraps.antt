@@ -26,7 +26,8 @@ pub finds-one : {K : Type 0} (kind : K) (front : List ℕ) → length front ≡ 
 finds-one kind front one = record { found = kind; size = 1; is_read = refl; long = omega (arith, one); same = λ _. refl }
 
 -- what is found as a kind of token was found
-pub wrapped-sound : {V K : Type 0} (wrap : V → K) (Q : K → ℕ → Type 0) (o : Option (V × ℕ)) (kind : K) (size : ℕ) → ((x : V) (n : ℕ) → o ≡ Some (x, n) → Q (wrap x) n) → as_kind wrap o ≡ Some (kind, size) → Q kind size
+pub wrapped-sound : {V K : Type 0} (wrap : V → K) (Q : K → ℕ → Type 0) (o : Option (V × ℕ)) (kind : K) (size : ℕ) → ((x : V) (n : ℕ) → o ≡ Some (x, n) → Q (wrap x) n)
+    → as_kind wrap o ≡ Some (kind, size) → Q kind size
 wrapped-sound wrap Q None kind size sound e = cc
 wrapped-sound {V} {K} wrap Q (Some r) kind size sound e =
     let same : (wrap r.0, r.1) ≡ (kind, size) = cc in

@@ -1,12 +1,13 @@
 -- Bar lines. ABC 2.1 section 4.8.
-use Rattle.std.specs.Prelude.{ℕ, ◌≡◌, ◌≤◌, ◌<◌, ◌+◌, ◌-◌, ◌⊎◌, ◌==◌, ◌&&◌, ◌||◌, nat_lt, not, Bool, true, if◌then◌else◌, List, [], ◌∷◌, ◌++◌, length, take, drop, replicate, codes, flat_map, Option, Some, None}
+use Rattle.std.specs.Prelude.{ℕ, ◌≡◌, ◌≤◌, ◌<◌, ◌+◌, ◌-◌, ◌⊎◌, ◌==◌, ◌&&◌, ◌||◌, nat_lt, not, Bool, true, if◌then◌else◌, List, []}
+use Rattle.std.specs.Prelude.{◌∷◌, ◌++◌, length, take, drop, replicate, codes, flat_map, Option, Some, None}
 use Rattle.std.specs.List.{prefix_len}
 use Rattle.std.specs.Str.{bytes_eq}
 use Rattle.abc_scan.specs.declared.bar.BarLine.{BarLine}
 use Rattle.abc_scan.specs.Byte.{space, opening_bracket, closing_bracket, colon, bar_stroke}
 use Rattle.abc_scan.specs.Note.{begins_with_byte}
 
--- Strokes that stand together: a `[` or none, one stroke and any more, a `]` or none.
+-- Strokes side by side: a `[` or none, one stroke and any more, a `]` or none.
 pub record Strokes : Type 0 where
   pub opened : Bool
   pub more : ℕ
@@ -15,13 +16,14 @@ pub record Strokes : Type 0 where
 -- How they are written.
 abbrev pub strokes_text : Strokes → List ℕ
 strokes_text s =
-    (if s.opened then opening_bracket ∷ [] else []) ++ (bar_stroke ∷ replicate s.more bar_stroke ++ (if s.closed then closing_bracket ∷ [] else []))
+    (if s.opened then opening_bracket ∷ [] else [])
+    ++ (bar_stroke ∷ replicate s.more bar_stroke ++ (if s.closed then closing_bracket ∷ [] else []))
 
 -- The middle of a bar line, between its colons.
 abbrev pub middle_text : List Strokes → List ℕ
 middle_text groups = flat_map strokes_text groups
 
--- Whether a middle is another one than a single `|`. Our own.
+-- Whether a middle is another one than a single `|`. Not in ABC 2.1.
 abbrev pub is_double : List ℕ → Bool
 is_double middle = not (bytes_eq middle (codes "|"))
 
@@ -32,7 +34,7 @@ pub record HasStrokes (text : List ℕ) (bar : BarLine) : Type 0 where
   pub spelling : text ≡ replicate bar.closes colon ++ (middle_text groups ++ replicate bar.opens colon)
   pub double_is : bar.double ≡ is_double (middle_text groups)
 
--- Two or more colons alone: each stands for a close and an open repeat, but for one. Our own.
+-- Two or more colons alone: each is a close and an open repeat, but for one. Not in ABC 2.1.
 pub record HasColons (text : List ℕ) (bar : BarLine) : Type 0 where
   pub count : ℕ
   pub several : 2 ≤ count
@@ -45,39 +47,41 @@ pub record HasColons (text : List ℕ) (bar : BarLine) : Type 0 where
 abbrev pub IsBar : List ℕ → BarLine → Type 0
 IsBar text bar = HasStrokes text bar ⊎ HasColons text bar
 
--- How many colons stand at the front of a text.
+-- How many colons a text begins with.
 abbrev pub colons : List ℕ → ℕ
 colons text = prefix_len (λ b. b == colon) text
 
--- Whether a byte between its neighbours belongs to a middle: a stroke, a `[` before one, a `]` behind one.
+-- Whether a byte between its neighbours belongs to a middle: a stroke, a `[` before one, a `]` after one.
 abbrev pub goes_on : ℕ → ℕ → List ℕ → Bool
 goes_on before b rest =
-    (b == bar_stroke) || ((b == opening_bracket) && begins_with_byte bar_stroke rest) || ((b == closing_bracket) && (before == bar_stroke))
+    (b == bar_stroke) || ((b == opening_bracket) && begins_with_byte bar_stroke rest)
+    || ((b == closing_bracket) && (before == bar_stroke))
 
--- How many bytes of a middle stand at the front of a text that follows this byte.
+-- How many bytes of a middle a text that follows this byte begins with.
 abbrev pub middle_from : ℕ → List ℕ → ℕ
 middle_from before [] = 0
 middle_from before (b ∷ bs) = if goes_on before b bs then 1 + middle_from b bs else 0
 
--- How many bytes of a middle stand at the front of a text. Nothing, as good as a space, stands before it.
+-- How many bytes of a middle a text begins with. It follows nothing, which counts as a space.
 abbrev pub middle_size : List ℕ → ℕ
 middle_size text = middle_from space text
 
 -- Colons alone: a single one is no bar line.
-abbrev pub colons_alone : ℕ → Option (BarLine × ℕ)
-colons_alone count =
+abbrev pub bar_of_colons : ℕ → Option (BarLine × ℕ)
+bar_of_colons count =
     if nat_lt count 2 then None else Some (record { closes = count - 1; opens = count - 1; double = true }, count)
 
--- The bar line of colons, a middle of so many bytes, and what stands behind it, and how many bytes it takes.
+-- The bar line of colons, a middle of `middle` bytes, and what follows it, and how many bytes it takes.
 abbrev pub with_middle : ℕ → ℕ → List ℕ → BarLine × ℕ
 with_middle closes middle behind = (
   record { closes = closes; opens = colons (drop middle behind); double = is_double (take middle behind) },
   closes + middle + colons (drop middle behind),
 )
 
--- The bar line of colons and what stands behind them.
+-- The bar line of colons and what follows them.
 abbrev pub bar_behind : ℕ → List ℕ → Option (BarLine × ℕ)
-bar_behind closes behind = if middle_size behind == 0 then colons_alone closes else Some (with_middle closes (middle_size behind) behind)
+bar_behind closes behind =
+    if middle_size behind == 0 then bar_of_colons closes else Some (with_middle closes (middle_size behind) behind)
 
 -- The longest bar line at the front of a text, and how many bytes it takes.
 unfoldable pub bar_at : List ℕ → Option (BarLine × ℕ)

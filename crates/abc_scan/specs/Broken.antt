@@ -12,7 +12,7 @@ abbrev pub mark_of : Direction → ℕ
 mark_of Right = greater_sign
 mark_of Left = less_sign
 
--- One to three marks of one direction. ABC 2.1 section 4.4; that there are at most three is our own.
+-- One to three marks of one direction. ABC 2.1 section 4.4; that there are at most three is not in ABC 2.1.
 pub record IsBroken (text : List ℕ) (value : BrokenRhythm) : Type 0 where
   pub some : 1 ≤ value.marks
   pub few : value.marks ≤ 3
@@ -22,13 +22,14 @@ pub record IsBroken (text : List ℕ) (value : BrokenRhythm) : Type 0 where
 abbrev pub direction_of : ℕ → Option Direction
 direction_of b = if b == greater_sign then Some Right else (if b == less_sign then Some Left else None)
 
--- How many of the same mark stand at the front of a text: the fourth belongs to another token.
+-- How many of the same mark a text begins with: the fourth belongs to another token.
 abbrev pub marks_at : ℕ → List ℕ → ℕ
 marks_at mark text = prefix_len (λ b. b == mark) (take 3 text)
 
 -- The longest mark of a direction at the front of a text, and how many bytes it takes.
 abbrev pub marks_of : List ℕ → Direction → BrokenRhythm × ℕ
-marks_of text direction = (record { direction = direction; marks = marks_at (mark_of direction) text }, marks_at (mark_of direction) text)
+marks_of text direction =
+    (record { direction = direction; marks = marks_at (mark_of direction) text }, marks_at (mark_of direction) text)
 
 -- The longest mark at the front of a text, and how many bytes it takes.
 unfoldable pub broken_at : List ℕ → Option (BrokenRhythm × ℕ)

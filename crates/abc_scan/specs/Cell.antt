@@ -1,4 +1,4 @@
--- The cells of a line. Our own.
+-- The cells of a line. Not in ABC 2.1.
 use Rattle.std.specs.Prelude.{◌≡◌, ℕ, suc, ◌-◌, Bool, false, true, List, [], ◌∷◌, ◌++◌, length, take, flat_map, if◌then◌else◌, All}
 use Rattle.abc_scan.specs.declared.spanned.Spanned.{Spanned}
 use Rattle.abc_scan.specs.declared.token.TokenKind.{TokenKind}
@@ -23,16 +23,16 @@ pub record EndsWithBar (cell : List (Spanned TokenKind)) : Type 0 where
   pub is_bar_line : ends_cell bar ≡ true
 
 -- The cells one after another.
-abbrev pub joined : List (List (Spanned TokenKind)) → List (Spanned TokenKind)
-joined cells = flat_map (λ cell. cell) cells
+abbrev pub join_cells : List (List (Spanned TokenKind)) → List (Spanned TokenKind)
+join_cells cells = flat_map (λ cell. cell) cells
 
 -- All cells but the last.
 abbrev pub but_last : List (List (Spanned TokenKind)) → List (List (Spanned TokenKind))
 but_last cells = take (length cells - 1) cells
 
--- The cells are these tokens, cut behind each bar line and nowhere else.
+-- The cells are these tokens, cut after each bar line and nowhere else.
 pub record AreCells (tokens : List (Spanned TokenKind)) (cells : List (List (Spanned TokenKind))) : Type 0 where
-  pub whole : joined cells ≡ tokens
+  pub whole : join_cells cells ≡ tokens
   pub each : All IsCell cells
   pub closed : All EndsWithBar (but_last cells)
 
@@ -46,16 +46,17 @@ abbrev pub cells_of : List (Spanned TokenKind) → List (List (Spanned TokenKind
 cells_of [] = []
 cells_of (t ∷ ts) = if ends_cell t then (t ∷ []) ∷ cells_of ts else put_first t (cells_of ts)
 
--- How many tokens stand in the first cell of a line.
+-- How many tokens are in the first cell of a line.
 abbrev pub first_size : List (Spanned TokenKind) → ℕ
 first_size [] = 0
 first_size (t ∷ ts) = if ends_cell t then 1 else suc (first_size ts)
 
--- No bar line stands among the tokens.
+-- No bar line is among the tokens.
 abbrev pub HasNoBar : List (Spanned TokenKind) → Type 0
 HasNoBar tokens = All (λ t. ends_cell t ≡ false) tokens
 
--- One more token behind cells and the tokens of a begun one, whatever follows it.
-abbrev pub GoOnWith : Spanned TokenKind → List (List (Spanned TokenKind)) → List (Spanned TokenKind) → List (List (Spanned TokenKind)) → List (Spanned TokenKind) → Type 0
+-- One more token after cells and the tokens of a begun one, whatever follows it.
+abbrev pub GoOnWith : Spanned TokenKind → List (List (Spanned TokenKind)) → List (Spanned TokenKind)
+    → List (List (Spanned TokenKind)) → List (Spanned TokenKind) → Type 0
 GoOnWith token cells begun more_cells more_begun =
     (rest : List (Spanned TokenKind)) → more_cells ++ cells_of (more_begun ++ rest) ≡ cells ++ cells_of (begun ++ token ∷ rest)

@@ -2,8 +2,8 @@
 use Rattle.std.specs.Prelude.{◌≡◌, ◌⊎◌, ℕ, Bool, false, Option, Some, None, List, take, drop}
 use Rattle.std.specs.Option.{option_map}
 use Rattle.abc_scan.specs.declared.chord.Chord.{Chord}
-use Rattle.abc_scan.specs.declared.parts.ChordPartKind.{ChordPartKind}
-use Rattle.abc_scan.specs.declared.parts.ChordPartKind.TheVariants as kinds
+use Rattle.abc_scan.specs.declared.chord_part.ChordPartKind.{ChordPartKind}
+use Rattle.abc_scan.specs.declared.chord_part.ChordPartKind.TheVariants as kinds
 use Rattle.abc_scan.specs.declared.frame.Frame.{Frame}
 use Rattle.abc_scan.specs.declared.spanned.Spanned.{Spanned}
 use Rattle.abc_scan.specs.declared.start.Start.{Start}
@@ -16,7 +16,7 @@ use Rattle.abc_scan.specs.Note.{IsNote, note_at}
 use Rattle.abc_scan.specs.Single.{IsBlankToken, IsTie}
 use Rattle.abc_scan.specs.Start.{start_of}
 
--- The bytes spell a part of a chord of this kind. A bad byte is what spells none. Which parts there are is our own.
+-- The bytes spell a part of a chord of this kind. A bad byte is what spells none. Which parts there are is not in ABC 2.1.
 abbrev pub SpellsPart : Bool → List ℕ → ChordPartKind → Type 0
 SpellsPart after_bar text (kinds.Note note) = IsNote text note
 SpellsPart after_bar text kinds.Tie = IsTie text
@@ -25,7 +25,7 @@ SpellsPart after_bar text kinds.BadByte = ⊥
 
 -- A byte of a chord that begins no part is a bad byte, and no part is a bar line.
 abbrev pub part_kinds : Kinds ChordPartKind
-part_kinds = record { alone = λ b. kinds.BadByte; is_bar = λ k. false }
+part_kinds = record { unmatched = λ b. kinds.BadByte; is_bar = λ k. false }
 
 -- What spells a part of a chord.
 abbrev pub part_grammar : Grammar ChordPartKind
@@ -45,20 +45,13 @@ pub record IsChord (text : List ℕ) (chord : Chord) : Type 0 where
 -- The longest part at the front of a text that begins in this way, and how many bytes it takes.
 abbrev pub part_by : Start → List ℕ → Option (ChordPartKind × ℕ)
 part_by starts.Note text = as_kind kinds.Note (note_at text)
-part_by starts.Rest text = None
-part_by starts.BarRest text = None
-part_by starts.BarLine text = None
-part_by starts.InlineField text = None
-part_by starts.Bracket text = None
-part_by starts.Digit text = None
 part_by starts.Parenthesis text = Some (kinds.NoEffect, 1)
-part_by starts.Broken text = None
 part_by starts.Tie text = Some (kinds.Tie, 1)
 part_by starts.Blank text = Some (kinds.NoEffect, 1)
 part_by starts.Delimited text = of_kind kinds.NoEffect (delimited_at text)
 part_by starts.Space text = of_kind kinds.NoEffect (extra_space_at text)
 part_by starts.Single text = Some (kinds.NoEffect, 1)
-part_by starts.Nothing text = None
+part_by _ text = None
 
 -- The longest part at the front of a text, and how many bytes it takes.
 unfoldable pub part_reading_at : Bool → List ℕ → Option (ChordPartKind × ℕ)

@@ -1,5 +1,6 @@
 -- The class of a line, by its own bytes.
-use Rattle.std.specs.Prelude.{◌≡◌, ℕ, Bool, false, ◌&&◌, ◌||◌, not, Option, Some, None, List, [], ◌∷◌, ◌++◌, if◌then◌else◌, ◌==◌, nat_le, find, IsTrue}
+use Rattle.std.specs.Prelude.{◌≡◌, ℕ, Bool, false, ◌&&◌, ◌||◌, not, Option, Some, None, List, [], ◌∷◌, ◌++◌, if◌then◌else◌, ◌==◌}
+use Rattle.std.specs.Prelude.{nat_le, find, IsTrue}
 use Rattle.std.specs.Char.{is_ascii_alphabetic}
 use Rattle.abc_text.specs.Blank.{AreBlanks, is_blank}
 use Rattle.abc_text.specs.LineEnd.{without_return}
@@ -26,7 +27,7 @@ begins_bar [] = false
 begins_bar (b ∷ bs) = (b == bar_stroke) || (b == colon)
 
 -- The letter of the field that a text is: a letter, a colon, and what follows. A note or rest
--- before a repeat bar, as `C:|`, is no field. ABC 2.1 section 3; the exception is our own.
+-- before a repeat bar, as `C:|`, is no field. ABC 2.1 section 3; the exception is not in ABC 2.1.
 abbrev pub field_letter : List ℕ → Option ℕ
 field_letter [] = None
 field_letter (letter ∷ []) = None
@@ -62,7 +63,7 @@ abbrev pub IsCommentLine : List ℕ → Type 0
 IsCommentLine text = BeginsWithPercent text × ¬ IsDirectiveLine text
 
 -- A field with this letter: the letter, a colon, and what follows, which after a letter of a note or
--- rest is not `|` or `:`. ABC 2.1 section 3; the exception is our own.
+-- rest is not `|` or `:`. ABC 2.1 section 3; the exception is not in ABC 2.1.
 pub record IsFieldLine (text : List ℕ) (letter : ℕ) : Type 0 where
   pub value : List ℕ
   pub spelling : text ≡ letter ∷ colon ∷ value

@@ -6,10 +6,10 @@ use Rattle.abc_scan.specs.declared.spanned.Spanned.{Spanned}
 
 -- What a byte is that begins no part, and which parts are bar lines.
 pub record Kinds (K : Type 0) : Type 0 where
-  pub alone : ℕ → K
+  pub unmatched : ℕ → K
   pub is_bar : K → Bool
 
--- What spells a part, which may depend on whether a bar line stands directly before it.
+-- What spells a part, which may depend on whether a bar line is directly before it.
 pub record Grammar (K : Type 0) : Type 1 where
   pub kinds : Kinds K
   pub spells : Bool → List ℕ → K → Type 0
@@ -20,9 +20,9 @@ pub record Reader (K : Type 0) : Type 0 where
   pub reading : Bool → List ℕ → Option (K × ℕ)
 
 -- The byte at the front of a text, as one that begins no part.
-abbrev pub alone_at : {K : Type 0} → Kinds K → List ℕ → K
-alone_at kinds [] = kinds.alone 0
-alone_at kinds (b ∷ bs) = kinds.alone b
+abbrev pub unmatched_at : {K : Type 0} → Kinds K → List ℕ → K
+unmatched_at kinds [] = kinds.unmatched 0
+unmatched_at kinds (b ∷ bs) = kinds.unmatched b
 
 -- The longest front of a text that spells a part.
 pub record IsLongest {K : Type 0} (spells : List ℕ → K → Type 0) (text front : List ℕ) (kind : K) : Type 0 where
@@ -33,10 +33,10 @@ pub record IsLongest {K : Type 0} (spells : List ℕ → K → Type 0) (text fro
 abbrev pub SpellsNone : {K : Type 0} → (List ℕ → K → Type 0) → List ℕ → Type 0
 SpellsNone {K} spells text = (front rest : List ℕ) (kind : K) → text ≡ front ++ rest → spells front kind → ⊥
 
--- What is cut off a text: its longest part, or one byte where it begins with none.
+-- What is cut off a text: its longest part, or one byte if it begins with none.
 abbrev pub IsNext : {K : Type 0} → Kinds K → (List ℕ → K → Type 0) → List ℕ → List ℕ → K → Type 0
 IsNext kinds spells text front kind =
-    IsLongest spells text front kind ⊎ (SpellsNone spells text × (length front ≡ 1) × (kind ≡ alone_at kinds text))
+    IsLongest spells text front kind ⊎ (SpellsNone spells text × (length front ≡ 1) × (kind ≡ unmatched_at kinds text))
 
 -- The parts are the text cut up, which begins at this place.
 abbrev pub IsCuttingFrom : {K : Type 0} → Grammar K → Bool → ℕ → List ℕ → List (Spanned K) → Type 0
@@ -55,7 +55,7 @@ of_kind kind found = option_map (λ size. (kind, size)) found
 
 -- What comes first in a text, and how many bytes it takes: what is read there, else one byte.
 abbrev pub next : {K : Type 0} → Reader K → Bool → List ℕ → K × ℕ
-next reader after_bar text = unwrap_or (reader.reading after_bar text) (alone_at reader.kinds text, 1)
+next reader after_bar text = unwrap_or (reader.reading after_bar text) (unmatched_at reader.kinds text, 1)
 
 -- The part at the front of a text that begins at this place.
 abbrev pub part_at : {K : Type 0} → ℕ → K × ℕ → Spanned K
@@ -66,7 +66,8 @@ abbrev pub cutting_from : {K : Type 0} → Reader K → Bool → ℕ → ℕ →
 cutting_from reader after_bar at inside [] = []
 cutting_from reader after_bar at zero (b ∷ bs) =
     part_at at (next reader after_bar (b ∷ bs))
-    ∷ cutting_from reader (reader.kinds.is_bar (next reader after_bar (b ∷ bs)).0) (at + 1) ((next reader after_bar (b ∷ bs)).1 - 1) bs
+    ∷ cutting_from reader (reader.kinds.is_bar (next reader after_bar (b ∷ bs)).0) (at + 1)
+    ((next reader after_bar (b ∷ bs)).1 - 1) bs
 cutting_from reader after_bar at (suc inside) (b ∷ bs) = cutting_from reader after_bar (at + 1) inside bs
 
 -- A part has at least one byte, and they lie in a text of this length.

@@ -1,9 +1,9 @@
 -- Tokens between delimiters. ABC 2.1 sections 4.12 (grace notes), 4.14 (decorations), 4.18 and 4.19 (quoted text).
 use Rattle.std.specs.Prelude.{◌≡◌, ◌⊎◌, ℕ, ◌+◌, Option, None, List, [], ◌∷◌, ◌++◌, if◌then◌else◌, ◌==◌}
 use Rattle.std.specs.Option.{option_map}
-use Rattle.abc_text.specs.Cut.{Without}
+use Rattle.abc_text.specs.Cut.{HasNoByte}
 use Rattle.abc_scan.specs.Byte.{quote, exclamation, opening_brace, closing_brace}
-use Rattle.abc_scan.specs.Closing.{place_of}
+use Rattle.abc_scan.specs.KnownAbsent.{place_of}
 
 -- The bytes that open and close quoted text `".."`, a decoration `!..!` and a grace group `{..}`.
 abbrev pub AreDelimiters : ℕ → ℕ → Type 0
@@ -18,9 +18,9 @@ pub record IsDelimited (text : List ℕ) : Type 0 where
   pub closing : ℕ
   pub spelling : text ≡ opening ∷ (inside ++ closing ∷ [])
   pub delimiters : AreDelimiters opening closing
-  pub first_closing : Without closing inside
+  pub first_closing : HasNoByte closing inside
 
--- The size of a token that is opened by one byte and closed by the first such byte behind it.
+-- The size of a token that is opened by one byte and closed by the first such byte after it.
 abbrev pub closed_by : ℕ → List ℕ → Option ℕ
 closed_by closing rest = option_map (λ place. place + 2) (place_of closing rest)
 

@@ -1,5 +1,6 @@
--- Directives. ABC 2.1 section 11: it names `%%propagate-accidentals`; `%%MIDI program` is one of abc2midi's own.
-use Rattle.std.specs.Prelude.{◌≡◌, ◌⊎◌, ◌↔◌, ◌≤◌, ℕ, Bool, true, Option, Some, None, List, [], ◌∷◌, ◌++◌, codes, length, take, drop, is_some, if◌then◌else◌, ◌==◌}
+-- Directives. ABC 2.1 section 11: it names `%%propagate-accidentals`; `%%MIDI program` is an extension of abc2midi.
+use Rattle.std.specs.Prelude.{◌≡◌, ◌⊎◌, ◌↔◌, ◌≤◌, ℕ, Bool, true, Option, Some, None, List, [], ◌∷◌, ◌++◌, codes, length, take, drop}
+use Rattle.std.specs.Prelude.{is_some, if◌then◌else◌, ◌==◌}
 use Rattle.std.specs.Str.{bytes_eq}
 use Rattle.abc_text.specs.Blank.{AreBlanks}
 use Rattle.abc_text.specs.Number.{IsNumber}
@@ -15,7 +16,7 @@ use Rattle.abc_scan.specs.Number.{number_at}
 abbrev pub IsGap : List ℕ → Type 0
 IsGap text = (1 ≤ length text) × AreBlanks text
 
--- What may stand behind a directive: blanks, and then nothing or a comment.
+-- What may follow a directive: blanks, and then nothing or a comment.
 pub record IsEnd (text : List ℕ) : Type 0 where
   pub blanks : List ℕ
   pub comment : List ℕ
@@ -49,7 +50,7 @@ pub record IsReachLine (text : List ℕ) (reach : Reach) : Type 0 where
   pub gap_is : IsGap gap
   pub end_is : IsEnd end
 
--- The text spells a directive. That it begins in the first column is our own.
+-- The text spells a directive. That it begins in the first column is not in ABC 2.1.
 abbrev pub IsDirective : List ℕ → Directive → Type 0
 IsDirective text (directives.Program number) = IsProgramLine text number
 IsDirective text (directives.Reach reach) = IsReachLine text reach
@@ -62,45 +63,45 @@ IsDirectiveLine text = (directive : Directive) × IsDirective text directive
 abbrev pub begins_with : List ℕ → List ℕ → Bool
 begins_with word text = bytes_eq (take (length word) text) word
 
--- What is read behind the blanks that a text begins with; nothing where there is none.
-abbrev pub behind_gap : (List ℕ → Option Directive) → List ℕ → Option Directive
-behind_gap reading text = if leading_blanks text == 0 then None else reading (drop (leading_blanks text) text)
+-- What is read after the blanks that a text begins with; nothing if there is none.
+abbrev pub after_gap : (List ℕ → Option Directive) → List ℕ → Option Directive
+after_gap reading text = if leading_blanks text == 0 then None else reading (drop (leading_blanks text) text)
 
 -- Nothing, or a comment.
 abbrev pub is_comment_or_none : List ℕ → Bool
 is_comment_or_none [] = true
 is_comment_or_none (b ∷ bs) = b == percent
 
--- A directive, if what stands behind it may stand there.
-abbrev pub ended : Directive → List ℕ → Option Directive
-ended directive end = if is_comment_or_none (drop (leading_blanks end) end) then Some directive else None
+-- A directive, if what follows may come after it.
+abbrev pub directive_at_end : Directive → List ℕ → Option Directive
+directive_at_end directive end = if is_comment_or_none (drop (leading_blanks end) end) then Some directive else None
 
 -- The program of a number that was read at the front of a text.
-abbrev pub numbered_by : List ℕ → Option (ℕ × ℕ) → Option Directive
-numbered_by text None = None
-numbered_by text (Some number) = ended (directives.Program number.0) (drop number.1 text)
+abbrev pub program_by : List ℕ → Option (ℕ × ℕ) → Option Directive
+program_by text None = None
+program_by text (Some number) = directive_at_end (directives.Program number.0) (drop number.1 text)
 
--- The program whose number stands at the front of a text.
-abbrev pub numbered : List ℕ → Option Directive
-numbered text = numbered_by text (number_at text)
+-- The program whose number a text begins with.
+abbrev pub program_directive : List ℕ → Option Directive
+program_directive text = program_by text (number_at text)
 
--- What is read behind `%%MIDI` and its blanks.
-abbrev pub named : List ℕ → Option Directive
-named text = if begins_with (codes "program") text then behind_gap numbered (drop 7 text) else None
+-- What is read after `%%MIDI` and its blanks.
+abbrev pub midi_directive : List ℕ → Option Directive
+midi_directive text = if begins_with (codes "program") text then after_gap program_directive (drop 7 text) else None
 
--- What is read behind `%%propagate-accidentals` and its blanks.
-abbrev pub reaching : List ℕ → Option Directive
-reaching text =
-    if begins_with (codes "not") text then ended (directives.Reach Not) (drop 3 text)
-    else (if begins_with (codes "octave") text then ended (directives.Reach Octave) (drop 6 text)
-    else (if begins_with (codes "pitch") text then ended (directives.Reach Pitch) (drop 5 text)
+-- What is read after `%%propagate-accidentals` and its blanks.
+abbrev pub reach_directive : List ℕ → Option Directive
+reach_directive text =
+    if begins_with (codes "not") text then directive_at_end (directives.Reach Not) (drop 3 text)
+    else (if begins_with (codes "octave") text then directive_at_end (directives.Reach Octave) (drop 6 text)
+    else (if begins_with (codes "pitch") text then directive_at_end (directives.Reach Pitch) (drop 5 text)
     else None))
 
 -- The directive that a text spells.
 unfoldable pub directive_of : List ℕ → Option Directive
 directive_of text =
-    if begins_with (codes "%%MIDI") text then behind_gap named (drop 6 text)
-    else (if begins_with (codes "%%propagate-accidentals") text then behind_gap reaching (drop 23 text)
+    if begins_with (codes "%%MIDI") text then after_gap midi_directive (drop 6 text)
+    else (if begins_with (codes "%%propagate-accidentals") text then after_gap reach_directive (drop 23 text)
     else None)
 
 -- Whether a text spells a directive.

@@ -5,7 +5,7 @@ use Rattle.abc_scan.specs.declared.dynamic.Dynamic.{Dynamic}
 use Rattle.abc_scan.specs.declared.dynamic.Dynamic.TheVariants.{Ppp, Pp, P, Mp, Mf, F, Ff, Fff}
 use Rattle.abc_scan.specs.Byte.{exclamation}
 
--- The MIDI velocity of notes that are so loud. Our own.
+-- The MIDI velocity of notes that are so loud. Not in ABC 2.1.
 abbrev pub velocity_of : Dynamic → ℕ
 velocity_of Ppp = 30
 velocity_of Pp = 45

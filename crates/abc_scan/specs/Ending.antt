@@ -1,5 +1,6 @@
 -- First and second endings. ABC 2.1 section 4.9.
-use Rattle.std.specs.Prelude.{ℕ, zero, suc, ◌≡◌, ◌≤◌, ◌<◌, ◌↔◌, All, IsTrue, ◌+◌, ◌-◌, ◌^◌, ◌⊎◌, ◌==◌, ◌&&◌, nat_le, bit_or, fold, Bool, true, if◌then◌else◌, List, [], ◌∷◌, ◌++◌, drop, Option, Some, None}
+use Rattle.std.specs.Prelude.{ℕ, zero, suc, ◌≡◌, ◌≤◌, ◌<◌, ◌↔◌, All, IsTrue, ◌+◌, ◌-◌, ◌^◌, ◌⊎◌, ◌==◌, ◌&&◌, nat_le, bit_or, fold}
+use Rattle.std.specs.Prelude.{Bool, true, if◌then◌else◌, List, [], ◌∷◌, ◌++◌, drop, Option, Some, None}
 use Rattle.std.specs.Int.{bit_at}
 use Rattle.std.specs.Option.{option_map}
 use Rattle.abc_text.specs.Number.{IsNumber}
@@ -32,7 +33,7 @@ IsRanges text (range ∷ []) = IsRange text range
 IsRanges text (range ∷ next ∷ more) =
     (front : List ℕ) × (rest : List ℕ) × (text ≡ front ++ comma ∷ rest) × IsRange front range × IsRanges rest (next ∷ more)
 
--- Passes are counted from 1 up to a limit, and a range does not fall. Our own.
+-- Passes are counted from 1 up to a limit, and a range does not fall. Not in ABC 2.1.
 abbrev pub is_accepted : PassRange → Bool
 is_accepted range = nat_le 1 range.first && nat_le range.first range.last && nat_le range.last LAST_PASS
 
@@ -49,18 +50,18 @@ AreNaming (range ∷ more) pass = Names range pass ⊎ AreNaming more pass
 abbrev pub AreAccepted : List PassRange → Type 0
 AreAccepted ranges = All (λ range. IsTrue (is_accepted range)) ranges
 
--- Of 32 bits, bit i - 1 is set exactly where this holds of pass i.
+-- Of 32 bits, bit i - 1 is set exactly if this holds of pass i.
 pub record AreBits (IsPass : ℕ → Type 0) (bits : ℕ) : Type 0 where
   pub bounded : bits < 2 ^ 32
   pub set : (pass : ℕ) → 1 ≤ pass → (bit_at bits (pass - 1) ≡ 1) ↔ IsPass pass
 
--- The passes that ranges name, as bits, where all are accepted. One bad range makes the whole mark
--- refused. Our own.
+-- The passes that ranges name, as bits, if all are accepted. One bad range makes the whole mark
+-- refused. Not in ABC 2.1.
 abbrev pub ArePasses : List PassRange → Option ℕ → Type 0
 ArePasses ranges None = ¬ AreAccepted ranges
 ArePasses ranges (Some bits) = AreAccepted ranges × AreBits (AreNaming ranges) bits
 
--- An ending mark: a `[`, which may be left out directly behind a bar line, and ranges.
+-- An ending mark: a `[`, which may be left out directly after a bar line, and ranges.
 -- ABC 2.1 section 4.9.
 pub record IsEnding (after_bar : Bool) (text : List ℕ) (passes : Option ℕ) : Type 0 where
   pub bracket : List ℕ
@@ -75,7 +76,7 @@ pub record IsEnding (after_bar : Bool) (text : List ℕ) (passes : Option ℕ) :
 abbrev pub range_bits : PassRange → ℕ
 range_bits range = 2 ^ range.last - 2 ^ (range.first - 1)
 
--- Passes and those of a range more, or none where the range is refused.
+-- Passes and those of a range more, or none if the range is refused.
 abbrev pub with_range : Option ℕ → PassRange → Option ℕ
 with_range None range = None
 with_range (Some passes) range = if is_accepted range then Some (bit_or passes (range_bits range)) else None
@@ -84,7 +85,7 @@ with_range (Some passes) range = if is_accepted range then Some (bit_or passes (
 abbrev pub passes_of : List PassRange → Option ℕ
 passes_of ranges = fold with_range (Some 0) ranges
 
--- The number behind a dash at the front of a text, and how many bytes it takes without the dash.
+-- The number after a dash at the front of a text, and how many bytes it takes without the dash.
 abbrev pub last_at : List ℕ → Option (ℕ × ℕ)
 last_at [] = None
 last_at (b ∷ bs) = if b == minus_sign then number_at bs else None
@@ -102,11 +103,11 @@ range_behind text first = range_of first.0 first.1 (last_at (drop first.1 text))
 unfoldable pub range_at : List ℕ → Option (PassRange × ℕ)
 range_at text = option_map (range_behind text) (number_at text)
 
--- Behind a comma, one byte more.
+-- After a comma, one byte more.
 abbrev pub with_comma : PassRange × ℕ → PassRange × ℕ
 with_comma range = (range.0, 1 + range.1)
 
--- A comma and the longest range behind it at the front of a text, and how many bytes both take.
+-- A comma and the longest range after it at the front of a text, and how many bytes both take.
 abbrev pub next_range : List ℕ → Option (PassRange × ℕ)
 next_range [] = None
 next_range (b ∷ bs) = if b == comma then option_map with_comma (range_at bs) else None
@@ -116,12 +117,12 @@ abbrev pub range_size : Option (PassRange × ℕ) → ℕ
 range_size None = 0
 range_size (Some range) = range.1
 
--- A range, if there is one, and those behind it.
+-- A range, if there is one, and those after it.
 abbrev pub and_more : Option (PassRange × ℕ) → List PassRange × ℕ → List PassRange × ℕ
 and_more None more = ([], 0)
 and_more (Some range) more = (range.0 ∷ more.0, range.1 + more.1)
 
--- The ranges with their commas that stand at the front of a text, whose first `inside` bytes belong to
+-- The ranges with their commas at the front of a text, whose first `inside` bytes belong to
 -- the range before them, and how many bytes they take.
 abbrev pub more_from : ℕ → List ℕ → List PassRange × ℕ
 more_from inside [] = ([], 0)
@@ -145,7 +146,7 @@ as_passes ranges = (passes_of ranges.0, ranges.1)
 unfoldable pub passes_at : List ℕ → Option (Option ℕ × ℕ)
 passes_at text = option_map as_passes (ranges_at text)
 
--- Behind a `[`, one byte more.
+-- After a `[`, one byte more.
 abbrev pub with_bracket : Option ℕ × ℕ → Option ℕ × ℕ
 with_bracket ending = (ending.0, 1 + ending.1)
 

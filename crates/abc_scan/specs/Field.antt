@@ -1,7 +1,7 @@
 -- Information fields. ABC 2.1 section 3.
 use Rattle.std.specs.Prelude.{ℕ, Bool, false, ◌&&◌, ◌==◌, List, [], ◌∷◌, drop, slice_index}
 use Rattle.std.specs.Char.{is_ascii_alphabetic}
-use Rattle.abc_text.specs.Blank.{trimmed}
+use Rattle.abc_text.specs.Blank.{trim_blanks}
 use Rattle.abc_scan.specs.declared.field.Field.{Field}
 use Rattle.abc_scan.specs.Byte.{colon}
 
@@ -14,4 +14,4 @@ begins_field (letter ∷ sign ∷ rest) = is_ascii_alphabetic letter && (sign ==
 -- The field that a text is: its letter, and what follows the colon. Blanks at the ends are no part of
 -- a value.
 abbrev pub field_of : List ℕ → Field
-field_of text = record { letter = slice_index text 0; value = trimmed (drop 2 text) }
+field_of text = record { letter = slice_index text 0; value = trim_blanks (drop 2 text) }

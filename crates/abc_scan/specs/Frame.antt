@@ -1,12 +1,13 @@
 -- The frame of a chord: its brackets and its outer length. ABC 2.1 section 4.17.
-use Rattle.std.specs.Prelude.{◌≡◌, ℕ, ◌+◌, Bool, false, not, ◌&&◌, Option, Some, None, List, [], ◌∷◌, ◌++◌, length, drop, if◌then◌else◌, ◌==◌}
+use Rattle.std.specs.Prelude.{◌≡◌, ℕ, ◌+◌, Bool, false, not, ◌&&◌, Option, Some, None, List, [], ◌∷◌, ◌++◌, length, drop}
+use Rattle.std.specs.Prelude.{if◌then◌else◌, ◌==◌}
 use Rattle.std.specs.List.{prefix_len, AllPass}
 use Rattle.abc_scan.specs.declared.frame.Frame.{Frame}
 use Rattle.abc_scan.specs.Byte.{opening_bracket, closing_bracket, bar_stroke}
 use Rattle.abc_scan.specs.Field.{begins_field}
 use Rattle.abc_scan.specs.Length.{IsLength, length_at, length_size}
 
--- Any byte but the brackets and `|` may stand inside a chord.
+-- Any byte but the brackets and `|` may be inside a chord.
 abbrev pub is_inside : ℕ → Bool
 is_inside b = not (b == opening_bracket) && (not (b == closing_bracket) && not (b == bar_stroke))
 
@@ -20,13 +21,13 @@ pub record IsFrame (text : List ℕ) (frame : Frame) : Type 0 where
   pub size_is : frame.inside ≡ length inside
   pub length_is : IsLength written frame.length
 
--- The frame with so many bytes inside, if this is what follows them, and how many bytes it takes.
+-- The frame with `size` bytes inside, if this is what follows them, and how many bytes it takes.
 abbrev pub closed_frame : ℕ → List ℕ → Option (Frame × ℕ)
 closed_frame size [] = None
 closed_frame size (b ∷ behind) =
     if b == closing_bracket then Some (record { inside = size; length = length_at behind }, size + 2 + length_size behind) else None
 
--- How many bytes that may stand inside a chord a text begins with.
+-- How many bytes that may be inside a chord a text begins with.
 abbrev pub inside_size : List ℕ → ℕ
 inside_size text = prefix_len is_inside text
 
@@ -34,4 +35,6 @@ inside_size text = prefix_len is_inside text
 unfoldable pub frame_at : List ℕ → Option (Frame × ℕ)
 frame_at [] = None
 frame_at (b ∷ rest) =
-    if (b == opening_bracket) && not (begins_field rest) then closed_frame (inside_size rest) (drop (inside_size rest) rest) else None
+    if (b == opening_bracket) && not (begins_field rest)
+    then closed_frame (inside_size rest) (drop (inside_size rest) rest)
+    else None

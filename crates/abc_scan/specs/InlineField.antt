@@ -2,11 +2,11 @@
 use Rattle.std.specs.Prelude.{◌≡◌, ℕ, ◌+◌, Bool, false, ◌&&◌, IsTrue, Option, None, List, [], ◌∷◌, ◌++◌, take, if◌then◌else◌, ◌==◌}
 use Rattle.std.specs.Char.{is_ascii_alphabetic}
 use Rattle.std.specs.Option.{option_map}
-use Rattle.abc_text.specs.Blank.{trimmed}
-use Rattle.abc_text.specs.Cut.{Without}
+use Rattle.abc_text.specs.Blank.{trim_blanks}
+use Rattle.abc_text.specs.Cut.{HasNoByte}
 use Rattle.abc_scan.specs.declared.field.Field.{Field}
 use Rattle.abc_scan.specs.Byte.{opening_bracket, closing_bracket, colon}
-use Rattle.abc_scan.specs.Closing.{place_of}
+use Rattle.abc_scan.specs.KnownAbsent.{place_of}
 use Rattle.abc_scan.specs.Field.{begins_field, field_of}
 
 -- `[`, a letter, a colon, bytes other than `]`, and `]`. The value is the bytes without the blanks at
@@ -15,8 +15,8 @@ pub record IsInlineField (text : List ℕ) (field : Field) : Type 0 where
   pub behind : List ℕ
   pub spelling : text ≡ opening_bracket ∷ field.letter ∷ colon ∷ (behind ++ closing_bracket ∷ [])
   pub letter_is : IsTrue (is_ascii_alphabetic field.letter)
-  pub first_closing : Without closing_bracket behind
-  pub value_is : field.value ≡ trimmed behind
+  pub first_closing : HasNoByte closing_bracket behind
+  pub value_is : field.value ≡ trim_blanks behind
 
 -- The text begins with a bracket, a letter and a colon.
 abbrev pub opens_field : List ℕ → Bool

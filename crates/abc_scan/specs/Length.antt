@@ -1,5 +1,6 @@
--- Lengths as they are written behind notes and rests. ABC 2.1 section 4.3.
-use Rattle.std.specs.Prelude.{◌≤◌, ◌≡◌, ℕ, ◌+◌, ◌^◌, ◌<◌, Bool, false, ◌||◌, Option, Some, None, List, [], ◌∷◌, ◌++◌, length, take, drop, replicate, if◌then◌else◌, ◌==◌, nat_lt}
+-- Lengths as they are written after notes and rests. ABC 2.1 section 4.3.
+use Rattle.std.specs.Prelude.{◌≤◌, ◌≡◌, ℕ, ◌+◌, ◌^◌, ◌<◌, Bool, false, ◌||◌, Option, Some, None, List, [], ◌∷◌, ◌++◌, length, take}
+use Rattle.std.specs.Prelude.{drop, replicate, if◌then◌else◌, ◌==◌, nat_lt}
 use Rattle.std.specs.List.{prefix_len, AllPass}
 use Rattle.abc_text.specs.declared.digit.TheConstants.{LONGEST_NUMBER, LARGEST_NUMBER}
 use Rattle.abc_text.specs.Digit.{is_digit, decimal}
@@ -16,8 +17,8 @@ abbrev pub begins_length : List ℕ → Bool
 begins_length [] = false
 begins_length (b ∷ bs) = is_digit b || is_slash b
 
--- The number that digits write, or another where there are none. It is refused where it has more than
--- nine digits or is 0. Our own.
+-- The number that digits write, or another if there are none. It is refused if it has more than
+-- nine digits or is 0. Not in ABC 2.1.
 abbrev pub number_or : List ℕ → ℕ → Option ℕ
 number_or [] other = Some other
 number_or (d ∷ ds) other =
@@ -31,7 +32,7 @@ factor (Some num) None = Refused
 factor (Some num) (Some den) = Factor num den
 
 -- The value of digits, slashes and digits. Without digits it is 1 over the slashes, and under them a
--- half for each. More than 29 slashes are refused, which is our own.
+-- half for each. More than 29 slashes are refused, which is not in ABC 2.1.
 abbrev pub written_length : List ℕ → ℕ → List ℕ → WrittenLength
 written_length over slashes under =
     if nat_lt 29 slashes then Refused else factor (number_or over 1) (number_or under (2 ^ slashes))
@@ -47,7 +48,7 @@ pub record IsLength (text : List ℕ) (value : WrittenLength) : Type 0 where
   pub one_slash : 0 < length under → slashes ≡ 1
   pub value_is : value ≡ written_length over slashes under
 
--- Both parts of an accepted length are from 1 to the largest number of nine digits. Our own.
+-- Both parts of an accepted length are from 1 to the largest number of nine digits. Not in ABC 2.1.
 pub record IsFactor (num den : ℕ) : Type 0 where
   pub num_least : 1 ≤ num
   pub num_most : num ≤ LARGEST_NUMBER
@@ -59,16 +60,16 @@ abbrev pub HasFactor : WrittenLength → Type 0
 HasFactor (Factor num den) = IsFactor num den
 HasFactor Refused = Unit {0}
 
--- The longest length text at the front of a text: its digits, and behind them its slashes, and behind
+-- The longest length text at the front of a text: its digits, and after them its slashes, and after
 -- one slash digits again. How many digits come first.
 abbrev pub over_size : List ℕ → ℕ
 over_size text = prefix_len is_digit text
 
--- How many slashes stand behind the digits.
+-- How many slashes follow the digits.
 abbrev pub slashes_size : List ℕ → ℕ
 slashes_size rest = prefix_len is_slash rest
 
--- How many digits stand behind the slashes: only one slash takes any.
+-- How many digits follow the slashes: only one slash takes any.
 abbrev pub under_size : List ℕ → ℕ
 under_size rest = if slashes_size rest == 1 then prefix_len is_digit (drop (slashes_size rest) rest) else 0
 

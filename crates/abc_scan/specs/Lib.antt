@@ -11,7 +11,7 @@ pub mod Bar
 pub mod Ending
 pub mod Tuplet
 pub mod Broken
-pub mod Closing
+pub mod KnownAbsent
 pub mod Delimited
 pub mod Field
 pub mod InlineField

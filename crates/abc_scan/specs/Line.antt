@@ -4,8 +4,8 @@ use Rattle.abc_text.specs.LineEnd.{without_return}
 use Rattle.abc_scan.specs.declared.class.LineClass.{LineClass}
 use Rattle.abc_scan.specs.declared.class.LineClass.TheVariants as classes
 use Rattle.abc_scan.specs.declared.directive.Directive.{Directive}
-use Rattle.abc_scan.specs.declared.parts.ChordPartKind.{ChordPartKind}
-use Rattle.abc_scan.specs.declared.parts.ChordPartKind.TheVariants as parts
+use Rattle.abc_scan.specs.declared.chord_part.ChordPartKind.{ChordPartKind}
+use Rattle.abc_scan.specs.declared.chord_part.ChordPartKind.TheVariants as parts
 use Rattle.abc_scan.specs.declared.spanned.Spanned.{Spanned}
 use Rattle.abc_scan.specs.declared.token.TokenKind.{TokenKind}
 use Rattle.abc_scan.specs.declared.token.TokenKind.TheVariants as kinds
@@ -29,7 +29,7 @@ cutting_of text = cutting_from line_reader false 0 0 text
 abbrev pub field_token : List ℕ → List (Spanned TokenKind)
 field_token text = record { kind = kinds.Field (field_of text); from = 0; to = length text } ∷ []
 
--- One token of so many bytes, which is the directive that was read.
+-- One token of `size` bytes, which is the directive that was read.
 abbrev pub directive_token : Option Directive → ℕ → List (Spanned TokenKind)
 directive_token None size = []
 directive_token (Some directive) size = record { kind = kinds.Directive directive; from = 0; to = size } ∷ []
@@ -38,18 +38,15 @@ directive_token (Some directive) size = record { kind = kinds.Directive directiv
 abbrev pub has_tokens : LineClass → Bool
 has_tokens classes.Blank = false
 has_tokens classes.Comment = false
-has_tokens (classes.Field letter) = true
-has_tokens classes.Directive = true
-has_tokens classes.Music = true
+has_tokens _ = true
 
 -- The tokens of a text of this class: a field without its comment is one, a directive with its comment is one, a blank
 -- line and a comment have none.
 abbrev pub tokens_in : LineClass → List ℕ → List (Spanned TokenKind)
-tokens_in classes.Blank text = []
-tokens_in classes.Comment text = []
 tokens_in (classes.Field letter) text = field_token (without_comment text)
 tokens_in classes.Directive text = directive_token (directive_of text) (length text)
 tokens_in classes.Music text = cutting_of (without_comment text)
+tokens_in _ text = []
 
 -- The tokens of a line, by its class and its text without the carriage return. ABC 2.1 sections 2.2, 4 and 11.
 unfoldable pub tokens_of : List ℕ → List (Spanned TokenKind)
@@ -57,11 +54,10 @@ tokens_of line = tokens_in (class_of line) (without_return line)
 
 -- How many bytes of a text its tokens cover: a blank line and a comment have none.
 abbrev pub covered_in : LineClass → List ℕ → ℕ
-covered_in classes.Blank text = 0
-covered_in classes.Comment text = 0
 covered_in (classes.Field letter) text = length (without_comment text)
 covered_in classes.Directive text = length text
 covered_in classes.Music text = length (without_comment text)
+covered_in _ text = 0
 
 -- How many bytes the tokens of a line cover.
 unfoldable pub covered_of : List ℕ → ℕ
@@ -70,29 +66,14 @@ covered_of line = covered_in (class_of line) (without_return line)
 -- The length of a chord's part is refused, or a ratio of accepted numbers.
 abbrev pub HasPartLength : ChordPartKind → Type 0
 HasPartLength (parts.Note note) = HasFactor note.length
-HasPartLength parts.Tie = Unit {0}
-HasPartLength parts.NoEffect = Unit {0}
-HasPartLength parts.BadByte = Unit {0}
+HasPartLength _ = Unit {0}
 
 -- Each length of a token, a chord's notes included, is refused, or a ratio of accepted numbers.
 abbrev pub HasLength : TokenKind → Type 0
 HasLength (kinds.Note note) = HasFactor note.length
 HasLength (kinds.Rest value) = HasFactor value
-HasLength (kinds.BarRest bars) = Unit {0}
 HasLength (kinds.Chord chord) = HasFactor chord.length × All (λ p. HasPartLength p.kind) chord.parts
-HasLength (kinds.InlineField field) = Unit {0}
-HasLength (kinds.Bar bar) = Unit {0}
-HasLength (kinds.Ending passes) = Unit {0}
-HasLength (kinds.Tuplet tuplet) = Unit {0}
-HasLength (kinds.Broken broken) = Unit {0}
-HasLength kinds.Tie = Unit {0}
-HasLength kinds.Blank = Unit {0}
-HasLength (kinds.Dynamic dynamic) = Unit {0}
-HasLength kinds.NoEffect = Unit {0}
-HasLength (kinds.Field field) = Unit {0}
-HasLength (kinds.Directive directive) = Unit {0}
-HasLength kinds.Unclosed = Unit {0}
-HasLength kinds.BadByte = Unit {0}
+HasLength _ = Unit {0}
 
 -- What `cutting_of` gives is a cutting of the text.
 abbrev pub CutsEachText : Type 0

@@ -1,5 +1,6 @@
 -- Notes and rests. ABC 2.1 sections 4.1 to 4.3 and 4.5.
-use Rattle.std.specs.Prelude.{◌≡◌, ℕ, ℤ, pos, ◌-ℤ◌, ◌+◌, Bool, true, false, not, nat_le, ◌&&◌, ◌||◌, ◌⊎◌, Option, Some, None, List, [], ◌∷◌, ◌++◌, length, take, drop, if◌then◌else◌, ◌==◌, nat_lt, count_by}
+use Rattle.std.specs.Prelude.{◌≡◌, ℕ, ℤ, pos, ◌-ℤ◌, ◌+◌, Bool, true, false, not, nat_le, ◌&&◌, ◌||◌, ◌⊎◌, Option, Some, None, List}
+use Rattle.std.specs.Prelude.{[], ◌∷◌, ◌++◌, length, take, drop, if◌then◌else◌, ◌==◌, nat_lt, count_by}
 use Rattle.std.specs.List.{prefix_len, AllPass}
 use Rattle.std.specs.Option.{option_map}
 use Rattle.abc_text.specs.declared.accidental.Accidental.{Accidental}
@@ -68,11 +69,11 @@ accidental_at (b ∷ bs) =
 abbrev pub accidental_size : Option Accidental → ℕ
 accidental_size a = length (accidental_text a)
 
--- How many octave marks stand at the front of a text.
+-- How many octave marks a text begins with.
 abbrev pub marks_size : List ℕ → ℕ
 marks_size text = prefix_len is_octave_mark text
 
--- The longest note of an accidental, a letter's byte and what stands behind it, and how many bytes it takes.
+-- The longest note of an accidental, a letter's byte and what follows it, and how many bytes it takes.
 abbrev pub note_of : Option Accidental → ℕ → List ℕ → Letter → Note × ℕ
 note_of accidental byte rest letter = (
   record {
@@ -84,7 +85,7 @@ note_of accidental byte rest letter = (
   accidental_size accidental + 1 + marks_size rest + length_size (drop (marks_size rest) rest),
 )
 
--- The longest note of an accidental and what stands behind it, and how many bytes it takes.
+-- The longest note of an accidental and what follows it, and how many bytes it takes.
 abbrev pub note_behind : Option Accidental → List ℕ → Option (Note × ℕ)
 note_behind accidental [] = None
 note_behind accidental (b ∷ rest) = option_map (note_of accidental b rest) (letter_of b)
@@ -102,7 +103,7 @@ ends_letter (b ∷ bs) = not (is_octave_mark b || (is_digit b || is_slash b))
 abbrev pub is_factor : ℕ → Bool
 is_factor b = nat_le 49 b && nat_le b 57
 
--- The note of a letter without accidental or octave marks, so many times as long as the unit.
+-- The note of a letter without accidental or octave marks, `num` times as long as the unit.
 abbrev pub plain_note : ℕ → ℕ → Letter → Note
 plain_note byte num letter = record { accidental = None; letter = letter; octave = pos (letter_octave byte); length = Factor num 1 }
 

@@ -3,7 +3,7 @@ use Rattle.std.specs.Prelude.{◌≡◌, ℕ, List, [], ◌∷◌, IsTrue}
 use Rattle.abc_text.specs.Blank.{is_blank}
 use Rattle.abc_scan.specs.Byte.{minus_sign}
 
--- A blank token is one space or tab. Our own.
+-- A blank token is one space or tab. Not in ABC 2.1.
 pub record IsBlankToken (text : List ℕ) : Type 0 where
   pub byte : ℕ
   pub spelling : text ≡ byte ∷ []

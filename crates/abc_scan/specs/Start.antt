@@ -5,7 +5,8 @@ use Rattle.abc_scan.specs.declared.start.Start.{Start}
 use Rattle.abc_scan.specs.declared.start.Start.TheVariants as starts
 use Rattle.abc_text.specs.Blank.{is_blank}
 use Rattle.abc_scan.specs.BarRest.{is_bar_rest_letter}
-use Rattle.abc_scan.specs.Byte.{quote, exclamation, open_parenthesis, minus_sign, colon, less_sign, equals_sign, greater_sign, opening_bracket, caret, underscore, small_y, opening_brace, bar_stroke}
+use Rattle.abc_scan.specs.Byte.{quote, exclamation, open_parenthesis, minus_sign, colon, less_sign, equals_sign, greater_sign}
+use Rattle.abc_scan.specs.Byte.{opening_bracket, caret, underscore, small_y, opening_brace, bar_stroke}
 use Rattle.abc_scan.specs.Note.{is_rest_letter}
 
 -- A byte that is a token without effect: a letter H to W or h to w, or one of `` ` `` `.` `~` `\` `$` `#` `*` `;`
@@ -18,7 +19,8 @@ has_no_effect b =
 
 -- An accidental, or the letter of a note. ABC 2.1 sections 4.1 and 4.2.
 abbrev pub begins_note : ℕ → Bool
-begins_note b = (nat_le 65 b && nat_le b 71) || (nat_le 97 b && nat_le b 103) || (b == caret) || (b == underscore) || (b == equals_sign)
+begins_note b =
+    (nat_le 65 b && nat_le b 71) || (nat_le 97 b && nat_le b 103) || (b == caret) || (b == underscore) || (b == equals_sign)
 
 -- What one of the remaining bytes begins.
 abbrev pub mark_start : ℕ → Start
@@ -42,13 +44,14 @@ byte_start b =
     else (if begins_note b then starts.Note
     else mark_start b))))
 
--- What a `[` begins, by the bytes behind it: a bar line where a `|` follows, an inline field where a letter and
+-- What a `[` begins, by the bytes after it: a bar line if a `|` follows, an inline field if a letter and
 -- a colon follow.
 unfoldable pub bracket_start : List ℕ → Start
 bracket_start [] = starts.Bracket
 bracket_start (b ∷ []) = if b == bar_stroke then starts.BarLine else starts.Bracket
 bracket_start (b ∷ c ∷ rest) =
-    if b == bar_stroke then starts.BarLine else (if is_ascii_alphabetic b && (c == colon) then starts.InlineField else starts.Bracket)
+    if b == bar_stroke then starts.BarLine
+    else (if is_ascii_alphabetic b && (c == colon) then starts.InlineField else starts.Bracket)
 
 -- What a text begins with.
 abbrev pub start_of : List ℕ → Start

@@ -22,7 +22,7 @@ use Rattle.abc_scan.specs.Single.{IsBlankToken, IsTie}
 use Rattle.abc_scan.specs.Start.{start_of}
 use Rattle.abc_scan.specs.Tuplet.{IsTuplet, tuplet_at}
 
--- The bytes spell a token of this kind, where a bar line stands directly before them or not. A field line and a
+-- The bytes spell a token of this kind, with a bar line directly before them or without. A field line and a
 -- directive line are no tokens of music, and a byte alone is what spells none.
 abbrev pub Spells : Bool → List ℕ → TokenKind → Type 0
 Spells after_bar text (kinds.Note note) = IsNote text note
@@ -38,42 +38,24 @@ Spells after_bar text kinds.Tie = IsTie text
 Spells after_bar text kinds.Blank = IsBlankToken text
 Spells after_bar text (kinds.Dynamic dynamic) = IsDynamic text dynamic
 Spells after_bar text kinds.NoEffect = HasNoEffect text × ((dynamic : Dynamic) → ¬ IsDynamic text dynamic)
-Spells after_bar text (kinds.Field field) = ⊥
-Spells after_bar text (kinds.Directive directive) = ⊥
-Spells after_bar text kinds.Unclosed = ⊥
-Spells after_bar text kinds.BadByte = ⊥
+Spells after_bar text _ = ⊥
 
 -- A byte that opens something: `[`, `"`, `!` or `{`.
 abbrev pub opens : ℕ → Bool
 opens b = (b == opening_bracket) || (b == quote) || (b == exclamation) || (b == opening_brace)
 
--- A byte of a line that begins no token is unclosed if it opens something. Our own.
-abbrev pub alone_of : ℕ → TokenKind
-alone_of b = if opens b then kinds.Unclosed else kinds.BadByte
+-- A byte of a line that begins no token is unclosed if it opens something. Not in ABC 2.1.
+abbrev pub unmatched_byte : ℕ → TokenKind
+unmatched_byte b = if opens b then kinds.Unclosed else kinds.BadByte
 
 -- Whether a token is a bar line.
 abbrev pub is_bar : TokenKind → Bool
-is_bar (kinds.Note note) = false
-is_bar (kinds.Rest value) = false
-is_bar (kinds.BarRest bars) = false
-is_bar (kinds.Chord chord) = false
-is_bar (kinds.InlineField field) = false
 is_bar (kinds.Bar bar) = true
-is_bar (kinds.Ending passes) = false
-is_bar (kinds.Tuplet tuplet) = false
-is_bar (kinds.Broken broken) = false
-is_bar kinds.Tie = false
-is_bar kinds.Blank = false
-is_bar (kinds.Dynamic dynamic) = false
-is_bar kinds.NoEffect = false
-is_bar (kinds.Field field) = false
-is_bar (kinds.Directive directive) = false
-is_bar kinds.Unclosed = false
-is_bar kinds.BadByte = false
+is_bar _ = false
 
 -- The bytes of a line that begin no token, and its bar lines.
 abbrev pub line_kinds : Kinds TokenKind
-line_kinds = record { alone = alone_of; is_bar = is_bar }
+line_kinds = record { unmatched = unmatched_byte; is_bar = is_bar }
 
 -- What spells a token of a line.
 abbrev pub line_grammar : Grammar TokenKind
@@ -85,51 +67,38 @@ or_else (Some token) other = Some token
 or_else None other = other
 
 -- What a text between delimiters is: a dynamic, or a token without effect.
-abbrev pub loud_or_silent : Option Dynamic → TokenKind
-loud_or_silent None = kinds.NoEffect
-loud_or_silent (Some dynamic) = kinds.Dynamic dynamic
+abbrev pub dynamic_or_ignored : Option Dynamic → TokenKind
+dynamic_or_ignored None = kinds.NoEffect
+dynamic_or_ignored (Some dynamic) = kinds.Dynamic dynamic
 
--- The token between delimiters at the front of a text that takes so many bytes.
-abbrev pub enclosed : List ℕ → ℕ → TokenKind × ℕ
-enclosed text size = (loud_or_silent (dynamic_of (take size text)), size)
+-- The token between delimiters at the front of a text that takes `size` bytes.
+abbrev pub enclosed_token : List ℕ → ℕ → TokenKind × ℕ
+enclosed_token text size = (dynamic_or_ignored (dynamic_of (take size text)), size)
 
--- The longest token at the front of a text that begins in this way, if it can be told without memory and
+-- The longest token at the front of a text that begins in this way, if it can be read without memory and
 -- without a search for its end, and how many bytes it takes. A tuplet is longer than its `(`.
 abbrev pub mark_by : Start → Bool → List ℕ → Option (TokenKind × ℕ)
 mark_by starts.Note after_bar text = as_kind kinds.Note (note_at text)
 mark_by starts.Rest after_bar text = as_kind kinds.Rest (rest_at text)
 mark_by starts.BarRest after_bar text = as_kind kinds.BarRest (bar_rest_at text)
 mark_by starts.BarLine after_bar text = as_kind kinds.Bar (bar_at text)
-mark_by starts.InlineField after_bar text = None
-mark_by starts.Bracket after_bar text = None
 mark_by starts.Digit after_bar text = as_kind kinds.Ending (ending_at after_bar text)
 mark_by starts.Parenthesis after_bar text = or_else (as_kind kinds.Tuplet (tuplet_at text)) (Some (kinds.NoEffect, 1))
 mark_by starts.Broken after_bar text = as_kind kinds.Broken (broken_at text)
 mark_by starts.Tie after_bar text = Some (kinds.Tie, 1)
 mark_by starts.Blank after_bar text = Some (kinds.Blank, 1)
-mark_by starts.Delimited after_bar text = None
 mark_by starts.Space after_bar text = of_kind kinds.NoEffect (extra_space_at text)
 mark_by starts.Single after_bar text = Some (kinds.NoEffect, 1)
-mark_by starts.Nothing after_bar text = None
+mark_by _ after_bar text = None
 
 -- The longest token at the front of a text that begins in this way, and how many bytes it takes. A chord is
 -- longer than the ending that begins with the same bytes.
 abbrev pub reading_by : Start → Bool → List ℕ → Option (TokenKind × ℕ)
-reading_by starts.Note after_bar text = mark_by starts.Note after_bar text
-reading_by starts.Rest after_bar text = mark_by starts.Rest after_bar text
-reading_by starts.BarRest after_bar text = mark_by starts.BarRest after_bar text
-reading_by starts.BarLine after_bar text = mark_by starts.BarLine after_bar text
 reading_by starts.InlineField after_bar text = as_kind kinds.InlineField (inline_field_at text)
-reading_by starts.Bracket after_bar text = or_else (as_kind kinds.Chord (chord_at text)) (as_kind kinds.Ending (ending_at after_bar text))
-reading_by starts.Digit after_bar text = mark_by starts.Digit after_bar text
-reading_by starts.Parenthesis after_bar text = mark_by starts.Parenthesis after_bar text
-reading_by starts.Broken after_bar text = mark_by starts.Broken after_bar text
-reading_by starts.Tie after_bar text = mark_by starts.Tie after_bar text
-reading_by starts.Blank after_bar text = mark_by starts.Blank after_bar text
-reading_by starts.Delimited after_bar text = option_map (enclosed text) (delimited_at text)
-reading_by starts.Space after_bar text = mark_by starts.Space after_bar text
-reading_by starts.Single after_bar text = mark_by starts.Single after_bar text
-reading_by starts.Nothing after_bar text = mark_by starts.Nothing after_bar text
+reading_by starts.Bracket after_bar text =
+    or_else (as_kind kinds.Chord (chord_at text)) (as_kind kinds.Ending (ending_at after_bar text))
+reading_by starts.Delimited after_bar text = option_map (enclosed_token text) (delimited_at text)
+reading_by start after_bar text = mark_by start after_bar text
 
 -- The longest token at the front of a text, and how many bytes it takes.
 unfoldable pub reading_at : Bool → List ℕ → Option (TokenKind × ℕ)
@@ -143,6 +112,6 @@ line_reader = record { kinds = line_kinds; reading = reading_at }
 abbrev pub next_token : Bool → List ℕ → TokenKind × ℕ
 next_token after_bar text = next line_reader after_bar text
 
--- What comes first in a text, and how many bytes it takes, whether a bar line stands before it or not.
+-- What comes first in a text, and how many bytes it takes, whether a bar line is before it or not.
 abbrev pub ComesFirst : TokenKind × ℕ → List ℕ → Type 0
 ComesFirst token text = (after_bar : Bool) → next_token after_bar text ≡ token

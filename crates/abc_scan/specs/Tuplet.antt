@@ -16,8 +16,8 @@ pub record HasColon (text : List ℕ) (value : Option ℕ) : Type 0 where
 abbrev pub IsFurther : List ℕ → Option ℕ → Type 0
 IsFurther text value = ((text ≡ []) × (value ≡ None)) ⊎ HasColon text value
 
--- A tuplet mark: a parenthesis and p, and behind colons q and r, each of which may be empty or
--- wanting. ABC 2.1 section 4.13.
+-- A tuplet mark: a parenthesis and p, and after colons q and r, each of which may be empty or
+-- absent. ABC 2.1 section 4.13.
 pub record IsTuplet (text : List ℕ) (tuplet : Tuplet) : Type 0 where
   pub p_text : List ℕ
   pub q_text : List ℕ
@@ -34,14 +34,14 @@ further_at [] = (None, 0)
 further_at (b ∷ bs) =
     if b == colon then ((optional_number_at bs).0, 1 + (optional_number_at bs).1) else (None, 0)
 
--- The longest mark of p and what stands behind it, and how many bytes it takes.
+-- The longest mark of p and what follows it, and how many bytes it takes.
 abbrev pub tuplet_of : ℕ → ℕ → List ℕ → Tuplet × ℕ
 tuplet_of p size behind =
     let q = further_at behind in
     let r = further_at (drop q.1 behind) in
     (record { p = p; q = q.0; r = r.0 }, 1 + size + q.1 + r.1)
 
--- The longest mark of what stands behind its parenthesis, which begins with p.
+-- The longest mark of what follows its parenthesis, which begins with p.
 abbrev pub tuplet_behind : List ℕ → ℕ × ℕ → Tuplet × ℕ
 tuplet_behind rest p = tuplet_of p.0 p.1 (drop p.1 rest)
 

@@ -1,7 +1,7 @@
 //! Bar lines.
 
 ghost use Rattle.std.specs.Prelude.{◌≡◌, ◌≤◌, ◌<◌, ◌^◌, length, IfSome};
-ghost use Rattle.abc_scan.specs.Bar.{goes_on, middle_size, is_double, colons_alone, bar_at};
+ghost use Rattle.abc_scan.specs.Bar.{goes_on, middle_size, is_double, bar_of_colons, bar_at};
 
 use crate::run::run_of;
 
@@ -50,10 +50,10 @@ fn is_double(middle: &[u8]) -> bool
     middle != b"|".as_slice()
 }
 
-/// The bar line of so many colons alone: a single one is none.
-fn colons_alone(count: usize) -> Option<(BarLine, usize)>
+/// The bar line of `count` colons alone: a single one is none.
+fn bar_of_colons(count: usize) -> Option<(BarLine, usize)>
     requires { count < 2 ^ 31 }
-    ensures { result ≡ colons_alone count }
+    ensures { result ≡ bar_of_colons count }
 {
     if count < 2 {
         return None;
@@ -79,7 +79,7 @@ pub(crate) fn bar_at(text: &[u8]) -> Option<(BarLine, usize)>
     let behind = &text[closes..];
     let middle = middle_size(behind);
     if middle == 0 {
-        return colons_alone(closes);
+        return bar_of_colons(closes);
     }
     let opens = run_of(b':', &behind[middle..]);
     let bar = BarLine {

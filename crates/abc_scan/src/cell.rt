@@ -51,7 +51,7 @@ impl Cell {
     }
 }
 
-/// How many of these tokens stand in the first cell.
+/// How many of these tokens are in the first cell.
 fn first_size(tokens: &[Token]) -> usize
     ensures value { result ≡ first_size tokens.now }
     ensures inside { result ≤ length tokens.now }

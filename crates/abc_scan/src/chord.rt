@@ -2,16 +2,16 @@
 
 ghost use Rattle.std.specs.Prelude.{◌≡◌, ◌≤◌, ◌<◌, ◌+◌, ◌^◌, drop, length, IfOk, IfSome, false};
 ghost use Rattle.abc_scan.specs.Chord.{part_reading_at, part_reader, parts_of, chord_at};
-ghost use Rattle.abc_scan.specs.Closing.{IsMissing};
+ghost use Rattle.abc_scan.specs.KnownAbsent.{IsKnownAbsent};
 ghost use Rattle.abc_scan.specs.Cutting.{next};
 
-use crate::closing::Missing;
+use crate::chord_part::{ChordPart, ChordPartKind};
 use crate::delimited::delimited_at;
 use crate::frame::frame_at;
+use crate::known_absent::KnownAbsent;
 use crate::length::WrittenLength;
 use crate::no_effect::extra_space_at;
 use crate::note::note_at;
-use crate::parts::{ChordPart, ChordPartKind};
 use crate::spanned::Spanned;
 use crate::start::{Start, start_of};
 use abc_text::Sequence;
@@ -20,21 +20,21 @@ use std::alloc::{AllocError, Global};
 /// The notes between `[` and `]`, which sound together (ABC 2.1 section 4.17).
 #[derive(Clone, Drop)]
 pub struct Chord {
-    /// What stands between the brackets, in order.
+    /// The parts between the brackets, in order.
     pub parts: Sequence<ChordPart>,
-    /// The length behind the closing bracket.
+    /// The length after the closing bracket.
     pub length: WrittenLength,
 }
 
 /// The part at the front of a text, and how many bytes it takes.
 #[tactic(auto, unfolding(crate::specs::Chord::part_reading_at))]
-fn part_reading_at(text: &[u8], missing: &mut Missing) -> Option<(ChordPartKind, usize)>
-    requires known { IsMissing missing.old (drop 1 text.now) }
+fn part_reading_at(text: &[u8], absent: &mut KnownAbsent) -> Option<(ChordPartKind, usize)>
+    requires known { IsKnownAbsent absent.old (drop 1 text.now) }
     requires short { length text.now < 2 ^ 31 }
     ensures value { result ≡ part_reading_at false text.now }
     ensures some { IfSome result (λ r. 0 < r.1) }
     ensures inside { IfSome result (λ r. r.1 ≤ length text.now) }
-    ensures kept { IsMissing missing.new (drop 1 text.now) }
+    ensures kept { IsKnownAbsent absent.new (drop 1 text.now) }
 {
     match start_of(text) {
         Start::Note => {
@@ -44,7 +44,7 @@ fn part_reading_at(text: &[u8], missing: &mut Missing) -> Option<(ChordPartKind,
         Start::Tie => Some((ChordPartKind::Tie, 1)),
         Start::Blank | Start::Single | Start::Parenthesis => Some((ChordPartKind::NoEffect, 1)),
         Start::Delimited => {
-            let size = delimited_at(text, missing)?;
+            let size = delimited_at(text, absent)?;
             Some((ChordPartKind::NoEffect, size))
         }
         Start::Space => {
@@ -56,16 +56,16 @@ fn part_reading_at(text: &[u8], missing: &mut Missing) -> Option<(ChordPartKind,
 }
 
 /// What comes first in a text, and how many bytes it takes.
-fn next_part(text: &[u8], missing: &mut Missing) -> (ChordPartKind, usize)
+fn next_part(text: &[u8], absent: &mut KnownAbsent) -> (ChordPartKind, usize)
     requires some { 0 < length text.now }
-    requires known { IsMissing missing.old (drop 1 text.now) }
+    requires known { IsKnownAbsent absent.old (drop 1 text.now) }
     requires short { length text.now < 2 ^ 31 }
     ensures value { result ≡ next part_reader false text.now }
     ensures some { 0 < result.1 }
     ensures inside { result.1 ≤ length text.now }
-    ensures kept { IsMissing missing.new (drop 1 text.now) }
+    ensures kept { IsKnownAbsent absent.new (drop 1 text.now) }
 {
-    part_reading_at(text, missing).unwrap_or((ChordPartKind::BadByte, 1))
+    part_reading_at(text, absent).unwrap_or((ChordPartKind::BadByte, 1))
 }
 
 /// The parts that the inside of a chord is cut into.
@@ -74,10 +74,10 @@ fn parts_of(alloc: Global, text: &[u8]) -> Result<Sequence<ChordPart>, AllocErro
     ensures { IfOk result (λ parts. parts ≡ parts_of text.now) }
 {
     let mut parts = Vec::new(alloc);
-    let mut missing = Missing::none();
+    let mut absent = KnownAbsent::none();
     let mut at = 0;
     while at < text.len() {
-        let (kind, size) = next_part(&text[at..], &mut missing);
+        let (kind, size) = next_part(&text[at..], &mut absent);
         parts.push(Spanned {
             kind,
             from: (1 + at) as u32,

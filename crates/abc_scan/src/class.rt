@@ -1,7 +1,8 @@
 //! The class of a line.
 
 ghost use Rattle.std.specs.Prelude.{◌≡◌, ◌↔◌, ℕ};
-ghost use Rattle.abc_scan.specs.Class.{class_of, class_of_text, first_visible, names_field, is_music_letter, begins_bar, field_letter, IsCommentLine, IsFieldLine, IsMusicLine};
+ghost use Rattle.abc_scan.specs.Class.{class_of, class_of_text, first_visible, names_field, is_music_letter, begins_bar};
+ghost use Rattle.abc_scan.specs.Class.{field_letter, IsCommentLine, IsFieldLine, IsMusicLine};
 ghost use Rattle.abc_scan.specs.Directive.{IsDirectiveLine};
 ghost use Rattle.abc_text.specs.Blank.{AreBlanks};
 ghost use Rattle.abc_text.specs.LineEnd.{without_return};
@@ -24,7 +25,7 @@ pub enum LineClass {
     Music,
 }
 
-/// Whether a byte may stand before the colon of a field.
+/// Whether a byte may precede the colon of a field.
 fn names_field(byte: u8) -> bool
     ensures { result ≡ names_field byte }
 {
@@ -38,7 +39,7 @@ fn is_music_letter(byte: u8) -> bool
     matches!(byte, b'A'..=b'G' | b'a'..=b'g' | b'x' | b'z')
 }
 
-/// Whether a text begins as the rest of a repeat bar does, behind its first colon.
+/// Whether a text begins as the rest of a repeat bar does, after its first colon.
 fn begins_bar(text: &[u8]) -> bool
     ensures { result ≡ begins_bar text.now }
 {

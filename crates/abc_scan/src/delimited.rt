@@ -2,28 +2,28 @@
 
 ghost use Rattle.std.specs.Prelude.{◌≡◌, ◌≤◌, ◌<◌, length, drop, true, IfSome};
 ghost use Rattle.abc_scan.specs.Byte.{opening_brace};
-ghost use Rattle.abc_scan.specs.Closing.{IsMissing};
+ghost use Rattle.abc_scan.specs.KnownAbsent.{IsKnownAbsent};
 ghost use Rattle.abc_scan.specs.Delimited.{delimited_at};
 ghost use Rattle.abc_scan.specs.Note.{begins_with_byte};
 
-use crate::closing::{Missing, find, place_of};
+use crate::known_absent::{KnownAbsent, find, place_of};
 
 /// How many bytes the quoted text, decoration or grace group at the front of a text takes: up to
 /// the first closing byte (ABC 2.1 sections 4.12, 4.14, 4.18 and 4.19). A grace group that nothing
 /// closes is remembered.
 #[tactic(auto, unfolding(crate::specs::Delimited::delimited_at))]
-pub(crate) fn delimited_at(text: &[u8], missing: &mut Missing) -> Option<usize>
-    requires { IsMissing missing.old (drop 1 text.now) }
+pub(crate) fn delimited_at(text: &[u8], absent: &mut KnownAbsent) -> Option<usize>
+    requires { IsKnownAbsent absent.old (drop 1 text.now) }
     ensures value { result ≡ delimited_at text.now }
     ensures some { IfSome result (λ size. 0 < size) }
     ensures inside { IfSome result (λ size. size ≤ length text.now) }
-    ensures kept { IsMissing missing.new (drop 1 text.now) }
-    ensures remembered { result ≡ None → begins_with_byte opening_brace text.now ≡ true → missing.new.brace ≡ true }
+    ensures kept { IsKnownAbsent absent.new (drop 1 text.now) }
+    ensures remembered { result ≡ None → begins_with_byte opening_brace text.now ≡ true → absent.new.brace ≡ true }
 {
     match text {
         [b'"', rest @ ..] => Some(place_of(b'"', rest)? + 2),
         [b'!', rest @ ..] => Some(place_of(b'!', rest)? + 2),
-        [b'{', rest @ ..] => Some(find(&mut missing.brace, b'}', rest)? + 2),
+        [b'{', rest @ ..] => Some(find(&mut absent.brace, b'}', rest)? + 2),
         _ => None,
     }
 }

@@ -1,13 +1,15 @@
 //! Directives.
 
-ghost use Rattle.std.specs.Prelude.{◌≡◌};
-ghost use Rattle.abc_scan.specs.Directive.{behind_gap, is_comment_or_none, ended, named, numbered, reaching, directive_of, is_directive, ReadsDirectives};
+ghost use Rattle.std.specs.Prelude.{◌≡◌, ◌==◌, IfSome, MatchOption, drop, false, true};
+ghost use Rattle.abc_text.specs.Word.{leading_blanks};
+ghost use Rattle.abc_scan.specs.Directive.{after_gap, directive_at_end, directive_of, is_comment_or_none, is_directive};
+ghost use Rattle.abc_scan.specs.Directive.{midi_directive, program_directive, reach_directive};
 
 use crate::number::number_at;
 use abc_text::leading_blanks;
 
 /// How far the accidental of a note reaches, up to the end of its bar (ABC 2.1 section 11.3; what the
-/// three words mean here is our own).
+/// three words mean here is not in ABC 2.1).
 #[derive(Clone, Copy, PartialEq, Eq)]
 pub enum Reach {
     /// To its own note alone.
@@ -18,11 +20,11 @@ pub enum Reach {
     Pitch,
 }
 
-/// A line that tells a program what to do (ABC 2.1 section 11). Other such lines are comments.
+/// An instruction to a program (ABC 2.1 section 11). Other such lines are comments.
 #[derive(Clone, Copy)]
 pub enum Directive {
     /// The MIDI program to play with: its number as it is written, which may be none of MIDI's
-    /// (abc2midi's own).
+    /// (an extension of abc2midi).
     Program(u32),
     /// How far accidentals reach.
     Reach(Reach),
@@ -38,9 +40,9 @@ fn is_comment_or_none(text: &[u8]) -> bool
     }
 }
 
-/// A directive, if nothing stands behind it but blanks and a comment.
-fn ended(directive: Directive, end: &[u8]) -> Option<Directive>
-    ensures { result ≡ ended directive end.now }
+/// A directive, if only blanks and a comment follow.
+fn directive_at_end(directive: Directive, end: &[u8]) -> Option<Directive>
+    ensures { result ≡ directive_at_end directive end.now }
 {
     if is_comment_or_none(&end[leading_blanks(end)..]) {
         Some(directive)
@@ -49,67 +51,67 @@ fn ended(directive: Directive, end: &[u8]) -> Option<Directive>
     }
 }
 
-/// The program whose number stands at the front of a text.
-fn numbered(text: &[u8]) -> Option<Directive>
-    ensures { result ≡ numbered text.now }
+/// The program whose number a text begins with.
+fn program_directive(text: &[u8]) -> Option<Directive>
+    ensures { result ≡ program_directive text.now }
 {
     let (number, size) = number_at(text)?;
-    ended(Directive::Program(number), &text[size..])
+    directive_at_end(Directive::Program(number), &text[size..])
 }
 
-/// The program whose number stands behind the blanks at the front of a text.
-fn number_behind(text: &[u8]) -> Option<Directive>
-    ensures { result ≡ behind_gap numbered text.now }
+/// The rest of a text after the blanks that it begins with; none if it begins with none.
+fn skip_gap(text: &[u8]) -> Option<&[u8]>
+    ensures value { IfSome result (λ rest. rest.now ≡ drop (leading_blanks text.now) text.now) }
+    ensures gap { MatchOption result ((leading_blanks text.now == 0) ≡ true) (λ _. (leading_blanks text.now == 0) ≡ false) }
 {
     let blanks = leading_blanks(text);
     if blanks == 0 {
         return None;
     }
-    numbered(&text[blanks..])
+    Some(&text[blanks..])
 }
 
-/// The directive at the front of a text behind `%%MIDI`.
-fn named(text: &[u8]) -> Option<Directive>
-    ensures { result ≡ named text.now }
+/// The program directive whose number follows a gap.
+fn number_after_gap(text: &[u8]) -> Option<Directive>
+    ensures { result ≡ after_gap program_directive text.now }
 {
-    number_behind(text.strip_prefix(b"program")?)
+    program_directive(skip_gap(text)?)
 }
 
-/// The directive behind `%%MIDI` and the blanks at the front of a text.
-fn name_behind(text: &[u8]) -> Option<Directive>
-    ensures { result ≡ behind_gap named text.now }
+/// The directive that a text names after `%%MIDI` and a gap.
+fn midi_directive(text: &[u8]) -> Option<Directive>
+    ensures { result ≡ midi_directive text.now }
 {
-    let blanks = leading_blanks(text);
-    if blanks == 0 {
-        return None;
-    }
-    named(&text[blanks..])
+    number_after_gap(text.strip_prefix(b"program")?)
 }
 
-/// The directive at the front of a text behind `%%propagate-accidentals`.
-fn reaching(text: &[u8]) -> Option<Directive>
-    ensures { result ≡ reaching text.now }
+/// The directive of the word that a text begins with, after `%%propagate-accidentals` and a gap.
+fn reach_directive(text: &[u8]) -> Option<Directive>
+    ensures { result ≡ reach_directive text.now }
 {
     if let Some(end) = text.strip_prefix(b"not") {
-        ended(Directive::Reach(Reach::Not), end)
+        directive_at_end(Directive::Reach(Reach::Not), end)
     } else if let Some(end) = text.strip_prefix(b"octave") {
-        ended(Directive::Reach(Reach::Octave), end)
+        directive_at_end(Directive::Reach(Reach::Octave), end)
     } else if let Some(end) = text.strip_prefix(b"pitch") {
-        ended(Directive::Reach(Reach::Pitch), end)
+        directive_at_end(Directive::Reach(Reach::Pitch), end)
     } else {
         None
     }
 }
 
-/// The directive behind `%%propagate-accidentals` and the blanks at the front of a text.
-fn reach_behind(text: &[u8]) -> Option<Directive>
-    ensures { result ≡ behind_gap reaching text.now }
+/// The directive that a text names after a gap.
+fn midi_after_gap(text: &[u8]) -> Option<Directive>
+    ensures { result ≡ after_gap midi_directive text.now }
 {
-    let blanks = leading_blanks(text);
-    if blanks == 0 {
-        return None;
-    }
-    reaching(&text[blanks..])
+    midi_directive(skip_gap(text)?)
+}
+
+/// The directive of the word that follows a gap.
+fn reach_after_gap(text: &[u8]) -> Option<Directive>
+    ensures { result ≡ after_gap reach_directive text.now }
+{
+    reach_directive(skip_gap(text)?)
 }
 
 /// The directive that a text without a carriage return at its end spells.
@@ -117,10 +119,10 @@ fn reach_behind(text: &[u8]) -> Option<Directive>
 pub(crate) fn directive_of(text: &[u8]) -> Option<Directive>
     ensures value { result ≡ directive_of text.now }
 {
-    if let Some(behind) = text.strip_prefix(b"%%MIDI") {
-        name_behind(behind)
-    } else if let Some(behind) = text.strip_prefix(b"%%propagate-accidentals") {
-        reach_behind(behind)
+    if let Some(after) = text.strip_prefix(b"%%MIDI") {
+        midi_after_gap(after)
+    } else if let Some(after) = text.strip_prefix(b"%%propagate-accidentals") {
+        reach_after_gap(after)
     } else {
         None
     }
@@ -132,8 +134,3 @@ pub(crate) fn is_directive(text: &[u8]) -> bool
 {
     directive_of(text).is_some()
 }
-
-/// What is read of a directive line is the directive that it spells, and no line spells two.
-pub fn one_directive()
-    ensures { ReadsDirectives }
-{}

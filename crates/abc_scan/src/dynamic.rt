@@ -17,7 +17,7 @@ pub enum Dynamic {
 }
 
 impl Dynamic {
-    /// The MIDI velocity of notes that are so loud, 1 to 127. Our own.
+    /// The MIDI velocity of notes that are so loud, 1 to 127. Not in ABC 2.1.
     pub fn velocity(self) -> u8
         ensures value { result ≡ velocity_of self }
         ensures some { 0 < result }

@@ -40,7 +40,7 @@ fn with_range(passes: Option<u32>, range: PassRange) -> Option<u32>
     }
 }
 
-/// The number behind a dash at the front of a text, and how many bytes it takes without the dash.
+/// The number after a dash at the front of a text, and how many bytes it takes without the dash.
 fn last_at(text: &[u8]) -> Option<(u32, usize)>
     ensures value { result ≡ last_at text.now }
     ensures inside { IfSome result (λ r. 1 + r.1 ≤ length text.now) }
@@ -65,7 +65,7 @@ fn range_at(text: &[u8]) -> Option<(PassRange, usize)>
     }
 }
 
-/// The range behind a comma at the front of a text, and how many bytes both take.
+/// The range after a comma at the front of a text, and how many bytes both take.
 fn next_range(text: &[u8]) -> Option<(PassRange, usize)>
     ensures value { result ≡ next_range text.now }
     ensures some { IfSome result (λ r. 0 < r.1) }
@@ -95,8 +95,8 @@ fn passes_at(text: &[u8]) -> Option<(Option<u32>, usize)>
     Some((passes, size))
 }
 
-/// The ending mark at the front of a text, and how many bytes it takes. Directly behind a bar line its
-/// `[` may be left out. The passes that it names are bit `i - 1` for pass `i`, or None where it names one
+/// The ending mark at the front of a text, and how many bytes it takes. Directly after a bar line its
+/// `[` may be left out. The passes that it names are bit `i - 1` for pass `i`, or None if it names one
 /// that there cannot be.
 #[tactic(auto, unfolding(crate::specs::Ending::ending_at))]
 pub(crate) fn ending_at(after_bar: bool, text: &[u8]) -> Option<(Option<u32>, usize)>

@@ -3,7 +3,7 @@
 ghost use Rattle.std.specs.Prelude.{◌≡◌, IfOk};
 ghost use Rattle.abc_scan.specs.Field.{begins_field, field_of};
 
-use abc_text::{Sequence, trimmed};
+use abc_text::{Sequence, trim_blanks};
 use std::alloc::{AllocError, Global};
 
 /// An information field (ABC 2.1 section 3).
@@ -31,6 +31,6 @@ pub(crate) fn field_of(alloc: Global, text: &[u8]) -> Result<Field, AllocError>
 {
     let letter = text.first().copied().unwrap_or(0);
     let behind = if text.len() < 2 { &[] } else { &text[2..] };
-    let value = Sequence::from_slice(alloc, trimmed(behind))?;
+    let value = Sequence::from_slice(alloc, trim_blanks(behind))?;
     Ok(Field { letter, value })
 }

@@ -10,13 +10,13 @@ use crate::length::{WrittenLength, length_at};
 /// What surrounds the notes of a chord.
 #[derive(Clone, Copy)]
 pub(crate) struct Frame {
-    /// How many bytes stand between the brackets.
+    /// How many bytes are between the brackets.
     pub(crate) inside: usize,
-    /// The length behind the brackets.
+    /// The length after the brackets.
     pub(crate) length: WrittenLength,
 }
 
-/// Whether a byte may stand between the brackets of a chord.
+/// Whether a byte may be between the brackets of a chord.
 fn is_inside(byte: u8) -> bool
     ensures { result ≡ is_inside byte }
 {

@@ -1,11 +1,11 @@
 //! Fields inside a music line.
 
 ghost use Rattle.std.specs.Prelude.{◌≡◌, ◌≤◌, ◌<◌, IfOk, IfSome, drop, length, true};
-ghost use Rattle.abc_scan.specs.Closing.{IsMissing};
+ghost use Rattle.abc_scan.specs.KnownAbsent.{IsKnownAbsent};
 ghost use Rattle.abc_scan.specs.InlineField.{opens_field, inline_field_at};
 
-use crate::closing::{Missing, find};
 use crate::field::{Field, begins_field, field_of};
+use crate::known_absent::{KnownAbsent, find};
 use std::alloc::{AllocError, Global};
 
 /// The inline field at the front of a text, and how many bytes it takes: up to the first `]`
@@ -14,18 +14,18 @@ use std::alloc::{AllocError, Global};
 pub(crate) fn inline_field_at(
     alloc: Global,
     text: &[u8],
-    missing: &mut Missing,
+    absent: &mut KnownAbsent,
 ) -> Result<Option<(Field, usize)>, AllocError>
-    requires { IsMissing missing.old (drop 1 text.now) }
+    requires { IsKnownAbsent absent.old (drop 1 text.now) }
     ensures value { IfOk result (λ reading. reading ≡ inline_field_at text.now) }
     ensures some { IfOk result (λ reading. IfSome reading (λ r. 0 < r.1)) }
     ensures inside { IfOk result (λ reading. IfSome reading (λ r. r.1 ≤ length text.now)) }
-    ensures kept { IsMissing missing.new (drop 1 text.now) }
-    ensures remembered { IfOk result (λ reading. reading ≡ None → opens_field text.now ≡ true → missing.new.bracket ≡ true) }
+    ensures kept { IsKnownAbsent absent.new (drop 1 text.now) }
+    ensures remembered { IfOk result (λ reading. reading ≡ None → opens_field text.now ≡ true → absent.new.bracket ≡ true) }
 {
     match text {
         [b'[', inside @ ..] if begins_field(inside) => {
-            let Some(place) = find(&mut missing.bracket, b']', inside) else {
+            let Some(place) = find(&mut absent.bracket, b']', inside) else {
                 return Ok(None);
             };
             let field = field_of(alloc, &inside[..place])?;

@@ -1,4 +1,4 @@
-//! Lengths as they are written behind notes and rests.
+//! Lengths as they are written after notes and rests.
 
 ghost use Rattle.std.specs.Prelude.{◌≡◌, ◌≤◌, ◌==◌, if◌then◌else◌, length, take};
 ghost use Rattle.std.specs.List.{prefix_len, AllPass};
@@ -25,7 +25,7 @@ fn slashes(text: &[u8]) -> usize
     run_of(b'/', text)
 }
 
-/// How many digits stand behind the slashes: only one slash can have some.
+/// How many digits follow the slashes: only one slash can have some.
 fn digits_behind(slashes: usize, text: &[u8]) -> usize
     ensures value { result ≡ (if slashes == 1 then prefix_len is_digit text.now else 0) }
     ensures inside { result ≤ length text.now }
@@ -34,7 +34,7 @@ fn digits_behind(slashes: usize, text: &[u8]) -> usize
     if slashes == 1 { digits(text) } else { 0 }
 }
 
-/// The number that digits write, if it is accepted, or another where there are none.
+/// The number that digits write, if it is accepted, or another if there are none.
 fn number_or(digits: &[u8], other: u32) -> Option<u32>
     requires { AllPass is_digit digits.now }
     ensures { result ≡ number_or digits.now other }
@@ -51,7 +51,7 @@ fn number_or(digits: &[u8], other: u32) -> Option<u32>
     }
 }
 
-/// The value of digits, slashes and the digits behind them.
+/// The value of digits, slashes and the digits after them.
 fn written_length(over: &[u8], slashes: usize, under: &[u8]) -> WrittenLength
     requires over { AllPass is_digit over.now }
     requires under { AllPass is_digit under.now }

@@ -5,12 +5,13 @@ ghost use Rattle.abc_fold.specs.Work.{raised};
 ghost use Rattle.abc_scan.specs.Cutting.{IsSpan, JoinFromTo};
 ghost use Rattle.abc_scan.specs.Class.{class_of};
 ghost use Rattle.abc_scan.specs.Directive.{directive_of};
-ghost use Rattle.abc_scan.specs.Line.{cutting_of, directive_token, field_token, has_tokens, tokens_in, tokens_of, covered_of, HasLength, CutsEachText, CutsOnce};
+ghost use Rattle.abc_scan.specs.Line.{cutting_of, directive_token, field_token, has_tokens, tokens_in, tokens_of, covered_of};
+ghost use Rattle.abc_scan.specs.Line.{HasLength};
 
 use crate::class::{LineClass, class_of};
-use crate::closing::Missing;
 use crate::directive::directive_of;
 use crate::field::field_of;
+use crate::known_absent::KnownAbsent;
 use crate::spanned::Spanned;
 use crate::text::without_comment;
 use crate::token::{Token, TokenKind, is_bar, next_token};
@@ -21,8 +22,8 @@ use std::alloc::{AllocError, Global};
 /// The longest text that is cut: the places in it, and the octaves of its notes, are small numbers.
 const LONGEST_CUT: usize = (1 << 31) - 1;
 
-/// A text, if it is not too long to be cut.
-pub(crate) fn short(text: &[u8]) -> Result<&[u8], AllocError>
+/// Returns a text, if it is not too long to be cut.
+pub(crate) fn check_length(text: &[u8]) -> Result<&[u8], AllocError>
     ensures same { IfOk result (λ short. short.now ≡ text.now) }
     ensures short { IfOk result (λ short. length short.now < 2 ^ 31) }
 {
@@ -39,11 +40,11 @@ fn cut(alloc: Global, text: &[u8]) -> Result<Vec<Token>, AllocError>
     ensures { IfOk result (λ tokens. tokens.items ≡ cutting_of text.now) }
 {
     let mut tokens = Vec::with_capacity(alloc, text.len())?;
-    let mut missing = Missing::none();
+    let mut absent = KnownAbsent::none();
     let mut after_bar = false;
     let mut at = 0;
     while at < text.len() {
-        let (kind, size) = next_token(alloc, after_bar, &text[at..], &mut missing)?;
+        let (kind, size) = next_token(alloc, after_bar, &text[at..], &mut absent)?;
         after_bar = is_bar(&kind);
         tokens.push(Spanned {
             kind,
@@ -93,23 +94,23 @@ pub(crate) fn tokens_in(
     class: LineClass,
     text: &[u8],
 ) -> Result<Vec<Token>, AllocError>
-    ensures tokens { IfOk result (λ tokens. tokens.items ≡ tokens_in class text.now) }
+    ensures value { IfOk result (λ tokens. tokens.items ≡ tokens_in class text.now) }
     ensures silent { has_tokens class ≡ false → IsOk result }
 {
     match class {
         LineClass::Blank | LineClass::Comment => Ok(Vec::new(alloc)),
-        LineClass::Field(_) => field_token(alloc, short(without_comment(text))?),
-        LineClass::Directive => directive_token(alloc, short(text)?),
-        LineClass::Music => cut(alloc, short(without_comment(text))?),
+        LineClass::Field(_) => field_token(alloc, check_length(without_comment(text))?),
+        LineClass::Directive => directive_token(alloc, check_length(text)?),
+        LineClass::Music => cut(alloc, check_length(without_comment(text))?),
     }
 }
 
 /// The tokens of a line, without its carriage return and, but for a directive, its comment. Counts one line scanned, also
-/// where there is no memory for the tokens; a blank line and a comment need none. A line of 2^31 bytes or more that has
-/// tokens is answered as one for which there is no memory.
+/// if an allocation fails; a blank line and a comment need none. A line of 2^31 bytes or more that has
+/// tokens is refused as out of memory.
 #[tactic(auto, unfolding(crate::specs::Line::tokens_of, crate::specs::Line::covered_of))]
 pub fn scan(alloc: Global, line: &[u8], work: &mut Work) -> Result<Vec<Token>, AllocError>
-    ensures tokens { IfOk result (λ tokens. tokens.items ≡ tokens_of line.now) }
+    ensures value { IfOk result (λ tokens. tokens.items ≡ tokens_of line.now) }
     ensures spans { IfOk result (λ tokens. All (IsSpan (length line.now)) tokens.items) }
     ensures joined { IfOk result (λ tokens. JoinFromTo 0 tokens.items (covered_of line.now)) }
     ensures lengths { IfOk result (λ tokens. All (λ t. HasLength t.kind) tokens.items) }
@@ -120,10 +121,3 @@ pub fn scan(alloc: Global, line: &[u8], work: &mut Work) -> Result<Vec<Token>, A
     work.count_scanned();
     tokens_in(alloc, class_of(line), without_return(line))
 }
-
-/// What `scan` cuts a music line into is a cutting of it, each token the longest that begins at its
-/// place, and no text has another.
-pub fn one_cutting()
-    ensures cuts { CutsEachText }
-    ensures once { CutsOnce }
-{}

@@ -9,8 +9,8 @@ ghost use Rattle.abc_scan.specs.Line.{cutting_of, has_tokens, tokens_in, tokens_
 
 use crate::cell::Cell;
 use crate::class::{LineClass, class_of};
-use crate::closing::Missing;
-use crate::line::{short, tokens_in};
+use crate::known_absent::KnownAbsent;
+use crate::line::{check_length, tokens_in};
 use crate::spanned::Spanned;
 use crate::text::without_comment;
 use crate::token::{Token, TokenKind, is_bar, next_token, short_token_at};
@@ -68,7 +68,7 @@ fn all_cells(
     Ok(cells)
 }
 
-/// The token of so many bytes at a place of a line.
+/// The token of `size` bytes at index `at` of a line.
 fn token_at(at: usize, kind: TokenKind, size: usize) -> Token
     requires { at + size < 2 ^ 31 }
     ensures { result ≡ part_at at (kind, size) }
@@ -87,7 +87,7 @@ fn cut_cells(alloc: Global, text: &[u8]) -> Result<Vec<Cell>, AllocError>
 {
     let mut cells = Vec::with_capacity(alloc, USUAL_CELLS)?;
     let mut begun = Vec::with_capacity(alloc, USUAL_TOKENS)?;
-    let mut missing = Missing::none();
+    let mut absent = KnownAbsent::none();
     let mut after_bar = false;
     let mut at = 0;
     while at < text.len() {
@@ -98,7 +98,7 @@ fn cut_cells(alloc: Global, text: &[u8]) -> Result<Vec<Cell>, AllocError>
                 at += size;
             }
             None => {
-                let (kind, size) = next_token(alloc, after_bar, &text[at..], &mut missing)?;
+                let (kind, size) = next_token(alloc, after_bar, &text[at..], &mut absent)?;
                 after_bar = is_bar(&kind);
                 put_token(alloc, &mut cells, &mut begun, token_at(at, kind, size))?;
                 at += size;
@@ -111,7 +111,7 @@ fn cut_cells(alloc: Global, text: &[u8]) -> Result<Vec<Cell>, AllocError>
 /// The cell of the tokens of a field or of a directive, of which there is one or none.
 fn cell_of_one(alloc: Global, tokens: Vec<Token>) -> Result<Vec<Cell>, AllocError>
     requires { length tokens.items < 2 }
-    ensures cells { IfOk result (λ cells. cells.items ≡ cells_of tokens.items) }
+    ensures value { IfOk result (λ cells. cells.items ≡ cells_of tokens.items) }
     ensures silent { tokens.items ≡ [] → IsOk result }
 {
     if tokens.is_empty() {
@@ -125,11 +125,11 @@ fn cell_of_one(alloc: Global, tokens: Vec<Token>) -> Result<Vec<Cell>, AllocErro
 /// The cells of a text of this class, which has no carriage return at its end.
 #[tactic(auto, using(crate::proofs::CellLaws::none_in))]
 fn cells_in(alloc: Global, class: LineClass, text: &[u8]) -> Result<Vec<Cell>, AllocError>
-    ensures cells { IfOk result (λ cells. cells.items ≡ cells_of (tokens_in class text.now)) }
+    ensures value { IfOk result (λ cells. cells.items ≡ cells_of (tokens_in class text.now)) }
     ensures silent { has_tokens class ≡ false → IsOk result }
 {
     match class {
-        LineClass::Music => cut_cells(alloc, short(without_comment(text))?),
+        LineClass::Music => cut_cells(alloc, check_length(without_comment(text))?),
         LineClass::Blank | LineClass::Comment | LineClass::Field(_) | LineClass::Directive => {
             cell_of_one(alloc, tokens_in(alloc, class, text)?)
         }
@@ -140,7 +140,7 @@ fn cells_in(alloc: Global, class: LineClass, text: &[u8]) -> Result<Vec<Cell>, A
 /// need none.
 #[tactic(auto, unfolding(crate::specs::Line::tokens_of))]
 pub fn cells_of_line(alloc: Global, line: &[u8], work: &mut Work) -> Result<Vec<Cell>, AllocError>
-    ensures cells { IfOk result (λ cells. cells.items ≡ cells_of (tokens_of line.now)) }
+    ensures value { IfOk result (λ cells. cells.items ≡ cells_of (tokens_of line.now)) }
     ensures silent { has_tokens (class_of line.now) ≡ false → IsOk result }
     ensures counted { work.new ≡ record work.old { scanned = raised work.old.scanned 1 } }
 {

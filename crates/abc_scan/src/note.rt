@@ -2,7 +2,8 @@
 
 ghost use Rattle.std.specs.Prelude.{◌≡◌, ◌≤◌, ◌<◌, ◌+◌, ◌^◌, length, IfSome, count_by, ◌==◌};
 ghost use Rattle.std.specs.List.{prefix_len};
-ghost use Rattle.abc_scan.specs.Note.{accidental_at, accidental_size, is_octave_mark, octave, letter_octave, ends_letter, is_factor, IsPlain, IsShort, note_at, rest_at};
+ghost use Rattle.abc_scan.specs.Note.{accidental_at, accidental_size, is_octave_mark, octave, letter_octave, ends_letter};
+ghost use Rattle.abc_scan.specs.Note.{is_factor, IsPlain, IsShort, note_at, rest_at};
 
 use crate::length::{WrittenLength, begins_length, length_at};
 use abc_text::{Accidental, Letter, letter_of};
@@ -10,7 +11,7 @@ use abc_text::{Accidental, Letter, letter_of};
 /// A note as it is written (ABC 2.1 sections 4.1 to 4.3).
 #[derive(Clone, Copy)]
 pub struct Note {
-    /// None where none is written.
+    /// None if none is written.
     pub accidental: Option<Accidental>,
     pub letter: Letter,
     /// Octaves above that of the capital letters: one for a small letter and for each `'`, less one
@@ -54,7 +55,7 @@ fn letter_octave(letter: u8) -> usize
     if letter < b'a' { 0 } else { 1 }
 }
 
-/// How often a mark stands among the marks of a note.
+/// How often a mark is among the marks of a note.
 fn occurrences(marks: &[u8], mark: u8) -> usize
     ensures value { result ≡ count_by (λ b. b == mark) marks.now }
     ensures inside { result ≤ length marks.now }
@@ -62,7 +63,7 @@ fn occurrences(marks: &[u8], mark: u8) -> usize
     marks.iter().filter(|byte| **byte == mark).count()
 }
 
-/// The octave of a letter with these marks behind it.
+/// The octave of a letter with these marks after it.
 fn octave(letter: u8, marks: &[u8]) -> i32
     requires { length marks.now + 1 < 2 ^ 31 }
     ensures { result ≡ octave letter marks.now }
@@ -72,7 +73,7 @@ fn octave(letter: u8, marks: &[u8]) -> i32
     raised as i32 - lowered as i32
 }
 
-/// Whether neither an octave mark nor a length stands at the front of a text.
+/// Whether a text begins with neither an octave mark nor a length.
 #[inline(always)]
 fn ends_letter(text: &[u8]) -> bool
     ensures { result ≡ ends_letter text.now }
@@ -83,7 +84,7 @@ fn ends_letter(text: &[u8]) -> bool
     }
 }
 
-/// The note of a letter without accidental or octave marks, so many times as long as the unit.
+/// The note of a letter without accidental or octave marks, `num` times as long as the unit.
 #[inline(always)]
 fn plain_note(byte: u8, num: u32) -> Option<Note>
     ensures { IfSome result (λ note. IsPlain byte num note) }

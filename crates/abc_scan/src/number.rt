@@ -5,7 +5,7 @@ ghost use Rattle.abc_scan.specs.Number.{number_size, number_at, optional_number_
 
 use abc_text::{LARGEST_NUMBER, LONGEST_NUMBER, decimal, digits};
 
-/// How many digits of a number stand at the front of a text.
+/// How many digits of a number a text begins with.
 fn number_size(text: &[u8]) -> usize
     ensures value { result ≡ number_size text.now }
     ensures few { result ≤ LONGEST_NUMBER }

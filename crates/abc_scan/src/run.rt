@@ -1,4 +1,4 @@
-//! How often one byte stands at the front of a text.
+//! How often a text begins with one byte.
 
 ghost use Rattle.std.specs.Prelude.{◌≡◌, ◌≤◌, ◌==◌, length};
 ghost use Rattle.std.specs.List.{prefix_len};

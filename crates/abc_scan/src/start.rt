@@ -13,7 +13,7 @@ pub(crate) enum Start {
     InlineField,
     /// A `[` of a chord or of an ending.
     Bracket,
-    /// A digit, which begins an ending behind a bar line.
+    /// A digit, which begins an ending after a bar line.
     Digit,
     /// A `(` of a tuplet, or one without effect.
     Parenthesis,
@@ -54,7 +54,7 @@ fn byte_start(byte: u8) -> Start
     }
 }
 
-/// What a `[` begins, by the bytes behind it.
+/// What a `[` begins, by the bytes after it.
 #[tactic(auto, unfolding(crate::specs::Start::bracket_start))]
 fn bracket_start(rest: &[u8]) -> Start
     ensures { result ≡ bracket_start rest.now }

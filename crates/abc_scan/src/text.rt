@@ -1,10 +1,9 @@
 //! The part of a line that is read.
 
 ghost use Rattle.std.specs.Prelude.{◌≡◌, ◌≤◌, length};
-ghost use Rattle.abc_text.specs.LineEnd.{DropsOneReturn};
-ghost use Rattle.abc_scan.specs.Text.{without_comment, CutsComments};
+ghost use Rattle.abc_scan.specs.Text.{without_comment};
 
-/// What stands before the first `%` of a text that begins a comment, or the whole text.
+/// The part before the first `%` of a text that begins a comment, or the whole text.
 fn up_to_comment(text: &[u8]) -> &[u8]
     ensures value { result.now ≡ without_comment text.now }
     ensures bounded { length result.now ≤ length text.now }
@@ -30,9 +29,3 @@ pub(crate) fn without_comment(text: &[u8]) -> &[u8]
         text
     }
 }
-
-/// What is read of a line is the line without one carriage return at its end, up to the comment.
-pub fn part_read()
-    ensures returns { DropsOneReturn }
-    ensures comments { CutsComments }
-{}

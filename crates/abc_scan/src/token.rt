@@ -1,21 +1,21 @@
 //! What a music line is made of.
 
 ghost use Rattle.std.specs.Prelude.{◌≡◌, ◌≤◌, ◌<◌, ◌^◌, drop, length, false, IfOk, IfSome};
-ghost use Rattle.abc_scan.specs.Closing.{IsMissing};
+ghost use Rattle.abc_scan.specs.KnownAbsent.{IsKnownAbsent};
 ghost use Rattle.abc_scan.specs.Dynamic.{dynamic_of};
-ghost use Rattle.abc_scan.specs.Token.{is_bar, mark_by, reading_by, alone_of, loud_or_silent, next_token, ComesFirst};
+ghost use Rattle.abc_scan.specs.Token.{is_bar, mark_by, reading_by, unmatched_byte, dynamic_or_ignored, next_token, ComesFirst};
 
 use crate::bar::{BarLine, bar_at};
 use crate::bar_rest::bar_rest_at;
 use crate::broken::{BrokenRhythm, broken_at};
 use crate::chord::{Chord, chord_at};
-use crate::closing::Missing;
 use crate::delimited::delimited_at;
 use crate::directive::Directive;
 use crate::dynamic::{Dynamic, dynamic_of};
 use crate::ending::ending_at;
 use crate::field::Field;
 use crate::inline_field::inline_field_at;
+use crate::known_absent::KnownAbsent;
 use crate::length::WrittenLength;
 use crate::no_effect::extra_space_at;
 use crate::note::{Note, note_at, rest_at, short_note_at};
@@ -34,13 +34,13 @@ pub enum TokenKind {
     Note(Note),
     /// A rest, with its length.
     Rest(WrittenLength),
-    /// A rest of whole bars, with their number where it is written.
+    /// A rest of whole bars, with their number if it is written.
     BarRest(Option<u32>),
     Chord(Shared<Chord>),
     /// A field in a music line, as `[K:G]`.
     InlineField(Shared<Field>),
     Bar(BarLine),
-    /// The passes that an ending is for: bit i - 1 is set for pass i. None where a number is refused.
+    /// The passes that an ending is for: bit i - 1 is set for pass i. None if a number is refused.
     Ending(Option<u32>),
     Tuplet(Tuplet),
     Broken(BrokenRhythm),
@@ -71,8 +71,8 @@ pub(crate) fn is_bar(kind: &TokenKind) -> bool
 }
 
 /// A byte of a line that begins no token: whether it opens something that another byte closes.
-fn alone_of(byte: u8) -> TokenKind
-    ensures { result ≡ alone_of byte }
+fn unmatched_byte(byte: u8) -> TokenKind
+    ensures { result ≡ unmatched_byte byte }
 {
     match byte {
         b'[' | b'"' | b'!' | b'{' => TokenKind::Unclosed,
@@ -112,15 +112,15 @@ fn bracket_at(
 fn field_at(
     alloc: Global,
     text: &[u8],
-    missing: &mut Missing,
+    absent: &mut KnownAbsent,
 ) -> Result<Option<(TokenKind, usize)>, AllocError>
-    requires { IsMissing missing.old (drop 1 text.now) }
+    requires { IsKnownAbsent absent.old (drop 1 text.now) }
     ensures value { IfOk result (λ token. token ≡ reading_by Start.InlineField false text.now) }
     ensures some { IfOk result (λ token. IfSome token (λ r. 0 < r.1)) }
     ensures inside { IfOk result (λ token. IfSome token (λ r. r.1 ≤ length text.now)) }
-    ensures kept { IsMissing missing.new (drop 1 text.now) }
+    ensures kept { IsKnownAbsent absent.new (drop 1 text.now) }
 {
-    match inline_field_at(alloc, text, missing)? {
+    match inline_field_at(alloc, text, absent)? {
         Some((field, size)) => {
             let field = Shared::new(alloc, field)?;
             Ok(Some((TokenKind::InlineField(field), size)))
@@ -130,8 +130,8 @@ fn field_at(
 }
 
 /// What a text between delimiters is: a dynamic, or a token without effect.
-fn loud_or_silent(text: &[u8]) -> TokenKind
-    ensures { result ≡ loud_or_silent (dynamic_of text.now) }
+fn dynamic_or_ignored(text: &[u8]) -> TokenKind
+    ensures { result ≡ dynamic_or_ignored (dynamic_of text.now) }
 {
     match dynamic_of(text) {
         Some(dynamic) => TokenKind::Dynamic(dynamic),
@@ -140,15 +140,15 @@ fn loud_or_silent(text: &[u8]) -> TokenKind
 }
 
 /// The token between delimiters at the front of a text, and how many bytes it takes.
-fn enclosed_at(text: &[u8], missing: &mut Missing) -> Option<(TokenKind, usize)>
-    requires { IsMissing missing.old (drop 1 text.now) }
+fn enclosed_at(text: &[u8], absent: &mut KnownAbsent) -> Option<(TokenKind, usize)>
+    requires { IsKnownAbsent absent.old (drop 1 text.now) }
     ensures value { result ≡ reading_by Start.Delimited false text.now }
     ensures some { IfSome result (λ r. 0 < r.1) }
     ensures inside { IfSome result (λ r. r.1 ≤ length text.now) }
-    ensures kept { IsMissing missing.new (drop 1 text.now) }
+    ensures kept { IsKnownAbsent absent.new (drop 1 text.now) }
 {
-    let size = delimited_at(text, missing)?;
-    Some((loud_or_silent(&text[..size]), size))
+    let size = delimited_at(text, absent)?;
+    Some((dynamic_or_ignored(&text[..size]), size))
 }
 
 /// The tuplet at the front of a text, or its `(` alone, and how many bytes it takes.
@@ -165,7 +165,7 @@ fn parenthesis_at(text: &[u8]) -> Option<(TokenKind, usize)>
 }
 
 /// The token at the front of a text that begins in this way, and how many bytes it takes, if it can
-/// be told without memory and without a search for its end.
+/// be read without memory and without a search for its end.
 fn mark_at(start: Start, after_bar: bool, text: &[u8]) -> Option<(TokenKind, usize)>
     requires some { 0 < length text.now }
     requires short { length text.now < 2 ^ 31 }
@@ -231,24 +231,24 @@ pub(crate) fn next_token(
     alloc: Global,
     after_bar: bool,
     text: &[u8],
-    missing: &mut Missing,
+    absent: &mut KnownAbsent,
 ) -> Result<(TokenKind, usize), AllocError>
     requires some { 0 < length text.now }
-    requires known { IsMissing missing.old (drop 1 text.now) }
+    requires known { IsKnownAbsent absent.old (drop 1 text.now) }
     requires short { length text.now < 2 ^ 31 }
     ensures value { IfOk result (λ r. r ≡ next_token after_bar text.now) }
     ensures some { IfOk result (λ r. 0 < r.1) }
     ensures inside { IfOk result (λ r. r.1 ≤ length text.now) }
-    ensures kept { IsMissing missing.new (drop 1 text.now) }
+    ensures kept { IsKnownAbsent absent.new (drop 1 text.now) }
 {
     let found = match start_of(text) {
-        Start::InlineField => field_at(alloc, text, missing)?,
+        Start::InlineField => field_at(alloc, text, absent)?,
         Start::Bracket => bracket_at(alloc, after_bar, text)?,
-        Start::Delimited => enclosed_at(text, missing),
+        Start::Delimited => enclosed_at(text, absent),
         start => mark_at(start, after_bar, text),
     };
     match found {
         Some(token) => Ok(token),
-        None => Ok((alone_of(text[0]), 1)),
+        None => Ok((unmatched_byte(text[0]), 1)),
     }
 }

@@ -10,13 +10,13 @@ use crate::number::{number_at, optional_number_at};
 #[derive(Clone, Copy)]
 pub struct Tuplet {
     pub p: u32,
-    /// None where it is empty or not written.
+    /// None if it is empty or not written.
     pub q: Option<u32>,
-    /// None where it is empty or not written.
+    /// None if it is empty or not written.
     pub r: Option<u32>,
 }
 
-/// The number behind a colon at the front of a text, and how many bytes both take.
+/// The number after a colon at the front of a text, and how many bytes both take.
 fn further_at(text: &[u8]) -> (Option<u32>, usize)
     ensures value { result ≡ further_at text.now }
     ensures inside { result.1 ≤ length text.now }

@@ -1,11 +1,12 @@
 -- Laws of the blanks at the ends of a text.
-use Rattle.std.proofs.Common.{◌≡◌, ℕ, ◌+◌, ◌-◌, ◌≤◌, true, false, List, [], ◌∷◌, ◌++◌, length, take, drop, reverse, refl, sym, ap, ◌∙◌, ◌⊎◌, inl, inr, ⊎_elim, arith, length-append, length-drop, length-take-le}
+use Rattle.std.proofs.Common.{◌≡◌, ℕ, ◌+◌, ◌-◌, ◌≤◌, true, false, List, [], ◌∷◌, ◌++◌, length, take, drop, reverse, refl, sym, ap, ◌∙◌, ◌⊎◌, inl, inr, ⊎_elim, arith, length-append, length-drop}
+use Rattle.std.proofs.Common.{length-take-le}
 use Rattle.std.specs.Prelude.{not}
 use Rattle.std.specs.List.{prefix_len, suffix_len, AllPass}
 use Rattle.std.proofs.lemmas.Bool.{cond-true}
 use Rattle.std.proofs.lemmas.List.{append-nil, reverse-append, reverse-reverse, length-reverse, take-append-drop}
 use Rattle.std.proofs.lemmas.List.Sums.{prefix_len-le-length}
-use Rattle.abc_text.specs.Blank.{is_blank, trim_start, trim_end, trimmed, AreBlanks}
+use Rattle.abc_text.specs.Blank.{is_blank, trim_start, trim_end, trim_blanks, AreBlanks}
 use Rattle.abc_text.proofs.Fronts.{front_passes, front_stops, front_exact, front_other, take_exact, drop_exact, AllPass-reverse}
 
 -- blanks at the start
@@ -32,11 +33,12 @@ trim_start-some text b bs e blank =
 pub trim_end-gap : (front gap : List ℕ) → AreBlanks gap → suffix_len is_blank front ≡ 0 → trim_end (front ++ gap) ≡ front
 unfolding trim_end
 trim_end-gap front gap h none =
-    let back : suffix_len is_blank (front ++ gap) ≡ length (reverse gap) = ap (prefix_len is_blank) (reverse-append front gap) ∙ front_exact is_blank (reverse gap) (reverse front) (AllPass-reverse is_blank gap h) none in
+    let back : suffix_len is_blank (front ++ gap) ≡ length (reverse gap) = ap (prefix_len is_blank) (reverse-append front gap) ∙ front_exact is_blank (reverse gap) (reverse front) (AllPass-reverse
+    is_blank gap h) none in
     let size : length (front ++ gap) - suffix_len is_blank (front ++ gap) ≡ length front = omega (arith, back, length-reverse gap, length-append front gap) in
     take_exact _ front gap size
 
--- a text read from its end: what stands before its last blanks, and these
+-- a text read from its end: the part before its last blanks, and these
 back_parts : (text : List ℕ) → text ≡ reverse (drop (suffix_len is_blank text) (reverse text)) ++ reverse (take (suffix_len is_blank text) (reverse text))
 back_parts text =
     let back = reverse text in
@@ -77,6 +79,6 @@ trim_start-le text = omega (arith, length-drop (prefix_len is_blank text) text)
 pub trim_end-le : (text : List ℕ) → length (trim_end text) ≤ length text
 trim_end-le text = let parts = trim_end-parts text in omega (arith, ap length parts.1, length-append (trim_end text) parts.0)
 
-pub trimmed-le : (text : List ℕ) → length (trimmed text) ≤ length text
-unfolding trimmed
-trimmed-le text = omega (arith, trim_end-le (trim_start text), trim_start-le text)
+pub trim_blanks-le : (text : List ℕ) → length (trim_blanks text) ≤ length text
+unfolding trim_blanks
+trim_blanks-le text = omega (arith, trim_end-le (trim_start text), trim_start-le text)

@@ -1,5 +1,6 @@
 -- The longest front of a list whose elements pass a test, and a list that is cut before its last element.
-use Rattle.std.proofs.Common.{◌≡◌, ℕ, suc, ◌+◌, ◌-◌, ◌<◌, ◌≤◌, Bool, true, false, List, [], ◌∷◌, ◌++◌, length, get_or, take, drop, reverse, refl, sym, ap, ◌∙◌, subst, ◌⊎◌, inl, inr, ⊎_elim, arith, add-zero, drop-cons}
+use Rattle.std.proofs.Common.{◌≡◌, ℕ, suc, ◌+◌, ◌-◌, ◌<◌, ◌≤◌, Bool, true, false, List, [], ◌∷◌, ◌++◌, length, get_or, take, drop, reverse, refl, sym, ap, ◌∙◌, subst, ◌⊎◌, inl, inr, ⊎_elim, arith}
+use Rattle.std.proofs.Common.{add-zero, drop-cons}
 use Rattle.std.specs.Prelude.{not}
 use Rattle.std.specs.List.{prefix_len, AllPass}
 use Rattle.std.proofs.Math.Seq.{take-append_seam, drop-append_seam}
@@ -14,7 +15,8 @@ one_more n = omega arith
 pub front_passes : (p : ℕ → Bool) (xs : List ℕ) → AllPass p (take (prefix_len p xs) xs)
 front_passes p [] = All-nil _
 front_passes p (x ∷ xs) = ⊎_elim
-    (λ yes. subst (λ n. AllPass p (take n (x ∷ xs))) (sym (cond-true (p x) (1 + prefix_len p xs) 0 yes ∙ one_more (prefix_len p xs))) (All-cons (λ y. p y ≡ true) x (take (prefix_len p xs) xs) yes (front_passes p xs)))
+    (λ yes. subst (λ n. AllPass p (take n (x ∷ xs))) (sym (cond-true (p x) (1 + prefix_len p xs) 0 yes ∙ one_more (prefix_len p xs)))
+    (All-cons (λ y. p y ≡ true) x (take (prefix_len p xs) xs) yes (front_passes p xs)))
     (λ fails. subst (λ n. AllPass p (take n (x ∷ xs))) (sym (cond-false (p x) (1 + prefix_len p xs) 0 fails)) (All-nil _))
     (cases_Bool (p x))
 
@@ -22,8 +24,10 @@ front_passes p (x ∷ xs) = ⊎_elim
 pub front_stops : (p : ℕ → Bool) (xs : List ℕ) → (drop (prefix_len p xs) xs ≡ []) ⊎ ((y : ℕ) × (ys : List ℕ) × (drop (prefix_len p xs) xs ≡ y ∷ ys) × (p y ≡ false))
 front_stops p [] = inl refl
 front_stops p (x ∷ xs) = ⊎_elim
-    (λ yes. subst (λ n. (drop n (x ∷ xs) ≡ []) ⊎ ((y : ℕ) × (ys : List ℕ) × (drop n (x ∷ xs) ≡ y ∷ ys) × (p y ≡ false))) (sym (cond-true (p x) (1 + prefix_len p xs) 0 yes ∙ one_more (prefix_len p xs))) (front_stops p xs))
-    (λ fails. subst (λ n. (drop n (x ∷ xs) ≡ []) ⊎ ((y : ℕ) × (ys : List ℕ) × (drop n (x ∷ xs) ≡ y ∷ ys) × (p y ≡ false))) (sym (cond-false (p x) (1 + prefix_len p xs) 0 fails)) (inr (x, xs, refl, fails)))
+    (λ yes. subst (λ n. (drop n (x ∷ xs) ≡ []) ⊎ ((y : ℕ) × (ys : List ℕ) × (drop n (x ∷ xs) ≡ y ∷ ys) × (p y ≡ false)))
+    (sym (cond-true (p x) (1 + prefix_len p xs) 0 yes ∙ one_more (prefix_len p xs))) (front_stops p xs))
+    (λ fails. subst (λ n. (drop n (x ∷ xs) ≡ []) ⊎ ((y : ℕ) × (ys : List ℕ) × (drop n (x ∷ xs) ≡ y ∷ ys) × (p y ≡ false))) (sym (cond-false (p x) (1 + prefix_len p xs) 0 fails))
+    (inr (x, xs, refl, fails)))
     (cases_Bool (p x))
 
 -- a list that passes, and what follows it
@@ -53,7 +57,8 @@ front_other p (x ∷ xs) rest h some = front_none p x (xs ++ rest) (not-true (p 
 -- a list that passes, read from its end
 pub AllPass-reverse : (p : ℕ → Bool) (xs : List ℕ) → AllPass p xs → AllPass p (reverse xs)
 AllPass-reverse p [] h = h
-AllPass-reverse p (x ∷ xs) h = subst (AllPass p) (sym (reverse-append (x ∷ []) xs)) (All-append (λ y. p y ≡ true) (reverse xs) (x ∷ []) (AllPass-reverse p xs (All-tail (λ y. p y ≡ true) x xs h)) (All-cons (λ y. p y ≡ true) x [] (All-head (λ y. p y ≡ true) x xs h) (All-nil _)))
+AllPass-reverse p (x ∷ xs) h = subst (AllPass p) (sym (reverse-append (x ∷ []) xs)) (All-append (λ y. p y ≡ true) (reverse xs) (x ∷ []) (AllPass-reverse p xs (All-tail (λ y. p y ≡ true) x xs h))
+    (All-cons (λ y. p y ≡ true) x [] (All-head (λ y. p y ≡ true) x xs h) (All-nil _)))
 
 -- a list without elements
 pub empty_list : (xs : List ℕ) → length xs ≡ 0 → xs ≡ []

@@ -20,7 +20,8 @@ return_at text b =
     let front : take (length line - 1) line ≡ text = take_exact (length line - 1) text (b ∷ []) (omega (arith, long)) in
     ⊎_elim
     (λ test_is.
-    let test : ends_with nat_eq line (carriage_return ∷ []) ≡ true = ap (pointwise nat_eq (carriage_return ∷ [])) last ∙ ap (λ x. pointwise nat_eq (carriage_return ∷ []) (x ∷ [])) (eqb-true b carriage_return test_is) in
+    let test : ends_with nat_eq line (carriage_return ∷ []) ≡ true = ap (pointwise nat_eq (carriage_return ∷ [])) last ∙ ap (λ x. pointwise nat_eq (carriage_return ∷ []) (x ∷ [])) (eqb-true b
+    carriage_return test_is) in
     cond-true _ _ _ test ∙ front ∙ sym (cond-true (b == carriage_return) text line test_is))
     (λ other.
     let test : ends_with nat_eq line (carriage_return ∷ []) ≡ false = ap (pointwise nat_eq (carriage_return ∷ [])) last ∙ no_return b (eqb-false b carriage_return other) in

@@ -1,5 +1,6 @@
 -- To trim blanks by characters is to trim them by bytes: a blank is one byte and a piece of its own.
-use Rattle.std.proofs.Common.{◌≡◌, ℕ, zero, suc, ◌+◌, ◌-◌, ◌<◌, ◌≤◌, Bool, true, false, cond, List, [], ◌∷◌, ◌++◌, length, take, drop, get_or, slice_index, Option, Some, None, refl, sym, ap, ◌∙◌, ⊎_elim, arith, length-append, length-drop}
+use Rattle.std.proofs.Common.{◌≡◌, ℕ, zero, suc, ◌+◌, ◌-◌, ◌<◌, ◌≤◌, Bool, true, false, cond, List, [], ◌∷◌, ◌++◌, length, take, drop, get_or, slice_index, Option, Some, None, refl, sym, ap, ◌∙◌}
+use Rattle.std.proofs.Common.{⊎_elim, arith, length-append, length-drop}
 use Rattle.std.specs.Char.{encode_utf8}
 use Rattle.std.specs.List.{prefix_len}
 use Rattle.std.proofs.lemmas.Bool.{cond-true, cond-false, cases_Bool, cases_lt, lt-ltb, false≢true}
@@ -11,7 +12,7 @@ use Rattle.bstr.specs.Utf8.{Decoded, decoded, good, or_replacement, pieces, span
 use Rattle.bstr.proofs.lemmas.PieceLemmas.{value-1, piece-bounds, pieces-append, StartsClean, spans-first, spans-nil}
 use Rattle.bstr.proofs.lemmas.SoundLemmas.{SpellsChar-decoded}
 use Rattle.bstr.proofs.lemmas.TrimLemmas.{kept-skip, kept-stop, kept-nil, kept_end-nil}
-use Rattle.abc_text.specs.Blank.{is_blank, trim_start, trim_end, trimmed, AreBlanks}
+use Rattle.abc_text.specs.Blank.{is_blank, trim_start, trim_end, trim_blanks, AreBlanks}
 use Rattle.abc_text.proofs.Fronts.{take_exact}
 use Rattle.abc_text.proofs.Blanks.{trim_end-parts, trim_end-stops}
 
@@ -114,7 +115,8 @@ whole_other text whole last = ⊎_elim
     (cases_Bool (is_blank (first_char text)))
 
 -- a text that ends with another byte than a blank is kept whole
-ends : (fuel : ℕ) (text : List ℕ) (off a : ℕ) → length text ≤ fuel → 0 < length text → is_blank (get_or text (length text - 1) 0) ≡ false → kept_end is_blank a (spans_from off (pieces text)) ≡ off + length text
+ends : (fuel : ℕ) (text : List ℕ) (off a : ℕ) → length text ≤ fuel → 0 < length text → is_blank (get_or text (length text - 1) 0) ≡ false
+    → kept_end is_blank a (spans_from off (pieces text)) ≡ off + length text
 ends zero text off a le some last = absurd (omega arith)
 ends (suc fuel) text off a le some last =
     let s = (decoded text).size in
@@ -174,6 +176,6 @@ trim_end_by_blanks text =
     ap (λ k. take k text) kept ∙ ap (take (length front)) e ∙ take_exact (length front) front gap refl
 
 -- at both
-pub trim_by_blanks : (text : List ℕ) → trim_end_by is_blank (trim_start_by is_blank text) ≡ trimmed text
-unfolding trimmed
+pub trim_by_blanks : (text : List ℕ) → trim_end_by is_blank (trim_start_by is_blank text) ≡ trim_blanks text
+unfolding trim_blanks
 trim_by_blanks text = ap (trim_end_by is_blank) (trim_start_by_blanks text) ∙ trim_end_by_blanks (trim_start text)

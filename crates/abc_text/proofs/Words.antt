@@ -1,5 +1,6 @@
 -- Laws of words.
-use Rattle.std.proofs.Common.{◌≡◌, ℕ, suc, ◌+◌, ◌-◌, ◌<◌, ◌≤◌, true, false, ltb, List, [], ◌∷◌, ◌++◌, length, get_or, take, drop, MatchOption, IfSome, Option, Some, None, append-nil, refl, sym, ap, ◌∙◌, subst, inl, inr, ⊎_elim, arith, length-append, length-drop, length-take, length-take-le, drop-cons, add-one}
+use Rattle.std.proofs.Common.{◌≡◌, ℕ, suc, ◌+◌, ◌-◌, ◌<◌, ◌≤◌, true, false, ltb, List, [], ◌∷◌, ◌++◌, length, get_or, take, drop, MatchOption, IfSome, Option, Some, None, append-nil, refl, sym, ap}
+use Rattle.std.proofs.Common.{◌∙◌, subst, inl, inr, ⊎_elim, arith, length-append, length-drop, length-take, length-take-le, drop-cons, add-one}
 use Rattle.std.specs.Prelude.{◌⊎◌, ◌↔◌, not}
 use Rattle.std.specs.List.{All, AllPass, filter, slice_range, slice_split}
 use Rattle.std.proofs.Math.Seq.{take-append_seam, drop-append_seam}
@@ -9,19 +10,19 @@ use Rattle.std.proofs.lemmas.List.Splits.{slice_split-cons_yes, slice_split_none
 use Rattle.std.proofs.lemmas.List.{drop_all, take_all, take-append-drop, drop-drop}
 use Rattle.std.proofs.lemmas.List.Sums.{prefix_len-le-length, prefix_len_stops, passes_at_first}
 use Rattle.abc_text.specs.Blank.{is_blank}
-use Rattle.abc_text.specs.Word.{is_word, words_of, IsFirstWord, AreWords, leading_blanks, before_blank, first_word}
+use Rattle.abc_text.specs.Word.{is_word, words_of, IsFirstWord, AreWords, leading_blanks, bytes_before_blank, first_word}
 
 abbrev IsInk : ℕ → Type 0
 IsInk b = is_blank b ≡ false
 
 -- the bytes before the first blank
-ink : (text : List ℕ) → All IsInk (take (before_blank text) text)
+ink : (text : List ℕ) → All IsInk (take (bytes_before_blank text) text)
 ink [] = All-nil IsInk
 ink (b ∷ bs) = ⊎_elim
-    (λ yes. subst (λ n. All IsInk (take n (b ∷ bs))) (sym (cond-false (not (is_blank b)) (1 + before_blank bs) 0 (not_from_true _ yes))) (All-nil IsInk))
+    (λ yes. subst (λ n. All IsInk (take n (b ∷ bs))) (sym (cond-false (not (is_blank b)) (1 + bytes_before_blank bs) 0 (not_from_true _ yes))) (All-nil IsInk))
     (λ no.
-    let n : before_blank (b ∷ bs) ≡ suc (before_blank bs) = cond-true (not (is_blank b)) (1 + before_blank bs) 0 (not_from_false _ no) ∙ omega arith in
-    subst (λ n. All IsInk (take n (b ∷ bs))) (sym n) (All-cons IsInk b (take (before_blank bs) bs) no (ink bs)))
+    let n : bytes_before_blank (b ∷ bs) ≡ suc (bytes_before_blank bs) = cond-true (not (is_blank b)) (1 + bytes_before_blank bs) 0 (not_from_false _ no) ∙ omega arith in
+    subst (λ n. All IsInk (take n (b ∷ bs))) (sym n) (All-cons IsInk b (take (bytes_before_blank bs) bs) no (ink bs)))
     (cases_Bool (is_blank b))
 
 -- blanks make no word
@@ -46,49 +47,50 @@ no_words text none = behind_blanks text ∙ ap words_of (drop_all (leading_blank
 a_word : (word : List ℕ) (parts : List (List ℕ)) → 0 < length word → filter is_word (word ∷ parts) ≡ word ∷ filter is_word parts
 a_word word parts some = cond-true (ltb 0 (length word)) _ _ (lt-ltb 0 (length word) some)
 
-word_inside : (text : List ℕ) → 0 < before_blank text → before_blank text < length text → words_of text ≡ take (before_blank text) text ∷ words_of (drop (before_blank text) text)
+word_inside : (text : List ℕ) → 0 < bytes_before_blank text → bytes_before_blank text < length text
+    → words_of text ≡ take (bytes_before_blank text) text ∷ words_of (drop (bytes_before_blank text) text)
 unfolding words_of
 word_inside text some inside =
-    let n = before_blank text in
+    let n = bytes_before_blank text in
     let cut : slice_split is_blank text ≡ take n text ∷ slice_split is_blank (drop (n + 1) text) = slice_split_first is_blank text 0 inside in
     let next : drop n text ≡ get_or text n 0 ∷ drop (n + 1) text = rw (add-one, drop-cons text n 0) in
     let behind : words_of (drop n text) ≡ words_of (drop (n + 1) text) = ap words_of next ∙ behind_blank (get_or text n 0) (drop (n + 1) text) (passes_at_first is_blank text 0 inside) in
     let long : 0 < length (take n text) = omega (arith, length-take n text) in
     ap (filter is_word) cut ∙ a_word (take n text) (slice_split is_blank (drop (n + 1) text)) long ∙ ap (λ w. take n text ∷ w) (sym behind)
 
-word_alone : (text : List ℕ) → 0 < length text → length text ≤ before_blank text → words_of text ≡ take (before_blank text) text ∷ words_of (drop (before_blank text) text)
+word_alone : (text : List ℕ) → 0 < length text → length text ≤ bytes_before_blank text → words_of text ≡ take (bytes_before_blank text) text ∷ words_of (drop (bytes_before_blank text) text)
 unfolding words_of
 word_alone text some all =
-    let n = before_blank text in
+    let n = bytes_before_blank text in
     let same : take n text ≡ text = take_all n text all in
     let cut : slice_split is_blank text ≡ text ∷ [] = slice_split_none is_blank text (subst (All IsInk) same (ink text)) in
     let front : words_of text ≡ text ∷ [] = ap (filter is_word) cut ∙ a_word text [] some in
     let behind : words_of (drop n text) ≡ [] = ap words_of (drop_all n text all) in
     front ∙ (λ i. sym same i ∷ sym behind i)
 
-front_word : (text : List ℕ) → 0 < before_blank text → words_of text ≡ take (before_blank text) text ∷ words_of (drop (before_blank text) text)
+front_word : (text : List ℕ) → 0 < bytes_before_blank text → words_of text ≡ take (bytes_before_blank text) text ∷ words_of (drop (bytes_before_blank text) text)
 front_word text some = ⊎_elim
     (λ inside. word_inside text some inside)
     (λ all. word_alone text (omega (arith, prefix_len-le-length (λ b. not (is_blank b)) text)) all)
-    (cases_lt (before_blank text) (length text))
+    (cases_lt (bytes_before_blank text) (length text))
 
--- behind the blanks stands a word
-some_ink : (text : List ℕ) → leading_blanks text < length text → 0 < before_blank (drop (leading_blanks text) text)
+-- after the blanks stands a word
+some_ink : (text : List ℕ) → leading_blanks text < length text → 0 < bytes_before_blank (drop (leading_blanks text) text)
 some_ink text inside =
     let n = leading_blanks text in
     let next : drop n text ≡ get_or text n 0 ∷ drop (suc n) text = drop-cons text n 0 inside in
     let no : is_blank (get_or text n 0) ≡ false = prefix_len_stops is_blank text 0 inside in
-    let count : before_blank (drop n text) ≡ 1 + before_blank (drop (suc n) text) = ap before_blank next ∙ cond-true _ _ _ (not_from_false _ no) in
+    let count : bytes_before_blank (drop n text) ≡ 1 + bytes_before_blank (drop (suc n) text) = ap bytes_before_blank next ∙ cond-true _ _ _ (not_from_false _ no) in
     omega (arith, count)
 
 pub record IsPlace (text : List ℕ) (from to : ℕ) : Type 0 where
   pub some : from < to
   pub words : words_of text ≡ slice_range text from to ∷ words_of (drop to text)
 
-place : (text : List ℕ) → leading_blanks text < length text → IsPlace text (leading_blanks text) (leading_blanks text + before_blank (drop (leading_blanks text) text))
+place : (text : List ℕ) → leading_blanks text < length text → IsPlace text (leading_blanks text) (leading_blanks text + bytes_before_blank (drop (leading_blanks text) text))
 place text inside =
     let from = leading_blanks text in
-    let size = before_blank (drop from text) in
+    let size = bytes_before_blank (drop from text) in
     let some : 0 < size = some_ink text inside in
     let same : size ≡ from + size - from = omega arith in
     record {
@@ -101,8 +103,8 @@ pub first_word_is : (text : List ℕ) (from to : ℕ) → Some (from, to) ≡ fi
 unfolding first_word
 first_word_is text from to e = ⊎_elim
     (λ inside.
-    let found : Some (leading_blanks text, leading_blanks text + before_blank (drop (leading_blanks text) text)) ≡ Some (from, to) = sym (cond-true _ _ _ (lt-ltb _ _ inside)) ∙ sym e in
-    let same : (leading_blanks text, leading_blanks text + before_blank (drop (leading_blanks text) text)) ≡ (from, to) = cc in
+    let found : Some (leading_blanks text, leading_blanks text + bytes_before_blank (drop (leading_blanks text) text)) ≡ Some (from, to) = sym (cond-true _ _ _ (lt-ltb _ _ inside)) ∙ sym e in
+    let same : (leading_blanks text, leading_blanks text + bytes_before_blank (drop (leading_blanks text) text)) ≡ (from, to) = cc in
     subst (λ (w : ℕ × ℕ). IsPlace text w.0 w.1) same (place text inside))
     (λ past. let none : None ≡ Some (from, to) = sym (cond-false _ _ _ (le-ltb _ _ past)) ∙ sym e in cc)
     (cases_lt (leading_blanks text) (length text))
@@ -111,7 +113,7 @@ pub no_first_word : (text : List ℕ) → None ≡ first_word text → words_of 
 unfolding first_word
 no_first_word text e = ⊎_elim
     (λ inside.
-    let found : Some (leading_blanks text, leading_blanks text + before_blank (drop (leading_blanks text) text)) ≡ None = sym (cond-true _ _ _ (lt-ltb _ _ inside)) ∙ sym e in
+    let found : Some (leading_blanks text, leading_blanks text + bytes_before_blank (drop (leading_blanks text) text)) ≡ None = sym (cond-true _ _ _ (lt-ltb _ _ inside)) ∙ sym e in
     cc)
     (λ past. no_words text past)
     (cases_lt (leading_blanks text) (length text))
@@ -140,11 +142,11 @@ are_blanks (b ∷ bs) = ⊎_elim
 abbrev Ends : List ℕ → Type 0
 Ends behind = (behind ≡ []) ⊎ ((b : ℕ) × (rest : List ℕ) × (behind ≡ b ∷ rest) × (is_blank b ≡ true))
 
-ink_ends : (text : List ℕ) → Ends (drop (before_blank text) text)
+ink_ends : (text : List ℕ) → Ends (drop (bytes_before_blank text) text)
 ink_ends text = ⊎_elim
-    (λ inside. inr (get_or text (before_blank text) 0, drop (suc (before_blank text)) text, drop-cons text (before_blank text) 0 inside, passes_at_first is_blank text 0 inside))
-    (λ past. inl (drop_all (before_blank text) text past))
-    (cases_lt (before_blank text) (length text))
+    (λ inside. inr (get_or text (bytes_before_blank text) 0, drop (suc (bytes_before_blank text)) text, drop-cons text (bytes_before_blank text) 0 inside, passes_at_first is_blank text 0 inside))
+    (λ past. inl (drop_all (bytes_before_blank text) text past))
+    (cases_lt (bytes_before_blank text) (length text))
 
 -- the first word is where it is read
 pub record IsFirstAt (text : List ℕ) (from to : ℕ) : Type 0 where
@@ -152,11 +154,11 @@ pub record IsFirstAt (text : List ℕ) (from to : ℕ) : Type 0 where
   pub from_is : from ≡ length first.blanks
   pub to_is : to ≡ from + length (slice_range text from to)
 
-first_at_blanks : (text : List ℕ) → leading_blanks text < length text → IsFirstAt text (leading_blanks text) (leading_blanks text + before_blank (drop (leading_blanks text) text))
+first_at_blanks : (text : List ℕ) → leading_blanks text < length text → IsFirstAt text (leading_blanks text) (leading_blanks text + bytes_before_blank (drop (leading_blanks text) text))
 first_at_blanks text inside =
     let from = leading_blanks text in
     let rest = drop from text in
-    let size = before_blank rest in
+    let size = bytes_before_blank rest in
     let some : 0 < size = some_ink text inside in
     let long : size ≤ length rest = prefix_len-le-length (λ b. not (is_blank b)) rest in
     let same : size ≡ from + size - from = omega arith in
@@ -180,13 +182,13 @@ pub first_at : (text : List ℕ) (from to : ℕ) → Some (from, to) ≡ first_w
 unfolding first_word
 first_at text from to e = ⊎_elim
     (λ inside.
-    let found : Some (leading_blanks text, leading_blanks text + before_blank (drop (leading_blanks text) text)) ≡ Some (from, to) = sym (cond-true _ _ _ (lt-ltb _ _ inside)) ∙ sym e in
-    let same : (leading_blanks text, leading_blanks text + before_blank (drop (leading_blanks text) text)) ≡ (from, to) = cc in
+    let found : Some (leading_blanks text, leading_blanks text + bytes_before_blank (drop (leading_blanks text) text)) ≡ Some (from, to) = sym (cond-true _ _ _ (lt-ltb _ _ inside)) ∙ sym e in
+    let same : (leading_blanks text, leading_blanks text + bytes_before_blank (drop (leading_blanks text) text)) ≡ (from, to) = cc in
     subst (λ (w : ℕ × ℕ). IsFirstAt text w.0 w.1) same (first_at_blanks text inside))
     (λ past. let none : None ≡ Some (from, to) = sym (cond-false _ _ _ (le-ltb _ _ past)) ∙ sym e in cc)
     (cases_lt (leading_blanks text) (length text))
 
--- the same where what stands behind is cut out of the text
+-- the same where what follows is cut out of the text
 pub first_cut : (text : List ℕ) (from to : ℕ) → Some (from, to) ≡ first_word text → IsFirstWord text (slice_range text from to) (slice_range text to (length text))
 first_cut text from to e =
     let all : take (length text - to) (drop to text) ≡ drop to text = take_all (length text - to) (drop to text) (omega (arith, length-drop to text)) in
@@ -202,14 +204,14 @@ no_blank_first : (word rest : List ℕ) → 0 < length word → All IsInk word �
 no_blank_first [] rest some are = absurd (omega arith)
 no_blank_first (b ∷ bs) rest some are = cond-false (is_blank b) (1 + leading_blanks (bs ++ rest)) 0 (All-head IsInk b bs are)
 
-front_ink : (word behind : List ℕ) → All IsInk word → Ends behind → before_blank (word ++ behind) ≡ length word
+front_ink : (word behind : List ℕ) → All IsInk word → Ends behind → bytes_before_blank (word ++ behind) ≡ length word
 front_ink [] behind are ends = ⊎_elim
-    (λ e. ap before_blank e)
-    (λ h. ap before_blank h.2 ∙ cond-false (not (is_blank h.0)) (1 + before_blank h.1) 0 (not_from_true _ h.3))
+    (λ e. ap bytes_before_blank e)
+    (λ h. ap bytes_before_blank h.2 ∙ cond-false (not (is_blank h.0)) (1 + bytes_before_blank h.1) 0 (not_from_true _ h.3))
     ends
 front_ink (b ∷ bs) behind are ends =
     let more = front_ink bs behind (All-tail IsInk b bs are) ends in
-    cond-true (not (is_blank b)) (1 + before_blank (bs ++ behind)) 0 (not_from_false _ (All-head IsInk b bs are)) ∙ omega (arith, more)
+    cond-true (not (is_blank b)) (1 + bytes_before_blank (bs ++ behind)) 0 (not_from_false _ (All-head IsInk b bs are)) ∙ omega (arith, more)
 
 -- and nowhere else
 pub record FirstKnown (text word behind : List ℕ) (from : ℕ) : Type 0 where
@@ -222,10 +224,12 @@ unfolding first_word
 first_known text word behind is =
     let from = length is.blanks in
     let some : 0 < length word = is.some in
-    let count : leading_blanks text ≡ from = ap leading_blanks is.spelling ∙ front_blanks is.blanks (word ++ behind) is.are_blanks ∙ (let none = no_blank_first word behind some is.no_blank in omega (arith, none)) in
+    let count : leading_blanks text ≡ from = ap leading_blanks is.spelling ∙ front_blanks is.blanks (word ++ behind) is.are_blanks ∙ (let none = no_blank_first word behind some is.no_blank in omega
+    (arith, none)) in
     let long : length text ≡ from + (length word + length behind) = ap length is.spelling ∙ length-append is.blanks (word ++ behind) ∙ ap (λ n. from + n) (length-append word behind) in
     let rest : drop from text ≡ word ++ behind = ap (drop from) is.spelling ∙ drop-append_seam is.blanks (word ++ behind) in
-    let size : before_blank (drop (leading_blanks text) text) ≡ length word = ap (λ n. before_blank (drop n text)) count ∙ ap before_blank rest ∙ front_ink word behind is.no_blank is.ends in
+    let size : bytes_before_blank (drop (leading_blanks text) text) ≡ length word = ap (λ n. bytes_before_blank
+    (drop n text)) count ∙ ap bytes_before_blank rest ∙ front_ink word behind is.no_blank is.ends in
     let inside : leading_blanks text < length text = omega (arith, count, long, some) in
     let same : from + length word - from ≡ length word = omega arith in
     record {
@@ -239,13 +243,14 @@ pub all_blank : (text : List ℕ) → None ≡ first_word text → AllPass is_bl
 unfolding first_word
 all_blank text e = ⊎_elim
     (λ inside.
-    let found : Some (leading_blanks text, leading_blanks text + before_blank (drop (leading_blanks text) text)) ≡ None = sym (cond-true _ _ _ (lt-ltb _ _ inside)) ∙ sym e in
+    let found : Some (leading_blanks text, leading_blanks text + bytes_before_blank (drop (leading_blanks text) text)) ≡ None = sym (cond-true _ _ _ (lt-ltb _ _ inside)) ∙ sym e in
     cc)
     (λ past. subst (AllPass is_blank) (take_all (leading_blanks text) text past) (are_blanks text))
     (cases_lt (leading_blanks text) (length text))
 
 blank_words : (text : List ℕ) → AllPass is_blank text → words_of text ≡ []
-blank_words text are = no_words text (let e : leading_blanks (text ++ []) ≡ length text + 0 = front_blanks text [] are in let same : leading_blanks (text ++ []) ≡ leading_blanks text = ap leading_blanks (append-nil text) in omega (arith, e, same))
+blank_words text are = no_words text (let e : leading_blanks (text ++ []) ≡ length text + 0 = front_blanks text [] are in let same : leading_blanks (text ++ []) ≡ leading_blanks text = ap
+    leading_blanks (append-nil text) in omega (arith, e, same))
 
 words_read : (words : List (List ℕ)) (text : List ℕ) (o : Option (ℕ × ℕ)) → o ≡ first_word text → words_of text ≡ words → AreWords text words
 words_read [] text None e is = all_blank text e

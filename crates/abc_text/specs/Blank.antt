@@ -20,5 +20,5 @@ unfoldable pub trim_end : List ℕ → List ℕ
 trim_end text = take (length text - suffix_len is_blank text) text
 
 -- A text without the blanks at its ends.
-unfoldable pub trimmed : List ℕ → List ℕ
-trimmed text = trim_end (trim_start text)
+unfoldable pub trim_blanks : List ℕ → List ℕ
+trim_blanks text = trim_end (trim_start text)

@@ -3,15 +3,15 @@ use Rattle.std.specs.Prelude.{ℕ, ◌≡◌, ◌==◌, nat_lt, not, if◌then�
 use Rattle.std.specs.List.{AllPass, position_or_len, before_first, after_first}
 
 -- A text has no such byte.
-abbrev pub Without : ℕ → List ℕ → Type 0
-Without byte text = AllPass (λ b. not (b == byte)) text
+abbrev pub HasNoByte : ℕ → List ℕ → Type 0
+HasNoByte byte text = AllPass (λ b. not (b == byte)) text
 
 -- A text is a front without such a byte, the byte, and a rest.
 pub record IsCut (byte : ℕ) (text front rest : List ℕ) : Type 0 where
   pub spelling : text ≡ front ++ byte ∷ rest
-  pub first : Without byte front
+  pub first : HasNoByte byte front
 
--- What stands before the first such byte of a text, and what stands behind it.
+-- The part before the first such byte of a text, and what follows it.
 unfoldable pub cut_at : ℕ → List ℕ → Option (List ℕ × List ℕ)
 cut_at byte text =
     if nat_lt (position_or_len (λ b. b == byte) text) (length text)

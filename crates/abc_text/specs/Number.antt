@@ -4,7 +4,7 @@ use Rattle.std.specs.List.{list_all, AllPass}
 use Rattle.abc_text.specs.declared.digit.TheConstants.{LONGEST_NUMBER}
 use Rattle.abc_text.specs.Digit.{is_digit, decimal}
 
--- A text spells a number: one to nine decimal digits; zeros may stand in front. Our own.
+-- A text spells a number: one to nine decimal digits; zeros may come first. Not in ABC 2.1.
 pub record IsNumber (text : List ℕ) (n : ℕ) : Type 0 where
   pub some : 1 ≤ length text
   pub few : length text ≤ LONGEST_NUMBER

@@ -1,5 +1,6 @@
--- Words, which stand between blanks.
-use Rattle.std.specs.Prelude.{◌≡◌, ℕ, ◌+◌, ◌<◌, ◌⊎◌, Bool, true, false, nat_lt, Option, Some, None, List, [], ◌∷◌, ◌++◌, length, drop, if◌then◌else◌}
+-- Words, which are separated by blanks.
+use Rattle.std.specs.Prelude.{◌≡◌, ℕ, ◌+◌, ◌<◌, ◌⊎◌, Bool, true, false, nat_lt, Option, Some, None, List, [], ◌∷◌, ◌++◌, length}
+use Rattle.std.specs.Prelude.{drop, if◌then◌else◌}
 use Rattle.std.specs.List.{All, AllPass, filter, position_or_len, prefix_len, slice_split}
 use Rattle.abc_text.specs.Blank.{is_blank}
 
@@ -11,7 +12,7 @@ is_word part = nat_lt 0 (length part)
 unfoldable pub words_of : List ℕ → List (List ℕ)
 words_of text = filter is_word (slice_split is_blank text)
 
--- The first word of a text: behind its blanks, bytes of which none is a blank, as far as they go.
+-- The first word of a text: after its blanks, bytes of which none is a blank, as far as they go.
 pub record IsFirstWord (text word behind : List ℕ) : Type 0 where
   pub blanks : List ℕ
   pub spelling : text ≡ blanks ++ (word ++ behind)
@@ -20,7 +21,7 @@ pub record IsFirstWord (text word behind : List ℕ) : Type 0 where
   pub no_blank : All (λ b. is_blank b ≡ false) word
   pub ends : (behind ≡ []) ⊎ ((b : ℕ) × (rest : List ℕ) × (behind ≡ b ∷ rest) × (is_blank b ≡ true))
 
--- The words of a text, one behind the other; a text of nothing but blanks has none.
+-- The words of a text, one after the other; a text of nothing but blanks has none.
 abbrev pub AreWords : List ℕ → List (List ℕ) → Type 0
 AreWords text [] = AllPass is_blank text
 AreWords text (word ∷ words) = (behind : List ℕ) × IsFirstWord text word behind × AreWords behind words
@@ -29,12 +30,13 @@ AreWords text (word ∷ words) = (behind : List ℕ) × IsFirstWord text word be
 abbrev pub leading_blanks : List ℕ → ℕ
 leading_blanks text = prefix_len is_blank text
 
--- How many bytes stand before the first blank of a text.
-abbrev pub before_blank : List ℕ → ℕ
-before_blank text = position_or_len is_blank text
+-- How many bytes precede the first blank of a text.
+abbrev pub bytes_before_blank : List ℕ → ℕ
+bytes_before_blank text = position_or_len is_blank text
 
 -- Where the first word of a text begins and ends.
 unfoldable pub first_word : List ℕ → Option (ℕ × ℕ)
 first_word text =
-    if nat_lt (leading_blanks text) (length text) then Some (leading_blanks text, leading_blanks text + before_blank (drop (leading_blanks text) text))
+    if nat_lt (leading_blanks text) (length text)
+    then Some (leading_blanks text, leading_blanks text + bytes_before_blank (drop (leading_blanks text) text))
     else None

@@ -1,7 +1,7 @@
 //! Blanks, and a text without those at its ends.
 
 ghost use Rattle.std.specs.Prelude.{◌≡◌, ◌≤◌, length};
-ghost use Rattle.abc_text.specs.Blank.{is_blank, trim_start, trim_end, trimmed};
+ghost use Rattle.abc_text.specs.Blank.{is_blank, trim_start, trim_end, trim_blanks};
 
 use bstr::ByteSlice;
 
@@ -36,8 +36,8 @@ pub fn trim_end(text: &[u8]) -> &[u8]
 }
 
 /// A text without the blanks at its ends, which are spaces and tabs.
-pub fn trimmed(text: &[u8]) -> &[u8]
-    ensures value { result.now ≡ trimmed text.now }
+pub fn trim_blanks(text: &[u8]) -> &[u8]
+    ensures value { result.now ≡ trim_blanks text.now }
     ensures bounded { length result.now ≤ length text.now }
 {
     text.trim_with(is_blank_char)

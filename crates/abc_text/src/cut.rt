@@ -2,23 +2,23 @@
 
 ghost use Rattle.std.specs.Prelude.{◌≡◌, ◌<◌, ◌==◌, IfSome, MatchOption, length, option_map};
 ghost use Rattle.std.specs.List.{position};
-ghost use Rattle.abc_text.specs.Cut.{Without, IsCut, cut_at};
+ghost use Rattle.abc_text.specs.Cut.{HasNoByte, IsCut, cut_at};
 
-/// Where the first such byte of a text stands.
-fn place_of(text: &[u8], byte: u8) -> Option<usize>
+/// The index of the first such byte of a text.
+fn find_byte(text: &[u8], byte: u8) -> Option<usize>
     ensures value { result ≡ position (λ b. b == byte) text.now }
     ensures inside { IfSome result (λ at. at < length text.now) }
 {
     text.iter().position(|b| *b == byte)
 }
 
-/// What stands before the first such byte of a text, and what stands behind it; none where the text
+/// The part before the first such byte of a text, and what follows it; none if the text
 /// has no such byte.
 #[tactic(auto, unfolding(crate::specs::Cut::cut_at))]
 pub fn cut_at(text: &[u8], byte: u8) -> Option<(&[u8], &[u8])>
     ensures value { option_map (λ parts. (parts.0.now, parts.1.now)) result ≡ cut_at byte text.now }
-    ensures cut { MatchOption result (Without byte text.now) (λ parts. IsCut byte text.now parts.0.now parts.1.now) }
+    ensures cut { MatchOption result (HasNoByte byte text.now) (λ parts. IsCut byte text.now parts.0.now parts.1.now) }
 {
-    let at = place_of(text, byte)?;
+    let at = find_byte(text, byte)?;
     Some((&text[..at], &text[at + 1..]))
 }

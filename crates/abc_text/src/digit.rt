@@ -1,20 +1,18 @@
 //! Decimal digits, and the numbers that they write.
 
-ghost use Rattle.std.specs.Prelude.{◌≡◌, ◌+◌, ◌≤◌, ◌^◌, length, take};
+ghost use Rattle.std.specs.Prelude.{◌≡◌, ◌≤◌, length, take};
 ghost use Rattle.std.specs.List.{prefix_len, AllPass};
 ghost use Rattle.abc_text.specs.Digit.{is_digit, decimal};
 
-/// How many digits a number has at most. Our own.
+/// How many digits a number has at most. Not in ABC 2.1.
 pub const LONGEST_NUMBER: usize = 9;
 
-/// The largest number of so many digits.
+/// The largest number that `LONGEST_NUMBER` digits write.
 pub const LARGEST_NUMBER: u32 = 999_999_999;
 
-/// A number has nine digits at most, and the largest is written with as many nines.
-pub fn number_limits()
-    ensures longest { LONGEST_NUMBER ≡ 9 }
-    ensures largest { LARGEST_NUMBER + 1 ≡ 10 ^ LONGEST_NUMBER }
-{}
+const _: () = prove!(LONGEST_NUMBER == 9);
+
+const _: () = prove!(LARGEST_NUMBER + 1 == 1_000_000_000);
 
 /// Whether a byte is a decimal digit.
 pub fn is_digit(byte: u8) -> bool

@@ -1,5 +1,5 @@
 //! What the crates above share about bytes, words and lists: blanks, digits and numbers, the letters
-//! and accidentals of notes, a list that contracts see as its elements, and a note of a value that
+//! and accidentals of notes, a list that contracts see as its elements, and a snapshot of a value that
 //! contracts alone see.
 #![tactic(auto)]
 
@@ -12,21 +12,21 @@ mod line_end;
 mod number;
 mod passes;
 mod power;
-mod seen;
 mod sequence;
 mod short_sequence;
+mod snapshot;
 mod word;
 
 pub use accidental::{Accidental, accidental_of};
-pub use blank::{is_blank, trim_end, trim_start, trimmed};
+pub use blank::{is_blank, trim_blanks, trim_end, trim_start};
 pub use cut::cut_at;
-pub use digit::{LARGEST_NUMBER, LONGEST_NUMBER, decimal, digits, is_digit, number_limits};
+pub use digit::{LARGEST_NUMBER, LONGEST_NUMBER, decimal, digits, is_digit};
 pub use letter::{Letter, letter_of};
 pub use line_end::without_return;
 pub use number::number_of;
-pub use passes::{LAST_PASS, ending_limits};
+pub use passes::LAST_PASS;
 pub use power::is_power_up_to;
-pub use seen::Seen;
 pub use sequence::Sequence;
 pub use short_sequence::ShortSequence;
-pub use word::{before_blank, first_word, leading_blanks, next_word};
+pub use snapshot::Snapshot;
+pub use word::{bytes_before_blank, first_word, leading_blanks, next_word};

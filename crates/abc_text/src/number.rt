@@ -14,7 +14,7 @@ fn are_digits(text: &[u8]) -> bool
     text.iter().all(|byte| is_digit(*byte))
 }
 
-/// The number that one to nine decimal digits spell; zeros may stand in front.
+/// The number that one to nine decimal digits spell; zeros may come first.
 pub fn number_of(text: &[u8]) -> Option<u32>
     ensures value { result ≡ number_of text.now }
     ensures spelled { (n : ℕ) → (result ≡ Some n) ↔ IsNumber text.now n }

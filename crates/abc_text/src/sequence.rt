@@ -51,7 +51,7 @@ impl<T> Sequence<T> {
     where
         T: Drop,
         ensures ok { OnOk result (self.new ≡ self.old ++ element ∷ []) }
-        ensures err { OnErr result (self.new ≡ self.old) }
+        ensures unchanged { OnErr result (self.new ≡ self.old) }
     {
         self.elements.push(element)?;
         Ok(())

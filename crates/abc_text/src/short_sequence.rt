@@ -9,7 +9,7 @@ use smallvec::SmallVec;
 use std::alloc::{AllocError, Global};
 use std::marker::Model;
 
-/// How many elements need no memory of their own. Most lists have one element or none, and each value that holds a
+/// How many elements need no memory of their own. Most lists have one element or none, and each value with a
 /// list pays for this room.
 const ROOM_IN_PLACE: usize = 1;
 
@@ -44,7 +44,7 @@ impl<T: Default + Drop> ShortSequence<T> {
     /// Puts one more element at the end.
     pub fn push(&mut self, element: T) -> Result<(), AllocError>
         ensures ok { OnOk result (self.new ≡ self.old ++ element ∷ []) }
-        ensures err { OnErr result (self.new ≡ self.old) }
+        ensures unchanged { OnErr result (self.new ≡ self.old) }
     {
         self.elements.push(element)?;
         Ok(())

@@ -2,7 +2,7 @@
 
 ghost use Rattle.std.specs.Prelude.{◌≡◌, ◌↔◌, ◌<◌, ◌≤◌, ℕ, List, [], ◌∷◌, length, drop, slice_range, MatchOption, IfSome};
 ghost use Rattle.abc_text.specs.Blank.{AreBlanks};
-ghost use Rattle.abc_text.specs.Word.{leading_blanks, before_blank, first_word, words_of, AreWords, IsFirstWord};
+ghost use Rattle.abc_text.specs.Word.{leading_blanks, bytes_before_blank, first_word, words_of, AreWords, IsFirstWord};
 
 use crate::blank::is_blank;
 
@@ -14,9 +14,9 @@ pub fn leading_blanks(text: &[u8]) -> usize
     text.iter().take_while(|byte| is_blank(**byte)).count()
 }
 
-/// How many bytes stand before the first blank of a text.
-pub fn before_blank(text: &[u8]) -> usize
-    ensures value { result ≡ before_blank text.now }
+/// How many bytes precede the first blank of a text.
+pub fn bytes_before_blank(text: &[u8]) -> usize
+    ensures value { result ≡ bytes_before_blank text.now }
     ensures inside { result ≤ length text.now }
 {
     text.iter().take_while(|byte| !is_blank(**byte)).count()
@@ -26,7 +26,8 @@ pub fn before_blank(text: &[u8]) -> usize
 #[tactic(auto, unfolding(crate::specs::Word::first_word))]
 pub fn first_word(text: &[u8]) -> Option<(usize, usize)>
     ensures value { result ≡ first_word text.now }
-    ensures words { MatchOption result (words_of text.now ≡ []) (λ w. words_of text.now ≡ slice_range text.now w.0 w.1 ∷ words_of (drop w.1 text.now)) }
+    ensures words { MatchOption result (words_of text.now ≡ [])
+        (λ w. words_of text.now ≡ slice_range text.now w.0 w.1 ∷ words_of (drop w.1 text.now)) }
     ensures some { IfSome result (λ w. w.0 < w.1) }
     ensures inside { IfSome result (λ w. w.1 ≤ length text.now) }
 {
@@ -34,10 +35,10 @@ pub fn first_word(text: &[u8]) -> Option<(usize, usize)>
     if from == text.len() {
         return None;
     }
-    Some((from, from + before_blank(&text[from..])))
+    Some((from, from + bytes_before_blank(&text[from..])))
 }
 
-/// The first word of a text, and what stands behind it, from the blank that ends the word on; none where
+/// The first word of a text, and what follows it, from the blank that ends the word on; none if
 /// the text has nothing but blanks.
 #[tactic(auto, using(crate::proofs::Words::all_blank, crate::proofs::Words::first_cut, crate::proofs::Words::words_exact))]
 pub fn next_word(text: &[u8]) -> Option<(&[u8], &[u8])>

@@ -46,7 +46,8 @@ HasNumerators-step whole unit factors now i d h inside room fs =
     let v = (get_or factors i d).num in
     let room : i + 2 < length now = omega (arith, h.places) in
     record {
-      product = rw (product_of-map-take (λ (r : Ratio). r.num) factors i d inside) (regrouped _ _ whole unit.num _ v (product_of-put now (i + 2) v room (h.spare (i + 2) (omega arith) room)) h.product);
+      product =
+          rw (product_of-map-take (λ (r : Ratio). r.num) factors i d inside) (regrouped _ _ whole unit.num _ v (product_of-put now (i + 2) v room (h.spare (i + 2) (omega arith) room)) h.product);
       places = rw length-set h.places;
       spare = λ k low in'.
           let ne : k ≢ i + 2 = omega arith in

@@ -4,23 +4,23 @@ use Rattle.std.proofs.Common.{lit<, le_trans}
 use Rattle.std.proofs.Math.Nat.{div-le_of_le-mul, div-mul-le_self, le-div_iff_mul-le}
 use Rattle.abc_time.specs.declared.grains.TheConstants.{LAST_TICK}
 
--- Grains of a whole note, 2^16 * 3^4 * 5^2 * 7^2 * 11 * 13. Our own.
+-- Grains of a whole note, 2^16 * 3^4 * 5^2 * 7^2 * 11 * 13. Not in ABC 2.1.
 unfoldable pub grains_of_a_whole_note : ℕ
 grains_of_a_whole_note = 929901772800
 
--- Grains of a tick: 1,920 ticks are a whole note. Our own.
+-- Grains of a tick: 1,920 ticks are a whole note. Not in ABC 2.1.
 unfoldable pub grains_of_a_tick : ℕ
 grains_of_a_tick = 484323840
 
--- Grains of 1,024 whole notes, which no note or rest exceeds. Our own.
+-- Grains of 1,024 whole notes, which no note or rest exceeds. Not in ABC 2.1.
 unfoldable pub grains_of_the_longest_length : ℕ
 grains_of_the_longest_length = 1024 * grains_of_a_whole_note
 
--- Grains of 131,072 whole notes, which no tune exceeds. Our own.
+-- Grains of 131,072 whole notes, which no tune exceeds. Not in ABC 2.1.
 unfoldable pub grains_of_the_latest_end : ℕ
 grains_of_the_latest_end = 131072 * grains_of_a_whole_note
 
--- The tick of a moment: the whole ticks that are over by then. Our own.
+-- The tick of a moment: the whole ticks that are over by then. Not in ABC 2.1.
 abbrev pub tick_at : ℕ → ℕ
 tick_at moment = moment / grains_of_a_tick
 

@@ -7,7 +7,7 @@ ghost use Rattle.abc_time.specs.Product.{product_of};
 use crate::gcd::gcd;
 
 /// Divides the numerators and the divisor by what they have in common, one numerator after
-/// another, and returns what is left of the divisor: 1 exactly where it divides their product.
+/// another, and returns what is left of the divisor: 1 exactly if it divides their product.
 pub fn cancel(numerators: &mut [u64], divisor: u64) -> u64
     requires numerators { All (λ n. 1 ≤ n) numerators.old }
     requires divisor { 1 ≤ divisor }

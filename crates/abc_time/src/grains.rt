@@ -1,7 +1,7 @@
 //! Grains, ticks, and how long a note and a tune may be.
 
-ghost use Rattle.std.specs.Prelude.{◌≡◌, ◌≤◌, ◌*◌, ◌^◌};
-ghost use Rattle.abc_time.specs.Grains.{grains_of_a_tick, grains_of_a_whole_note, grains_of_the_latest_end, grains_of_the_longest_length, tick_at};
+ghost use Rattle.std.specs.Prelude.{◌≡◌, ◌≤◌};
+ghost use Rattle.abc_time.specs.Grains.{grains_of_the_latest_end, tick_at};
 
 /// A length, or a moment counted from the start of the tune, in grains. A whole note has
 /// 929,901,772,800 of them (2^16 * 3^4 * 5^2 * 7^2 * 11 * 13), so that the usual lengths and
@@ -9,16 +9,16 @@ ghost use Rattle.abc_time.specs.Grains.{grains_of_a_tick, grains_of_a_whole_note
 #[derive(Clone, Copy, Debug, PartialEq, Eq, PartialOrd, Ord)]
 pub struct Grains(pub u64);
 
-/// A whole note. Our own.
+/// A whole note. Not in ABC 2.1.
 pub const WHOLE_NOTE: Grains = Grains(929_901_772_800);
 
-/// A tick, of which a whole note has 1,920. Our own.
+/// A tick, of which a whole note has 1,920. Not in ABC 2.1.
 pub const TICK: Grains = Grains(484_323_840);
 
-/// The longest that one note or rest may be: 1,024 whole notes. Our own.
+/// The longest that one note or rest may be: 1,024 whole notes. Not in ABC 2.1.
 pub const LONGEST_LENGTH: Grains = Grains(1_024 * WHOLE_NOTE.0);
 
-/// The latest moment that a tune may reach: 131,072 whole notes. Our own.
+/// The latest moment that a tune may reach: 131,072 whole notes. Not in ABC 2.1.
 pub const LATEST_END: Grains = Grains(131_072 * WHOLE_NOTE.0);
 
 /// The tick of `LATEST_END`.
@@ -27,21 +27,8 @@ pub const LAST_TICK: u32 = 251_658_240;
 /// The tick that a moment falls on: ticks are rounded down, once, from the exact moment.
 pub fn tick_of(moment: Grains) -> u32
     requires { moment.0 ≤ grains_of_the_latest_end }
-    ensures exact { result ≡ tick_at moment.0 }
+    ensures value { result ≡ tick_at moment.0 }
     ensures bounded { result ≤ LAST_TICK }
 {
     (moment.0 / TICK.0) as u32
 }
-
-/// The constants are the numbers that contracts speak of. A whole note is 1,920 ticks, and
-/// `LAST_TICK` is the very tick that `LATEST_END` falls on.
-#[tactic(auto, unfolding(crate::specs::Grains::grains_of_a_whole_note, crate::specs::Grains::grains_of_a_tick, crate::specs::Grains::grains_of_the_longest_length, crate::specs::Grains::grains_of_the_latest_end))]
-pub fn grain_numbers()
-    ensures whole_note { WHOLE_NOTE.0 ≡ grains_of_a_whole_note }
-    ensures divisors { WHOLE_NOTE.0 ≡ 2 ^ 16 * 3 ^ 4 * 5 ^ 2 * 7 ^ 2 * 11 * 13 }
-    ensures tick { TICK.0 ≡ grains_of_a_tick }
-    ensures ticks { WHOLE_NOTE.0 ≡ 1920 * TICK.0 }
-    ensures longest_length { LONGEST_LENGTH.0 ≡ grains_of_the_longest_length }
-    ensures latest_end { LATEST_END.0 ≡ grains_of_the_latest_end }
-    ensures last_tick { LAST_TICK ≡ tick_at grains_of_the_latest_end }
-{}

@@ -30,7 +30,7 @@ pub fn length(unit: Ratio, factors: &[Ratio]) -> Result<Grains, LengthFault>
     requires unit { IsRatio unit }
     requires factors { All IsRatio factors.now }
     requires few { length factors.now ≤ 5 }
-    ensures exact { result ≡ length_of unit factors.now }
+    ensures value { result ≡ length_of unit factors.now }
 
     // The same by the equation that a length fulfils.
     ensures ok { (g : ℕ) → (result ≡ Ok (record { 0 = g }))

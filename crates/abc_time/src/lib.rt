@@ -6,15 +6,14 @@
 mod cancel;
 mod gcd;
 mod grains;
+pub mod laws;
 mod lengths;
 mod product;
 mod ratio;
 mod tempo;
 
 pub use abc_text::LARGEST_NUMBER;
-pub use grains::{
-    Grains, LAST_TICK, LATEST_END, LONGEST_LENGTH, TICK, WHOLE_NOTE, grain_numbers, tick_of,
-};
+pub use grains::{Grains, LAST_TICK, LATEST_END, WHOLE_NOTE, tick_of};
 pub use lengths::{LengthFault, length};
 pub use ratio::Ratio;
 pub use tempo::quarter_micros;

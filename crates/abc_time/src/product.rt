@@ -3,7 +3,7 @@
 ghost use Rattle.std.specs.Prelude.{◌≤◌, All, SomeIff};
 ghost use Rattle.abc_time.specs.Product.{product_of};
 
-/// The product of positive numbers, where it is at most `limit`.
+/// The product of positive numbers, if it is at most `limit`.
 pub fn product_within(numbers: &[u64], limit: u64) -> Option<u64>
     requires { All (λ n. 1 ≤ n) numbers.now }
     ensures { SomeIff result (product_of numbers.now ≤ limit) (product_of numbers.now) }

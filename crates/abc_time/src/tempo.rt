@@ -13,15 +13,15 @@ const MINUTE: u64 = 60_000_000;
 /// The most microseconds of a quarter note that a MIDI file can say.
 const LONGEST_QUARTER: u64 = 16_777_215;
 
-/// How many microseconds a quarter note lasts where a minute has `per_minute` of the beats (ABC 2.1
+/// How many microseconds a quarter note lasts if a minute has `per_minute` of the beats (ABC 2.1
 /// section 3.1.8), rounded down. A MIDI file can say 1 to 16,777,215 of them, so there is no answer
-/// where the beat is faster or slower.
+/// if the beat is faster or slower.
 pub fn quarter_micros(beat: Ratio, per_minute: u32) -> Option<u32>
     requires beat { IsRatio beat }
     requires some { 1 ≤ per_minute }
     requires few { per_minute ≤ LARGEST_NUMBER }
-    ensures exact { result ≡ quarter_micros_of beat per_minute }
-    ensures iff { SomeIff result (FitsInTempoEvent (quarter_of beat per_minute)) (quarter_of beat per_minute) }
+    ensures value { result ≡ quarter_micros_of beat per_minute }
+    ensures exact { SomeIff result (FitsInTempoEvent (quarter_of beat per_minute)) (quarter_of beat per_minute) }
 
     // The same by the inequality of a number that is rounded down.
     ensures some { (micros : ℕ) → (result ≡ Some micros) ↔ IsQuarter beat per_minute micros }
@@ -31,7 +31,7 @@ pub fn quarter_micros(beat: Ratio, per_minute: u32) -> Option<u32>
     in_tempo_event(MINUTE * u64::from(beat.den) / quarters)
 }
 
-/// The microseconds, where the tempo event of a MIDI file can say them in its three bytes.
+/// The microseconds, if the tempo event of a MIDI file can hold them in its three bytes.
 fn in_tempo_event(micros: u64) -> Option<u32>
     ensures { result ≡ in_tempo_event micros }
 {

@@ -3,14 +3,14 @@ use Rattle.std.proofs.Common.{◌≡◌, ◌≤◌, ℕ, suc, Bool, true, false,
 use Rattle.std.specs.Prelude.{◌||◌}
 use Rattle.std.specs.List.{flat_map, list_any}
 use Rattle.std.proofs.lemmas.Bool.{and_parts}
-use Rattle.abc_cells.specs.Mentioned.{AreNamed, behind_items}
-use Rattle.abc_cells.proofs.Mentions.{mentions_few, names_voices}
-use Rattle.abc_items.specs.declared.item.Item.{Item}
-use Rattle.abc_items.specs.declared.item.Item.TheVariants as items
+use Rattle.abc_bars_body.specs.Mentioned.{AreNamed, behind_items}
+use Rattle.abc_bars_body.proofs.Mentions.{mentions_few, names_voices}
+use Rattle.abc_bars_items.specs.declared.item.Item.{Item}
+use Rattle.abc_bars_items.specs.declared.item.Item.TheVariants as items
 use Rattle.abc_tune.specs.Abc.{cells_in}
 use Rattle.abc_tune.specs.Lines.{HasFewVoices}
-use Rattle.abc_sections.specs.Section.{opening_voice}
-use Rattle.abc_voices.specs.Track.{everyone, names_from, nameless_plays, plays_first, tracks, with_name}
+use Rattle.abc_voices_sections.specs.Section.{opening_voice}
+use Rattle.abc_voices.specs.Track.{voice_names, names_from, has_unnamed_track, plays_first, tracks, with_name}
 
 -- where one is the current one, only fields mention voices
 placed_from : (names : List (List ℕ)) (tune : List Item) → (behind_items (names, true) tune).0 ≡ names_from names tune
@@ -29,7 +29,7 @@ placed_from names (items.Title text ∷ tune) = placed_from names tune
 placed_from names (items.Order text ∷ tune) = placed_from names tune
 placed_from names (items.Program opening number ∷ tune) = placed_from names tune
 
--- a name is put behind that of the voice without one
+-- a name is put after that of the voice without one
 in_front : (b : Bool) (names : List (List ℕ)) (name : List ℕ) → cond b ([] ∷ names) (([] ∷ names) ++ name ∷ []) ≡ [] ∷ cond b names (names ++ name ∷ [])
 in_front true names name = refl
 in_front false names name = refl
@@ -97,16 +97,16 @@ behind_first : {A : Type 0} (xs : List A) (n : ℕ) → length xs ≤ suc n → 
 behind_first [] n few = omega arith
 behind_first (x ∷ xs) n few = omega (arith, few)
 
-by_nameless : (tune : List Item) → AreNamed tune → (b : Bool) → nameless_plays tune ≡ b
-    → length (cond b (everyone tune) (drop 1 (everyone tune))) ≤ length (behind_items ([], false) tune).0
+by_nameless : (tune : List Item) → AreNamed tune → (b : Bool) → has_unnamed_track tune ≡ b
+    → length (cond b (voice_names tune) (drop 1 (voice_names tune))) ≤ length (behind_items ([], false) tune).0
 by_nameless tune named true plays =
     let both = and_parts (bytes_eq (opening_voice tune) []) (plays_first tune) plays in
     omega (arith, ap length (heard tune named both.0 both.1))
-by_nameless tune named false plays = behind_first (everyone tune) _ (others tune named)
+by_nameless tune named false plays = behind_first (voice_names tune) _ (others tune named)
 
 -- no more voices have tracks than are mentioned
 tracks_few : (tune : List Item) → AreNamed tune → length (tracks tune) ≤ length (behind_items ([], false) tune).0
-tracks_few tune named = by_nameless tune named (nameless_plays tune) refl
+tracks_few tune named = by_nameless tune named (has_unnamed_track tune) refl
 
 -- no tune has more than may be
 pub few_voices : HasFewVoices

@@ -3,12 +3,12 @@ use Rattle.std.proofs.Common.{◌≡◌, ℕ, List, [], ◌∷◌, ◌++◌, Opt
 use Rattle.std.specs.Prelude.{unwrap_or}
 use Rattle.std.specs.Option.{option_or}
 use Rattle.abc_bars.specs.Titles.{title_said}
-use Rattle.abc_items.specs.Item.{Items}
-use Rattle.abc_items.specs.declared.item.Item.{Item}
-use Rattle.abc_items.specs.declared.item.Item.TheVariants as items
+use Rattle.abc_bars_items.specs.Item.{Items}
+use Rattle.abc_bars_items.specs.declared.item.Item.{Item}
+use Rattle.abc_bars_items.specs.declared.item.Item.TheVariants as items
 use Rattle.abc_tune.specs.Abc.{first_value, rules_of_abc}
 use Rattle.abc_tune.specs.Title.{HasOneTitle}
-use Rattle.abc_tunebook.specs.Tune.{first_of}
+use Rattle.abc_tune_compiler.specs.Tune.{first_of}
 use Rattle.abc_voices.specs.Arrange.{arranged_of, items_in}
 use Rattle.abc_voices.specs.Opening.{title_before, title_of}
 

@@ -1,24 +1,24 @@
--- The title of a tune of lines stands in one of them, so no limit but of size is passed.
+-- The title of a tune of lines is in one of them, so no limit but of size is passed.
 use Rattle.std.proofs.Common.{◌≡◌, ◌≤◌, ℕ, Bool, true, false, cond, List, [], ◌∷◌, length, drop, Option, Some, None, sym, subst, arith, length-drop}
 use Rattle.std.specs.Prelude.{All, IfSome, nat_le, not, ◌==◌}
 use Rattle.std.specs.List.{flat_map, list_all, list_any}
 use Rattle.std.proofs.lemmas.Bool.{and_parts, cond_both, leb-true}
 use Rattle.std.proofs.lemmas.List.Elements.{All-nil, All-cons, All-head, All-tail, All-append}
-use Rattle.abc_cells.specs.Mentioned.{items_of_cells}
-use Rattle.abc_cells.specs.Step.{field_in, field_line}
+use Rattle.abc_bars_body.specs.Mentioned.{items_of_cells}
+use Rattle.abc_bars_body.specs.Step.{field_in, field_line}
 use Rattle.abc_bars.specs.Titles.{titles_said}
-use Rattle.abc_header.specs.declared.defaults.Defaults.{Defaults}
+use Rattle.abc_bars_header.specs.declared.defaults.Defaults.{Defaults}
 use Rattle.abc_bars.proofs.Titles.{says_titles_of_header, titles_pass}
 use Rattle.abc_lines.specs.Text.{is_line}
-use Rattle.abc_items.specs.declared.item.Item.{Item}
-use Rattle.abc_items.specs.declared.item.Item.TheVariants as items
+use Rattle.abc_bars_items.specs.declared.item.Item.{Item}
+use Rattle.abc_bars_items.specs.declared.item.Item.TheVariants as items
 use Rattle.abc_scan.specs.Cell.{cells_of, ends_cell, put_first}
 use Rattle.abc_scan.specs.Class.{class_of}
-use Rattle.abc_scan.specs.Cutting.{alone_at, IsSpan}
+use Rattle.abc_scan.specs.Cutting.{unmatched_at, IsSpan}
 use Rattle.abc_scan.specs.Directive.{directive_of}
 use Rattle.abc_scan.specs.Line.{cutting_of, directive_token, tokens_in, tokens_of}
 use Rattle.abc_scan.specs.Text.{content}
-use Rattle.abc_scan.specs.Token.{Spells, alone_of, line_kinds, opens}
+use Rattle.abc_scan.specs.Token.{Spells, unmatched_byte, line_kinds, opens}
 use Rattle.abc_scan.specs.declared.class.LineClass.{LineClass}
 use Rattle.abc_scan.specs.declared.class.LineClass.TheVariants as classes
 use Rattle.abc_scan.specs.declared.directive.Directive.{Directive}
@@ -27,11 +27,11 @@ use Rattle.abc_scan.specs.declared.spanned.Spanned.{Spanned}
 use Rattle.abc_scan.specs.declared.token.TokenKind.{TokenKind}
 use Rattle.abc_scan.specs.declared.token.TokenKind.TheVariants as kinds
 use Rattle.abc_scan.proofs.Cuttings.{cut-all}
-use Rattle.abc_scan.proofs.Laws.{cuts_each}
+use Rattle.abc_scan.proofs.TokenLaws.{cuts_each}
 use Rattle.abc_scan.proofs.Spans.{laid}
 use Rattle.abc_text.specs.Byte.{line_feed}
 use Rattle.abc_text.specs.LineEnd.{without_return}
-use Rattle.abc_text.proofs.Blanks.{trimmed-le}
+use Rattle.abc_text.proofs.Blanks.{trim_blanks-le}
 use Rattle.abc_tune.specs.Abc.{cells_in}
 use Rattle.abc_tune.specs.Lines.{HasShortTitle, IsTooLarge, IsTooLongBySize, items_of_lines, by_sections, by_places, by_time}
 use Rattle.abc_tune.proofs.Mentions.{few_voices}
@@ -72,10 +72,10 @@ spelled_short after_bar text (kinds.Directive directive) is = absurd is
 spelled_short after_bar text kinds.Unclosed is = tt
 spelled_short after_bar text kinds.BadByte is = tt
 
-byte_short : (b : ℕ) → IsKindShort (alone_of b)
+byte_short : (b : ℕ) → IsKindShort (unmatched_byte b)
 byte_short b = cond_both (opens b) kinds.Unclosed kinds.BadByte IsKindShort (λ _. tt) (λ _. tt)
 
-alone_short : (text : List ℕ) → IsKindShort (alone_at line_kinds text)
+alone_short : (text : List ℕ) → IsKindShort (unmatched_at line_kinds text)
 alone_short [] = tt
 alone_short (b ∷ bs) = byte_short b
 
@@ -91,7 +91,7 @@ tokens_short line classes.Blank short spans = All-nil (λ token. IsKindShort tok
 tokens_short line classes.Comment short spans = All-nil (λ token. IsKindShort token.kind)
 tokens_short line (classes.Field letter) short spans =
     let inside = (All-head (IsSpan (length line)) _ [] spans).1 in
-    let value = trimmed-le (drop 2 (content line)) in
+    let value = trim_blanks-le (drop 2 (content line)) in
     All-cons (λ token. IsKindShort token.kind) _ [] (omega (arith, short, inside, value, length-drop 2 (content line))) (All-nil (λ token. IsKindShort token.kind))
 tokens_short line classes.Directive short spans = directive_short (directive_of (without_return line)) (length (without_return line))
 tokens_short line classes.Music short spans =

@@ -4,14 +4,14 @@ use Rattle.std.proofs.lemmas.List.{drop_more}
 use Rattle.std.proofs.lemmas.List.Folds.{list_any-append}
 use Rattle.std.specs.Prelude.{◌||◌}
 use Rattle.std.specs.List.{list_any}
-use Rattle.abc_items.specs.declared.item.Item.{Item}
-use Rattle.abc_items.specs.Item.{Items}
+use Rattle.abc_bars_items.specs.declared.item.Item.{Item}
+use Rattle.abc_bars_items.specs.Item.{Items}
 use Rattle.abc_fields.specs.declared.fault.FaultCode.{FaultCode}
 use Rattle.abc_fields.specs.declared.fault.FaultCode.TheVariants as codes
 use Rattle.abc_fields.specs.Fault.{number_of}
-use Rattle.abc_tune.specs.WholeFaults.{is_opening_key, lacks_key, out_past, opens_out_of_range, fault_if, faults_with, AreRisingFrom, is_too_long_fault}
+use Rattle.abc_tune.specs.WholeFaults.{is_opening_key, lacks_key, out_after, opens_out_of_range, fault_if, faults_with, AreRisingFrom, is_too_long_fault}
 use Rattle.abc_voices.specs.Arrange.{items_in}
-use Rattle.abc_voices.specs.Opening.{past_all}
+use Rattle.abc_voices.specs.Opening.{after_all}
 
 -- one of a tune is one of a cell
 any_in_cells : (test : Item → Bool) (cells : List Items) → list_any test (items_in cells) ≡ list_any (λ cell. list_any test cell.items) cells
@@ -22,21 +22,21 @@ any_in_cells test (cell ∷ cells) =
 pub lacks_key_in_cells : (cells : List Items) → lacks_key (items_in cells) ≡ not (list_any (λ cell. list_any is_opening_key cell.items) cells)
 lacks_key_in_cells cells = ap not (any_in_cells is_opening_key cells)
 
--- what holds behind items and more of them
-pub past_append : (out : Bool) (items more : List Item) → past_all out_past out (items ++ more) ≡ past_all out_past (past_all out_past out items) more
+-- what holds after items and more of them
+pub past_append : (out : Bool) (items more : List Item) → after_all out_after out (items ++ more) ≡ after_all out_after (after_all out_after out items) more
 past_append out [] more = refl
-past_append out (item ∷ items) more = past_append (out_past out item) items more
+past_append out (item ∷ items) more = past_append (out_after out item) items more
 
 -- one more cell
 pub out_more : (cells : List Items) (i : ℕ) (out behind : Bool) (cell : Items) (held : List Item) (whole : Bool) → i < length cells → cell ≡ get_or cells i cell
-    → held ≡ cell.items → behind ≡ past_all out_past out held
-    → past_all out_past out (items_in (drop i cells)) ≡ whole → past_all out_past behind (items_in (drop (i + 1) cells)) ≡ whole
+    → held ≡ cell.items → behind ≡ after_all out_after out held
+    → after_all out_after out (items_in (drop i cells)) ≡ whole → after_all out_after behind (items_in (drop (i + 1) cells)) ≡ whole
 out_more cells i out behind cell held whole within is same after before =
     let rest = items_in (drop (i + 1) cells) in
     let front : drop i cells ≡ cell ∷ drop (i + 1) cells = drop_more cells i cell within ∙ ap (λ x. x ∷ drop (i + 1) cells) (sym is) in
-    ap (λ b. past_all out_past b rest) (after ∙ ap (past_all out_past out) same)
+    ap (λ b. after_all out_after b rest) (after ∙ ap (after_all out_after out) same)
     ∙ sym (past_append out cell.items rest)
-    ∙ sym (ap (λ those. past_all out_past out (items_in those)) front)
+    ∙ sym (ap (λ those. after_all out_after out (items_in those)) front)
     ∙ before
 
 -- what rises from a number rises from a lower one
@@ -44,7 +44,7 @@ rising_from : (low high : ℕ) (faults : List FaultCode) → low ≤ high → Ar
 rising_from low high [] below rises = tt
 rising_from low high (fault ∷ faults) below rises = (let h : high < number_of fault = rises.0 in omega (arith, h), rises.1)
 
--- a fault in front of those that rise from its number
+-- a fault before those that rise from its number
 rising_if : (low : ℕ) (there : Bool) (fault : FaultCode) (faults : List FaultCode) → low < number_of fault → AreRisingFrom (number_of fault) faults → AreRisingFrom low (fault_if there fault ++ faults)
 rising_if low true fault faults below rises = (below, rises)
 rising_if low false fault faults below rises = rising_from low (number_of fault) faults (omega arith) rises
@@ -64,7 +64,8 @@ faults_rise tune unknown uneven long =
     (rising_last long)))))
 
 -- another fault is passed over
-passed_over : (there : Bool) (fault : FaultCode) (faults : List FaultCode) → is_too_long_fault fault ≡ false → list_any is_too_long_fault (fault_if there fault ++ faults) ≡ list_any is_too_long_fault faults
+passed_over : (there : Bool) (fault : FaultCode) (faults : List FaultCode) → is_too_long_fault fault ≡ false
+    → list_any is_too_long_fault (fault_if there fault ++ faults) ≡ list_any is_too_long_fault faults
 passed_over true fault faults other = ap (λ b. b || list_any is_too_long_fault faults) other
 passed_over false fault faults other = refl
 
@@ -72,7 +73,7 @@ long_alone : (long : Bool) → list_any is_too_long_fault (fault_if long codes.T
 long_alone true = refl
 long_alone false = refl
 
--- the fault of a tune that is too long is there exactly where it is
+-- the fault of a tune that is too long is there exactly if it is
 pub long_among : (tune : List Item) (unknown uneven long : Bool) → list_any is_too_long_fault (faults_with tune unknown uneven long) ≡ long
 long_among tune unknown uneven long =
     simp append_assoc (passed_over (lacks_key tune) codes.MissingKey _ refl

@@ -2,25 +2,25 @@
 use Rattle.std.specs.Prelude.{ℕ, List, [], ◌∷◌, Option, Some, None}
 use Rattle.std.specs.Option.{option_or}
 use Rattle.abc_bars.specs.Titles.{title_said}
-use Rattle.abc_header.specs.declared.defaults.Defaults.{Defaults}
-use Rattle.abc_cells.specs.declared.entry.Entry.{Entry}
-use Rattle.abc_cells.specs.declared.entry.Entry.TheVariants as entries
-use Rattle.abc_items.specs.declared.item.Item.{Item}
-use Rattle.abc_items.specs.declared.item.Item.TheVariants as items
-use Rattle.abc_header.specs.Defaults.{no_defaults}
-use Rattle.abc_cells.specs.Entry.{defaults_of, opening_after}
-use Rattle.abc_cells.specs.SameEntry.{bar_steps}
+use Rattle.abc_bars_header.specs.declared.defaults.Defaults.{Defaults}
+use Rattle.abc_bars_body.specs.declared.entry.Entry.{Entry}
+use Rattle.abc_bars_body.specs.declared.entry.Entry.TheVariants as entries
+use Rattle.abc_bars_items.specs.declared.item.Item.{Item}
+use Rattle.abc_bars_items.specs.declared.item.Item.TheVariants as items
+use Rattle.abc_bars_header.specs.Defaults.{no_defaults}
+use Rattle.abc_bars_body.specs.Entry.{defaults_of, opening_after}
+use Rattle.abc_bars_body.specs.SameEntry.{bar_steps}
 use Rattle.abc_fold.specs.Steps.{Steps}
-use Rattle.abc_items.specs.Item.{Items}
+use Rattle.abc_bars_items.specs.Item.{Items}
 use Rattle.abc_scan.specs.declared.spanned.Spanned.{Spanned}
 use Rattle.abc_scan.specs.declared.token.TokenKind.{TokenKind}
 use Rattle.abc_scan.specs.Cell.{cells_of}
 use Rattle.abc_scan.specs.Line.{tokens_of}
 use Rattle.abc_scan.specs.Class.{class_of}
 use Rattle.abc_tune.specs.Built.{bytes_of, build_faults_of}
-use Rattle.abc_tunebook.specs.Rules.{Rules}
+use Rattle.abc_tune_compiler.specs.Rules.{Rules}
 
--- The reference number that an item is, if it is one. ABC 2.1 section 3.1.1.
+-- The reference number of an item, if it is one. ABC 2.1 section 3.1.1.
 abbrev pub number_of : Item → Option ℕ
 number_of (items.Number number) = Some number
 number_of _ = None

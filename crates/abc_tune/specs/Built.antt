@@ -1,17 +1,17 @@
 -- A tune, from what its cells give to the bytes of its file.
 use Rattle.std.specs.Prelude.{ℕ, Bool, not, ◌&&◌, if◌then◌else◌, List, Option, Some, None}
-use Rattle.abc_items.specs.declared.item.Item.{Item}
-use Rattle.abc_items.specs.Item.{Items}
+use Rattle.abc_bars_items.specs.declared.item.Item.{Item}
+use Rattle.abc_bars_items.specs.Item.{Items}
 use Rattle.abc_fields.specs.declared.fault.FaultCode.{FaultCode}
 use Rattle.abc_tune.specs.WholeFaults.{faults_with}
 use Rattle.abc_voices.specs.Arrange.{arranged_of, is_too_long, items_in}
 use Rattle.smf_bytes.specs.File.{file_bytes}
 
--- Whether the order of the parts names one that the tune does not have, also where the tune is too long. Our own.
+-- Whether the order of the parts names one that the tune does not have, also if the tune is too long. Not in ABC 2.1.
 abbrev pub names_unknown_part : List Item → Bool
 names_unknown_part tune = (arranged_of tune).unknown
 
--- Whether voices differ in length in a section that is played; it is said of a tune with a file alone. Our own.
+-- Whether voices differ in length in a section that is played, of a tune with a file. Not in ABC 2.1.
 abbrev pub has_uneven_voices : List Item → Bool
 has_uneven_voices tune = not (is_too_long tune) && (arranged_of tune).uneven
 

@@ -1,11 +1,12 @@
 -- What a tune's header says of the tune as a whole, by the text of its lines. ABC 2.1 sections 3.1.1, 3.1.7, 3.1.8 and 3.1.14.
-use Rattle.std.specs.Prelude.{◌≡◌, ◌≢◌, ◌≤◌, ℕ, ◌*◌, Bool, true, false, not, ◌||◌, nat_lt, if◌then◌else◌, is_none, List, [], ◌∷◌, Option, Some, None, unwrap_or}
+use Rattle.std.specs.Prelude.{◌≡◌, ◌≢◌, ◌≤◌, ℕ, ◌*◌, Bool, true, false, not, ◌||◌, nat_lt, if◌then◌else◌, is_none, List, []}
+use Rattle.std.specs.Prelude.{◌∷◌, Option, Some, None, unwrap_or}
 use Rattle.std.specs.List.{list_any}
 use Rattle.abc_bars.specs.LookBack.Along.{CellTokens}
 use Rattle.abc_bars.specs.LookBack.Defaults.{defaults_at}
-use Rattle.abc_cells.specs.SameEntry.{bar_steps}
-use Rattle.abc_cells.specs.Step.{field_in, line_in}
-use Rattle.abc_cells.specs.declared.entry.Entry.TheVariants as entries
+use Rattle.abc_bars_body.specs.SameEntry.{bar_steps}
+use Rattle.abc_bars_body.specs.Step.{field_in, line_in}
+use Rattle.abc_bars_body.specs.declared.entry.Entry.TheVariants as entries
 use Rattle.abc_fields.specs.declared.fault.FaultCode.{FaultCode}
 use Rattle.abc_fields.specs.declared.fault.FaultCode.TheVariants as codes
 use Rattle.abc_fields.specs.declared.meter.Meter.{Meter}
@@ -13,19 +14,19 @@ use Rattle.abc_fields.specs.declared.meter.Meter.TheVariants.{Free, Of}
 use Rattle.abc_fields.specs.declared.tempo.Tempo.{Tempo}
 use Rattle.abc_fields.specs.declared.tempo.Tempo.TheVariants.{Unset, Units, Beat}
 use Rattle.abc_fold.specs.Steps.{items_from}
-use Rattle.abc_header.specs.FieldKind.{kind_of}
-use Rattle.abc_header.specs.HeaderLine.{HeaderLine, FieldLine, DirectiveLine}
-use Rattle.abc_header.specs.declared.defaults.Defaults.{Defaults}
-use Rattle.abc_header.specs.declared.field_kind.FieldKind.{FieldKind}
-use Rattle.abc_header.specs.declared.field_kind.FieldKind.TheVariants as kinds
+use Rattle.abc_bars_header.specs.FieldKind.{kind_of}
+use Rattle.abc_bars_header.specs.HeaderLine.{HeaderLine, FieldLine, DirectiveLine}
+use Rattle.abc_bars_header.specs.declared.defaults.Defaults.{Defaults}
+use Rattle.abc_bars_header.specs.declared.field_kind.FieldKind.{FieldKind}
+use Rattle.abc_bars_header.specs.declared.field_kind.FieldKind.TheVariants as kinds
 use Rattle.abc_scan.specs.declared.field.Field.{Field}
-use Rattle.abc_items.specs.Item.{Items}
+use Rattle.abc_bars_items.specs.Item.{Items}
 use Rattle.abc_text.specs.Number.{IsNumber}
 use Rattle.abc_time.specs.Tempo.{quarter_micros_of}
 use Rattle.abc_time.specs.declared.ratio.Ratio.{Ratio}
 use Rattle.abc_tune.specs.Abc.{rules_of_abc}
 use Rattle.abc_tune.specs.Built.{build_faults_of}
-use Rattle.abc_tunebook.specs.Tune.{first_of}
+use Rattle.abc_tune_compiler.specs.Tune.{first_of}
 
 -- What the cells of a tune give, if the file header sets these values.
 abbrev pub items_of_tune : Defaults → List CellTokens → List Items
@@ -55,7 +56,7 @@ abbrev pub header_up_to : Option HeaderLine → List HeaderLine → List HeaderL
 header_up_to None before all = before
 header_up_to (Some line) before all = if is_key_line line then line ∷ before else all
 
--- The lines that stand before a line among those of a header, and that line, if it is one.
+-- The lines that are before a line among those of a header, and that line, if it is one.
 abbrev pub and_line : Option HeaderLine → List HeaderLine → List HeaderLine
 and_line None before = before
 and_line (Some line) before = line ∷ before
@@ -91,7 +92,7 @@ abbrev pub is_tempo_range : FaultCode → Bool
 is_tempo_range codes.TempoRange = true
 is_tempo_range _ = false
 
--- A tune has the fault MissingKey exactly if no K: stands before all music.
+-- A tune has the fault MissingKey exactly if no K: is before all music.
 abbrev pub MissesKeyByText : Type 0
 MissesKeyByText = (opening : Defaults) (cells : List CellTokens)
     → list_any is_missing_key (build_faults_of (items_of_tune opening cells)) ≡ not (has_key cells)
@@ -100,7 +101,8 @@ MissesKeyByText = (opening : Defaults) (cells : List CellTokens)
 -- event can say the tempo with which it begins: that of the last Q: of its header that sets one, else that of the file header.
 -- A number alone counts the unit notes of the header's last L:, else of the file header, else of the header's meter.
 abbrev pub TempoRangeByText : Type 0
-TempoRangeByText = (opening : Defaults) (line : HeaderLine) (first : CellTokens) (cells : List CellTokens) → line_in first ≡ Some line
+TempoRangeByText = (opening : Defaults) (line : HeaderLine) (first : CellTokens) (cells : List CellTokens)
+    → line_in first ≡ Some line
     → list_any is_tempo_range (build_faults_of (items_of_tune opening (first ∷ cells)))
     ≡ sets_out_of_range (defaults_at opening (header_lines [] (first ∷ cells)))
 
@@ -111,7 +113,7 @@ pub data IsReference (value : List ℕ) (number : ℕ) : Type 0 where
   written : IsNumber value number → 1 ≤ number → IsReference value number
   refused : value ≢ [] → ((n : ℕ) → IsNumber value n → 1 ≤ n → ⊥) → number ≡ 0 → IsReference value number
 
--- The number under which a tune stands in its book is the one that its X: says, with which it begins.
+-- The number of a tune in its book is that of the X: with which it begins.
 abbrev pub NumberByText : Type 0
 NumberByText = (opening : Defaults) (field : Field) (first : CellTokens) (cells : List CellTokens)
     → field_in first ≡ Some field → kind_of field.letter ≡ kinds.Reference

@@ -1,13 +1,14 @@
 -- What a session relies on of the compiler of ABC.
-use Rattle.std.specs.Prelude.{◌≡◌, ◌↔◌, ◌⊎◌, ℕ, Bool, true, false, ◌&&◌, not, ◌==◌, if◌then◌else◌, List, [], ◌∷◌, length, Option, Some, None, is_some, refl, IsTrue}
+use Rattle.std.specs.Prelude.{◌≡◌, ◌↔◌, ◌⊎◌, ℕ, Bool, true, false, ◌&&◌, not, ◌==◌, if◌then◌else◌, List, [], ◌∷◌, length}
+use Rattle.std.specs.Prelude.{Option, Some, None, is_some, refl, IsTrue}
 use Rattle.std.proofs.Common.{inl, inr, sym, ap, ◌∙◌}
 use Rattle.std.proofs.lemmas.Bool.{eqb-true, false≢true}
-use Rattle.abc_cells.specs.Entry.{defaults_of, opening_after}
-use Rattle.abc_header.specs.SameDefaults.{same_defaults, same_defaults_tells}
-use Rattle.abc_cells.specs.SameEntry.{bar_steps, same_entry_tells}
-use Rattle.abc_header.specs.declared.defaults.Defaults.{Defaults}
-use Rattle.abc_cells.specs.declared.entry.Entry.TheVariants as entries
-use Rattle.abc_compiler.specs.Lawful.{AreLawful}
+use Rattle.abc_bars_body.specs.Entry.{defaults_of, opening_after}
+use Rattle.abc_bars_header.specs.SameDefaults.{same_defaults, same_defaults_tells}
+use Rattle.abc_bars_body.specs.SameEntry.{bar_steps, same_entry_tells}
+use Rattle.abc_bars_header.specs.declared.defaults.Defaults.{Defaults}
+use Rattle.abc_bars_body.specs.declared.entry.Entry.TheVariants as entries
+use Rattle.abc_tune_compiler.specs.Lawful.{AreLawful}
 use Rattle.abc_scan.specs.Byte.{space, percent, backslash}
 use Rattle.abc_scan.specs.Cell.{cells_of, ends_cell, put_first}
 use Rattle.abc_scan.specs.Class.{class_of, class_of_text, class_by, first_visible, field_letter, field_or_music}
@@ -40,7 +41,8 @@ put_some : (token : Spanned TokenKind) (cells : List (List (Spanned TokenKind)))
 put_some token [] is = some_first (token ∷ []) [] is
 put_some token (cell ∷ cells) is = some_first (token ∷ cell) cells is
 
-first_some : (bar : Bool) (token : Spanned TokenKind) (cells : List (List (Spanned TokenKind))) → (if bar then (token ∷ []) ∷ cells else put_first token cells) ≡ [] → ⊥
+first_some : (bar : Bool) (token : Spanned TokenKind) (cells : List (List (Spanned TokenKind)))
+    → (if bar then (token ∷ []) ∷ cells else put_first token cells) ≡ [] → ⊥
 first_some true token cells is = some_first (token ∷ []) cells is
 first_some false token cells is = put_some token cells is
 
@@ -59,10 +61,14 @@ percent_by true is = absurd cc
 percent_by false is = absurd cc
 
 percent_first : (text : List ℕ) → first_visible text ≡ Some percent → class_of_text text ≡ Music → ⊥
-percent_first text first is = percent_by (is_directive text) (sym (ap (λ seen. class_by seen (field_letter text) (is_directive text)) first) ∙ is)
+percent_first text first is =
+    percent_by (is_directive text) (sym (ap (λ seen. class_by seen (field_letter text) (is_directive text)) first) ∙ is)
 
-nothing_by : (byte : ℕ) (bytes : List ℕ) (found : Bool) → (byte == percent) ≡ found → (if found && not (space == backslash) then [] else byte ∷ before_comment byte bytes) ≡ [] → class_of_text (byte ∷ bytes) ≡ Music → ⊥
-nothing_by byte bytes true is none music = percent_first (byte ∷ bytes) (ap (λ b. first_visible (b ∷ bytes)) (eqb-true byte percent is)) music
+nothing_by : (byte : ℕ) (bytes : List ℕ) (found : Bool) → (byte == percent) ≡ found
+    → (if found && not (space == backslash) then [] else byte ∷ before_comment byte bytes) ≡ []
+    → class_of_text (byte ∷ bytes) ≡ Music → ⊥
+nothing_by byte bytes true is none music =
+    percent_first (byte ∷ bytes) (ap (λ b. first_visible (b ∷ bytes)) (eqb-true byte percent is)) music
 nothing_by byte bytes false is none music = some_first byte (before_comment byte bytes) none
 
 nothing_read : (text : List ℕ) → without_comment text ≡ [] → class_of_text text ≡ Music → ⊥
@@ -74,7 +80,8 @@ not_by : (letter : Option ℕ) → field_or_music letter ≡ Directive → ⊥
 not_by None is = absurd cc
 not_by (Some letter) is = absurd cc
 
-read_by : (found directive : Bool) (letter : Option ℕ) → (if found then (if directive then Directive else Comment) else field_or_music letter) ≡ Directive → directive ≡ true
+read_by : (found directive : Bool) (letter : Option ℕ) → (if found then
+    (if directive then Directive else Comment) else field_or_music letter) ≡ Directive → directive ≡ true
 read_by true true letter is = refl
 read_by true false letter is = absurd cc
 read_by false directive letter is = absurd (not_by letter is)
@@ -88,16 +95,20 @@ token_read None size some none = false≢true some
 token_read (Some directive) size some none = some_first _ _ none
 
 -- The lines without tokens.
-silent_in : (line : List ℕ) (class : LineClass) → class_of line ≡ class → tokens_in class (without_return line) ≡ [] → IsSilent class
+silent_in : (line : List ℕ) (class : LineClass) → class_of line ≡ class → tokens_in class (without_return line) ≡ []
+    → IsSilent class
 silent_in line Blank own is = inl refl
 silent_in line Comment own is = inr refl
 silent_in line (Field letter) own is = absurd (some_first _ _ is)
 silent_in line Directive own is =
     let text = without_return line in
-    absurd (token_read (directive_of text) (length text) (directive_read (first_visible text) (field_letter text) (is_directive text) own) is)
-silent_in line Music own is = absurd (nothing_read (without_return line) (no_cutting (without_comment (without_return line)) is) own)
+    absurd (token_read (directive_of text) (length text) (directive_read (first_visible text) (field_letter text)
+    (is_directive text) own) is)
+silent_in line Music own is =
+    absurd (nothing_read (without_return line) (no_cutting (without_comment (without_return line)) is) own)
 
-no_cells : (line : List ℕ) (class : LineClass) → class_of line ≡ class → IsSilent class → cells_of (tokens_in class (without_return line)) ≡ []
+no_cells : (line : List ℕ) (class : LineClass) → class_of line ≡ class → IsSilent class
+    → cells_of (tokens_in class (without_return line)) ≡ []
 no_cells line class own (inl blank) = ap (λ k. cells_of (tokens_in k (without_return line))) blank
 no_cells line class own (inr comment) = ap (λ k. cells_of (tokens_in k (without_return line))) comment
 
@@ -118,6 +129,6 @@ abc_lawful = record {
   without_cells = without_cells;
 }
 
--- Values that a file header sets are equal as code compares them only where they are equal.
-pub abc_told_apart : (a b : Defaults) → IsTrue (same_defaults a b) → a ≡ b
-abc_told_apart a b same = (same_defaults_tells a b).0 same
+-- Two values that file headers set compare equal only if they are equal.
+pub abc_eq_is_sound : (a b : Defaults) → IsTrue (same_defaults a b) → a ≡ b
+abc_eq_is_sound a b same = (same_defaults_tells a b).0 same

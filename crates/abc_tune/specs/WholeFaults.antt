@@ -1,30 +1,30 @@
 -- The faults of a tune as a whole.
 use Rattle.std.specs.Prelude.{ℕ, ◌<◌, Bool, true, false, not, if◌then◌else◌, List, [], ◌∷◌, ◌++◌}
 use Rattle.std.specs.List.{list_any}
-use Rattle.abc_items.specs.declared.item.Item.{Item}
-use Rattle.abc_items.specs.declared.item.Item.TheVariants as items
+use Rattle.abc_bars_items.specs.declared.item.Item.{Item}
+use Rattle.abc_bars_items.specs.declared.item.Item.TheVariants as items
 use Rattle.abc_fields.specs.declared.fault.FaultCode.{FaultCode}
 use Rattle.abc_fields.specs.declared.fault.FaultCode.TheVariants as codes
 use Rattle.abc_fields.specs.Fault.{number_of}
-use Rattle.abc_voices.specs.Opening.{past_all}
+use Rattle.abc_voices.specs.Opening.{after_all}
 
 -- Whether an item is the key of the K: that ends a header, accepted or not. ABC 2.1 section 3.1.14.
 abbrev pub is_opening_key : Item → Bool
 is_opening_key (items.Key opening key) = opening
 is_opening_key _ = false
 
--- Whether the header of a tune has no K:. ABC 2.1 section 3.1.14; how it is read then is our own.
+-- Whether the header of a tune has no K:. ABC 2.1 section 3.1.14; how it is read then is not in ABC 2.1.
 abbrev pub lacks_key : List Item → Bool
 lacks_key tune = not (list_any is_opening_key tune)
 
--- Whether the tempo with which a tune opens is out of range behind an item: each field of the header says it.
-abbrev pub out_past : Bool → Item → Bool
-out_past before (items.Tempo true micros out) = out
-out_past before _ = before
+-- Whether the tempo with which a tune opens is out of range after an item: each field of the header says it.
+abbrev pub out_after : Bool → Item → Bool
+out_after before (items.Tempo true micros out) = out
+out_after before _ = before
 
 -- Whether no tempo event can say the tempo with which a tune opens (SMF 1.0), by the last that its header sets.
 abbrev pub opens_out_of_range : List Item → Bool
-opens_out_of_range tune = past_all out_past false tune
+opens_out_of_range tune = after_all out_after false tune
 
 -- A fault, if it is there.
 abbrev pub fault_if : Bool → FaultCode → List FaultCode

@@ -1,20 +1,20 @@
 //! The compiler of ABC.
 
 ghost use Rattle.std.specs.Prelude.{◌≡◌, option_copied};
-ghost use Rattle.abc_cells.specs.SameEntry.{bars_resumable};
+ghost use Rattle.abc_bars_body.specs.SameEntry.{bars_resumable};
 ghost use Rattle.abc_bars.specs.Titles.{title_said};
 ghost use Rattle.abc_tune.specs.Abc.{rules_of_abc, number_of, first_value, steps_of_abc};
-ghost use Rattle.abc_tune.specs.Lawful.{abc_lawful, abc_told_apart};
+ghost use Rattle.abc_tune.specs.Lawful.{abc_lawful, abc_eq_is_sound};
 
 use crate::built::build;
 use abc_bars::BarFold;
-use abc_cells::Entry;
-use abc_compiler::{Built, Compiler};
+use abc_bars_body::Entry;
+use abc_bars_header::Defaults;
+use abc_bars_items::{Item, Items};
 use abc_fields::FaultCode;
 use abc_fold::{Fold, Work};
-use abc_header::Defaults;
-use abc_items::{Item, Items};
 use abc_scan::{Cell, LineClass, cells_of_line, class_of};
+use abc_tune_compiler::{Built, Compiler};
 use std::alloc::{AllocError, Global};
 
 /// The compiler of tunes in ABC.
@@ -65,7 +65,7 @@ impl Fold for Abc {
     }
 }
 
-/// The first reference number among items.
+/// Returns the first reference number among items.
 fn number_among(items: &[Item]) -> Option<u32>
     ensures { result ≡ first_value number_of items.now }
 {
@@ -77,7 +77,7 @@ fn number_among(items: &[Item]) -> Option<u32>
     None
 }
 
-/// The first title among items.
+/// Returns the first title among items.
 fn title_among<'a>(items: &'a [Item]) -> Option<&'a [u8]>
     ensures { option_copied result ≡ first_value title_said items.now }
 {
@@ -96,7 +96,7 @@ impl Compiler for Abc {
 
     ghost lawful = { λ _. abc_lawful };
 
-    ghost told_apart = { abc_told_apart };
+    ghost eq_is_sound = { abc_eq_is_sound };
 
     fn class(&self, line: &[u8]) -> LineClass {
         class_of(line)

@@ -6,28 +6,29 @@ ghost use Rattle.abc_fold.specs.Work.{raised};
 ghost use Rattle.abc_tune.specs.Built.{bytes_of, build_faults_of};
 ghost use Rattle.abc_tune.specs.WholeFaults.{faults_with, is_too_long_fault, AreRisingFrom};
 ghost use Rattle.abc_voices.specs.Arrange.{items_in};
-ghost use Rattle.abc_score.specs.Limits.{IsWithinLimits};
+ghost use Rattle.abc_voices_score.specs.Limits.{IsWithinLimits};
 ghost use Rattle.smf_bytes.specs.File.{file_bytes};
 
 use crate::whole_faults::faults_with;
-use abc_compiler::Built;
+use abc_bars_items::Items;
 use abc_fold::{Shared, Work};
-use abc_items::Items;
 use abc_text::Sequence;
+use abc_tune_compiler::Built;
 use abc_voices::{Arranged, BuildFault, arrange};
 use smf_bytes::file_of;
 use std::alloc::{AllocError, Global};
 
-/// A tune with a file.
+/// Builds a tune with a file.
 fn with_file(alloc: Global, cells: &[Items], arranged: &Arranged) -> Result<Built, AllocError>
     requires { IsWithinLimits arranged.now.score }
     ensures bytes { IfOk result (λ built. built.bytes ≡ Some (file_bytes arranged.now.score)) }
-    ensures faults { IfOk result (λ built. built.faults ≡ faults_with (items_in cells.now) arranged.now.unknown arranged.now.uneven false) }
+    ensures faults { IfOk result (λ built. built.faults
+        ≡ faults_with (items_in cells.now) arranged.now.unknown arranged.now.uneven false) }
     ensures short { IfOk result (λ built. list_any is_too_long_fault built.faults ≡ false) }
     ensures rising { IfOk result (λ built. AreRisingFrom 0 built.faults) }
 {
     let mut file = file_of(alloc, &arranged.score)?;
-    // It is kept as long as the tune stands as it is.
+    // The file is kept until the tune changes.
     file.shrink_to_fit();
     let bytes = Shared::new(alloc, Sequence::from(file))?;
     let faults = faults_with(alloc, cells, arranged.unknown, arranged.uneven, false)?;
@@ -37,7 +38,7 @@ fn with_file(alloc: Global, cells: &[Items], arranged: &Arranged) -> Result<Buil
     })
 }
 
-/// A tune that is too long for a file.
+/// Builds a tune that is too long for a file.
 fn without_file(alloc: Global, cells: &[Items], unknown: bool) -> Result<Built, AllocError>
     ensures bytes { IfOk result (λ built. built.bytes ≡ None) }
     ensures faults { IfOk result (λ built. built.faults ≡ faults_with (items_in cells.now) unknown false true) }
@@ -51,8 +52,8 @@ fn without_file(alloc: Global, cells: &[Items], unknown: bool) -> Result<Built, 
     })
 }
 
-/// The file of a tune and its faults as a whole, of what its cells give in order: there is a file exactly
-/// where the tune is not too long. A call that finds no memory is counted too.
+/// Builds the file of a tune and its faults as a whole, from what its cells give in order. There is a file exactly if the
+/// tune is not too long. A call that runs out of memory is counted too.
 #[tactic(auto, unfolding(crate::specs::Built::bytes_of, crate::specs::Built::build_faults_of))]
 pub fn build(alloc: Global, items: &[Items], work: &mut Work) -> Result<Built, AllocError>
     ensures bytes { IfOk result (λ built. built.bytes ≡ bytes_of items.now) }

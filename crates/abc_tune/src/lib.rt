@@ -1,25 +1,20 @@
-//! One tune, from what its cells give to the bytes of its MIDI file, and ABC as a compiler that a session asks.
+//! One tune, from what its cells give to the bytes of its MIDI file, and the compiler of ABC for a session.
 #![tactic(auto)]
 
 mod abc;
 mod built;
-mod fold_laws;
-mod header_laws;
-mod line_laws;
+pub mod laws;
 mod whole_faults;
 
 pub use abc::Abc;
 pub use abc_bars::BarFold;
-pub use abc_cells::Entry;
-pub use abc_compiler::{Built, Compiler};
+pub use abc_bars_body::Entry;
+pub use abc_bars_header::Defaults;
+pub use abc_bars_items::Items;
 pub use abc_fields::FaultCode;
 pub use abc_fold::{Fold, Shared, Work};
-pub use abc_header::Defaults;
-pub use abc_items::Items;
-pub use abc_memo::{TuneKey, TuneMemo, put_line};
 pub use abc_scan::{Cell, LineClass};
 pub use abc_text::Sequence;
+pub use abc_tune_compiler::{Built, Compiler};
+pub use abc_tune_memo::{TuneKey, TuneMemo, put_line};
 pub use built::build;
-pub use fold_laws::{one_title, tunes_looked_back};
-pub use header_laws::tunes_by_headers;
-pub use line_laws::tunes_of_lines;

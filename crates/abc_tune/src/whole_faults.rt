@@ -2,16 +2,17 @@
 
 ghost use Rattle.std.specs.Prelude.{◌≡◌, ◌++◌, IfOk, OnOk};
 ghost use Rattle.std.specs.List.{list_any};
-ghost use Rattle.abc_tune.specs.WholeFaults.{is_opening_key, lacks_key, out_past, opens_out_of_range, fault_if, faults_with, is_too_long_fault, AreRisingFrom};
+ghost use Rattle.abc_tune.specs.WholeFaults.{is_opening_key, lacks_key, out_after, opens_out_of_range, fault_if, faults_with};
+ghost use Rattle.abc_tune.specs.WholeFaults.{is_too_long_fault, AreRisingFrom};
 ghost use Rattle.abc_voices.specs.Arrange.{items_in};
-ghost use Rattle.abc_voices.specs.Opening.{past_all};
+ghost use Rattle.abc_voices.specs.Opening.{after_all};
 
+use abc_bars_items::{Item, Items};
 use abc_fields::FaultCode;
-use abc_items::{Item, Items};
 use abc_text::Sequence;
 use std::alloc::{AllocError, Global};
 
-/// Whether it is the key of the K: that ends a header, accepted or not.
+/// Whether an item is the key of the K: that ends a header, accepted or not.
 fn is_opening_key(item: &Item) -> bool
     ensures { result ≡ is_opening_key item.now }
 {
@@ -43,9 +44,9 @@ fn lacks_key(cells: &[Items]) -> bool
     !has_key(cells)
 }
 
-/// Whether the tempo with which a tune opens is out of range behind the items of a cell.
-fn out_behind(before: bool, items: &[Item]) -> bool
-    ensures { result ≡ past_all out_past before items.now }
+/// Whether the tempo with which a tune opens is out of range after the items of a cell.
+fn out_after_items(before: bool, items: &[Item]) -> bool
+    ensures { result ≡ after_all out_after before items.now }
 {
     let mut out_of_range = before;
     for item in items {
@@ -67,12 +68,12 @@ fn opens_out_of_range(cells: &[Items]) -> bool
 {
     let mut out_of_range = false;
     for cell in cells {
-        out_of_range = out_behind(out_of_range, cell.items());
+        out_of_range = out_after_items(out_of_range, cell.items());
     }
     out_of_range
 }
 
-/// Puts a fault behind others, if it is there.
+/// Appends a fault if it is there.
 fn put_if(faults: &mut Sequence<FaultCode>, there: bool, fault: FaultCode) -> Result<(), AllocError>
     ensures { OnOk result (faults.new ≡ faults.old ++ fault_if there fault) }
 {
@@ -82,7 +83,7 @@ fn put_if(faults: &mut Sequence<FaultCode>, there: bool, fault: FaultCode) -> Re
     Ok(())
 }
 
-/// The faults of a tune, by whether a part is unknown, voices are uneven and the tune is too long.
+/// Returns the faults of a tune, by whether a part is unknown, voices are uneven and the tune is too long.
 #[tactic(auto, using(std::proofs::Common::append_assoc, crate::proofs::WholeFaults::faults_rise, crate::proofs::WholeFaults::long_among))]
 pub(crate) fn faults_with(
     alloc: Global,

@@ -4,17 +4,17 @@ use Rattle.std.specs.Prelude.{ℤ}
 use Rattle.abc_fields.specs.declared.meter.Meter.{Meter}
 use Rattle.abc_time.specs.declared.grains.Grains.{Grains}
 use Rattle.abc_voices.specs.declared.arranged.Arranged.{Arranged}
-use Rattle.abc_score.specs.declared.score.Change.{Change}
-use Rattle.abc_score.specs.declared.score.ProgramChange.{ProgramChange}
-use Rattle.abc_score.specs.declared.score.Score.{Score}
-use Rattle.abc_score.specs.declared.score.Sounding.{Sounding}
-use Rattle.abc_voices.specs.ScoreChanges.{changes_that_stand}
+use Rattle.abc_voices_score.specs.declared.score.Change.{Change}
+use Rattle.abc_voices_score.specs.declared.score.ProgramChange.{ProgramChange}
+use Rattle.abc_voices_score.specs.declared.score.Score.{Score}
+use Rattle.abc_voices_score.specs.declared.score.Sounding.{Sounding}
+use Rattle.abc_voices.specs.ScoreChanges.{changes_in_force}
 
 -- three lists of changes alike
 pub conductor_same : (tempos tempos2 : List (Grains × ℕ)) (meters meters2 : List (Grains × Meter)) (keys keys2 : List (Grains × (ℤ × Bool)))
-    → tempos ≡ tempos2 → meters ≡ meters2 → keys ≡ keys2 → changes_that_stand tempos meters keys ≡ changes_that_stand tempos2 meters2 keys2
+    → tempos ≡ tempos2 → meters ≡ meters2 → keys ≡ keys2 → changes_in_force tempos meters keys ≡ changes_in_force tempos2 meters2 keys2
 conductor_same tempos tempos2 meters meters2 keys keys2 p q r =
-    ap (λ t. changes_that_stand t meters keys) p ∙ ap (λ m. changes_that_stand tempos2 m keys) q ∙ ap (changes_that_stand tempos2 meters2) r
+    ap (λ t. changes_in_force t meters keys) p ∙ ap (λ m. changes_in_force tempos2 m keys) q ∙ ap (changes_in_force tempos2 meters2) r
 
 -- a score of its parts
 abbrev scored : List ℕ → ℕ → List Change → List (List Sounding) → List (List ProgramChange) → Score

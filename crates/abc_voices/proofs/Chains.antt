@@ -1,11 +1,12 @@
 -- What the walk over time tokens finds is what the relation says.
-use Rattle.std.proofs.Common.{◌≡◌, ◌<◌, ◌≤◌, ℕ, zero, suc, ◌+◌, ◌==◌, nat_lt, Bool, true, false, cond, List, [], ◌∷◌, ◌++◌, length, take, Option, Some, None, refl, sym, ap, subst, ◌∙◌, arith, append_assoc, eq-eqb, length-append, lt-ltb}
+use Rattle.std.proofs.Common.{◌≡◌, ◌<◌, ◌≤◌, ℕ, zero, suc, ◌+◌, ◌==◌, nat_lt, Bool, true, false, cond, List, [], ◌∷◌, ◌++◌, length, take, Option}
+use Rattle.std.proofs.Common.{Some, None, refl, sym, ap, subst, ◌∙◌, arith, append_assoc, eq-eqb, length-append, lt-ltb}
 use Rattle.std.specs.Prelude.{◌&&◌, slice_get}
 use Rattle.std.proofs.lemmas.Bool.{and_parts, eqb-true, ltb-true, ltb-false}
 use Rattle.std.proofs.Math.Seq.{take-append_seam}
-use Rattle.abc_items.specs.declared.item.Tone.{Tone}
-use Rattle.abc_score.specs.declared.score.Sounding.{Sounding}
-use Rattle.abc_voices.specs.Ties.{TimeToken, has_key, tones_with, tied_with, tone_at, joined_with, end_by, chain_end, begun_by, begun_at, chains}
+use Rattle.abc_bars_items.specs.declared.item.Tone.{Tone}
+use Rattle.abc_voices_score.specs.declared.score.Sounding.{Sounding}
+use Rattle.abc_voices.specs.Ties.{TimeToken, has_key, tones_with, tied_with, tone_at, joined_with, end_by, chain_end, begun_by, begun_at, tie_chains}
 use Rattle.abc_voices.specs.Chains.{IsJoined, IsChain, length_if, end_of_chain, IsBegun, AreBegun, AreHeard, HearsChains, HearsNoOthers, silent, goes_on, begins}
 
 -- counts of more tones
@@ -166,7 +167,7 @@ chain_goes token (next ∷ tokens) place key tone number stands own_key same =
         let rest = again follows.other key found.0 found.1 follows.stands follows.own_key follows.tied in
         record { others = follows.other ∷ rest.others; chain = (follows.joined, rest.chain); ends = rest.ends }
 
--- the tied tone of a key that so many stand before
+-- the tied tone of a key that so many are before
 record Tied (key number : ℕ) (tones : List Tone) : Type 0 where
   place : ℕ
   tone : Tone
@@ -189,7 +190,8 @@ tied_there key number (tone ∷ tones) below = by (λ n. tied_there key n tones)
       in_turn = ap (λ x. cond x (suc (tied_with key (take rest.place tones))) (tied_with key (take rest.place tones))) is ∙ ap (λ k. cond b (suc k) k) rest.in_turn ∙ same;
     }
 
-    by : ((n : ℕ) → n < tied_with key tones → Tied key n tones) → (b : Bool) → (tone.tied && has_key key tone.key) ≡ b → (n : ℕ) → n < cond b (suc (tied_with key tones)) (tied_with key tones) → Tied key n (tone ∷ tones)
+    by : ((n : ℕ) → n < tied_with key tones → Tied key n tones) → (b : Bool) → (tone.tied && has_key key tone.key) ≡ b → (n : ℕ)
+        → n < cond b (suc (tied_with key tones)) (tied_with key tones) → Tied key n (tone ∷ tones)
     by again true here zero few =
         let both = and_parts tone.tied (has_key key tone.key) here in
         record { place = 0; tone = tone; stands = refl; tied = both.0; is = both.1; in_turn = refl }
@@ -217,7 +219,7 @@ record Fronts (past front : List Tone) : Type 0 where
   tones : (key : ℕ) → tones_with key past ≡ tones_with key front
   tied : (key : ℕ) → tied_with key past ≡ tied_with key front
 
--- a tone of a time token behind another
+-- a tone of a time token after another
 module _ (previous : List Tone) (token : TimeToken) (tokens : List TimeToken) where
   abbrev all : List TimeToken
   all = token ∷ tokens
@@ -247,7 +249,8 @@ module _ (previous : List Tone) (token : TimeToken) (tokens : List TimeToken) wh
       let keys : is.key ≡ key = some_same is.key key (sym is.same_key ∙ ap (λ (t : Tone). t.key) (sym same) ∙ own_key) in
       let own : is.tone.key ≡ Some key = is.own_key ∙ ap Some keys in
       let both : (is.tone.tied && has_key key is.tone.key) ≡ true = ap (λ b. b && has_key key is.tone.key) is.tied ∙ is_of_key key is.tone own in
-      let turn : tied_with key (take before previous) ≡ tones_with key (take place token.tones) = subst (λ (k : ℕ). tied_with k (take before previous) ≡ tones_with k (take place token.tones)) keys is.in_turn in
+      let turn : tied_with key (take before previous) ≡ tones_with key (take place token.tones) =
+      subst (λ (k : ℕ). tied_with k (take before previous) ≡ tones_with k (take place token.tones)) keys is.in_turn in
       let below = tied_below key previous before is.tone is.stands both in
       omega (arith, above, turn, below)
 
@@ -274,7 +277,7 @@ module _ (previous : List Tone) (token : TimeToken) (tokens : List TimeToken) wh
               (joins_none place key tone stands own_key (omega (arith, same.tones key, ltb-false (tones_with key past) (tied_with key previous) above)))
               (record { tone = tone; stands = stands; key = own_key; others = goes.others; chain = goes.chain; on = refl; off = sym goes.ends; velocity = refl }) refl
 
--- counts of tones with one more behind them
+-- counts of tones with one more after them
 swapped : (b c : Bool) (n : ℕ) → cond c (suc (cond b (suc n) n)) (cond b (suc n) n) ≡ cond b (suc (cond c (suc n) n)) (cond c (suc n) n)
 swapped true true n = refl
 swapped true false n = refl
@@ -321,10 +324,10 @@ tones_begun previous token tokens place past front (tone ∷ tones) long whole s
           (omega (arith, long, length-append front (tone ∷ []))) (whole ∙ sym (append_assoc front (tone ∷ []) tones)) (fronts_more past front tone same),
     )
 
-all_heard : (previous : List Tone) (tokens : List TimeToken) → AreHeard previous tokens (chains (λ key. tied_with key previous) tokens)
+all_heard : (previous : List Tone) (tokens : List TimeToken) → AreHeard previous tokens (tie_chains (λ key. tied_with key previous) tokens)
 all_heard previous [] = refl
 all_heard previous (token ∷ tokens) = (
-  chains (λ key. tied_with key token.tones) tokens,
+  tie_chains (λ key. tied_with key token.tones) tokens,
   begun_at (λ key. tied_with key previous) token.at [] token.tones tokens,
   refl,
   all_heard token.tones tokens,
@@ -343,7 +346,7 @@ one_more : (b : Bool) (m : ℕ) → b ≡ true → 0 ≡ cond b (suc m) m → �
 one_more true m is none = omega (arith, none)
 one_more false m is none = cc
 
--- two tones of a key that as many of it stand before are one
+-- two tones of a key that as many of it are before are one
 same_place : (key : ℕ) (tones : List Tone) (a b : ℕ) (x y : Tone) → slice_get tones a ≡ Some x → slice_get tones b ≡ Some y
     → has_key key x.key ≡ true → has_key key y.key ≡ true → tones_with key (take a tones) ≡ tones_with key (take b tones) → a ≡ b
 same_place key [] a b x y first second own other same = absurd (cc)
@@ -418,7 +421,13 @@ module _ (previous : List Tone) (token : TimeToken) (tokens : List TimeToken) wh
       let key : tone.key ≡ Some joined.key = ap (λ (t : Tone). t.key) (sym one) ∙ joined.same_key in
       let few : tones_with joined.key past < tied_with joined.key previous =
       subst (λ (n : ℕ). n < tied_with joined.key previous) (sym (same.tones joined.key)) (joined_below previous token.tones before place joined.key tone stands key joined) in
-      is ∙ sym (ap (begun past tone) key ∙ ap (λ b. cond b [] (record { key = joined.key; on = record { 0 = token.at }; off = record { 0 = chain_end token.at tone joined.key (tied_with joined.key past) tokens }; velocity = tone.velocity } ∷ [])) (lt-ltb (tones_with joined.key past) (tied_with joined.key previous) few))
+      is ∙ sym (ap (begun past tone) key ∙ ap (λ b. cond b []
+      (record {
+        key = joined.key;
+        on = record { 0 = token.at };
+        off = record { 0 = chain_end token.at tone joined.key (tied_with joined.key past) tokens };
+        velocity = tone.velocity;
+      } ∷ [])) (lt-ltb (tones_with joined.key past) (tied_with joined.key previous) few))
   one_is place past tone own stands same (begins note none of is) =
       let one : of.tone ≡ tone = some_same of.tone tone (sym of.stands ∙ stands) in
       let key : tone.key ≡ Some note.key = ap (λ (t : Tone). t.key) (sym one) ∙ of.key in
@@ -433,7 +442,8 @@ module _ (previous : List Tone) (token : TimeToken) (tokens : List TimeToken) wh
       each : (b : Bool) → nat_lt (tones_with note.key past) (tied_with note.key previous) ≡ b → tone.key ≡ Some note.key → b ≡ false
       each false above key = refl
       each true below key =
-          let joined = joins previous token tokens place note.key tone stands key (subst (λ (n : ℕ). n < tied_with note.key previous) (same.tones note.key) (ltb-true (tones_with note.key past) (tied_with note.key previous) below)) in
+          let joined = joins previous token tokens place note.key tone stands key
+          (subst (λ (n : ℕ). n < tied_with note.key previous) (same.tones note.key) (ltb-true (tones_with note.key past) (tied_with note.key previous) below)) in
           absurd (none joined.0 joined.1)
 
 tones_are : (previous : List Tone) (token : TimeToken) (tokens : List TimeToken) (place : ℕ) (past front tones : List Tone) (notes : List Sounding)
@@ -449,7 +459,7 @@ tones_are previous token tokens place past front (tone ∷ tones) notes long who
     (omega (arith, long, length-append front (tone ∷ []))) (whole ∙ sym (append_assoc front (tone ∷ []) tones)) (fronts_more past front tone same) rest in
     parts ∙ (λ i. first i ++ later i)
 
-all_are : (previous : List Tone) (tokens : List TimeToken) (notes : List Sounding) → AreHeard previous tokens notes → notes ≡ chains (λ key. tied_with key previous) tokens
+all_are : (previous : List Tone) (tokens : List TimeToken) (notes : List Sounding) → AreHeard previous tokens notes → notes ≡ tie_chains (λ key. tied_with key previous) tokens
 all_are previous [] notes none = none
 all_are previous (token ∷ tokens) notes (later, own, parts, rest, one) =
     let first = all_are token.tones tokens later rest in

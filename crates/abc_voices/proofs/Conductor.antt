@@ -4,23 +4,24 @@ use Rattle.std.proofs.lemmas.List.Elements.{filter-append}
 use Rattle.std.specs.Prelude.{◌==◌, filter, filter_map, option_map, option_and_then, unwrap_or}
 use Rattle.std.specs.List.{cons_option, flat_map}
 use Rattle.std.specs.Option.{option_to_list}
-use Rattle.abc_items.specs.declared.item.Item.{Item}
-use Rattle.abc_items.specs.declared.item.Item.TheVariants as items
+use Rattle.abc_bars_items.specs.declared.item.Item.{Item}
+use Rattle.abc_bars_items.specs.declared.item.Item.TheVariants as items
 use Rattle.abc_fields.specs.declared.meter.Meter.{Meter}
 use Rattle.abc_fields.specs.declared.meter.Meter.TheVariants as meters
 use Rattle.abc_time.specs.declared.grains.Grains.{Grains}
 use Rattle.abc_time.specs.Grains.{tick_at}
-use Rattle.abc_score.specs.declared.score.Change.{Change}
-use Rattle.abc_score.specs.declared.score.ChangeKind.TheVariants as kinds
+use Rattle.abc_voices_score.specs.declared.score.Change.{Change}
+use Rattle.abc_voices_score.specs.declared.score.ChangeKind.TheVariants as kinds
 use Rattle.abc_voices.specs.Arrange.{first_of, or_else, played_sections, set_in, usual_tempo}
-use Rattle.abc_sections.specs.PlayedSection.{longest, play_in}
+use Rattle.abc_voices_sections.specs.PlayedSection.{longest, play_in}
 use Rattle.abc_voices.specs.Change.{tempo_of, meter_of, key_of, set_from}
-use Rattle.abc_voices.specs.Conductor.{opening_tempo_of, opening_meter_of, opening_key_of, opening_by, sections_in_time, last_beside, last_set, set_or_opening, at_120, leader, is_tempo, is_meter, is_key, is_there, IsConductedOnTicks}
-use Rattle.abc_voices.specs.Opening.{past_all, tempo_past, meter_past, key_past}
+use Rattle.abc_voices.specs.Conductor.{opening_tempo_of, opening_meter_of, opening_key_of, opening_by, sections_in_time, last_beside, last_set}
+use Rattle.abc_voices.specs.Conductor.{set_or_opening, at_120, leader, is_tempo, is_meter, is_key, is_there, IsConductedOnTicks}
+use Rattle.abc_voices.specs.Opening.{after_all, tempo_after, meter_after, key_after}
 use Rattle.abc_voices.specs.OnTicks.{last_said, set_on}
-use Rattle.abc_voices.specs.ScoreChanges.{tempo_change, meter_change, key_change, changes_that_stand}
+use Rattle.abc_voices.specs.ScoreChanges.{tempo_change, meter_change, key_change, changes_in_force}
 use Rattle.abc_voices.specs.Ticks.{last_of_each_tick}
-use Rattle.abc_voices.specs.Track.{everyone, tracks}
+use Rattle.abc_voices.specs.Track.{voice_names, tracks}
 use Rattle.abc_voices.specs.Voices.{or_said}
 use Rattle.abc_voices.proofs.OnTicks.{last_append, set_if_on, is_on, last_on, last_stands, as_list, play_said}
 
@@ -51,7 +52,7 @@ later_or (Some x) first value = refl
 -- what a tune opens with is what the last field of its header says
 all_past : {V : Type 0} (past : Option V → Item → Option V) (says : Item → Option (Option V))
     → ((value : Option V) (item : Item) → past value item ≡ unwrap_or (says item) value)
-    → (value : Option V) (tune : List Item) → past_all past value tune ≡ unwrap_or (last_said says tune) value
+    → (value : Option V) (tune : List Item) → after_all past value tune ≡ unwrap_or (last_said says tune) value
 all_past past says one value [] = refl
 all_past past says one value (item ∷ tune) =
     all_past past says one (past value item) tune
@@ -64,11 +65,11 @@ or_usual usual (Some value) = refl
 
 opens : {V : Type 0} (past : Option V → Item → Option V) (says : Item → Option (Option V)) (usual : V)
     → ((value : Option V) (item : Item) → past value item ≡ unwrap_or (says item) value)
-    → (tune : List Item) → or_else usual (past_all past None tune) ≡ opening_by says usual tune
+    → (tune : List Item) → or_else usual (after_all past None tune) ≡ opening_by says usual tune
 opens past says usual one tune =
     ap (or_else usual) (all_past past says one None tune) ∙ or_usual usual (unwrap_or (last_said says tune) None)
 
-tempo_said : (value : Option ℕ) (item : Item) → tempo_past value item ≡ unwrap_or (opening_tempo_of item) value
+tempo_said : (value : Option ℕ) (item : Item) → tempo_after value item ≡ unwrap_or (opening_tempo_of item) value
 tempo_said value (items.Tempo true micros out) = refl
 tempo_said value (items.Tempo false micros out) = refl
 tempo_said value (items.Meter opening meter) = refl
@@ -84,7 +85,7 @@ tempo_said value (items.Voice opening name) = refl
 tempo_said value (items.Title text) = refl
 tempo_said value (items.Order text) = refl
 
-meter_said : (value : Option Meter) (item : Item) → meter_past value item ≡ unwrap_or (opening_meter_of item) value
+meter_said : (value : Option Meter) (item : Item) → meter_after value item ≡ unwrap_or (opening_meter_of item) value
 meter_said value (items.Tempo opening micros out) = refl
 meter_said value (items.Meter true meter) = refl
 meter_said value (items.Meter false meter) = refl
@@ -100,7 +101,7 @@ meter_said value (items.Voice opening name) = refl
 meter_said value (items.Title text) = refl
 meter_said value (items.Order text) = refl
 
-key_said : (value : Option (ℤ × Bool)) (item : Item) → key_past value item ≡ unwrap_or (opening_key_of item) value
+key_said : (value : Option (ℤ × Bool)) (item : Item) → key_after value item ≡ unwrap_or (opening_key_of item) value
 key_said value (items.Tempo opening micros out) = refl
 key_said value (items.Meter opening meter) = refl
 key_said value (items.Key true key) = refl
@@ -171,7 +172,7 @@ three : (p : Change → Bool) (a b c : List Change) → filter p (a ++ b ++ c) �
 three p a b c = filter-append p (a ++ b) c ∙ ap (λ l. l ++ filter p c) (filter-append p a b)
 
 tempos_stand : (tick : ℕ) (tempos : List (Grains × ℕ)) (meters : List (Grains × Meter)) (keys : List (Grains × (ℤ × Bool)))
-    → filter (is_there is_tempo tick) (changes_that_stand tempos meters keys) ≡ option_to_list (option_map tempo_change (last_on tick tempos))
+    → filter (is_there is_tempo tick) (changes_in_force tempos meters keys) ≡ option_to_list (option_map tempo_change (last_on tick tempos))
 tempos_stand tick tempos meters keys =
     let p : Change → Bool = is_there is_tempo tick in
     let own : List Change = map tempo_change (filter (is_on tick) (last_of_each_tick tempos)) in
@@ -182,7 +183,7 @@ tempos_stand tick tempos meters keys =
     ∙ ap (map tempo_change) (last_stands tick tempos) ∙ as_list tempo_change (last_on tick tempos)
 
 meters_stand : (tick : ℕ) (tempos : List (Grains × ℕ)) (meters : List (Grains × Meter)) (keys : List (Grains × (ℤ × Bool)))
-    → filter (is_there is_meter tick) (changes_that_stand tempos meters keys) ≡ option_to_list (option_and_then meter_change (last_on tick meters))
+    → filter (is_there is_meter tick) (changes_in_force tempos meters keys) ≡ option_to_list (option_and_then meter_change (last_on tick meters))
 meters_stand tick tempos meters keys =
     let p : Change → Bool = is_there is_meter tick in
     let own : List Change = filter_map meter_change (filter (is_on tick) (last_of_each_tick meters)) in
@@ -193,7 +194,7 @@ meters_stand tick tempos meters keys =
     ∙ ap (filter_map meter_change) (last_stands tick meters) ∙ if_changed meter_change (last_on tick meters)
 
 keys_stand : (tick : ℕ) (tempos : List (Grains × ℕ)) (meters : List (Grains × Meter)) (keys : List (Grains × (ℤ × Bool)))
-    → filter (is_there is_key tick) (changes_that_stand tempos meters keys) ≡ option_to_list (option_map key_change (last_on tick keys))
+    → filter (is_there is_key tick) (changes_in_force tempos meters keys) ≡ option_to_list (option_map key_change (last_on tick keys))
 keys_stand tick tempos meters keys =
     let p : Change → Bool = is_there is_key tick in
     three p (map tempo_change (last_of_each_tick tempos)) (filter_map meter_change (last_of_each_tick meters)) (map key_change (last_of_each_tick keys))
@@ -209,24 +210,24 @@ leads (voice ∷ voices) = refl
 -- the changes of a tune
 abbrev played_with : {V : Type 0} → (Item → Option V) → List (List ℕ) → V → List Item → List (Grains × V)
 played_with value_of those opening tune =
-    (record { 0 = 0 }, opening) ∷ set_in value_of (everyone tune) those 0 (played_sections tune)
+    (record { 0 = 0 }, opening) ∷ set_in value_of (voice_names tune) those 0 (played_sections tune)
 
 abbrev tempos_in : List Item → List (Grains × ℕ)
-tempos_in tune = played_with tempo_of (everyone tune) (or_else usual_tempo (past_all tempo_past None tune)) tune
+tempos_in tune = played_with tempo_of (voice_names tune) (or_else usual_tempo (after_all tempo_after None tune)) tune
 
 abbrev meters_in : List Item → List (Grains × Meter)
-meters_in tune = played_with meter_of (first_of (tracks tune)) (or_else meters.Free (past_all meter_past None tune)) tune
+meters_in tune = played_with meter_of (first_of (tracks tune)) (or_else meters.Free (after_all meter_after None tune)) tune
 
 abbrev keys_in : List Item → List (Grains × (ℤ × Bool))
-keys_in tune = played_with key_of (first_of (tracks tune)) (or_else (pos 0, false) (past_all key_past None tune)) tune
+keys_in tune = played_with key_of (first_of (tracks tune)) (or_else (pos 0, false) (after_all key_after None tune)) tune
 
--- what is set behind what a tune opens with
+-- what is set after what a tune opens with
 behind_opening : {V : Type 0} (value_of : Item → Option V) (those same_voices : List (List ℕ)) (tune : List Item) (tick : ℕ) (given opening : V)
     → those ≡ same_voices → given ≡ opening
     → last_on tick (played_with value_of those given tune) ≡ set_or_opening value_of same_voices opening tune tick
 behind_opening value_of those same_voices tune tick given opening voices same =
     ap (λ last. or_said last (set_on tick 0 (Some given)))
-    (sections_said value_of (everyone tune) those tick 0 (played_sections tune))
+    (sections_said value_of (voice_names tune) those tick 0 (played_sections tune))
     ∙ (λ i. or_said (last_set value_of (voices i) tune tick) (set_on tick 0 (Some (same i))))
 
 pub is_conducted : IsConductedOnTicks
@@ -235,17 +236,17 @@ is_conducted tune tick =
     record {
       tempo = tempos_stand tick (tempos_in tune) (meters_in tune) (keys_in tune)
           ∙ ap (λ last. option_to_list (option_map tempo_change last))
-          (behind_opening tempo_of (everyone tune) (everyone tune) tune tick
-          (or_else usual_tempo (past_all tempo_past None tune)) (opening_by opening_tempo_of at_120 tune) refl
-          (opens tempo_past opening_tempo_of at_120 tempo_said tune));
+          (behind_opening tempo_of (voice_names tune) (voice_names tune) tune tick
+          (or_else usual_tempo (after_all tempo_after None tune)) (opening_by opening_tempo_of at_120 tune) refl
+          (opens tempo_after opening_tempo_of at_120 tempo_said tune));
       meter = meters_stand tick (tempos_in tune) (meters_in tune) (keys_in tune)
           ∙ ap (λ last. option_to_list (option_and_then meter_change last))
           (behind_opening meter_of (first_of (tracks tune)) (leader tune) tune tick
-          (or_else meters.Free (past_all meter_past None tune)) (opening_by opening_meter_of meters.Free tune) first
-          (opens meter_past opening_meter_of meters.Free meter_said tune));
+          (or_else meters.Free (after_all meter_after None tune)) (opening_by opening_meter_of meters.Free tune) first
+          (opens meter_after opening_meter_of meters.Free meter_said tune));
       key = keys_stand tick (tempos_in tune) (meters_in tune) (keys_in tune)
           ∙ ap (λ last. option_to_list (option_map key_change last))
           (behind_opening key_of (first_of (tracks tune)) (leader tune) tune tick
-          (or_else (pos 0, false) (past_all key_past None tune)) (opening_by opening_key_of (pos 0, false) tune) first
-          (opens key_past opening_key_of (pos 0, false) key_said tune));
+          (or_else (pos 0, false) (after_all key_after None tune)) (opening_by opening_key_of (pos 0, false) tune) first
+          (opens key_after opening_key_of (pos 0, false) key_said tune));
     }

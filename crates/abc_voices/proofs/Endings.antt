@@ -1,9 +1,9 @@
--- What is moved in front of an ending is what the strains say.
+-- What is moved before an ending is what the strains say.
 use Rattle.std.proofs.Common.{◌≡◌, ℕ, Bool, true, false, not, cond, get_or, drop, List, [], ◌∷◌, ◌++◌, map, refl, sym, ap, ◌∙◌, ⊎_elim, append-nil, append_assoc}
 use Rattle.std.specs.Prelude.{◌&&◌, ◌||◌}
 use Rattle.std.proofs.lemmas.Bool.{and_parts, cases_Bool, cond-true, cond-false}
-use Rattle.abc_items.specs.declared.item.Item.{Item}
-use Rattle.abc_items.specs.declared.item.Item.TheVariants as items
+use Rattle.abc_bars_items.specs.declared.item.Item.{Item}
+use Rattle.abc_bars_items.specs.declared.item.Item.TheVariants as items
 use Rattle.abc_repeat.specs.declared.mark.Mark.{Mark}
 use Rattle.abc_repeat.specs.declared.mark.Mark.TheVariants as marks
 use Rattle.abc_repeat.specs.Mark.{is_ending, is_single, opens_next, closes_common, closes_ending}
@@ -11,22 +11,22 @@ use Rattle.abc_repeat.specs.Strain.{Strain, without_endings, leads_to_ending, go
 use Rattle.abc_repeat.proofs.Cuts.{one_or_cut}
 use Rattle.abc_repeat.proofs.Existence.{with_plain}
 use Rattle.abc_repeat.proofs.Readings.{stays, ends, single_stays, inside_stays, bar_stays, bar_ends, sign_stays, reading_computed}
-use Rattle.abc_sections.specs.declared.ending_fields.Region.{Region}
-use Rattle.abc_sections.specs.declared.ending_fields.Region.TheVariants.{Common, Inside, Behind}
+use Rattle.abc_voices_sections.specs.declared.ending_fields.Region.{Region}
+use Rattle.abc_voices_sections.specs.declared.ending_fields.Region.TheVariants.{Common, Inside, AfterBar}
 use Rattle.abc_voices.specs.Endings.{without_fields, has_ending, past_its_bar, between_endings, between_endings_of, between_endings_in, with_waits, behind_signs, MovesByStrains}
-use Rattle.abc_sections.specs.EndingFields.{with_fields_in_endings_from, set_down, waits, past, past_bar, region_past}
-use Rattle.abc_sections.specs.Play.{marks_of}
-use Rattle.abc_sections.specs.Step.{is_field, mark_of}
+use Rattle.abc_voices_sections.specs.EndingFields.{with_fields_in_endings_from, put_with_waiting, waits, after_mark, after_bar, region_after}
+use Rattle.abc_voices_sections.specs.Play.{marks_of}
+use Rattle.abc_voices_sections.specs.Step.{is_field, mark_of}
 
 -- the marks of items without their fields
 abbrev marks_left : List Item → List Mark
 marks_left part = marks_of (without_fields part)
 
--- what the strains say of marks that stand in a common part
+-- what the strains say of marks that are in a common part
 abbrev outside : Bool → List Mark → List Bool
 outside opened ms = between_endings_in (strains_from opened ms)
 
--- what a strain says whose common part stands in an ending, whose bar has come or not
+-- what a strain says whose common part is in an ending, whose bar has come or not
 abbrev in_run : Bool → Strain → List Bool
 in_run ended strain = map (λ one. one && has_ending strain.endings) (past_its_bar ended strain.common) ++ between_endings strain.endings
 
@@ -35,7 +35,7 @@ abbrev in_runs : Bool → List Strain → List Bool
 in_runs ended [] = []
 in_runs ended (strain ∷ strains) = in_run ended strain ++ between_endings_in strains
 
--- what the strains say of marks that stand in an ending
+-- what the strains say of marks that are in an ending
 abbrev inside : Bool → Bool → List Mark → List Bool
 inside opened ended ms = in_runs ended (map strain_of (texts_of opened true ms))
 
@@ -79,7 +79,7 @@ in_sign opened ended numbers ms =
     ap (λ l. in_runs ended (map strain_of l)) (sign_stays opened true numbers ms ∙ ap (put_first (marks.Ending numbers)) t.is)
     ∙ ap (λ l. false ∷ in_runs false (map strain_of l)) (sym t.is)
 
--- a mark in front of the run of an ending
+-- a mark before the run of an ending
 in_front : (opened ended : Bool) (m : Mark) (ms : List Mark) (t : Texts opened true ms) → is_ending m ≡ false
     → texts_of opened true (m ∷ ms) ≡ put_first m (texts_of opened true ms)
     → inside opened ended (m ∷ ms)
@@ -177,8 +177,8 @@ with_other between flag others more item rest e is =
     ap (λ b. (between && not (is_ending (mark_of item)), item) ∷ with_waits (cond b between (get_or others 0 false)) (cond b others (drop 1 others)) rest) e
     ∙ ap (λ l. (between && not (is_ending (mark_of item)), item) ∷ with_waits (get_or l 0 false) (drop 1 l) rest) is
 
-alone : (item : Item) → set_down [] item ≡ item ∷ []
-alone item = elim (is_ending (mark_of item)) as (λ b. cond b (item ∷ []) (item ∷ []) ≡ item ∷ []) [
+single_run : (item : Item) → put_with_waiting [] item ≡ item ∷ []
+single_run item = elim (is_ending (mark_of item)) as (λ b. cond b (item ∷ []) (item ∷ []) ≡ item ∷ []) [
   | true ↦ refl
   | false ↦ refl
 ]
@@ -188,13 +188,13 @@ record Walks (rest : List Item) : Type 0 where
   pub common : (opened : Bool) → with_fields_in_endings_from Common [] rest ≡ says false (outside opened (marks_left rest)) rest
   pub within : (opened : Bool) → with_fields_in_endings_from Inside [] rest ≡ says false (inside opened false (marks_left rest)) rest
   pub ahead : (opened : Bool) (held : List Item) → leads_to_ending (marks_left rest) ≡ true
-      → with_fields_in_endings_from Behind held rest ≡ behind_signs held (with_waits true (inside opened true (marks_left rest)) rest)
+      → with_fields_in_endings_from AfterBar held rest ≡ behind_signs held (with_waits true (inside opened true (marks_left rest)) rest)
   pub astray : (opened : Bool) (held : List Item) → leads_to_ending (marks_left rest) ≡ false
-      → with_fields_in_endings_from Behind held rest ≡ held ++ says false (outside opened (marks_left rest)) rest
+      → with_fields_in_endings_from AfterBar held rest ≡ held ++ says false (outside opened (marks_left rest)) rest
 
-waiting : (held : List Item) (item : Item) (rest : List Item) → waits Behind item ≡ true
-    → with_fields_in_endings_from Behind held (item ∷ rest) ≡ with_fields_in_endings_from Behind (held ++ item ∷ []) rest
-waiting held item rest e = cond-true (waits Behind item) _ _ e
+waiting : (held : List Item) (item : Item) (rest : List Item) → waits AfterBar item ≡ true
+    → with_fields_in_endings_from AfterBar held (item ∷ rest) ≡ with_fields_in_endings_from AfterBar (held ++ item ∷ []) rest
+waiting held item rest e = cond-true (waits AfterBar item) _ _ e
 
 -- a field
 field_flags : (those : List Mark → List Bool) (between : Bool) (item : Item) (rest : List Item) → is_field item ≡ true → mark_of item ≡ marks.Play
@@ -205,17 +205,17 @@ field_flags those between item rest e p =
 
 field_step : (item : Item) (rest : List Item) → is_field item ≡ true → mark_of item ≡ marks.Play → Walks rest → Walks (item ∷ rest)
 field_step item rest e p w =
-    let here : waits Behind item ≡ true = ap (λ b. b || is_single (mark_of item)) e in
+    let here : waits AfterBar item ≡ true = ap (λ b. b || is_single (mark_of item)) e in
     let left : leads_to_ending (marks_left rest) ≡ leads_to_ending (marks_left (item ∷ rest)) = ap leads_to_ending (sym (left_field item rest e)) in
     record {
       common = λ opened.
-          ap (λ l. l ++ with_fields_in_endings_from (region_past Common (mark_of item)) [] rest) (alone item)
-          ∙ ap (λ m. item ∷ with_fields_in_endings_from (region_past Common m) [] rest) p
+          ap (λ l. l ++ with_fields_in_endings_from (region_after Common (mark_of item)) [] rest) (single_run item)
+          ∙ ap (λ m. item ∷ with_fields_in_endings_from (region_after Common m) [] rest) p
           ∙ ap (λ l. item ∷ l) (w.common opened)
           ∙ sym (ap (behind_signs []) (field_flags (outside opened) false item rest e p));
       within = λ opened.
-          ap (λ l. l ++ with_fields_in_endings_from (region_past Inside (mark_of item)) [] rest) (alone item)
-          ∙ ap (λ m. item ∷ with_fields_in_endings_from (region_past Inside m) [] rest) p
+          ap (λ l. l ++ with_fields_in_endings_from (region_after Inside (mark_of item)) [] rest) (single_run item)
+          ∙ ap (λ m. item ∷ with_fields_in_endings_from (region_after Inside m) [] rest) p
           ∙ ap (λ l. item ∷ l) (w.within opened)
           ∙ sym (ap (behind_signs []) (field_flags (inside opened false) false item rest e p));
       ahead = λ opened held h.
@@ -264,40 +264,40 @@ plain_common : (opened : Bool) (item : Item) (rest : List Item) → is_field ite
     → with_fields_in_endings_from Common [] (item ∷ rest) ≡ says false (outside opened (marks_left (item ∷ rest))) (item ∷ rest)
 plain_common opened item rest e plain w =
     let f = follows opened (mark_of item) (marks_left rest) plain in
-    ap (λ l. l ++ with_fields_in_endings_from (region_past Common (mark_of item)) [] rest) (alone item)
+    ap (λ l. l ++ with_fields_in_endings_from (region_after Common (mark_of item)) [] rest) (single_run item)
     ∙ ap (λ b. item ∷ with_fields_in_endings_from (cond b Inside Common) [] rest) plain
     ∙ ap (λ l. item ∷ l) (w.common f.behind)
     ∙ sym (ap (behind_signs []) (plain_flags false false (outside opened) (outside f.behind (marks_left rest)) item rest e plain f.is))
 
--- inside an ending, behind an item that is no sign
+-- inside an ending, after an item that is no sign
 plain_behind : (region : Region) (opened flag : Bool) (more : List Bool) (item : Item) (rest : List Item) → is_field item ≡ false → is_ending (mark_of item) ≡ false
-    → past Inside (mark_of item) ≡ region → inside opened false (mark_of item ∷ marks_left rest) ≡ flag ∷ more
+    → after_mark Inside (mark_of item) ≡ region → inside opened false (mark_of item ∷ marks_left rest) ≡ flag ∷ more
     → with_fields_in_endings_from region [] rest ≡ says flag more rest
     → with_fields_in_endings_from Inside [] (item ∷ rest) ≡ says false (inside opened false (marks_left (item ∷ rest))) (item ∷ rest)
 plain_behind region opened flag more item rest e plain there is walk =
-    ap (λ l. l ++ with_fields_in_endings_from (region_past Inside (mark_of item)) [] rest) (alone item)
-    ∙ ap (λ b. item ∷ with_fields_in_endings_from (cond b Inside (past Inside (mark_of item))) [] rest) plain
+    ap (λ l. l ++ with_fields_in_endings_from (region_after Inside (mark_of item)) [] rest) (single_run item)
+    ∙ ap (λ b. item ∷ with_fields_in_endings_from (cond b Inside (after_mark Inside (mark_of item))) [] rest) plain
     ∙ ap (λ r. item ∷ with_fields_in_endings_from r [] rest) there
     ∙ ap (λ l. item ∷ l) walk
     ∙ sym (ap (behind_signs []) (plain_flags false flag (inside opened false) more item rest e plain is))
 
--- behind a bar that ends an ending
+-- after a bar that ends an ending
 bar_behind : (opened : Bool) (item : Item) (rest : List Item) → is_field item ≡ false → is_ending (mark_of item) ≡ false → closes_ending (mark_of item) ≡ true → Walks rest
     → with_fields_in_endings_from Inside [] (item ∷ rest) ≡ says false (inside opened false (marks_left (item ∷ rest))) (item ∷ rest)
 bar_behind opened item rest e plain closes w =
     let m = mark_of item in
     let ms = marks_left rest in
-    let there : past Inside m ≡ past_bar m = ap (λ b. cond b (past_bar m) Inside) closes in
+    let there : after_mark Inside m ≡ after_bar m = ap (λ b. cond b (after_bar m) Inside) closes in
     ⊎_elim
     (λ (opens : opens_next m ≡ true).
-    plain_behind Common opened false (outside (opens_next m) ms) item rest e plain (there ∙ ap (λ b. cond b Common Behind) opens)
+    plain_behind Common opened false (outside (opens_next m) ms) item rest e plain (there ∙ ap (λ b. cond b Common AfterBar) opens)
     (in_last opened m ms plain closes (ap (λ b. not b && leads_to_ending ms) opens)) (w.common (opens_next m)))
     (λ (opens : opens_next m ≡ false). ⊎_elim
     (λ (leads : leads_to_ending ms ≡ true).
-    plain_behind Behind opened true (inside opened true ms) item rest e plain (there ∙ ap (λ b. cond b Common Behind) opens)
+    plain_behind AfterBar opened true (inside opened true ms) item rest e plain (there ∙ ap (λ b. cond b Common AfterBar) opens)
     (in_bar opened m ms plain closes opens leads) (w.ahead opened [] leads))
     (λ (leads : leads_to_ending ms ≡ false).
-    plain_behind Behind opened false (outside (opens_next m) ms) item rest e plain (there ∙ ap (λ b. cond b Common Behind) opens)
+    plain_behind AfterBar opened false (outside (opens_next m) ms) item rest e plain (there ∙ ap (λ b. cond b Common AfterBar) opens)
     (in_last opened m ms plain closes (ap (λ b. not (opens_next m) && b) leads ∙ none (not (opens_next m)))) (w.astray (opens_next m) [] leads))
     (cases_Bool (leads_to_ending ms)))
     (cases_Bool (opens_next m))
@@ -310,7 +310,7 @@ plain_within : (opened : Bool) (item : Item) (rest : List Item) → is_field ite
     → with_fields_in_endings_from Inside [] (item ∷ rest) ≡ says false (inside opened false (marks_left (item ∷ rest))) (item ∷ rest)
 plain_within opened item rest e plain w = ⊎_elim
     (λ closes. bar_behind opened item rest e plain closes w)
-    (λ unclosed. plain_behind Inside opened false (inside opened false (marks_left rest)) item rest e plain (ap (λ b. cond b (past_bar (mark_of item)) Inside) unclosed)
+    (λ unclosed. plain_behind Inside opened false (inside opened false (marks_left rest)) item rest e plain (ap (λ b. cond b (after_bar (mark_of item)) Inside) unclosed)
     (in_more opened (mark_of item) (marks_left rest) plain unclosed) (w.within opened))
     (cases_Bool (closes_ending (mark_of item)))
 
@@ -322,7 +322,7 @@ led_on item rest b e plain h =
 
 plain_ahead : (opened : Bool) (held : List Item) (item : Item) (rest : List Item) → is_field item ≡ false → is_ending (mark_of item) ≡ false → Walks rest
     → leads_to_ending (marks_left (item ∷ rest)) ≡ true
-    → with_fields_in_endings_from Behind held (item ∷ rest) ≡ behind_signs held (with_waits true (inside opened true (marks_left (item ∷ rest))) (item ∷ rest))
+    → with_fields_in_endings_from AfterBar held (item ∷ rest) ≡ behind_signs held (with_waits true (inside opened true (marks_left (item ∷ rest))) (item ∷ rest))
 plain_ahead opened held item rest e plain w h =
     let both = and_parts (is_single (mark_of item)) (leads_to_ending (marks_left rest)) (led_on item rest true e plain h) in
     waiting held item rest (ap (λ b. b || is_single (mark_of item)) e ∙ both.0)
@@ -332,16 +332,16 @@ plain_ahead opened held item rest e plain w h =
 
 plain_astray : (opened : Bool) (held : List Item) (item : Item) (rest : List Item) → is_field item ≡ false → is_ending (mark_of item) ≡ false → Walks rest
     → leads_to_ending (marks_left (item ∷ rest)) ≡ false
-    → with_fields_in_endings_from Behind held (item ∷ rest) ≡ held ++ says false (outside opened (marks_left (item ∷ rest))) (item ∷ rest)
+    → with_fields_in_endings_from AfterBar held (item ∷ rest) ≡ held ++ says false (outside opened (marks_left (item ∷ rest))) (item ∷ rest)
 plain_astray opened held item rest e plain w h =
     let f = follows opened (mark_of item) (marks_left rest) plain in
     let rest_says = says false (outside f.behind (marks_left rest)) rest in
-    let walked : with_fields_in_endings_from Behind held (item ∷ rest) ≡ (held ++ item ∷ []) ++ rest_says = ⊎_elim
+    let walked : with_fields_in_endings_from AfterBar held (item ∷ rest) ≡ (held ++ item ∷ []) ++ rest_says = ⊎_elim
     (λ single.
     waiting held item rest (ap (λ b. b || is_single (mark_of item)) e ∙ single)
     ∙ w.astray f.behind (held ++ item ∷ []) (sym (ap (λ b. b && leads_to_ending (marks_left rest)) single) ∙ led_on item rest false e plain h))
     (λ other.
-    cond-false (waits Behind item) _ _ (ap (λ b. b || is_single (mark_of item)) e ∙ other)
+    cond-false (waits AfterBar item) _ _ (ap (λ b. b || is_single (mark_of item)) e ∙ other)
     ∙ ap (λ b. cond b (item ∷ held) (held ++ item ∷ []) ++ with_fields_in_endings_from (cond b Inside Common) [] rest) plain
     ∙ ap (λ l. (held ++ item ∷ []) ++ l) (w.common f.behind))
     (cases_Bool (is_single (mark_of item))) in

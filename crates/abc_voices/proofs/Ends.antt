@@ -3,12 +3,12 @@ use Rattle.std.proofs.Common.{◌≡◌, ◌⊎◌, ◌<◌, ℕ, suc, max, List
 use Rattle.std.specs.Prelude.{Any}
 use Rattle.std.specs.List.{flat_map}
 use Rattle.std.proofs.lemmas.Bool.{cases_lt}
-use Rattle.abc_score.specs.declared.score.Sounding.{Sounding}
+use Rattle.abc_voices_score.specs.declared.score.Sounding.{Sounding}
 use Rattle.abc_voices.specs.Arrange.{last_off, total, voices_notes}
 use Rattle.abc_voices.specs.Ends.{EndsOnce}
-use Rattle.abc_voices.proofs.Fitting.Voices.{last_past, last_of_all}
+use Rattle.abc_voices.proofs.Fitting.Voices.{last_past, latest_end}
 
--- one of some things, in front of others and behind another
+-- one of some things, before others and after another
 any_first : {X : Type 0} (P : X → Type 0) (x : X) (xs : List X) → P x → Any P (x ∷ xs)
 any_first P x xs is = (0, x, omega arith, refl, is)
 
@@ -39,6 +39,6 @@ ends_once tune =
     let notes : List Sounding = flat_map (λ one. one) (voices_notes tune) in
     record {
       sections = last_past (total tune) notes;
-      notes = last_of_all (total tune) notes;
+      notes = latest_end (total tune) notes;
       soon = one_of (total tune) notes;
     }

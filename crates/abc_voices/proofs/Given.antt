@@ -3,9 +3,9 @@ use Rattle.std.proofs.Common.{◌≡◌, ℕ, ◌-◌, Bool, true, false, cond, 
 use Rattle.std.proofs.lemmas.List.Elements.{All-filter}
 use Rattle.std.specs.Prelude.{not, ℤ, pos, All}
 use Rattle.std.specs.List.{cons_option}
-use Rattle.abc_items.specs.declared.item.Item.{Item}
-use Rattle.abc_items.specs.declared.item.Item.TheVariants as items
-use Rattle.abc_items.specs.declared.item.Tone.{Tone}
+use Rattle.abc_bars_items.specs.declared.item.Item.{Item}
+use Rattle.abc_bars_items.specs.declared.item.Item.TheVariants as items
+use Rattle.abc_bars_items.specs.declared.item.Tone.{Tone}
 use Rattle.abc_fields.specs.declared.meter.Meter.{Meter}
 use Rattle.abc_fields.specs.declared.meter.Meter.TheVariants as meters
 use Rattle.abc_repeat.specs.Order.{sections_of, has_unknown}
@@ -14,10 +14,10 @@ use Rattle.abc_voices.specs.Turns.{set_by_all, set_by_one, programs_along, score
 use Rattle.abc_voices.specs.Arrange.{or_else, usual_tempo}
 use Rattle.abc_voices.specs.Change.{tempo_of, meter_of, key_of}
 use Rattle.abc_voices.specs.Fields.{is_music, without_music}
-use Rattle.abc_voices.specs.Opening.{tempo_past, meter_past, key_past, program_past, order_past, past_all, title_before, title_of}
-use Rattle.abc_sections.specs.Section.{letter_of, letters, declared_or, opening_voice}
-use Rattle.abc_sections.specs.declared.stage.Stage.{Stage}
-use Rattle.abc_voices.specs.Track.{names_past, names_from, everyone}
+use Rattle.abc_voices.specs.Opening.{tempo_after, meter_after, key_after, program_after, order_after, after_all, title_before, title_of}
+use Rattle.abc_voices_sections.specs.Section.{letter_of, letters, declared_or, opening_voice}
+use Rattle.abc_voices_sections.specs.declared.stage.Stage.{Stage}
+use Rattle.abc_voices.specs.Track.{names_after, names_from, voice_names}
 use Rattle.abc_voices.proofs.Alike.{conductor_same, score_same}
 
 -- what is alike at a note or chord, a rest, a bar line and the beginning of an ending is alike at all music
@@ -70,11 +70,11 @@ from_right f before goes kept (step ∷ tune) =
     right_step f before goes kept step tune (from_right f before goes kept tune) (is_music step) refl
 
 -- the order of the parts
-order_kept : (item : Item) → is_music item ≡ true → (v : Option (List ℕ)) → order_past v item ≡ v
-order_kept item music v = of_music (order_past v) v (λ _ _. refl) (λ _ _. refl) (λ _. refl) (λ _. refl) item music
+order_kept : (item : Item) → is_music item ≡ true → (v : Option (List ℕ)) → order_after v item ≡ v
+order_kept item music v = of_music (order_after v) v (λ _ _. refl) (λ _ _. refl) (λ _. refl) (λ _. refl) item music
 
-order_given : (tune : List Item) → past_all order_past None (without_music tune) ≡ past_all order_past None tune
-order_given tune = from_left (past_all order_past) order_past (λ _ _ _. refl) order_kept None tune
+order_given : (tune : List Item) → after_all order_after None (without_music tune) ≡ after_all order_after None tune
+order_given tune = from_left (after_all order_after) order_after (λ _ _ _. refl) order_kept None tune
 
 -- the letters of the parts
 letter_kept : (item : Item) → is_music item ≡ true → (v : List ℕ) → cons_option (letter_of item) v ≡ v
@@ -84,12 +84,12 @@ letters_given : (tune : List Item) → letters (without_music tune) ≡ letters 
 letters_given tune = from_right (letters) (λ v item. cons_option (letter_of item) v) (λ _ _. refl) letter_kept tune
 
 -- the voices
-names_kept : (item : Item) → is_music item ≡ true → (v : List (List ℕ)) → names_past v item ≡ v
-names_kept item music v = of_music (names_past v) v (λ _ _. refl) (λ _ _. refl) (λ _. refl) (λ _. refl) item music
+names_kept : (item : Item) → is_music item ≡ true → (v : List (List ℕ)) → names_after v item ≡ v
+names_kept item music v = of_music (names_after v) v (λ _ _. refl) (λ _ _. refl) (λ _. refl) (λ _. refl) item music
 
-pub everyone_given : (tune given : List Item) → given ≡ without_music tune → everyone given ≡ everyone tune
+pub everyone_given : (tune given : List Item) → given ≡ without_music tune → voice_names given ≡ voice_names tune
 everyone_given tune given is =
-    ap (everyone) is ∙ from_left (names_from) names_past (λ _ _ _. refl) names_kept ([] ∷ []) tune
+    ap (voice_names) is ∙ from_left (names_from) names_after (λ _ _ _. refl) names_kept ([] ∷ []) tune
 
 declared_kept : (item : Item) → is_music item ≡ true → (v : List ℕ) → declared_or v item ≡ v
 declared_kept item music v = of_music (declared_or v) v (λ _ _. refl) (λ _ _. refl) (λ _. refl) (λ _. refl) item music
@@ -99,30 +99,30 @@ opening_given tune given is =
     ap (opening_voice) is ∙ from_right (opening_voice) declared_or (λ _ _. refl) declared_kept tune
 
 -- the tempo, the meter and the key with which a tune opens
-tempo_kept : (item : Item) → is_music item ≡ true → (v : Option ℕ) → tempo_past v item ≡ v
-tempo_kept item music v = of_music (tempo_past v) v (λ _ _. refl) (λ _ _. refl) (λ _. refl) (λ _. refl) item music
+tempo_kept : (item : Item) → is_music item ≡ true → (v : Option ℕ) → tempo_after v item ≡ v
+tempo_kept item music v = of_music (tempo_after v) v (λ _ _. refl) (λ _ _. refl) (λ _. refl) (λ _. refl) item music
 
-tempo_given : (tune : List Item) → past_all tempo_past None (without_music tune) ≡ past_all tempo_past None tune
-tempo_given tune = from_left (past_all tempo_past) tempo_past (λ _ _ _. refl) tempo_kept None tune
+tempo_given : (tune : List Item) → after_all tempo_after None (without_music tune) ≡ after_all tempo_after None tune
+tempo_given tune = from_left (after_all tempo_after) tempo_after (λ _ _ _. refl) tempo_kept None tune
 
-meter_kept : (item : Item) → is_music item ≡ true → (v : Option Meter) → meter_past v item ≡ v
-meter_kept item music v = of_music (meter_past v) v (λ _ _. refl) (λ _ _. refl) (λ _. refl) (λ _. refl) item music
+meter_kept : (item : Item) → is_music item ≡ true → (v : Option Meter) → meter_after v item ≡ v
+meter_kept item music v = of_music (meter_after v) v (λ _ _. refl) (λ _ _. refl) (λ _. refl) (λ _. refl) item music
 
-meter_given : (tune : List Item) → past_all meter_past None (without_music tune) ≡ past_all meter_past None tune
-meter_given tune = from_left (past_all meter_past) meter_past (λ _ _ _. refl) meter_kept None tune
+meter_given : (tune : List Item) → after_all meter_after None (without_music tune) ≡ after_all meter_after None tune
+meter_given tune = from_left (after_all meter_after) meter_after (λ _ _ _. refl) meter_kept None tune
 
-key_kept : (item : Item) → is_music item ≡ true → (v : Option (ℤ × Bool)) → key_past v item ≡ v
-key_kept item music v = of_music (key_past v) v (λ _ _. refl) (λ _ _. refl) (λ _. refl) (λ _. refl) item music
+key_kept : (item : Item) → is_music item ≡ true → (v : Option (ℤ × Bool)) → key_after v item ≡ v
+key_kept item music v = of_music (key_after v) v (λ _ _. refl) (λ _ _. refl) (λ _. refl) (λ _. refl) item music
 
-key_given : (tune : List Item) → past_all key_past None (without_music tune) ≡ past_all key_past None tune
-key_given tune = from_left (past_all key_past) key_past (λ _ _ _. refl) key_kept None tune
+key_given : (tune : List Item) → after_all key_after None (without_music tune) ≡ after_all key_after None tune
+key_given tune = from_left (after_all key_after) key_after (λ _ _ _. refl) key_kept None tune
 
 -- the program with which the tune opens
-program_kept : (item : Item) → is_music item ≡ true → (v : Option ℕ) → program_past v item ≡ v
-program_kept item music v = of_music (program_past v) v (λ _ _. refl) (λ _ _. refl) (λ _. refl) (λ _. refl) item music
+program_kept : (item : Item) → is_music item ≡ true → (v : Option ℕ) → program_after v item ≡ v
+program_kept item music v = of_music (program_after v) v (λ _ _. refl) (λ _ _. refl) (λ _. refl) (λ _. refl) item music
 
-program_given : (tune : List Item) → past_all program_past None (without_music tune) ≡ past_all program_past None tune
-program_given tune = from_left (past_all program_past) program_past (λ _ _ _. refl) program_kept None tune
+program_given : (tune : List Item) → after_all program_after None (without_music tune) ≡ after_all program_after None tune
+program_given tune = from_left (after_all program_after) program_after (λ _ _ _. refl) program_kept None tune
 
 -- the title
 title_kept : (item : Item) → is_music item ≡ true → (v : List ℕ) → title_before v item ≡ v
@@ -149,18 +149,18 @@ score_given tune given first count stages is =
 
 -- the sections that are played, and whether the order has a letter without one
 pub played_given : (tune given : List Item) → given ≡ without_music tune
-    → sections_of (past_all order_past None given) (letters given) ≡ sections_of (past_all order_past None tune) (letters tune)
+    → sections_of (after_all order_after None given) (letters given) ≡ sections_of (after_all order_after None tune) (letters tune)
 played_given tune given is =
-    ap (λ g. sections_of (past_all order_past None g) (letters g)) is
+    ap (λ g. sections_of (after_all order_after None g) (letters g)) is
     ∙ ap (λ order. sections_of order (letters (without_music tune))) (order_given tune)
-    ∙ ap (sections_of (past_all order_past None tune)) (letters_given tune)
+    ∙ ap (sections_of (after_all order_after None tune)) (letters_given tune)
 
 pub unknown_given : (tune given : List Item) → given ≡ without_music tune
-    → has_unknown (past_all order_past None given) (letters given) ≡ has_unknown (past_all order_past None tune) (letters tune)
+    → has_unknown (after_all order_after None given) (letters given) ≡ has_unknown (after_all order_after None tune) (letters tune)
 unknown_given tune given is =
-    ap (λ g. has_unknown (past_all order_past None g) (letters g)) is
+    ap (λ g. has_unknown (after_all order_after None g) (letters g)) is
     ∙ ap (λ order. has_unknown order (letters (without_music tune))) (order_given tune)
-    ∙ ap (has_unknown (past_all order_past None tune)) (letters_given tune)
+    ∙ ap (has_unknown (after_all order_after None tune)) (letters_given tune)
 
 -- each field is an item of the tune
 pub items_given : (P : Item → Type 0) (tune given : List Item) → given ≡ without_music tune → All P tune → All P given

@@ -5,7 +5,7 @@ use Rattle.std.proofs.lemmas.List.{take-append-drop, length-take-le, take-take, 
 use Rattle.std.proofs.lemmas.List.Edits.{length-between, length-remove, remove-append_left, remove-append_right}
 use Rattle.std.proofs.lemmas.List.Folds.{drop_split}
 use Rattle.std.proofs.lemmas.Slice.{between_is, between_to_end}
-use Rattle.abc_score.specs.declared.score.Sounding.{Sounding}
+use Rattle.abc_voices_score.specs.declared.score.Sounding.{Sounding}
 use Rattle.abc_voices.specs.TiedNotes.{NotesInParts}
 
 -- the parts of one list

@@ -1,5 +1,6 @@
 -- The score of the stages of a tune is that of the tune.
-use Rattle.std.proofs.Common.{◌≡◌, ℕ, ◌+◌, ◌-◌, ◌<◌, ◌≤◌, Bool, true, false, cond, List, [], ◌∷◌, ◌++◌, length, map, drop, get_or, Option, Some, None, refl, sym, ap, subst, ◌∙◌, arith, append-nil, length-drop}
+use Rattle.std.proofs.Common.{◌≡◌, ℕ, ◌+◌, ◌-◌, ◌<◌, ◌≤◌, Bool, true, false, cond, List, [], ◌∷◌, ◌++◌, length, map, drop, get_or, Option, Some, None}
+use Rattle.std.proofs.Common.{refl, sym, ap, subst, ◌∙◌, arith, append-nil, length-drop}
 use Rattle.std.proofs.lemmas.Grind.{common_steps}
 use Rattle.std.proofs.lemmas.List.{drop_more, length-map}
 use Rattle.std.proofs.lemmas.List.Folds.{flat_map-map}
@@ -7,25 +8,27 @@ use Rattle.std.proofs.lemmas.List.Sums.{sum_by_from}
 use Rattle.std.proofs.lemmas.Option.{slice_get-map, slice_get-get_or, slice_get_past}
 use Rattle.std.specs.Prelude.{◌||◌, pos, bytes_eq, All, slice_get, filter_map, sum_by, option_map}
 use Rattle.std.specs.List.{list_any, flat_map}
-use Rattle.abc_items.specs.declared.item.Item.{Item}
-use Rattle.abc_items.specs.declared.item.Item.TheVariants as items
+use Rattle.abc_bars_items.specs.declared.item.Item.{Item}
+use Rattle.abc_bars_items.specs.declared.item.Item.TheVariants as items
 use Rattle.abc_fields.specs.declared.meter.Meter.TheVariants as meters
 use Rattle.abc_time.specs.Grains.{grains_of_the_latest_end}
-use Rattle.abc_items.specs.Item.{IsItem}
+use Rattle.abc_bars_items.specs.Item.{IsItem}
 use Rattle.abc_repeat.specs.Order.{sections_of, has_unknown}
-use Rattle.abc_sections.specs.Section.{letters, sections}
-use Rattle.abc_score.specs.declared.score.Score.{Score}
-use Rattle.abc_sections.specs.declared.stage.Part.{Part}
-use Rattle.abc_sections.specs.declared.stage.Stage.{Stage}
-use Rattle.abc_voices.specs.Turns.{IsStage, length_along, steps_of, notes_along, for_voices, voices_along, set_by_all, set_by_one, parts_differ, is_stage_uneven, first_place, changes_along, programs_by, programs_along, end_along, score_along}
-use Rattle.abc_voices.specs.Arrange.{played_sections, voice_notes, all_notes, set_in, first_of, differ, is_uneven, voices_notes, last_off, end_of, changes_of, programs_in, programs_of, score_of, or_else, usual_tempo, arranged_of}
-use Rattle.abc_sections.specs.PlayedSection.{play_in, longest}
-use Rattle.abc_voices.specs.Change.{tempo_of, meter_of, key_of, program_of, set_from, behind}
-use Rattle.abc_voices.specs.ScoreChanges.{programs_that_stand}
+use Rattle.abc_voices_sections.specs.Section.{letters, sections}
+use Rattle.abc_voices_score.specs.declared.score.Score.{Score}
+use Rattle.abc_voices_sections.specs.declared.stage.Part.{Part}
+use Rattle.abc_voices_sections.specs.declared.stage.Stage.{Stage}
+use Rattle.abc_voices.specs.Turns.{IsStage, length_along, steps_of, notes_along, for_voices, voices_along, set_by_all, set_by_one, parts_differ}
+use Rattle.abc_voices.specs.Turns.{is_stage_uneven, first_place, changes_along, programs_by, programs_along, end_along, score_along}
+use Rattle.abc_voices.specs.Arrange.{played_sections, voice_notes, all_notes, set_in, first_of, lengths_differ, is_uneven, voices_notes, last_off}
+use Rattle.abc_voices.specs.Arrange.{end_of, changes_of, programs_in, programs_of, score_of, or_else, usual_tempo, arranged_of}
+use Rattle.abc_voices_sections.specs.PlayedSection.{play_in, longest}
+use Rattle.abc_voices.specs.Change.{tempo_of, meter_of, key_of, program_of, set_from, after_opening}
+use Rattle.abc_voices.specs.ScoreChanges.{programs_in_force}
 use Rattle.abc_voices.specs.TiedNotes.{notes_from}
-use Rattle.abc_voices.specs.Opening.{tempo_past, meter_past, key_past, program_past, order_past, past_all}
-use Rattle.abc_sections.specs.Stage.{part_of, stage_of}
-use Rattle.abc_voices.specs.Track.{everyone, nameless_plays, names_from, names_past, tracks}
+use Rattle.abc_voices.specs.Opening.{tempo_after, meter_after, key_after, program_after, order_after, after_all}
+use Rattle.abc_voices_sections.specs.Stage.{part_of, stage_of}
+use Rattle.abc_voices.specs.Track.{voice_names, has_unnamed_track, names_from, names_after, tracks}
 use Rattle.abc_voices.proofs.Fitting.Kept.{played_kept}
 use Rattle.abc_voices.proofs.Alike.{conductor_same, score_same, laid_same}
 use Rattle.abc_voices.proofs.Staged.{stages_are, total_within}
@@ -41,7 +44,7 @@ total_of voices (section ∷ played) =
     ∙ ap (λ n. (0 + longest voices section) + n) (total_of voices played)
     ∙ sym (sum_by_from (longest voices) (0 + longest voices section) played)
 
--- what stands at a place of a list, by what is left there
+-- what is at a place of a list, by what is left there
 record Front {X : Type 0} (xs : List X) (k : ℕ) (x : X) (rest : List X) : Type 0 where
   found : slice_get xs k ≡ Some x
   behind : drop (k + 1) xs ≡ rest
@@ -116,7 +119,7 @@ one_here value_of voices k at (section ∷ played) =
 programs_here : (opening : Option ℕ) (voices : List (List ℕ)) (played : List Sectioned) (k : ℕ) (voice : List ℕ) (rest : List (List ℕ)) → drop k voices ≡ voice ∷ rest
     → programs_by opening (map (stage_of voices) played) k ≡ programs_in opening voices played voice
 programs_here opening voices played k voice rest e =
-    ap (λ sets. programs_that_stand (behind opening sets))
+    ap (λ sets. programs_in_force (after_opening opening sets))
     (one_here program_of voices k 0 played ∙ ap (λ those. set_in program_of voices (first_of those) 0 played) e)
 
 any_map : {X Y : Type 0} (p : Y → Bool) (q : X → Bool) (f : X → Y) → ((x : X) → p (f x) ≡ q x) → (xs : List X) → list_any p (map f xs) ≡ list_any q xs
@@ -126,8 +129,8 @@ any_map p q f h (x ∷ xs) = ap (λ b. b || list_any p (map f xs)) (h x) ∙ ap 
 -- whether voices are uneven in the stage of a section, and in one of some
 uneven_here : (voices : List (List ℕ)) (section : Sectioned) → is_stage_uneven (stage_of voices section) ≡ is_uneven voices section
 uneven_here voices section =
-    any_map (λ a. list_any (parts_differ a) (map (part_of section) voices)) (λ a. list_any (differ section a) voices) (part_of section)
-    (λ a. any_map (parts_differ (part_of section a)) (differ section a) (part_of section) (λ b. refl) voices) voices
+    any_map (λ a. list_any (parts_differ a) (map (part_of section) voices)) (λ a. list_any (lengths_differ section a) voices) (part_of section)
+    (λ a. any_map (parts_differ (part_of section a)) (lengths_differ section a) (part_of section) (λ b. refl) voices) voices
 
 pub uneven_of : (voices : List (List ℕ)) (played : List Sectioned) → list_any is_stage_uneven (map (stage_of voices) played) ≡ list_any (is_uneven voices) played
 uneven_of voices played = any_map is_stage_uneven (is_uneven voices) (stage_of voices) (uneven_here voices) played
@@ -142,84 +145,85 @@ names_more : (known : List (List ℕ)) (name : List ℕ) (b : Bool) → length k
 names_more known name true = omega arith
 names_more known name false = grind (arith, common_steps)
 
-name_past : (known : List (List ℕ)) (item : Item) → length known ≤ length (names_past known item)
+name_past : (known : List (List ℕ)) (item : Item) → length known ≤ length (names_after known item)
 name_past known (items.Voice opening name) = names_more known name (list_any (bytes_eq name) known)
 name_past known _ = omega arith
 
 names_within : (known : List (List ℕ)) (tune : List Item) → length known ≤ length (names_from known tune)
 names_within known [] = omega arith
 names_within known (step ∷ tune) =
-    omega (arith, name_past known step, names_within (names_past known step) tune)
+    omega (arith, name_past known step, names_within (names_after known step) tune)
 
 first_fits : (b : Bool) (n : ℕ) → 1 ≤ n → cond b 0 1 ≤ n
 first_fits true n h = omega arith
 first_fits false n h = h
 
--- the first track is one of the voices, or stands behind them
-pub first_within : (tune : List Item) → first_place tune ≤ length (everyone tune)
-first_within tune = first_fits (nameless_plays tune) (length (everyone tune)) (names_within ([] ∷ []) tune)
+-- the first track is one of the voices, or is after them
+pub first_within : (tune : List Item) → first_place tune ≤ length (voice_names tune)
+first_within tune = first_fits (has_unnamed_track tune) (length (voice_names tune)) (names_within ([] ∷ []) tune)
 
 -- what the tracks have
 tracks_of : {X : Type 0} (one : ℕ → X) (own : List ℕ → X) (tune : List Item)
-    → ((k : ℕ) (voice : List ℕ) (rest : List (List ℕ)) → drop k (everyone tune) ≡ voice ∷ rest → one k ≡ own voice)
-    → for_voices one (first_place tune) (length (everyone tune) - first_place tune) ≡ map own (tracks tune)
+    → ((k : ℕ) (voice : List ℕ) (rest : List (List ℕ)) → drop k (voice_names tune) ≡ voice ∷ rest → one k ≡ own voice)
+    → for_voices one (first_place tune) (length (voice_names tune) - first_place tune) ≡ map own (tracks tune)
 tracks_of one own tune same =
-    let voices = everyone tune in
+    let voices = voice_names tune in
     let first = first_place tune in
     ap (for_voices one first) (sym (length-drop first voices))
     ∙ voices_here one own voices same first (drop first voices) refl
-    ∙ ap (map own) (tracks_here (nameless_plays tune) voices)
+    ∙ ap (map own) (tracks_here (has_unnamed_track tune) voices)
 
 -- their notes
-pub voices_of : (tune : List Item) → voices_along (map (stage_of (everyone tune)) (played_sections tune)) (first_place tune) (length (everyone tune) - first_place tune) ≡ voices_notes tune
+pub voices_of : (tune : List Item) → voices_along (map (stage_of (voice_names tune)) (played_sections tune)) (first_place tune) (length (voice_names tune) - first_place tune) ≡ voices_notes tune
 voices_of tune =
-    let voices = everyone tune in
+    let voices = voice_names tune in
     let played = played_sections tune in
     tracks_of (λ one. all_notes (notes_along one 0 (map (stage_of voices) played))) (λ voice. all_notes (voice_notes voices voice 0 played)) tune (all_here_of voices played)
 
 -- their programs
-pub programs_are : (tune : List Item) → programs_along (past_all program_past None tune) (map (stage_of (everyone tune)) (played_sections tune)) (first_place tune) (length (everyone tune) - first_place tune) ≡ programs_of tune
+pub programs_are : (tune : List Item) → programs_along (after_all program_after None tune)
+    (map (stage_of (voice_names tune)) (played_sections tune)) (first_place tune) (length (voice_names tune) - first_place tune) ≡ programs_of tune
 programs_are tune =
-    let opening = past_all program_past None tune in
-    let voices = everyone tune in
+    let opening = after_all program_after None tune in
+    let voices = voice_names tune in
     let played = played_sections tune in
     tracks_of (programs_by opening (map (stage_of voices) played)) (programs_in opening voices played) tune (programs_here opening voices played)
 
 -- when they end
 pub end_of_stages : (tune : List Item)
-    → end_along (map (stage_of (everyone tune)) (played_sections tune))
-    (voices_along (map (stage_of (everyone tune)) (played_sections tune)) (first_place tune) (length (everyone tune) - first_place tune))
+    → end_along (map (stage_of (voice_names tune)) (played_sections tune))
+    (voices_along (map (stage_of (voice_names tune)) (played_sections tune)) (first_place tune) (length (voice_names tune) - first_place tune))
     ≡ end_of tune
 end_of_stages tune =
-    let stages = map (stage_of (everyone tune)) (played_sections tune) in
+    let stages = map (stage_of (voice_names tune)) (played_sections tune) in
     ap (end_along stages) (voices_of tune)
-    ∙ ap (λ n. last_off n (flat_map (λ notes. notes) (voices_notes tune))) (total_of (everyone tune) (played_sections tune))
+    ∙ ap (λ n. last_off n (flat_map (λ notes. notes) (voices_notes tune))) (total_of (voice_names tune) (played_sections tune))
 
 -- the changes
-changes_here : (tune : List Item) → changes_along tune (first_place tune) (map (stage_of (everyone tune)) (played_sections tune)) ≡ changes_of tune
+changes_here : (tune : List Item) → changes_along tune (first_place tune) (map (stage_of (voice_names tune)) (played_sections tune)) ≡ changes_of tune
 changes_here tune =
-    let voices = everyone tune in
+    let voices = voice_names tune in
     let played = played_sections tune in
-    let first = ap first_of (tracks_here (nameless_plays tune) voices) in
+    let first = ap first_of (tracks_here (has_unnamed_track tune) voices) in
     conductor_same _ _ _ _ _ _
-    (ap (λ sets. (record { 0 = 0 }, or_else usual_tempo (past_all tempo_past None tune)) ∷ sets) (all_here tempo_of voices 0 played))
-    (ap (λ sets. (record { 0 = 0 }, or_else meters.Free (past_all meter_past None tune)) ∷ sets)
+    (ap (λ sets. (record { 0 = 0 }, or_else usual_tempo (after_all tempo_after None tune)) ∷ sets) (all_here tempo_of voices 0 played))
+    (ap (λ sets. (record { 0 = 0 }, or_else meters.Free (after_all meter_after None tune)) ∷ sets)
     (one_here meter_of voices (first_place tune) 0 played ∙ ap (λ those. set_in meter_of voices those 0 played) first))
-    (ap (λ sets. (record { 0 = 0 }, or_else (pos 0, false) (past_all key_past None tune)) ∷ sets)
+    (ap (λ sets. (record { 0 = 0 }, or_else (pos 0, false) (after_all key_after None tune)) ∷ sets)
     (one_here key_of voices (first_place tune) 0 played ∙ ap (λ those. set_in key_of voices those 0 played) first))
 
 -- the score of the stages that are played
 pub score_of_stages : (tune : List Item)
-    → score_along tune (first_place tune) (length (everyone tune)) (map (stage_of (everyone tune)) (played_sections tune)) ≡ score_of tune
+    → score_along tune (first_place tune) (length (voice_names tune)) (map (stage_of (voice_names tune)) (played_sections tune)) ≡ score_of tune
 score_of_stages tune =
     score_same _ _ _ _ _ _ _ _ _ _ refl (end_of_stages tune) (changes_here tune) (voices_of tune) (programs_are tune)
 
 -- the stages of the sections that a tune plays
 abbrev pub AreOf : List Item → List Stage → Type 0
-AreOf tune stages = stages ≡ map (stage_of (everyone tune)) (played_sections tune)
+AreOf tune stages = stages ≡ map (stage_of (voice_names tune)) (played_sections tune)
 
 pub played_here : (tune : List Item) (found : List Sectioned) (order : List ℕ) → found ≡ sections tune
-    → order ≡ sections_of (past_all order_past None tune) (letters tune) → filter_map (slice_get found) order ≡ played_sections tune
+    → order ≡ sections_of (after_all order_after None tune) (letters tune) → filter_map (slice_get found) order ≡ played_sections tune
 played_here tune found order p q = ap (λ f. filter_map (slice_get f) order) p ∙ ap (filter_map (slice_get (sections tune))) q
 
 pub alike : {X Y : Type 0} (P : X → Y → Type 0) (a b : X) (u v : Y) → a ≡ b → u ≡ v → P a u → P b v
@@ -228,44 +232,45 @@ alike P a b u v p q h = subst (P b) q (subst (λ x. P x u) p h)
 pub stages_hold : (tune : List Item) (stages : List Stage) → AreOf tune stages → All IsItem tune → All IsStage stages
 stages_hold tune stages is all =
     subst (All IsStage) (sym is)
-    (stages_are (everyone tune) (played_sections tune)
+    (stages_are (voice_names tune) (played_sections tune)
     (played_kept IsItem tune all))
 
 pub late_total : (tune : List Item) (stages : List Stage) → AreOf tune stages → grains_of_the_latest_end < length_along stages → grains_of_the_latest_end < end_of tune
 late_total tune stages is late =
-    omega (arith, ap length_along is, total_of (everyone tune) (played_sections tune), total_within tune)
+    omega (arith, ap length_along is, total_of (voice_names tune) (played_sections tune), total_within tune)
 
-pub end_is : (tune : List Item) (stages : List Stage) (first count : ℕ) → AreOf tune stages → first ≡ first_place tune → count ≡ length (everyone tune)
+pub end_is : (tune : List Item) (stages : List Stage) (first count : ℕ) → AreOf tune stages → first ≡ first_place tune → count ≡ length (voice_names tune)
     → end_along stages (voices_along stages first (count - first)) ≡ end_of tune
 end_is tune stages first count is p q =
     ap (λ s. end_along s (voices_along s first (count - first))) is
-    ∙ ap (λ n. end_along (map (stage_of (everyone tune)) (played_sections tune)) (voices_along (map (stage_of (everyone tune)) (played_sections tune)) n (count - n))) p
-    ∙ ap (λ n. end_along (map (stage_of (everyone tune)) (played_sections tune)) (voices_along (map (stage_of (everyone tune)) (played_sections tune)) (first_place tune) (n - first_place tune))) q
+    ∙ ap (λ n. end_along (map (stage_of (voice_names tune)) (played_sections tune)) (voices_along (map (stage_of (voice_names tune)) (played_sections tune)) n (count - n))) p
+    ∙ ap (λ n. end_along (map (stage_of (voice_names tune)) (played_sections tune))
+    (voices_along (map (stage_of (voice_names tune)) (played_sections tune)) (first_place tune) (n - first_place tune))) q
     ∙ end_of_stages tune
 
-pub late_end : (tune : List Item) (stages : List Stage) (first count : ℕ) → AreOf tune stages → first ≡ first_place tune → count ≡ length (everyone tune)
+pub late_end : (tune : List Item) (stages : List Stage) (first count : ℕ) → AreOf tune stages → first ≡ first_place tune → count ≡ length (voice_names tune)
     → grains_of_the_latest_end < end_along stages (voices_along stages first (count - first)) → grains_of_the_latest_end < end_of tune
 late_end tune stages first count is p q late = omega (arith, end_is tune stages first count is p q)
 
-pub score_is : (tune : List Item) (stages : List Stage) (first count : ℕ) → AreOf tune stages → first ≡ first_place tune → count ≡ length (everyone tune)
+pub score_is : (tune : List Item) (stages : List Stage) (first count : ℕ) → AreOf tune stages → first ≡ first_place tune → count ≡ length (voice_names tune)
     → score_along tune first count stages ≡ score_of tune
 score_is tune stages first count is p q =
     ap (score_along tune first count) is
-    ∙ ap (λ n. score_along tune n count (map (stage_of (everyone tune)) (played_sections tune))) p
-    ∙ ap (λ n. score_along tune (first_place tune) n (map (stage_of (everyone tune)) (played_sections tune))) q
+    ∙ ap (λ n. score_along tune n count (map (stage_of (voice_names tune)) (played_sections tune))) p
+    ∙ ap (λ n. score_along tune (first_place tune) n (map (stage_of (voice_names tune)) (played_sections tune))) q
     ∙ score_of_stages tune
 
 pub uneven_is : (tune : List Item) (stages : List Stage) → AreOf tune stages
-    → list_any is_stage_uneven stages ≡ list_any (is_uneven (everyone tune)) (played_sections tune)
-uneven_is tune stages is = ap (list_any is_stage_uneven) is ∙ uneven_of (everyone tune) (played_sections tune)
+    → list_any is_stage_uneven stages ≡ list_any (is_uneven (voice_names tune)) (played_sections tune)
+uneven_is tune stages is = ap (list_any is_stage_uneven) is ∙ uneven_of (voice_names tune) (played_sections tune)
 
-pub unknown_is : (tune : List Item) → (arranged_of tune).unknown ≡ has_unknown (past_all order_past None tune) (letters tune)
+pub unknown_is : (tune : List Item) → (arranged_of tune).unknown ≡ has_unknown (after_all order_after None tune) (letters tune)
 unfolding arranged_of
 unknown_is tune = refl
 
 pub arranged_is : (tune : List Item) (score : Score) (uneven unknown : Bool) → score ≡ score_of tune
-    → uneven ≡ list_any (is_uneven (everyone tune)) (played_sections tune)
-    → unknown ≡ has_unknown (past_all order_past None tune) (letters tune)
+    → uneven ≡ list_any (is_uneven (voice_names tune)) (played_sections tune)
+    → unknown ≡ has_unknown (after_all order_after None tune) (letters tune)
     → record { score = score; uneven = uneven; unknown = unknown } ≡ arranged_of tune
 unfolding arranged_of
 arranged_is tune score uneven unknown p q r = laid_same _ _ _ _ _ _ p q r

@@ -5,14 +5,14 @@ use Rattle.std.specs.List.{flat_map}
 use Rattle.std.proofs.lemmas.List.{drop_more}
 use Rattle.std.proofs.lemmas.List.Elements.{All-nil, All-cons, All-head, All-tail, All-get_or}
 use Rattle.std.proofs.lemmas.List.Sums.{sum_by-cons}
-use Rattle.abc_items.specs.declared.item.Item.{Item}
+use Rattle.abc_bars_items.specs.declared.item.Item.{Item}
 use Rattle.abc_time.specs.declared.grains.Grains.{Grains}
-use Rattle.abc_score.specs.declared.score.Sounding.{Sounding}
-use Rattle.abc_sections.specs.declared.stage.Stage.{Stage}
+use Rattle.abc_voices_score.specs.declared.score.Sounding.{Sounding}
+use Rattle.abc_voices_sections.specs.declared.stage.Stage.{Stage}
 use Rattle.abc_voices.specs.declared.turns.Turn.{Turn}
 use Rattle.abc_voices.specs.Turns.{IsStage, stages_in, length_along, for_voices, set_at, set_by_one}
 use Rattle.abc_voices.specs.Arrange.{last_off}
-use Rattle.abc_voices.specs.Change.{behind}
+use Rattle.abc_voices.specs.Change.{after_opening}
 
 -- what holds of each stage holds at its turn
 pub are_stages : (turns : List Turn) → All IsStage (stages_in turns) → All (λ turn. IsStage turn.stage.now) turns
@@ -63,8 +63,8 @@ voices_step one voice count seen own whole within is before =
     ∙ ap (λ l. seen ++ l) (sym (voices_more one voice count within))
     ∙ before
 
--- what is set behind what holds at the beginning
-pub behind_nothing : {V : Type 0} (opening : Option V) (sets : List (Grains × V)) → behind opening [] ++ sets ≡ behind opening sets
+-- what is set after what holds at the beginning
+pub behind_nothing : {V : Type 0} (opening : Option V) (sets : List (Grains × V)) → after_opening opening [] ++ sets ≡ after_opening opening sets
 behind_nothing None sets = refl
 behind_nothing (Some value) sets = refl
 

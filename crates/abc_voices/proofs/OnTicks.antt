@@ -4,20 +4,20 @@ use Rattle.std.proofs.lemmas.List.Elements.{filter-append}
 use Rattle.std.specs.Prelude.{◌==◌, ◌||◌, filter, is_some, option_map}
 use Rattle.std.specs.List.{cons_option}
 use Rattle.std.specs.Option.{option_to_list}
-use Rattle.abc_items.specs.declared.item.Item.{Item}
-use Rattle.abc_items.specs.declared.item.Item.TheVariants as items
+use Rattle.abc_bars_items.specs.declared.item.Item.{Item}
+use Rattle.abc_bars_items.specs.declared.item.Item.TheVariants as items
 use Rattle.abc_time.specs.declared.grains.Grains.{Grains}
 use Rattle.abc_time.specs.Grains.{tick_at}
-use Rattle.abc_score.specs.declared.score.ProgramChange.{ProgramChange}
+use Rattle.abc_voices_score.specs.declared.score.ProgramChange.{ProgramChange}
 use Rattle.abc_voices.specs.Arrange.{played_sections, programs_in, set_in}
-use Rattle.abc_sections.specs.PlayedSection.{longest, play_in}
-use Rattle.abc_voices.specs.Change.{at_moment, behind, program_of, set_from}
-use Rattle.abc_voices.specs.Opening.{past_all, program_past}
+use Rattle.abc_voices_sections.specs.PlayedSection.{longest, play_in}
+use Rattle.abc_voices.specs.Change.{at_moment, after_opening, program_of, set_from}
+use Rattle.abc_voices.specs.Opening.{after_all, program_after}
 use Rattle.abc_voices.specs.OnTicks.{last_said, opening_program_of, at_moments, moments_in, set_on, set_by, program_on, HaveProgramsOnTicks}
 use Rattle.abc_voices.specs.ScoreChanges.{program_change}
-use Rattle.abc_sections.specs.Step.{length_of}
+use Rattle.abc_voices_sections.specs.Step.{length_of}
 use Rattle.abc_voices.specs.Ticks.{has_tick, last_of_each_tick}
-use Rattle.abc_voices.specs.Track.{everyone, tracks}
+use Rattle.abc_voices.specs.Track.{voice_names, tracks}
 use Rattle.abc_voices.specs.Voices.{or_said}
 
 -- what is said by the first of these that says something
@@ -135,14 +135,14 @@ sections_said tick voices voice at (section ∷ rest) =
     ∙ sym (last_append (set_by program_of tick) (at_moments at play) (moments_in voices voice next rest))
 
 -- what a tune opens with is the last program of its header
-one_past : (program : Option ℕ) (item : Item) → program_past program item ≡ or_said (opening_program_of item) program
+one_past : (program : Option ℕ) (item : Item) → program_after program item ≡ or_said (opening_program_of item) program
 one_past program (items.Program true (Some number)) = refl
 one_past program _ = refl
 
--- what holds behind a tune is what is said last in it
+-- what holds after a tune is what is said last in it
 all_past : {V : Type 0} (past : Option V → Item → Option V) (says : Item → Option V)
     → ((value : Option V) (item : Item) → past value item ≡ or_said (says item) value)
-    → (value : Option V) (tune : List Item) → past_all past value tune ≡ or_said (last_said says tune) value
+    → (value : Option V) (tune : List Item) → after_all past value tune ≡ or_said (last_said says tune) value
 all_past past says one value [] = refl
 all_past past says one value (item ∷ tune) =
     all_past past says one (past value item) tune
@@ -151,21 +151,21 @@ all_past past says one value (item ∷ tune) =
 
 pub opens : {V : Type 0} (past : Option V → Item → Option V) (says : Item → Option V)
     → ((value : Option V) (item : Item) → past value item ≡ or_said (says item) value)
-    → (tune : List Item) → past_all past None tune ≡ last_said says tune
+    → (tune : List Item) → after_all past None tune ≡ last_said says tune
 opens past says one tune = all_past past says one None tune ∙ sym (or_none (last_said says tune))
 
 -- the program of a voice on a tick
 voice_on : (tune : List Item) (tick : ℕ) (voice : List ℕ)
-    → filter (is_there tick) (programs_in (past_all program_past None tune) (everyone tune) (played_sections tune) voice)
+    → filter (is_there tick) (programs_in (after_all program_after None tune) (voice_names tune) (played_sections tune) voice)
     ≡ option_to_list (program_on tune tick voice)
 voice_on tune tick voice =
-    let opening : Option ℕ = past_all program_past None tune in
-    let sets : List (Grains × ℕ) = set_in program_of (everyone tune) (voice ∷ []) 0 (played_sections tune) in
-    those_there tick (last_of_each_tick (behind opening sets))
-    ∙ ap (map program_change) (last_stands tick (behind opening sets))
-    ∙ as_list program_change (last_said (set_if_on tick) (behind opening sets))
+    let opening : Option ℕ = after_all program_after None tune in
+    let sets : List (Grains × ℕ) = set_in program_of (voice_names tune) (voice ∷ []) 0 (played_sections tune) in
+    those_there tick (last_of_each_tick (after_opening opening sets))
+    ∙ ap (map program_change) (last_stands tick (after_opening opening sets))
+    ∙ as_list program_change (last_said (set_if_on tick) (after_opening opening sets))
     ∙ ap (λ last. option_to_list (option_map program_change last)) (one_more tick 0 opening sets
-    ∙ (λ i. or_said (sections_said tick (everyone tune) voice 0 (played_sections tune) i) (set_on tick 0 (opens program_past opening_program_of one_past tune i))))
+    ∙ (λ i. or_said (sections_said tick (voice_names tune) voice 0 (played_sections tune) i) (set_on tick 0 (opens program_after opening_program_of one_past tune i))))
 
 voices_on : {X Y Z : Type 0} (f : Y → Z) (g : X → Y) (h : X → Z) → ((x : X) → f (g x) ≡ h x) → (xs : List X) → map f (map g xs) ≡ map h xs
 voices_on f g h same [] = refl
@@ -174,5 +174,5 @@ voices_on f g h same (x ∷ xs) = λ i. same x i ∷ voices_on f g h same xs i
 pub programs_on_ticks : HaveProgramsOnTicks
 programs_on_ticks tune tick =
     voices_on (filter (is_there tick))
-    (programs_in (past_all program_past None tune) (everyone tune) (played_sections tune))
+    (programs_in (after_all program_after None tune) (voice_names tune) (played_sections tune))
     (λ voice. option_to_list (program_on tune tick voice)) (voice_on tune tick) (tracks tune)

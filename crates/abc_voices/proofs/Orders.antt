@@ -1,23 +1,23 @@
 -- The last order of a tune counts.
 use Rattle.std.proofs.Common.{◌≡◌, ℕ, List, length, filter_map, Option, None, refl, ap}
 use Rattle.std.specs.Prelude.{slice_get}
-use Rattle.abc_items.specs.declared.item.Item.{Item}
-use Rattle.abc_items.specs.declared.item.Item.TheVariants as items
+use Rattle.abc_bars_items.specs.declared.item.Item.{Item}
+use Rattle.abc_bars_items.specs.declared.item.Item.TheVariants as items
 use Rattle.abc_repeat.specs.Order.{sections_of, has_unknown}
-use Rattle.abc_sections.specs.Section.{letters, sections}
+use Rattle.abc_voices_sections.specs.Section.{letters, sections}
 use Rattle.abc_voices.specs.Arrange.{arranged_of}
 use Rattle.abc_voices.specs.OnTicks.{last_said}
-use Rattle.abc_voices.specs.Opening.{order_past, past_all}
+use Rattle.abc_voices.specs.Opening.{order_after, after_all}
 use Rattle.abc_voices.specs.Orders.{order_said, AreInLastOrder}
 use Rattle.abc_voices.specs.Voices.{or_said}
 use Rattle.abc_voices.proofs.OnTicks.{opens}
 
-one_past : (order : Option (List ℕ)) (item : Item) → order_past order item ≡ or_said (order_said item) order
+one_past : (order : Option (List ℕ)) (item : Item) → order_after order item ≡ or_said (order_said item) order
 one_past order (items.Order text) = refl
 one_past order _ = refl
 
-last_order : (tune : List Item) → past_all order_past None tune ≡ last_said order_said tune
-last_order tune = opens order_past order_said one_past tune
+last_order : (tune : List Item) → after_all order_after None tune ≡ last_said order_said tune
+last_order tune = opens order_after order_said one_past tune
 
 pub in_last_order : AreInLastOrder
 unfolding arranged_of

@@ -11,14 +11,14 @@ use Rattle.std.specs.Prelude.{Option, Some, None, Result, Ok, Err, All, sum_by, 
 use Rattle.std.proofs.lemmas.List.{length-map}
 use Rattle.std.proofs.lemmas.List.Elements.{All-nil, All-head, All-tail, All-weaker, All-more}
 use Rattle.std.proofs.lemmas.List.Sums.{sum_by-cons, sum_by_more, sum_by_more_le}
-use Rattle.abc_items.specs.declared.item.Item.{Item}
+use Rattle.abc_bars_items.specs.declared.item.Item.{Item}
 use Rattle.abc_repeat.specs.declared.play.TheConstants.{MOST_PLACES}
 use Rattle.abc_time.specs.Grains.{grains_of_the_latest_end}
-use Rattle.abc_sections.specs.declared.section.Section.{Section}
-use Rattle.abc_sections.specs.declared.stage.Stage.{Stage}
-use Rattle.abc_sections.specs.declared.stage.StageFault.{StageFault}
-use Rattle.abc_sections.specs.PlayedSection.{size_in, longest}
-use Rattle.abc_sections.specs.Stage.{content, stage_of, stage_size}
+use Rattle.abc_voices_sections.specs.declared.section.Section.{Section}
+use Rattle.abc_voices_sections.specs.declared.stage.Stage.{Stage}
+use Rattle.abc_voices_sections.specs.declared.stage.StageFault.{StageFault}
+use Rattle.abc_voices_sections.specs.PlayedSection.{size_in, longest}
+use Rattle.abc_voices_sections.specs.Stage.{content, stage_of, stage_size}
 use Rattle.abc_voices.specs.Stages.{stage_at, stage_for, number_of, size_for, longest_for, IsStageAt, AreStages, IsNew, IsPut, ArePut, sections_at}
 
 past_end : {A : Type 0} (xs : List A) (k : ℕ) → slice_get xs k ≡ None → length xs ≤ k
@@ -45,7 +45,7 @@ put_nothing voices sections place table long are none =
 pub nothing_size : (voices : List (List ℕ)) (sections : List Section) (place : ℕ) → slice_get sections place ≡ None → size_for voices sections place ≡ 0
 nothing_size voices sections place none = ap (number_of (λ section. sum_by (size_in (content section)) voices)) none
 
--- a stage that stands in the table is passed again
+-- a stage that is in the table is passed again
 pub put_again : (voices : List (List ℕ)) (sections : List Section) (place : ℕ) (table : List (Option Stage)) (stage : Stage)
     → AreStages voices sections table → stage_at table place ≡ Some stage
     → IsPut voices sections place table table
@@ -71,7 +71,7 @@ pub section_longest : (voices : List (List ℕ)) (sections : List Section) (plac
 section_longest voices sections place section is =
     ap (number_of (λ one. longest voices (content one))) is
 
--- what stands at a place of a table after a stage was put
+-- what is at a place of a table after a stage was put
 set_at : (table : List (Option Stage)) (place other : ℕ) (stage : Stage) (P : ℕ → Option Stage → Type 0)
     → place < length table → P place (Some stage) → (other ≢ place → P other (get_or table other None))
     → P other (get_or (set table place (Some stage)) other None)
@@ -84,7 +84,7 @@ set_at table place other stage P within here there =
       | inr apart ↦ subst (P other) (sym (get_or-set_other table place other (Some stage) None apart)) (there apart)
     ]
 
--- a stage is put where none stands
+-- a stage is put if none is
 pub put_first : (voices : List (List ℕ)) (sections : List Section) (place : ℕ) (before after : List (Option Stage)) (section : Section)
     → AreStages voices sections before → slice_get sections place ≡ Some section → place < length before
     → IsNew voices section place before after
@@ -119,7 +119,7 @@ nothing_at (section ∷ sections) (suc k) stage e = nothing_at sections k stage 
 pub none_yet : (voices : List (List ℕ)) (sections : List Section) → AreStages voices sections (map (λ section. None) sections)
 none_yet voices sections = record { each = λ k stage e. absurd (nothing_at sections k stage e) }
 
--- no stage stands in the table at first
+-- no stage is in the table at first
 pub put_none : (voices : List (List ℕ)) (sections : List Section) (places : List ℕ)
     → ArePut voices sections (take 0 places) MOST_PLACES (map (λ section. None) sections)
 put_none voices sections places = record {
@@ -137,7 +137,8 @@ pub put_more : (voices : List (List ℕ)) (sections : List Section) (places : Li
 put_more voices sections places i room left before after within long are put fits =
     let Before : ℕ → Type 0 = λ place. stage_at before place ≡ stage_for voices sections place in
     let After : ℕ → Type 0 = λ place. stage_at after place ≡ stage_for voices sections place in
-    let sum : sum_by (size_for voices sections) (take (i + 1) places) ≡ sum_by (size_for voices sections) (take i places) + size_for voices sections (get_or places i 0) = sum_by_more (size_for voices sections) places i 0 within in
+    let sum : sum_by (size_for voices sections) (take (i + 1) places) ≡ sum_by (size_for voices sections)
+    (take i places) + size_for voices sections (get_or places i 0) = sum_by_more (size_for voices sections) places i 0 within in
     record {
       long = long ∙ are.long;
       are = put.are;
@@ -189,7 +190,8 @@ pub too_many_at : (voices : List (List ℕ)) (sections : List Section) (places :
     → i < length places → ArePut voices sections (take i places) room table → room < size_for voices sections (get_or places i 0)
     → MOST_PLACES < sum_by (λ section. sum_by (size_in section) voices) (sections_at sections places)
 too_many_at voices sections places i room table within are full =
-    let here : sum_by (size_for voices sections) (take i places) + size_for voices sections (get_or places i 0) ≤ sum_by (size_for voices sections) places = sum_by_more_le (size_for voices sections) places i 0 within in
+    let here : sum_by (size_for voices sections) (take i places) + size_for voices sections (get_or places i 0) ≤ sum_by
+    (size_for voices sections) places = sum_by_more_le (size_for voices sections) places i 0 within in
     let whole : sum_by (size_for voices sections) places ≡ sum_by (λ section. sum_by (size_in section) voices) (sections_at sections places) =
     numbers_at (λ section. sum_by (size_in section) voices) sections places in
     omega (arith, are.fits)
@@ -199,7 +201,8 @@ pub too_late_at : (voices : List (List ℕ)) (sections : List Section) (places :
     → i < length places → grains_of_the_latest_end < longest_for voices sections (get_or places i 0)
     → grains_of_the_latest_end < sum_by (longest voices) (sections_at sections places)
 too_late_at voices sections places i within late =
-    let here : sum_by (longest_for voices sections) (take i places) + longest_for voices sections (get_or places i 0) ≤ sum_by (longest_for voices sections) places = sum_by_more_le (longest_for voices sections) places i 0 within in
+    let here : sum_by (longest_for voices sections) (take i places) + longest_for voices sections (get_or places i 0) ≤ sum_by
+    (longest_for voices sections) places = sum_by_more_le (longest_for voices sections) places i 0 within in
     let whole : sum_by (longest_for voices sections) places ≡ sum_by (longest voices) (sections_at sections places) =
     numbers_at (longest voices) sections places in
     omega arith

@@ -3,13 +3,13 @@ use Rattle.std.proofs.Common.{ℕ, ◌≤◌, List, [], ◌∷◌, map, refl, ar
 use Rattle.std.specs.List.{flat_map}
 use Rattle.std.specs.Prelude.{All}
 use Rattle.std.proofs.lemmas.List.Elements.{All-nil, All-cons, All-head, All-tail}
-use Rattle.abc_items.specs.declared.item.Item.{Item}
-use Rattle.abc_items.specs.Item.{IsItem}
+use Rattle.abc_bars_items.specs.declared.item.Item.{Item}
+use Rattle.abc_bars_items.specs.Item.{IsItem}
 use Rattle.abc_time.specs.declared.grains.Grains.{Grains}
 use Rattle.abc_voices.specs.Turns.{IsPart, IsStage}
 use Rattle.abc_voices.specs.Arrange.{total, voices_notes, end_of}
-use Rattle.abc_sections.specs.PlayedSection.{length_in, longest}
-use Rattle.abc_sections.specs.Stage.{part_of, stage_of}
+use Rattle.abc_voices_sections.specs.PlayedSection.{length_in, longest}
+use Rattle.abc_voices_sections.specs.Stage.{part_of, stage_of}
 use Rattle.abc_voices.proofs.Fitting.Kept.{play_kept}
 use Rattle.abc_voices.proofs.Fitting.Voices.{last_past}
 

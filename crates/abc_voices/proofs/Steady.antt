@@ -3,22 +3,22 @@ use Rattle.std.proofs.Common.{◌≡◌, ℕ, zero, suc, ◌+◌, Bool, true, fa
 use Rattle.std.specs.Prelude.{ℤ, pos, is_some, unwrap_or, not, ◌&&◌, bytes_eq, All, IfSome, slice_get}
 use Rattle.std.specs.List.{cons_option, flat_map, list_all}
 use Rattle.std.proofs.lemmas.List.Elements.{All-nil, All-cons, All-head, All-tail}
-use Rattle.abc_items.specs.declared.item.Item.{Item}
-use Rattle.abc_items.specs.declared.item.Item.TheVariants as items
+use Rattle.abc_bars_items.specs.declared.item.Item.{Item}
+use Rattle.abc_bars_items.specs.declared.item.Item.TheVariants as items
 use Rattle.abc_fields.specs.declared.meter.Meter.{Meter}
 use Rattle.abc_fields.specs.declared.meter.Meter.TheVariants as meters
-use Rattle.abc_sections.specs.declared.stage.Part.{Part}
-use Rattle.abc_sections.specs.declared.stage.Stage.{Stage}
+use Rattle.abc_voices_sections.specs.declared.stage.Part.{Part}
+use Rattle.abc_voices_sections.specs.declared.stage.Stage.{Stage}
 use Rattle.abc_voices.specs.Turns.{IsSteady, PlaysNone, steps_of, set_by_all, set_by_one, changes_along, programs_by, programs_along}
 use Rattle.abc_voices.specs.Arrange.{played_sections, or_else, usual_tempo}
-use Rattle.abc_voices.specs.Change.{tempo_of, meter_of, key_of, program_of, at_moment, set_from, behind}
-use Rattle.abc_voices.specs.ScoreChanges.{changes_that_stand, programs_that_stand}
+use Rattle.abc_voices.specs.Change.{tempo_of, meter_of, key_of, program_of, at_moment, set_from, after_opening}
+use Rattle.abc_voices.specs.ScoreChanges.{changes_in_force, programs_in_force}
 use Rattle.abc_voices.specs.Fields.{is_music, is_change, is_steady, sets_program, keeps_programs, without_music}
-use Rattle.abc_voices.specs.Opening.{tempo_past, meter_past, key_past, past_all}
-use Rattle.abc_sections.specs.Section.{is_step, voice_past, part_from}
-use Rattle.abc_sections.specs.Stage.{part_of, stage_of}
-use Rattle.abc_sections.specs.Step.{is_field, length_of}
-use Rattle.abc_voices.specs.Track.{everyone}
+use Rattle.abc_voices.specs.Opening.{tempo_after, meter_after, key_after, after_all}
+use Rattle.abc_voices_sections.specs.Section.{is_step, voice_after, part_from}
+use Rattle.abc_voices_sections.specs.Stage.{part_of, stage_of}
+use Rattle.abc_voices_sections.specs.Step.{is_field, length_of}
+use Rattle.abc_voices.specs.Track.{voice_names}
 use Rattle.abc_voices.proofs.Fitting.Kept.{got, part_played, played_kept}
 use Rattle.abc_voices.proofs.Given.{of_music}
 use Rattle.abc_voices.proofs.Alike.{conductor_same}
@@ -133,8 +133,8 @@ module _ (kind : Item → Bool) (music_not : (item : Item) → is_music item ≡
   plain_part : (voice current : List ℕ) (steps : List Item) → All ChangesNothing steps → All IsPlain (part_from voice current steps)
   plain_part voice current [] none = All-nil IsPlain
   plain_part voice current (step ∷ steps) none =
-      plain_more voice current step (part_from voice (voice_past current step) steps) (All-head ChangesNothing step steps none)
-      (plain_part voice (voice_past current step) steps (All-tail ChangesNothing step steps none))
+      plain_more voice current step (part_from voice (voice_after current step) steps) (All-head ChangesNothing step steps none)
+      (plain_part voice (voice_after current step) steps (All-tail ChangesNothing step steps none))
       (is_step step) (bytes_eq current voice) refl
 
   plain_parts : (section : List ℕ × List Item) (voices : List (List ℕ)) → All ChangesNothing section.1
@@ -153,11 +153,11 @@ module _ (kind : Item → Bool) (music_not : (item : Item) → is_music item ≡
       (steady_stages voices played (All-tail P section played none))
 
   pub none_along : (tune given : List Item) (stages : List Stage) → given ≡ without_music tune
-      → stages ≡ map (stage_of (everyone tune)) (played_sections tune)
+      → stages ≡ map (stage_of (voice_names tune)) (played_sections tune)
       → none_of given ≡ true → All (PlaysNone kind) stages
   none_along tune given stages is are steady =
       subst (All (PlaysNone kind)) (sym are)
-      (steady_stages (everyone tune) (played_sections tune)
+      (steady_stages (voice_names tune) (played_sections tune)
       (played_kept ChangesNothing tune (steady_steps tune (sym (ap none_of is) ∙ steady))))
 
 -- music changes nothing
@@ -168,12 +168,12 @@ music_keeps : (item : Item) → is_music item ≡ true → (sets_program item &&
 music_keeps item music = of_music (λ one. sets_program one && is_step one) false (λ _ _. refl) (λ _ _. refl) (λ _. refl) (λ _. refl) item music
 
 pub steady_along : (tune given : List Item) (stages : List Stage) → given ≡ without_music tune
-    → stages ≡ map (stage_of (everyone tune)) (played_sections tune)
+    → stages ≡ map (stage_of (voice_names tune)) (played_sections tune)
     → is_steady given ≡ true → All IsSteady stages
 steady_along = none_along is_field music_plain
 
 pub kept_along : (tune given : List Item) (stages : List Stage) → given ≡ without_music tune
-    → stages ≡ map (stage_of (everyone tune)) (played_sections tune)
+    → stages ≡ map (stage_of (voice_names tune)) (played_sections tune)
     → keeps_programs given ≡ true → All (PlaysNone sets_program) stages
 kept_along = none_along sets_program music_keeps
 
@@ -183,14 +183,17 @@ opening_is None last usual value is same = is ∙ ap (or_else usual) same
 opening_is (Some other) last usual value is same = is ∙ ap (or_else usual) same
 
 pub steady_changes : (given : List Item) (first : ℕ) (stages : List Stage) (tempo : ℕ) (meter : Meter) (key : ℤ × Bool) → All IsSteady stages
-    → tempo ≡ or_else usual_tempo (past_all tempo_past None given) → meter ≡ or_else meters.Free (past_all meter_past None given)
-    → key ≡ or_else (pos 0, false) (past_all key_past None given)
-    → changes_that_stand ((record { 0 = 0 }, tempo) ∷ []) ((record { 0 = 0 }, meter) ∷ []) ((record { 0 = 0 }, key) ∷ []) ≡ changes_along given first stages
+    → tempo ≡ or_else usual_tempo (after_all tempo_after None given) → meter ≡ or_else meters.Free (after_all meter_after None given)
+    → key ≡ or_else (pos 0, false) (after_all key_after None given)
+    → changes_in_force ((record { 0 = 0 }, tempo) ∷ []) ((record { 0 = 0 }, meter) ∷ []) ((record { 0 = 0 }, key) ∷ []) ≡ changes_along given first stages
 steady_changes given first stages tempo meter key steady p q r =
     conductor_same _ _ _ _ _ _
-    (ap (λ v. (record { 0 = 0 }, v) ∷ []) p ∙ ap (λ l. (record { 0 = 0 }, or_else usual_tempo (past_all tempo_past None given)) ∷ l) (sym (all_set_nothing tempo_of is_field sets_no_tempo 0 stages steady)))
-    (ap (λ v. (record { 0 = 0 }, v) ∷ []) q ∙ ap (λ l. (record { 0 = 0 }, or_else meters.Free (past_all meter_past None given)) ∷ l) (sym (one_sets_nothing meter_of is_field sets_no_meter first 0 stages steady)))
-    (ap (λ v. (record { 0 = 0 }, v) ∷ []) r ∙ ap (λ l. (record { 0 = 0 }, or_else (pos 0, false) (past_all key_past None given)) ∷ l) (sym (one_sets_nothing key_of is_field sets_no_key first 0 stages steady)))
+    (ap (λ v. (record { 0 = 0 }, v) ∷ []) p ∙ ap (λ l. (record { 0 = 0 }, or_else usual_tempo (after_all tempo_after None given))
+    ∷ l) (sym (all_set_nothing tempo_of is_field sets_no_tempo 0 stages steady)))
+    (ap (λ v. (record { 0 = 0 }, v) ∷ []) q ∙ ap (λ l. (record { 0 = 0 }, or_else meters.Free (after_all meter_after None given))
+    ∷ l) (sym (one_sets_nothing meter_of is_field sets_no_meter first 0 stages steady)))
+    (ap (λ v. (record { 0 = 0 }, v) ∷ []) r ∙ ap (λ l. (record { 0 = 0 }, or_else (pos 0, false) (after_all key_after None given))
+    ∷ l) (sym (one_sets_nothing key_of is_field sets_no_key first 0 stages steady)))
 
 -- the programs of stages that set none are those with which their tune opens
 no_program : (value : Option ℕ) → is_some value ≡ false → value ≡ None
@@ -199,7 +202,7 @@ no_program (Some number) h = cc
 
 one_keeps : (opening : Option ℕ) (voice : ℕ) (stages : List Stage) → All (PlaysNone sets_program) stages → programs_by opening [] voice ≡ programs_by opening stages voice
 one_keeps opening voice stages kept =
-    ap (λ sets. programs_that_stand (behind opening sets)) (sym (one_sets_nothing program_of sets_program (λ item. no_program (program_of item)) voice 0 stages kept))
+    ap (λ sets. programs_in_force (after_opening opening sets)) (sym (one_sets_nothing program_of sets_program (λ item. no_program (program_of item)) voice 0 stages kept))
 
 pub programs_kept : (opening : Option ℕ) (voice count : ℕ) (stages : List Stage) → All (PlaysNone sets_program) stages
     → programs_along opening [] voice count ≡ programs_along opening stages voice count

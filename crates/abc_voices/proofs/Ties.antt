@@ -1,17 +1,19 @@
 -- The walk from the last time token to the first makes one note of each chain of joined tones.
-use Rattle.std.proofs.Common.{◌≡◌, ℕ, suc, ◌+◌, ◌≤◌, nat_lt, Bool, true, false, cond, not, List, [], ◌∷◌, ◌++◌, length, map, Option, Some, None, refl, sym, ap, subst, ◌∙◌, append-nil, append_assoc, inl, inr, arith}
+use Rattle.std.proofs.Common.{◌≡◌, ℕ, suc, ◌+◌, ◌≤◌, nat_lt, Bool, true, false, cond, not, List, [], ◌∷◌, ◌++◌, length, map, Option, Some, None, refl}
+use Rattle.std.proofs.Common.{sym, ap, subst, ◌∙◌, append-nil, append_assoc, inl, inr, arith}
 use Rattle.std.proofs.lemmas.Bool.{eqb-true, eqb-false, eq-eqb, ne_eqb, lt-ltb, le-ltb, cases_lt, cases_Bool, and_right}
 use Rattle.std.specs.Prelude.{◌==◌, ◌&&◌, position, remove, slice_index_or, option_map}
 use Rattle.std.specs.List.{prefix_len}
-use Rattle.abc_items.specs.declared.item.Item.{Item}
-use Rattle.abc_items.specs.declared.item.Tone.{Tone}
-use Rattle.abc_score.specs.declared.score.Sounding.{Sounding}
+use Rattle.abc_bars_items.specs.declared.item.Item.{Item}
+use Rattle.abc_bars_items.specs.declared.item.Tone.{Tone}
+use Rattle.abc_voices_score.specs.declared.score.Sounding.{Sounding}
 use Rattle.abc_voices.specs.Arrange.{all_notes, played_sections, voice_notes}
-use Rattle.abc_sections.specs.PlayedSection.{longest, play_in}
+use Rattle.abc_voices_sections.specs.PlayedSection.{longest, play_in}
 use Rattle.abc_voices.specs.TiedNotes.{TokenNotes, Notes, own_note, with_note, with_key, with_tones, next_place, before, before_all, notes_from}
-use Rattle.abc_sections.specs.Step.{length_of, tones_of}
-use Rattle.abc_voices.specs.Track.{everyone, tracks}
-use Rattle.abc_voices.specs.Ties.{TimeToken, with_token, tokens_from, tokens_in, has_key, tones_with, tied_with, tone_at, end_by, chain_end, begun_by, begun_at, chains, heard, PlaysChains, VoicesPlayChains}
+use Rattle.abc_voices_sections.specs.Step.{length_of, tones_of}
+use Rattle.abc_voices.specs.Track.{voice_names, tracks}
+use Rattle.abc_voices.specs.Ties.{TimeToken, with_token, tokens_from, tokens_in, has_key, tones_with, tied_with, tone_at, end_by, chain_end, begun_by}
+use Rattle.abc_voices.specs.Ties.{begun_at, tie_chains, heard_notes, PlaysChains, VoicesPlayChains}
 
 -- the first note of a key, and the others
 abbrev first_off : ℕ → ℕ → List Sounding → ℕ
@@ -89,7 +91,12 @@ begun_same : (f g : ℕ → ℕ) → ((key : ℕ) → f key ≡ g key) → (at :
     → begun_by f at past tone tokens key ≡ begun_by g at past tone tokens key
 begun_same f g same at past tone tokens None = refl
 begun_same f g same at past tone tokens (Some key) =
-    ap (λ n. cond (nat_lt (tones_with key past) n) [] (record { key = key; on = record { 0 = at }; off = record { 0 = chain_end at tone key (tied_with key past) tokens }; velocity = tone.velocity } ∷ [])) (same key)
+    ap (λ n. cond (nat_lt (tones_with key past) n) [] (record {
+      key = key;
+      on = record { 0 = at };
+      off = record { 0 = chain_end at tone key (tied_with key past) tokens };
+      velocity = tone.velocity;
+    } ∷ [])) (same key)
 
 both : {X : Type 0} {a b c d : List X} → a ≡ b → c ≡ d → a ++ c ≡ b ++ d
 both {b = b} {c = c} p q = ap (λ x. x ++ c) p ∙ ap (λ y. b ++ y) q
@@ -109,7 +116,7 @@ grows : (key : ℕ) (b : Bool) (n : ℕ) → n ≤ cond b (suc n) n
 grows key true n = omega arith
 grows key false n = omega arith
 
--- behind as many tones of the key as are tied, one more makes no difference
+-- after as many tones of the key as are tied, one more makes no difference
 begun_past : (key : ℕ) (tied more : ℕ → ℕ) → IsOneMore key tied more → (at : ℕ) (past : List Tone) (tone : Tone) (tokens : List TimeToken) (own : Option ℕ)
     → suc (tied key) ≤ tones_with key past
     → begun_by tied at past tone tokens own ≡ begun_by more at past tone tokens own
@@ -139,12 +146,12 @@ all_past key tied more one at past (tone ∷ tones) tokens far =
 abbrev behind : List TimeToken → ℕ → ℕ → Tone × ℕ → ℕ
 behind tokens at key other = chain_end at other.0 key other.1 tokens
 
--- the first note of a key is that of the tone behind as many of the key as are tied
+-- the first note of a key is that of the tone after as many of the key as are tied
 record IsTaken (key : ℕ) (tied more : ℕ → ℕ) (at own : ℕ) (past tones : List Tone) (tokens : List TimeToken) : Type 0 where
   left : without_first key (begun_at tied at past tones tokens) ≡ begun_at more at past tones tokens
   off : first_off key own (begun_at tied at past tones tokens) ≡ end_by own (behind tokens at key) (tone_at key (tied key) past tones)
 
--- words of a note, if there is one, in front of others
+-- words of a note, if there is one, before others
 without_if : (key : ℕ) (b : Bool) (note : Sounding) (notes : List Sounding) → (note.key == key) ≡ false
     → without_first key (cond b [] (note ∷ []) ++ notes) ≡ cond b [] (note ∷ []) ++ without_first key notes
 without_if key true note notes apart = refl
@@ -265,10 +272,10 @@ unjoined_same f g same [] = refl
 unjoined_same f g same (token ∷ tokens) = all_same f g same token.at [] token.tones tokens
 
 -- each tone begins a note by itself
-alone : (key at : ℕ) (past : List Tone) (tone : Tone) (tokens : List TimeToken)
+single_run : (key at : ℕ) (past : List Tone) (tone : Tone) (tokens : List TimeToken)
     → begun_by (λ k. 0) at past tone tokens (Some key)
     ≡ record { key = key; on = record { 0 = at }; off = record { 0 = chain_end at tone key (tied_with key past) tokens }; velocity = tone.velocity } ∷ []
-alone key at past tone tokens =
+single_run key at past tone tokens =
     ap (λ b. cond b [] (record { key = key; on = record { 0 = at }; off = record { 0 = chain_end at tone key (tied_with key past) tokens }; velocity = tone.velocity } ∷ []))
     (le-ltb (tones_with key past) 0 (omega arith))
 
@@ -331,7 +338,7 @@ with_one at tokens begun past tone (Some key) false is e =
     ap (λ t. with_note (own_note at tone key) (record { begun = begun; next = next }) (next_place t key next)) e
     ∙ linked_by
     (ap (λ off. begun ++ its_note key tone at off ∷ []) (sym (untied at key (tied_with key past) tone tokens e))
-    ∙ ap (λ notes. begun ++ notes) (sym (alone key at past tone tokens)))
+    ∙ ap (λ notes. begun ++ notes) (sym (single_run key at past tone tokens)))
     (unjoined_same (λ k. tied_with k past) (λ k. tied_with k (tone ∷ past))
     (λ k. uncounted_tied k tone past (ap (λ t. t && has_key k tone.key) e)) tokens)
 with_one at tokens begun past tone (Some key) true is e =
@@ -339,13 +346,13 @@ with_one at tokens begun past tone (Some key) true is e =
     ap (λ t. with_note (own_note at tone key) (record { begun = begun; next = next }) (next_place t key next)) e
     ∙ with_taken key (own_note at tone key) (record { begun = begun; next = next })
     ∙ tied_one at tokens begun past tone key is e
-    ∙ linked_by (ap (λ notes. begun ++ notes) (sym (alone key at past tone tokens))) refl
+    ∙ linked_by (ap (λ notes. begun ++ notes) (sym (single_run key at past tone tokens))) refl
 
 moves : (counts : Bool) (all past tones : ℕ) → all ≡ past + cond counts (suc tones) tones → all ≡ cond counts (suc past) past + tones
 moves true all past tones e = omega arith
 moves false all past tones e = e
 
--- all tones of a time token, in front of the next one
+-- all tones of a time token, before the next one
 joined_tones : (at : ℕ) (tokens : List TimeToken) (all : ℕ → ℕ) (begun : List Sounding) (past tones : List Tone)
     → ((key : ℕ) → all key ≡ tied_with key past + tied_with key tones)
     → IsSameLinked (with_tones at (record { begun = begun; next = unjoined (λ k. tied_with k past) tokens }) tones)
@@ -376,12 +383,12 @@ by_chains (token ∷ tokens) =
     ∙ ap {B = Notes} (λ (linked : TokenNotes). before_all linked (left_over tokens))
     (joined_tones token.at tokens (λ k. tied_with k token.tones) [] [] token.tones (λ k. omega arith))
 
-whole : (tied : ℕ → ℕ) (tokens : List TimeToken) → left_over tokens ++ unjoined tied tokens ≡ chains tied tokens
+whole : (tied : ℕ → ℕ) (tokens : List TimeToken) → left_over tokens ++ unjoined tied tokens ≡ tie_chains tied tokens
 whole tied [] = refl
 whole tied (token ∷ tokens) =
     ap (λ notes. notes ++ begun_at tied token.at [] token.tones tokens) (whole (λ key. tied_with key token.tones) tokens)
 
-heard_by : (tokens : List TimeToken) → all_notes (by_tokens tokens) ≡ heard tokens
+heard_by : (tokens : List TimeToken) → all_notes (by_tokens tokens) ≡ heard_notes tokens
 heard_by tokens = ap all_notes (by_chains tokens) ∙ whole (λ k. 0) tokens
 
 -- the walk over what is played is the walk over its time tokens
@@ -412,7 +419,7 @@ plays_chains at play = ap all_notes (played_tokens at play []) ∙ heard_by (tok
 
 pub voices_play_chains : VoicesPlayChains
 voices_play_chains tune =
-    let voices : List (List ℕ) = everyone tune in
+    let voices : List (List ℕ) = voice_names tune in
     let played : List (List ℕ × List Item) = played_sections tune in
-    each_same (λ voice. all_notes (voice_notes voices voice 0 played)) (λ voice. heard (tokens_in voices voice 0 played))
+    each_same (λ voice. all_notes (voice_notes voices voice 0 played)) (λ voice. heard_notes (tokens_in voices voice 0 played))
     (λ voice. ap all_notes (voice_tokens voices voice 0 played) ∙ heard_by (tokens_in voices voice 0 played)) (tracks tune)

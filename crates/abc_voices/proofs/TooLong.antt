@@ -1,20 +1,20 @@
--- A tune is too long exactly where it passes a limit; one that passes none fits a file.
+-- A tune is too long exactly if it passes a limit; one that passes none fits a file.
 use Rattle.std.proofs.Common.{◌≡◌, ◌⊎◌, ◌<◌, ◌≤◌, ℕ, true, false, List, length, inl, inr, arith, ⊎_elim, ap, subst, ◌∙◌}
 use Rattle.std.specs.Prelude.{◌&&◌, ◌||◌, All, nat_le, nat_lt}
 use Rattle.std.specs.Bool.{Decides}
 use Rattle.std.proofs.lemmas.Bool.{and_cases, and_parts, false_from_ne_true, leb-false, leb-true}
 use Rattle.std.proofs.lemmas.Bool.Decides.{Decides-like, Decides-ltb, Decides-or}
 use Rattle.std.proofs.lemmas.List.{length-map}
-use Rattle.abc_items.specs.Item.{IsItem}
-use Rattle.abc_items.specs.declared.item.Item.{Item}
-use Rattle.abc_items.specs.declared.item.TheConstants.{MOST_VOICES}
+use Rattle.abc_bars_items.specs.Item.{IsItem}
+use Rattle.abc_bars_items.specs.declared.item.Item.{Item}
+use Rattle.abc_bars_items.specs.declared.item.TheConstants.{MOST_VOICES}
 use Rattle.abc_repeat.specs.declared.order.TheConstants.{MOST_SECTIONS}
 use Rattle.abc_repeat.specs.declared.play.TheConstants.{MOST_PLACES}
 use Rattle.abc_time.specs.Grains.{grains_of_the_latest_end}
-use Rattle.abc_score.specs.declared.limits.TheConstants.{LONGEST_TITLE}
-use Rattle.abc_score.specs.declared.score.Score.{Score}
+use Rattle.abc_voices_score.specs.declared.limits.TheConstants.{LONGEST_TITLE}
+use Rattle.abc_voices_score.specs.declared.score.Score.{Score}
 use Rattle.abc_voices.specs.Arrange.{end_of, is_too_long, places_played, score_of, sections_played}
-use Rattle.abc_score.specs.Limits.{IsWithinLimits}
+use Rattle.abc_voices_score.specs.Limits.{IsWithinLimits}
 use Rattle.abc_voices.specs.Opening.{title_of}
 use Rattle.abc_voices.specs.TooLong.{PassesALimit, of_sections, of_places, of_time, of_voices, of_title, IsTooLongByALimit}
 use Rattle.abc_voices.specs.Track.{tracks}

@@ -5,12 +5,12 @@ use Rattle.std.proofs.lemmas.Slice.Eq.{bytes_eq-Decides}
 use Rattle.std.specs.Prelude.{◌&&◌, ◌||◌, bytes_eq, filter_map, Option, Some, None, unwrap_or}
 use Rattle.std.specs.List.{list_any, cons_option}
 use Rattle.std.specs.Option.{is_none}
-use Rattle.abc_items.specs.declared.item.Item.{Item}
-use Rattle.abc_items.specs.declared.item.Item.TheVariants as items
+use Rattle.abc_bars_items.specs.declared.item.Item.{Item}
+use Rattle.abc_bars_items.specs.declared.item.Item.TheVariants as items
 use Rattle.abc_voices.specs.Arrange.{takes_time}
-use Rattle.abc_voices.specs.Track.{nameless_plays, names_from, plays_first}
-use Rattle.abc_voices.specs.Tracks.{HaveTracksByMention, mentioned, mentioned_by, mentioned_first, plays_nameless}
-use Rattle.abc_voices.specs.Voices.{declared_by, first_said, named_by, or_said, voice_behind, with_past}
+use Rattle.abc_voices.specs.Track.{has_unnamed_track, names_from, plays_first}
+use Rattle.abc_voices.specs.Tracks.{HaveTracksByMention, mentioned_voices, mentioned_by, mentioned_first, plays_unnamed}
+use Rattle.abc_voices.specs.Voices.{declared_by, first_said, named_by, or_said, voice_at_place, with_items_before}
 use Rattle.abc_voices.proofs.Voices.{declared}
 
 -- the names that are known are the empty one and those that these items mention
@@ -39,10 +39,11 @@ last_of false false = refl
 
 -- one V: more
 mention_step : (known : List (List ℕ)) (past rest : List Item) (opening : Bool) (name : List ℕ) → AreKnown known past
-    → ((names : List (List ℕ)) → AreKnown names (items.Voice opening name ∷ past) → names_from names rest ≡ names ++ filter_map mentioned_first (with_past (items.Voice opening name ∷ past) rest))
+    → ((names : List (List ℕ)) → AreKnown names (items.Voice opening name ∷ past)
+    → names_from names rest ≡ names ++ filter_map mentioned_first (with_items_before (items.Voice opening name ∷ past) rest))
     → (b : Bool) → is_in known name ≡ b
     → names_from (cond b known (known ++ name ∷ [])) rest
-    ≡ known ++ cons_option (cond b None (Some name)) (filter_map mentioned_first (with_past (items.Voice opening name ∷ past) rest))
+    ≡ known ++ cons_option (cond b None (Some name)) (filter_map mentioned_first (with_items_before (items.Voice opening name ∷ past) rest))
 mention_step known past rest opening name are others true found =
     others known (λ other.
     sym (again known name other found (bytes_eq other name) refl)
@@ -54,14 +55,14 @@ mention_step known past rest opening name are others false found =
     ∙ last_of (is_in known other) (bytes_eq other name)
     ∙ ap (λ b. bytes_eq other name || b) (are other)
     ∙ swapped (bytes_eq other []) (bytes_eq other name) (is_in (filter_map mentioned_by past) other))
-    ∙ append_assoc known (name ∷ []) (filter_map mentioned_first (with_past (items.Voice opening name ∷ past) rest))
+    ∙ append_assoc known (name ∷ []) (filter_map mentioned_first (with_items_before (items.Voice opening name ∷ past) rest))
 
 -- all names
-names_are : (known : List (List ℕ)) (past rest : List Item) → AreKnown known past → names_from known rest ≡ known ++ filter_map mentioned_first (with_past past rest)
+names_are : (known : List (List ℕ)) (past rest : List Item) → AreKnown known past → names_from known rest ≡ known ++ filter_map mentioned_first (with_items_before past rest)
 names_are known past [] are = sym (append-nil known)
 names_are known past (items.Voice opening name ∷ rest) are =
     mention_step known past rest opening name are (λ names more. names_are names (items.Voice opening name ∷ past) rest more) (is_in known name) refl
-    ∙ ap (λ b. known ++ cons_option (cond b None (Some name)) (filter_map mentioned_first (with_past (items.Voice opening name ∷ past) rest))) (are name)
+    ∙ ap (λ b. known ++ cons_option (cond b None (Some name)) (filter_map mentioned_first (with_items_before (items.Voice opening name ∷ past) rest))) (are name)
 names_are known past (items.Number number ∷ rest) are = names_are known (items.Number number ∷ past) rest are
 names_are known past (items.Tone tones length ∷ rest) are = names_are known (items.Tone tones length ∷ past) rest are
 names_are known past (items.Rest length bar ∷ rest) are = names_are known (items.Rest length bar ∷ past) rest are
@@ -75,7 +76,7 @@ names_are known past (items.Title text ∷ rest) are = names_are known (items.Ti
 names_are known past (items.Order text ∷ rest) are = names_are known (items.Order text ∷ past) rest are
 names_are known past (items.Program opening number ∷ rest) are = names_are known (items.Program opening number ∷ past) rest are
 
--- a name is behind items where one was behind fewer
+-- a name is after items where one was after fewer
 still : (one : Option (List ℕ)) (past : Option (List ℕ)) → is_none past ≡ false → is_none (or_said one past) ≡ false
 still None past h = h
 still (Some name) past h = refl
@@ -85,11 +86,11 @@ none_more takes true named others h rest = cc
 none_more true false named others h rest = rest
 none_more false false named others h rest = rest
 
--- behind a V: of the body nothing plays for the voice without a name
-none_behind : (tune past rest : List Item) → is_none (first_said named_by past) ≡ false → list_any (plays_nameless tune) (with_past past rest) ≡ false
+-- after a V: of the body nothing plays for the voice without a name
+none_behind : (tune past rest : List Item) → is_none (first_said named_by past) ≡ false → list_any (plays_unnamed tune) (with_items_before past rest) ≡ false
 none_behind tune past [] h = refl
 none_behind tune past (item ∷ rest) h =
-    none_more (takes_time item) (is_none (first_said named_by past)) (bytes_eq (voice_behind tune past) []) _ h
+    none_more (takes_time item) (is_none (first_said named_by past)) (bytes_eq (voice_at_place tune past) []) _ h
     (none_behind tune (item ∷ past) rest (still (named_by item) (first_said named_by past) h))
 
 and_false : (b : Bool) → false ≡ (b && false)
@@ -100,9 +101,9 @@ or_more : (b c : Bool) → (b || (b && c)) ≡ (b && true)
 or_more true c = refl
 or_more false c = refl
 
--- something that takes time in front of the first V: of the body
+-- something that takes time before the first V: of the body
 plays_here : (tune past : List Item) (rest others : Bool) → first_said named_by past ≡ None → others ≡ (bytes_eq (unwrap_or (first_said declared_by tune) []) [] && rest)
-    → ((is_none (first_said named_by past) && bytes_eq (voice_behind tune past) []) || others) ≡ (bytes_eq (unwrap_or (first_said declared_by tune) []) [] && true)
+    → ((is_none (first_said named_by past) && bytes_eq (voice_at_place tune past) []) || others) ≡ (bytes_eq (unwrap_or (first_said declared_by tune) []) [] && true)
 plays_here tune past rest others none e =
     let opening = unwrap_or (first_said declared_by tune) [] in
     ap (λ said. (is_none said && bytes_eq (unwrap_or said opening) []) || others) none
@@ -110,7 +111,7 @@ plays_here tune past rest others none e =
     ∙ or_more (bytes_eq opening []) rest
 
 plays_as : (tune past rest : List Item) → first_said named_by past ≡ None
-    → list_any (plays_nameless tune) (with_past past rest) ≡ (bytes_eq (unwrap_or (first_said declared_by tune) []) [] && plays_first rest)
+    → list_any (plays_unnamed tune) (with_items_before past rest) ≡ (bytes_eq (unwrap_or (first_said declared_by tune) []) [] && plays_first rest)
 plays_as tune past [] none = and_false (bytes_eq (unwrap_or (first_said declared_by tune) []) [])
 plays_as tune past (items.Tone tones length ∷ rest) none =
     plays_here tune past (plays_first rest) _ none (plays_as tune (items.Tone tones length ∷ past) rest none)
@@ -138,6 +139,6 @@ pub have_tracks : HaveTracksByMention
 have_tracks tune =
     let all = names_are ([] ∷ []) [] tune (λ name. refl) in
     let nameless = plays_as tune [] tune refl ∙ ap (λ voice. bytes_eq voice [] && plays_first tune) (sym (declared tune)) in
-    ap (λ names. cond (nameless_plays tune) names (drop 1 names)) all
-    ∙ by_nameless (nameless_plays tune) (mentioned tune)
-    ∙ ap (λ b. cond b ([] ∷ []) [] ++ mentioned tune) (sym nameless)
+    ap (λ names. cond (has_unnamed_track tune) names (drop 1 names)) all
+    ∙ by_nameless (has_unnamed_track tune) (mentioned_voices tune)
+    ∙ ap (λ b. cond b ([] ∷ []) [] ++ mentioned_voices tune) (sym nameless)

@@ -1,14 +1,14 @@
--- A tune is told for its uneven voices exactly where it has some.
+-- A tune is told for its uneven voices exactly if it has some.
 use Rattle.std.proofs.Common.{◌≡◌, ℕ, ◌&&◌, Bool, true, false, List, refl, ap}
 use Rattle.std.specs.Prelude.{◌==◌, not, Any}
 use Rattle.std.specs.List.{list_any}
 use Rattle.std.proofs.lemmas.Bool.{and_parts, eqb-false, ne_eqb}
 use Rattle.std.proofs.lemmas.List.Folds.{Any-from_list_any, list_any-from_Any}
-use Rattle.abc_items.specs.declared.item.Item.{Item}
-use Rattle.abc_items.specs.declared.item.Item.TheVariants as items
-use Rattle.abc_sections.specs.PlayedSection.{length_in, play_in}
-use Rattle.abc_voices.specs.Arrange.{arranged_of, differ, is_uneven, played_sections, plays_time, takes_time}
-use Rattle.abc_voices.specs.Track.{everyone}
+use Rattle.abc_bars_items.specs.declared.item.Item.{Item}
+use Rattle.abc_bars_items.specs.declared.item.Item.TheVariants as items
+use Rattle.abc_voices_sections.specs.PlayedSection.{length_in, play_in}
+use Rattle.abc_voices.specs.Arrange.{arranged_of, lengths_differ, is_uneven, played_sections, plays_time, takes_time}
+use Rattle.abc_voices.specs.Track.{voice_names}
 use Rattle.abc_voices.specs.Uneven.{TakesTime, by_tones, by_rest, AreUneven, TellsUneven}
 
 -- some of what has one property has another
@@ -36,7 +36,7 @@ is_not : (b : Bool) → not b ≡ true → b ≡ false
 is_not true is = absurd cc
 is_not false is = refl
 
-uneven : (section : List ℕ × List Item) (one other : List ℕ) → differ section one other ≡ true → AreUneven section one other
+uneven : (section : List ℕ × List Item) (one other : List ℕ) → lengths_differ section one other ≡ true → AreUneven section one other
 uneven section one other is =
     let unequal : Bool = not (length_in section one == length_in section other) in
     let both = and_parts (plays_time section one && plays_time section other) unequal is in
@@ -44,33 +44,33 @@ uneven section one other is =
     record {
       one_plays = plays section one play.0;
       other_plays = plays section other play.1;
-      differ = eqb-false (length_in section one) (length_in section other) (is_not (length_in section one == length_in section other) both.1);
+      lengths_differ = eqb-false (length_in section one) (length_in section other) (is_not (length_in section one == length_in section other) both.1);
     }
 
-told : (section : List ℕ × List Item) (one other : List ℕ) → AreUneven section one other → differ section one other ≡ true
+told : (section : List ℕ × List Item) (one other : List ℕ) → AreUneven section one other → lengths_differ section one other ≡ true
 told section one other are =
     let first : plays_time section one ≡ true = played section one are.one_plays in
     let second : plays_time section other ≡ true = played section other are.other_plays in
-    let unequal : (length_in section one == length_in section other) ≡ false = ne_eqb (length_in section one) (length_in section other) are.differ in
+    let unequal : (length_in section one == length_in section other) ≡ false = ne_eqb (length_in section one) (length_in section other) are.lengths_differ in
     λ i. first i && second i && not (unequal i)
 
 pub tells_uneven : TellsUneven
 unfolding arranged_of
 tells_uneven tune =
-    let voices : List (List ℕ) = everyone tune in
+    let voices : List (List ℕ) = voice_names tune in
     let sections : List (List ℕ × List Item) = played_sections tune in (
       λ is. some (λ section. is_uneven voices section ≡ true) (λ section. Any (λ one. Any (AreUneven section one) voices) voices)
-          (λ section there. some (λ one. list_any (differ section one) voices ≡ true) (λ one. Any (AreUneven section one) voices)
-          (λ one those. some (λ other. differ section one other ≡ true) (AreUneven section one) (uneven section one) voices
-          (Any-from_list_any (differ section one) voices those))
-          voices (Any-from_list_any (λ one. list_any (differ section one) voices) voices there))
+          (λ section there. some (λ one. list_any (lengths_differ section one) voices ≡ true) (λ one. Any (AreUneven section one) voices)
+          (λ one those. some (λ other. lengths_differ section one other ≡ true) (AreUneven section one) (uneven section one) voices
+          (Any-from_list_any (lengths_differ section one) voices those))
+          voices (Any-from_list_any (λ one. list_any (lengths_differ section one) voices) voices there))
           sections (Any-from_list_any (is_uneven voices) sections is),
       λ has. list_any-from_Any (is_uneven voices) sections
           (some (λ section. Any (λ one. Any (AreUneven section one) voices) voices) (λ section. is_uneven voices section ≡ true)
-          (λ section there. list_any-from_Any (λ one. list_any (differ section one) voices) voices
-          (some (λ one. Any (AreUneven section one) voices) (λ one. list_any (differ section one) voices ≡ true)
-          (λ one those. list_any-from_Any (differ section one) voices
-          (some (AreUneven section one) (λ other. differ section one other ≡ true) (told section one) voices those))
+          (λ section there. list_any-from_Any (λ one. list_any (lengths_differ section one) voices) voices
+          (some (λ one. Any (AreUneven section one) voices) (λ one. list_any (lengths_differ section one) voices ≡ true)
+          (λ one those. list_any-from_Any (lengths_differ section one) voices
+          (some (AreUneven section one) (λ other. lengths_differ section one other ≡ true) (told section one) voices those))
           voices there))
           sections has),
     )

@@ -1,10 +1,10 @@
 -- The walk over a tune finds the voice of each item that looking back finds.
 use Rattle.std.proofs.Common.{◌≡◌, ℕ, Bool, true, false, cond, List, [], ◌∷◌, ◌++◌, map, refl, sym, ap, ◌∙◌, append-nil, append_assoc}
 use Rattle.std.specs.Prelude.{◌&&◌, bytes_eq, unwrap_or, filter}
-use Rattle.abc_items.specs.declared.item.Item.{Item}
-use Rattle.abc_items.specs.declared.item.Item.TheVariants as items
-use Rattle.abc_sections.specs.Section.{is_section, is_step, opening_voice, part, part_from, sections_from, voice_past}
-use Rattle.abc_voices.specs.Voices.{named_by, declared_by, first_said, voice_behind, with_voices, put_in_front, between, of_voice, AreOfVoices}
+use Rattle.abc_bars_items.specs.declared.item.Item.{Item}
+use Rattle.abc_bars_items.specs.declared.item.Item.TheVariants as items
+use Rattle.abc_voices_sections.specs.Section.{is_section, is_step, opening_voice, part, part_from, sections_from, voice_after}
+use Rattle.abc_voices.specs.Voices.{named_by, declared_by, first_said, voice_at_place, with_voices, put_in_front, between, items_of_voice, AreOfVoices}
 
 abbrev is_letter : List ℕ × Item → Bool
 is_letter one = is_section one.1
@@ -29,7 +29,7 @@ declared (items.Program opening number ∷ tune) = declared tune
 
 -- one item more to look back at
 one_more : (opening : List ℕ) (item : Item) (past : List Item)
-    → voice_past (unwrap_or (first_said named_by past) opening) item ≡ unwrap_or (first_said named_by (item ∷ past)) opening
+    → voice_after (unwrap_or (first_said named_by past) opening) item ≡ unwrap_or (first_said named_by (item ∷ past)) opening
 one_more opening (items.Number number) past = refl
 one_more opening (items.Tone tones length) past = refl
 one_more opening (items.Rest length bar) past = refl
@@ -46,7 +46,7 @@ one_more opening (items.Order text) past = refl
 one_more opening (items.Program at number) past = refl
 
 -- a letter leaves the voice
-same_voice : (voice : List ℕ) (item : Item) → is_section item ≡ true → voice_past voice item ≡ voice
+same_voice : (voice : List ℕ) (item : Item) → is_section item ≡ true → voice_after voice item ≡ voice
 same_voice voice (items.Number number) h = cc
 same_voice voice (items.Tone tones length) h = cc
 same_voice voice (items.Rest length bar) h = cc
@@ -61,10 +61,10 @@ same_voice voice (items.Title text) h = cc
 same_voice voice (items.Order text) h = cc
 same_voice voice (items.Program opening number) h = cc
 
--- the current voice behind items
+-- the current voice after items
 abbrev after : List ℕ → List Item → List ℕ
 after current [] = current
-after current (item ∷ steps) = after (voice_past current item) steps
+after current (item ∷ steps) = after (voice_after current item) steps
 
 -- an item, if it is of a voice
 abbrev one_of : List ℕ → List ℕ → Item → List Item
@@ -74,22 +74,22 @@ in_front : (b : Bool) (item : Item) (steps : List Item) → cond b (item ∷ ste
 in_front true item steps = refl
 in_front false item steps = refl
 
-after_more : (current : List ℕ) (held : List Item) (item : Item) → after current (held ++ item ∷ []) ≡ voice_past (after current held) item
+after_more : (current : List ℕ) (held : List Item) (item : Item) → after current (held ++ item ∷ []) ≡ voice_after (after current held) item
 after_more current [] item = refl
-after_more current (one ∷ held) item = after_more (voice_past current one) held item
+after_more current (one ∷ held) item = after_more (voice_after current one) held item
 
 part_more : (voice current : List ℕ) (held : List Item) (item : Item)
     → part_from voice current (held ++ item ∷ []) ≡ part_from voice current held ++ one_of voice (after current held) item
 part_more voice current [] item = refl
 part_more voice current (one ∷ held) item =
-    let rest = part_more voice (voice_past current one) held item in
+    let rest = part_more voice (voice_after current one) held item in
     let b : Bool = is_step one && bytes_eq current voice in
-    in_front b one (part_from voice (voice_past current one) (held ++ item ∷ []))
+    in_front b one (part_from voice (voice_after current one) (held ++ item ∷ []))
     ∙ ap (λ steps. cond b (one ∷ []) [] ++ steps) rest
-    ∙ sym (append_assoc (cond b (one ∷ []) []) (part_from voice (voice_past current one) held) (one_of voice (after (voice_past current one) held) item))
-    ∙ ap (λ steps. steps ++ one_of voice (after (voice_past current one) held) item) (sym (in_front b one (part_from voice (voice_past current one) held)))
+    ∙ sym (append_assoc (cond b (one ∷ []) []) (part_from voice (voice_after current one) held) (one_of voice (after (voice_after current one) held) item))
+    ∙ ap (λ steps. steps ++ one_of voice (after (voice_after current one) held) item) (sym (in_front b one (part_from voice (voice_after current one) held)))
 
--- items in front of the first of some lists
+-- items before the first of some lists
 abbrev front : List Item → List (List Item) → List (List Item)
 front xs [] = xs ∷ []
 front xs (ys ∷ others) = (xs ++ ys) ∷ others
@@ -107,53 +107,53 @@ abbrev is_own : List ℕ → List ℕ × Item → Bool
 is_own voice one = is_step one.1 && bytes_eq one.0 voice
 
 own_front : (voice : List ℕ) (one : List ℕ × Item) (others : List (List (List ℕ × Item)))
-    → map (of_voice voice) (put_in_front one others) ≡ front (one_of voice one.0 one.1) (map (of_voice voice) others)
+    → map (items_of_voice voice) (put_in_front one others) ≡ front (one_of voice one.0 one.1) (map (items_of_voice voice) others)
 own_front voice one [] = ap (λ steps. steps ∷ []) (first_front (is_own voice one) one [] ∙ append-nil (one_of voice one.0 one.1))
-own_front voice one (xs ∷ others) = ap (λ steps. steps ∷ map (of_voice voice) others) (first_front (is_own voice one) one (filter (is_own voice) xs))
+own_front voice one (xs ∷ others) = ap (λ steps. steps ∷ map (items_of_voice voice) others) (first_front (is_own voice one) one (filter (is_own voice) xs))
 
 -- there is a first list
 first_there : (voice : List ℕ) (b : Bool) (one : List ℕ × Item) (others : List (List (List ℕ × Item)))
-    → front [] (map (of_voice voice) (cond b ([] ∷ others) (put_in_front one others)))
-    ≡ map (of_voice voice) (cond b ([] ∷ others) (put_in_front one others))
+    → front [] (map (items_of_voice voice) (cond b ([] ∷ others) (put_in_front one others)))
+    ≡ map (items_of_voice voice) (cond b ([] ∷ others) (put_in_front one others))
 first_there voice true one others = refl
 first_there voice false one [] = refl
 first_there voice false one (xs ∷ others) = refl
 
 front_none : (voice : List ℕ) (placed : List (List ℕ × Item))
-    → front [] (map (of_voice voice) (between is_letter placed)) ≡ map (of_voice voice) (between is_letter placed)
+    → front [] (map (items_of_voice voice) (between is_letter placed)) ≡ map (items_of_voice voice) (between is_letter placed)
 front_none voice [] = refl
 front_none voice (one ∷ placed) = first_there voice (is_letter one) one (between is_letter placed)
 
 -- one item of the walk
 walk_item : (voice opening : List ℕ) (held : List Item) (one : List ℕ × Item) (anew on : List (List ℕ × List Item))
     (others : List (List (List ℕ × Item))) (b : Bool)
-    → (b ≡ true → map (part voice) anew ≡ map (of_voice voice) others)
-    → map (part voice) on ≡ front (part_from voice opening (held ++ one.1 ∷ [])) (map (of_voice voice) others)
+    → (b ≡ true → map (part voice) anew ≡ map (items_of_voice voice) others)
+    → map (part voice) on ≡ front (part_from voice opening (held ++ one.1 ∷ [])) (map (items_of_voice voice) others)
     → one.0 ≡ after opening held
     → map (part voice) (cond b ((opening, held) ∷ anew) on)
-    ≡ front (part_from voice opening held) (map (of_voice voice) (cond b ([] ∷ others) (put_in_front one others)))
+    ≡ front (part_from voice opening held) (map (items_of_voice voice) (cond b ([] ∷ others) (put_in_front one others)))
 walk_item voice opening held one anew on others true new more e =
     ap (λ rest. part_from voice opening held ∷ rest) (new refl)
-    ∙ ap (λ steps. steps ∷ map (of_voice voice) others) (sym (append-nil (part_from voice opening held)))
+    ∙ ap (λ steps. steps ∷ map (items_of_voice voice) others) (sym (append-nil (part_from voice opening held)))
 walk_item voice opening held one anew on others false new more e =
     more
-    ∙ ap (λ steps. front steps (map (of_voice voice) others))
+    ∙ ap (λ steps. front steps (map (items_of_voice voice) others))
     (part_more voice opening held one.1 ∙ ap (λ current. part_from voice opening held ++ one_of voice current one.1) (sym e))
-    ∙ sym (front_front (part_from voice opening held) (one_of voice one.0 one.1) (map (of_voice voice) others))
+    ∙ sym (front_front (part_from voice opening held) (one_of voice one.0 one.1) (map (items_of_voice voice) others))
     ∙ ap (front (part_from voice opening held)) (sym (own_front voice one others))
 
 walk : (tune : List Item) (voice opening : List ℕ) (held : List Item) (current : List ℕ) (past rest : List Item)
-    → current ≡ voice_behind tune past → current ≡ after opening held
+    → current ≡ voice_at_place tune past → current ≡ after opening held
     → map (part voice) (sections_from opening held current rest)
-    ≡ front (part_from voice opening held) (map (of_voice voice) (between is_letter (with_voices tune past rest)))
+    ≡ front (part_from voice opening held) (map (items_of_voice voice) (between is_letter (with_voices tune past rest)))
 walk tune voice opening held current past [] back on = ap (λ steps. steps ∷ []) (sym (append-nil (part_from voice opening held)))
 walk tune voice opening held current past (item ∷ rest) back on =
-    let behind : voice_past current item ≡ voice_behind tune (item ∷ past) =
-    ap (λ v. voice_past v item) back ∙ one_more (unwrap_or (first_said declared_by tune) []) item past in
-    let more = walk tune voice opening (held ++ item ∷ []) (voice_past current item) (item ∷ past) rest behind
-    (ap (λ v. voice_past v item) on ∙ sym (after_more opening held item)) in
-    walk_item voice opening held (voice_behind tune past, item) (sections_from current [] current rest)
-    (sections_from opening (held ++ item ∷ []) (voice_past current item) rest)
+    let behind : voice_after current item ≡ voice_at_place tune (item ∷ past) =
+    ap (λ v. voice_after v item) back ∙ one_more (unwrap_or (first_said declared_by tune) []) item past in
+    let more = walk tune voice opening (held ++ item ∷ []) (voice_after current item) (item ∷ past) rest behind
+    (ap (λ v. voice_after v item) on ∙ sym (after_more opening held item)) in
+    walk_item voice opening held (voice_at_place tune past, item) (sections_from current [] current rest)
+    (sections_from opening (held ++ item ∷ []) (voice_after current item) rest)
     (between is_letter (with_voices tune (item ∷ past) rest)) (is_section item)
     (λ letter. walk tune voice current [] current (item ∷ past) rest (sym (same_voice current item letter) ∙ behind) refl
     ∙ front_none voice (with_voices tune (item ∷ past) rest))

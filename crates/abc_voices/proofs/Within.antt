@@ -6,18 +6,18 @@ use Rattle.std.proofs.lemmas.List.Sums.{sum_by_from}
 use Rattle.std.specs.Prelude.{All, IfSome, slice_get}
 use Rattle.std.specs.List.{cons_option, flat_map}
 use Rattle.std.specs.Option.{ForSome}
-use Rattle.abc_items.specs.declared.item.Item.{Item}
-use Rattle.abc_items.specs.declared.item.Item.TheVariants as items
-use Rattle.abc_items.specs.Item.{IsItem}
+use Rattle.abc_bars_items.specs.declared.item.Item.{Item}
+use Rattle.abc_bars_items.specs.declared.item.Item.TheVariants as items
+use Rattle.abc_bars_items.specs.Item.{IsItem}
 use Rattle.abc_fields.specs.Parts.{parts_of}
 use Rattle.abc_time.specs.declared.grains.Grains.{Grains}
-use Rattle.abc_sections.specs.declared.stage.Part.{Part}
-use Rattle.abc_sections.specs.declared.stage.Stage.{Stage}
+use Rattle.abc_voices_sections.specs.declared.stage.Part.{Part}
+use Rattle.abc_voices_sections.specs.declared.stage.Stage.{Stage}
 use Rattle.abc_voices.specs.Turns.{IsPart, IsStage, length_along, steps_of, set_by_all, set_by_one}
-use Rattle.abc_voices.specs.Change.{at_moment, set_from, behind}
-use Rattle.abc_voices.specs.Opening.{order_past, past_all}
-use Rattle.abc_sections.specs.Play.{duration}
-use Rattle.abc_sections.specs.Step.{length_of}
+use Rattle.abc_voices.specs.Change.{at_moment, set_from, after_opening}
+use Rattle.abc_voices.specs.Opening.{order_after, after_all}
+use Rattle.abc_voices_sections.specs.Play.{duration}
+use Rattle.abc_voices_sections.specs.Step.{length_of}
 use Rattle.abc_voices.proofs.Fitting.Kept.{got}
 
 -- a value that is set no later than this
@@ -81,7 +81,7 @@ one_before value_of voice end at (stage ∷ stages) early all =
     (got (IsPart stage.longest) stage.parts voice is.parts))
     (one_before value_of voice end (at + stage.longest.0) stages (omega (arith, sum)) (All-tail IsStage stage stages all))
 
--- behind what holds at the beginning
+-- after what holds at the beginning
 pub all_set : {V : Type 0} (value_of : Item → Option V) (opening : V) (end : ℕ) (stages : List Stage) (sets : List (Grains × V)) → length_along stages ≤ end → All IsStage stages
     → sets ≡ (record { 0 = 0 }, opening) ∷ set_by_all value_of 0 stages → All (IsBefore end) sets
 all_set value_of opening end stages sets early all e =
@@ -89,7 +89,7 @@ all_set value_of opening end stages sets early all e =
     (All-cons (IsBefore end) (record { 0 = 0 }, opening) (set_by_all value_of 0 stages) (omega arith) (all_before value_of end 0 stages (omega arith) all))
 
 pub one_set : {V : Type 0} (value_of : Item → Option V) (voice : ℕ) (opening : Option V) (end : ℕ) (stages : List Stage) (sets : List (Grains × V)) → length_along stages ≤ end → All IsStage stages
-    → sets ≡ behind opening (set_by_one value_of voice 0 stages) → All (IsBefore end) sets
+    → sets ≡ after_opening opening (set_by_one value_of voice 0 stages) → All (IsBefore end) sets
 one_set value_of voice opening end stages sets early all e =
     subst (All (IsBefore end)) (sym e)
     (one_more end 0 opening (set_by_one value_of voice 0 stages) (omega arith) (one_before value_of voice end 0 stages (omega arith) all))
@@ -98,15 +98,15 @@ one_set value_of voice opening end stages sets early all e =
 abbrev pub IsAccepted : Option (List ℕ) → Type 0
 IsAccepted order = ForSome order (λ text. parts_of text ≡ Ok tt)
 
-order_step : (order : Option (List ℕ)) (item : Item) → IsAccepted order → IsItem item → IsAccepted (order_past order item)
+order_step : (order : Option (List ℕ)) (item : Item) → IsAccepted order → IsItem item → IsAccepted (order_after order item)
 order_step order (items.Order text) h is = λ other e. let same : text ≡ other = cc in subst (λ t. parts_of t ≡ Ok tt) same is
 order_step order _ h is = h
 
 pub order_accepted : (tune : List Item) (order : Option (List ℕ)) → IsAccepted order → All IsItem tune
-    → IsAccepted (past_all order_past order tune)
+    → IsAccepted (after_all order_after order tune)
 order_accepted [] order h all = h
 order_accepted (step ∷ tune) order h all =
-    order_accepted tune (order_past order step) (order_step order step h (All-head IsItem step tune all)) (All-tail IsItem step tune all)
+    order_accepted tune (order_after order step) (order_step order step h (All-head IsItem step tune all)) (All-tail IsItem step tune all)
 
 -- the same order and letters play as many sections, and have as much unknown
 pub same_length : (order order2 : Option (List ℕ)) (found found2 : List ℕ) → order ≡ order2 → found ≡ found2 → length (sections_of order found) ≡ length (sections_of order2 found2)

@@ -1,10 +1,11 @@
--- A tune laid out in time: its sections one after another, in each its voices beside one another. Our own.
-use Rattle.std.specs.Prelude.{ℕ, pos, ◌+◌, max, nat_lt, Bool, true, false, not, ◌&&◌, ◌||◌, ◌==◌, List, [], ◌∷◌, ◌++◌, length, map, filter_map, slice_get, sum_by, Option, Some, None}
+-- A tune laid out in time: its sections one after another, in each its voices beside one another. Not in ABC 2.1.
+use Rattle.std.specs.Prelude.{ℕ, pos, ◌+◌, max, nat_lt, Bool, true, false, not, ◌&&◌, ◌||◌, ◌==◌, List, [], ◌∷◌, ◌++◌, length}
+use Rattle.std.specs.Prelude.{map, filter_map, slice_get, sum_by, Option, Some, None}
 use Rattle.std.specs.List.{list_any, flat_map}
-use Rattle.abc_items.specs.declared.item.Item.{Item}
-use Rattle.abc_items.specs.declared.item.Item.TheVariants as items
-use Rattle.abc_items.specs.declared.item.TheConstants.{MOST_VOICES}
-use Rattle.abc_items.specs.Item.{Items}
+use Rattle.abc_bars_items.specs.declared.item.Item.{Item}
+use Rattle.abc_bars_items.specs.declared.item.Item.TheVariants as items
+use Rattle.abc_bars_items.specs.declared.item.TheConstants.{MOST_VOICES}
+use Rattle.abc_bars_items.specs.Item.{Items}
 use Rattle.abc_fields.specs.declared.meter.Meter.TheVariants as meters
 use Rattle.abc_repeat.specs.declared.order.TheConstants.{MOST_SECTIONS}
 use Rattle.abc_repeat.specs.declared.play.TheConstants.{MOST_PLACES}
@@ -12,22 +13,22 @@ use Rattle.abc_repeat.specs.Order.{sections_of, has_unknown}
 use Rattle.abc_time.specs.declared.grains.Grains.{Grains}
 use Rattle.abc_time.specs.Grains.{grains_of_the_latest_end}
 use Rattle.abc_voices.specs.declared.arranged.Arranged.{Arranged}
-use Rattle.abc_score.specs.declared.limits.TheConstants.{LONGEST_TITLE}
-use Rattle.abc_score.specs.declared.score.ProgramChange.{ProgramChange}
-use Rattle.abc_score.specs.declared.score.Score.{Score}
-use Rattle.abc_score.specs.declared.score.Sounding.{Sounding}
-use Rattle.abc_voices.specs.Change.{tempo_of, meter_of, key_of, program_of, set_from, behind}
-use Rattle.abc_voices.specs.ScoreChanges.{changes_that_stand, programs_that_stand}
+use Rattle.abc_voices_score.specs.declared.limits.TheConstants.{LONGEST_TITLE}
+use Rattle.abc_voices_score.specs.declared.score.ProgramChange.{ProgramChange}
+use Rattle.abc_voices_score.specs.declared.score.Score.{Score}
+use Rattle.abc_voices_score.specs.declared.score.Sounding.{Sounding}
+use Rattle.abc_voices.specs.Change.{tempo_of, meter_of, key_of, program_of, set_from, after_opening}
+use Rattle.abc_voices.specs.ScoreChanges.{changes_in_force, programs_in_force}
 use Rattle.abc_voices.specs.TiedNotes.{Notes, notes_from}
-use Rattle.abc_voices.specs.Opening.{tempo_past, meter_past, key_past, program_past, order_past, past_all, title_of}
-use Rattle.abc_sections.specs.PlayedSection.{play_in, size_in, length_in, longest}
-use Rattle.abc_sections.specs.Section.{letters, sections}
-use Rattle.abc_voices.specs.Track.{everyone, tracks}
+use Rattle.abc_voices.specs.Opening.{tempo_after, meter_after, key_after, program_after, order_after, after_all, title_of}
+use Rattle.abc_voices_sections.specs.PlayedSection.{play_in, size_in, length_in, longest}
+use Rattle.abc_voices_sections.specs.Section.{letters, sections}
+use Rattle.abc_voices.specs.Track.{voice_names, tracks}
 
 -- The sections of a tune in the order of their play.
 abbrev pub played_sections : List Item → List (List ℕ × List Item)
 played_sections tune =
-    filter_map (slice_get (sections tune)) (sections_of (past_all order_past None tune) (letters tune))
+    filter_map (slice_get (sections tune)) (sections_of (after_all order_after None tune) (letters tune))
 
 -- The notes of a voice in sections that are played from a moment on.
 abbrev pub voice_notes : List (List ℕ) → List ℕ → ℕ → List (List ℕ × List Item) → Notes
@@ -40,18 +41,19 @@ abbrev pub all_notes : Notes → List Sounding
 all_notes notes = notes.others ++ notes.first
 
 -- What voices set in sections that are played from a moment on: section by section, in it voice by voice.
-abbrev pub set_in : {V : Type 0} → (Item → Option V) → List (List ℕ) → List (List ℕ) → ℕ → List (List ℕ × List Item) → List (Grains × V)
+abbrev pub set_in : {V : Type 0} → (Item → Option V) → List (List ℕ) → List (List ℕ) → ℕ → List (List ℕ × List Item)
+    → List (Grains × V)
 set_in value_of voices those at [] = []
 set_in value_of voices those at (section ∷ rest) =
     flat_map (λ voice. set_from value_of at (play_in section voice)) those
     ++ set_in value_of voices those (at + longest voices section) rest
 
--- A value of its own where there is none.
+-- A value of its own if there is none.
 abbrev pub or_else : {V : Type 0} → V → Option V → V
 or_else value None = value
 or_else value (Some other) = other
 
--- A quarter note of half a second, which holds where no tempo is set: 120 a minute.
+-- A quarter note of half a second, which holds if no tempo is set: 120 a minute.
 abbrev pub usual_tempo : ℕ
 usual_tempo = 500000
 
@@ -75,46 +77,46 @@ abbrev pub plays_time : List ℕ × List Item → List ℕ → Bool
 plays_time section voice = list_any takes_time (play_in section voice)
 
 -- Whether two voices that play time in a section differ in length.
-abbrev pub differ : List ℕ × List Item → List ℕ → List ℕ → Bool
-differ section a b =
+abbrev pub lengths_differ : List ℕ × List Item → List ℕ → List ℕ → Bool
+lengths_differ section a b =
     plays_time section a && plays_time section b && not (length_in section a == length_in section b)
 
 abbrev pub is_uneven : List (List ℕ) → List ℕ × List Item → Bool
-is_uneven voices section = list_any (λ a. list_any (differ section a) voices) voices
+is_uneven voices section = list_any (λ a. list_any (lengths_differ section a) voices) voices
 
 -- The sum of the sections of a tune.
 abbrev pub total : List Item → ℕ
-total tune = sum_by (longest (everyone tune)) (played_sections tune)
+total tune = sum_by (longest (voice_names tune)) (played_sections tune)
 
 -- The notes of each voice that has a track.
 abbrev pub voices_notes : List Item → List (List Sounding)
 voices_notes tune =
-    map (λ voice. all_notes (voice_notes (everyone tune) voice 0 (played_sections tune))) (tracks tune)
+    map (λ voice. all_notes (voice_notes (voice_names tune) voice 0 (played_sections tune))) (tracks tune)
 
 -- When a tune ends: with its sections, or with a note that lasts longer.
 abbrev pub end_of : List Item → ℕ
 end_of tune = last_off (total tune) (flat_map (λ notes. notes) (voices_notes tune))
 
--- The tempos of all voices and the meters and keys of the first, behind those with which the tune opens.
-abbrev pub changes_of : List Item → List Rattle.abc_score.specs.declared.score.Change.Change
+-- The tempos of all voices and the meters and keys of the first, after those with which the tune opens.
+abbrev pub changes_of : List Item → List Rattle.abc_voices_score.specs.declared.score.Change.Change
 changes_of tune =
-    let voices = everyone tune in
+    let voices = voice_names tune in
     let first = first_of (tracks tune) in
     let played = played_sections tune in
-    changes_that_stand
-    ((record { 0 = 0 }, or_else usual_tempo (past_all tempo_past None tune)) ∷ set_in tempo_of voices voices 0 played)
-    ((record { 0 = 0 }, or_else meters.Free (past_all meter_past None tune)) ∷ set_in meter_of voices first 0 played)
-    ((record { 0 = 0 }, or_else (pos 0, false) (past_all key_past None tune)) ∷ set_in key_of voices first 0 played)
+    changes_in_force
+    ((record { 0 = 0 }, or_else usual_tempo (after_all tempo_after None tune)) ∷ set_in tempo_of voices voices 0 played)
+    ((record { 0 = 0 }, or_else meters.Free (after_all meter_after None tune)) ∷ set_in meter_of voices first 0 played)
+    ((record { 0 = 0 }, or_else (pos 0, false) (after_all key_after None tune)) ∷ set_in key_of voices first 0 played)
 
--- The programs of a voice in sections that are played, behind the one with which a tune opens, if it opens with one.
+-- The programs of a voice in sections that are played, after the one with which a tune opens, if it opens with one.
 abbrev pub programs_in : Option ℕ → List (List ℕ) → List (List ℕ × List Item) → List ℕ → List ProgramChange
 programs_in opening voices played voice =
-    programs_that_stand (behind opening (set_in program_of voices (voice ∷ []) 0 played))
+    programs_in_force (after_opening opening (set_in program_of voices (voice ∷ []) 0 played))
 
 -- The programs of each voice that has a track. Nothing is restored at a repeat.
 abbrev pub programs_of : List Item → List (List ProgramChange)
 programs_of tune =
-    map (programs_in (past_all program_past None tune) (everyone tune) (played_sections tune)) (tracks tune)
+    map (programs_in (after_all program_after None tune) (voice_names tune) (played_sections tune)) (tracks tune)
 
 -- The score of a tune: its title, its end, its changes, and the notes and the programs of each voice.
 abbrev pub score_of : List Item → Score
@@ -131,20 +133,20 @@ score_of tune = record {
 unfoldable pub arranged_of : List Item → Arranged
 arranged_of tune = record {
   score = score_of tune;
-  uneven = list_any (is_uneven (everyone tune)) (played_sections tune);
-  unknown = has_unknown (past_all order_past None tune) (letters tune);
+  uneven = list_any (is_uneven (voice_names tune)) (played_sections tune);
+  unknown = has_unknown (after_all order_after None tune) (letters tune);
 }
 
 -- How many sections of a tune are played, the opening one among them.
 abbrev pub sections_played : List Item → ℕ
-sections_played tune = length (sections_of (past_all order_past None tune) (letters tune))
+sections_played tune = length (sections_of (after_all order_after None tune) (letters tune))
 
 -- How many places of a tune are played, each as often as it is, over all voices.
 abbrev pub places_played : List Item → ℕ
 places_played tune =
-    sum_by (λ section. sum_by (size_in section) (everyone tune)) (played_sections tune)
+    sum_by (λ section. sum_by (size_in section) (voice_names tune)) (played_sections tune)
 
--- Whether a tune is too long: a limit is passed, of sections, of places, of time, of voices, or of a title. Our own.
+-- Whether a tune is too long: a limit is passed, of sections, of places, of time, of voices, or of a title. Not in ABC 2.1.
 unfoldable pub is_too_long : List Item → Bool
 is_too_long tune =
     nat_lt MOST_SECTIONS (sections_played tune) || nat_lt MOST_PLACES (places_played tune)

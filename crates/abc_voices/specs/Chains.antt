@@ -1,8 +1,8 @@
--- The chains of tied tones in a play, as a relation. ABC 2.1 section 4.11; which tones are joined is our own.
+-- The chains of tied tones in a play, as a relation. ABC 2.1 section 4.11; which tones are joined is not in ABC 2.1.
 use Rattle.std.specs.Prelude.{◌≡◌, ℕ, suc, ◌+◌, true, List, [], ◌∷◌, ◌++◌, Option, Some, None, slice_get, take}
-use Rattle.abc_items.specs.declared.item.Tone.{Tone}
-use Rattle.abc_score.specs.declared.score.Sounding.{Sounding}
-use Rattle.abc_voices.specs.Ties.{TimeToken, heard, tied_with, tones_with}
+use Rattle.abc_bars_items.specs.declared.item.Tone.{Tone}
+use Rattle.abc_voices_score.specs.declared.score.Sounding.{Sounding}
+use Rattle.abc_voices.specs.Ties.{TimeToken, heard_notes, tied_with, tones_with}
 
 -- The tones of the first of some time tokens, if there is one.
 abbrev pub first_tones : List TimeToken → List Tone
@@ -10,7 +10,7 @@ first_tones [] = []
 first_tones (token ∷ tokens) = token.tones
 
 -- The tone at a place of a time token is joined with the one at another place of the next: it is tied, both have one
--- key, and as many tied tones of the key stand before it as tones of the key before the other.
+-- key, and as many tied tones of the key are before it as tones of the key before the other.
 pub record IsJoined (tones next : List Tone) (place other : ℕ) : Type 0 where
   pub tone : Tone
   pub stands : slice_get tones place ≡ Some tone
@@ -27,7 +27,8 @@ pub record IsJoined (tones next : List Tone) (place other : ℕ) : Type 0 where
 abbrev pub IsChain : List TimeToken → ℕ → List ℕ → Type 0
 IsChain [] place others = ⊥
 IsChain (token ∷ tokens) place [] = (other : ℕ) → IsJoined token.tones (first_tones tokens) place other → ⊥
-IsChain (token ∷ tokens) place (other ∷ others) = IsJoined token.tones (first_tones tokens) place other × IsChain tokens other others
+IsChain (token ∷ tokens) place (other ∷ others) = IsJoined token.tones (first_tones tokens) place other
+    × IsChain tokens other others
 
 -- The length of a tone, if there is one.
 abbrev pub length_if : Option Tone → ℕ
@@ -57,10 +58,11 @@ pub record IsNoteOf (tokens : List TimeToken) (place : ℕ) (note : Sounding) : 
   pub off : note.off.0 ≡ end_of_chain tokens place others
   pub velocity : note.velocity ≡ tone.velocity
 
--- What is heard by the tone at a place of the first time token, behind one with these tones: nothing where it is silent
+-- What is heard by the tone at a place of the first time token, after one with these tones: nothing if it is silent
 -- or one of those is joined with it, else the note of the chain that it begins.
 pub data IsBegun (previous : List Tone) (tokens : List TimeToken) (place : ℕ) (notes : List Sounding) : Type 0 where
-  silent : (tone : Tone) → slice_get (first_tones tokens) place ≡ Some tone → tone.key ≡ None → notes ≡ [] → IsBegun previous tokens place notes
+  silent : (tone : Tone) → slice_get (first_tones tokens) place ≡ Some tone → tone.key ≡ None → notes ≡ []
+      → IsBegun previous tokens place notes
   goes_on : (before : ℕ) → IsJoined previous (first_tones tokens) before place → notes ≡ [] → IsBegun previous tokens place notes
   begins : (note : Sounding) → ((before : ℕ) → IsJoined previous (first_tones tokens) before place → ⊥)
       → IsNoteOf tokens place note → notes ≡ note ∷ [] → IsBegun previous tokens place notes
@@ -72,7 +74,7 @@ AreBegun previous tokens place (tone ∷ tones) notes =
     (own : List Sounding) × (others : List Sounding) × (notes ≡ own ++ others)
     × IsBegun previous tokens place own × AreBegun previous tokens (suc place) tones others
 
--- What is heard of time tokens behind one with these tones, those that begin at the last one first.
+-- What is heard of time tokens after one with these tones, those that begin at the last one first.
 abbrev pub AreHeard : List Tone → List TimeToken → List Sounding → Type 0
 AreHeard previous [] notes = notes ≡ []
 AreHeard previous (token ∷ tokens) notes =
@@ -81,8 +83,8 @@ AreHeard previous (token ∷ tokens) notes =
 
 -- The notes of time tokens are those of their longest chains, each once.
 abbrev pub HearsChains : Type 0
-HearsChains = (tokens : List TimeToken) → AreHeard [] tokens (heard tokens)
+HearsChains = (tokens : List TimeToken) → AreHeard [] tokens (heard_notes tokens)
 
 -- No other notes are.
 abbrev pub HearsNoOthers : Type 0
-HearsNoOthers = (tokens : List TimeToken) (notes : List Sounding) → AreHeard [] tokens notes → notes ≡ heard tokens
+HearsNoOthers = (tokens : List TimeToken) (notes : List Sounding) → AreHeard [] tokens notes → notes ≡ heard_notes tokens

@@ -1,11 +1,11 @@
 -- The changes of tempo, meter, key and program that are played, at their moments.
 use Rattle.std.specs.Prelude.{ℕ, ℤ, ◌+◌, Bool, List, [], ◌∷◌, Option, Some, None}
 use Rattle.std.specs.List.{cons_option}
-use Rattle.abc_items.specs.declared.item.Item.{Item}
-use Rattle.abc_items.specs.declared.item.Item.TheVariants as items
+use Rattle.abc_bars_items.specs.declared.item.Item.{Item}
+use Rattle.abc_bars_items.specs.declared.item.Item.TheVariants as items
 use Rattle.abc_fields.specs.declared.meter.Meter.{Meter}
 use Rattle.abc_time.specs.declared.grains.Grains.{Grains}
-use Rattle.abc_sections.specs.Step.{length_of}
+use Rattle.abc_voices_sections.specs.Step.{length_of}
 
 -- The tempo, meter and key that a field sets, if it sets one.
 abbrev pub tempo_of : Item → Option ℕ
@@ -36,6 +36,6 @@ set_from value_of at [] = []
 set_from value_of at (step ∷ steps) =
     cons_option (at_moment at (value_of step)) (set_from value_of (at + length_of step) steps)
 
--- What is set, behind what holds at the beginning, if something does.
-abbrev pub behind : {V : Type 0} → Option V → List (Grains × V) → List (Grains × V)
-behind opening sets = cons_option (at_moment 0 opening) sets
+-- What is set, after what holds at the beginning, if something does.
+abbrev pub after_opening : {V : Type 0} → Option V → List (Grains × V) → List (Grains × V)
+after_opening opening sets = cons_option (at_moment 0 opening) sets

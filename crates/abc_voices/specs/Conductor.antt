@@ -1,20 +1,21 @@
--- The tempo, the meter and the key on each tick, by what is played there. Our own.
-use Rattle.std.specs.Prelude.{◌≡◌, ℕ, ℤ, pos, ◌+◌, ◌*◌, ◌/◌, ◌^◌, ◌==◌, Bool, true, false, ◌&&◌, List, [], ◌∷◌, take, filter, Option, Some, None, option_map, option_and_then, unwrap_or}
+-- The tempo, the meter and the key on each tick, by what is played there. Not in ABC 2.1.
+use Rattle.std.specs.Prelude.{◌≡◌, ℕ, ℤ, pos, ◌+◌, ◌*◌, ◌/◌, ◌^◌, ◌==◌, Bool, true, false, ◌&&◌, List, [], ◌∷◌, take, filter}
+use Rattle.std.specs.Prelude.{Option, Some, None, option_map, option_and_then, unwrap_or}
 use Rattle.std.specs.Option.{option_to_list}
-use Rattle.abc_items.specs.declared.item.Item.{Item}
-use Rattle.abc_items.specs.declared.item.Item.TheVariants as items
+use Rattle.abc_bars_items.specs.declared.item.Item.{Item}
+use Rattle.abc_bars_items.specs.declared.item.Item.TheVariants as items
 use Rattle.abc_fields.specs.declared.meter.Meter.{Meter}
 use Rattle.abc_fields.specs.declared.meter.Meter.TheVariants as meters
 use Rattle.abc_time.specs.declared.grains.Grains.{Grains}
 use Rattle.abc_time.specs.Grains.{tick_at}
-use Rattle.abc_score.specs.declared.score.Change.{Change}
-use Rattle.abc_score.specs.declared.score.ChangeKind.{ChangeKind}
-use Rattle.abc_score.specs.declared.score.ChangeKind.TheVariants as kinds
+use Rattle.abc_voices_score.specs.declared.score.Change.{Change}
+use Rattle.abc_voices_score.specs.declared.score.ChangeKind.{ChangeKind}
+use Rattle.abc_voices_score.specs.declared.score.ChangeKind.TheVariants as kinds
 use Rattle.abc_voices.specs.Arrange.{played_sections, score_of}
-use Rattle.abc_sections.specs.PlayedSection.{longest, play_in}
+use Rattle.abc_voices_sections.specs.PlayedSection.{longest, play_in}
 use Rattle.abc_voices.specs.Change.{tempo_of, meter_of, key_of}
 use Rattle.abc_voices.specs.OnTicks.{at_moments, last_said, set_by, set_on}
-use Rattle.abc_voices.specs.Track.{everyone, tracks}
+use Rattle.abc_voices.specs.Track.{voice_names, tracks}
 use Rattle.abc_voices.specs.Voices.{or_said}
 
 -- What a field of the header says of the tempo, the meter and the key with which a tune opens, if it is one: a value, or
@@ -55,9 +56,9 @@ last_beside value_of those tick (at, section) =
 -- in order of play.
 abbrev pub last_set : {V : Type 0} → (Item → Option V) → List (List ℕ) → List Item → ℕ → Option (Grains × V)
 last_set value_of those tune tick =
-    last_said (last_beside value_of those tick) (sections_in_time (everyone tune) 0 (played_sections tune))
+    last_said (last_beside value_of those tick) (sections_in_time (voice_names tune) 0 (played_sections tune))
 
--- What holds on a tick: what is set there last, or else that with which the tune opens, where its beginning is on the tick.
+-- The value on a tick: the one set there last, or else that with which the tune opens, if it begins on the tick.
 abbrev pub set_or_opening : {V : Type 0} → (Item → Option V) → List (List ℕ) → V → List Item → ℕ → Option (Grains × V)
 set_or_opening value_of those opening tune tick = or_said (last_set value_of those tune tick) (set_on tick 0 (Some opening))
 
@@ -76,7 +77,7 @@ as_tempo set = record { at = set.0; what = kinds.Tempo set.1 }
 -- The tempo on a tick: all voices set it. Where the header says none, it is 120 quarter notes a minute.
 abbrev pub tempo_on : List Item → ℕ → Option Change
 tempo_on tune tick =
-    option_map as_tempo (set_or_opening tempo_of (everyone tune) (opening_by opening_tempo_of at_120 tune) tune tick)
+    option_map as_tempo (set_or_opening tempo_of (voice_names tune) (opening_by opening_tempo_of at_120 tune) tune tick)
 
 -- A meter at a moment, as a change: free meter is none.
 abbrev pub as_meter : Grains → Meter → Option Change
@@ -86,7 +87,8 @@ as_meter at (meters.Of num den) = Some (record { at = at; what = kinds.Meter num
 -- The meter on a tick: the first voice with a track sets it. Where the header says none, it is free.
 abbrev pub meter_on : List Item → ℕ → Option Change
 meter_on tune tick =
-    option_and_then (λ set. as_meter set.0 set.1) (set_or_opening meter_of (leader tune) (opening_by opening_meter_of meters.Free tune) tune tick)
+    option_and_then (λ set. as_meter set.0 set.1) (set_or_opening meter_of (leader tune)
+    (opening_by opening_meter_of meters.Free tune) tune tick)
 
 -- A key at a moment, as a change: its sharps, and whether it is minor.
 abbrev pub as_key : Grains × (ℤ × Bool) → Change

@@ -1,13 +1,15 @@
--- Which fields are played with the ending behind them, said by the strains. ABC 2.1 section 4.9; that fields are is our own.
-use Rattle.std.specs.Prelude.{◌≡◌, Bool, true, false, not, ◌&&◌, ◌||◌, if◌then◌else◌, List, [], ◌∷◌, ◌++◌, map, filter, drop, get_or}
+-- The fields that are played with the ending after them, by the strains. ABC 2.1 section 4.9; that fields are is not in
+-- ABC 2.1.
+use Rattle.std.specs.Prelude.{◌≡◌, Bool, true, false, not, ◌&&◌, ◌||◌, if◌then◌else◌, List, [], ◌∷◌, ◌++◌, map, filter, drop}
+use Rattle.std.specs.Prelude.{get_or}
 use Rattle.std.specs.List.{flat_map}
-use Rattle.abc_items.specs.declared.item.Item.{Item}
+use Rattle.abc_bars_items.specs.declared.item.Item.{Item}
 use Rattle.abc_repeat.specs.declared.mark.Mark.{Mark}
 use Rattle.abc_repeat.specs.Mark.{is_ending, closes_ending}
 use Rattle.abc_repeat.specs.Strain.{Ending, Strain, IsStrains}
-use Rattle.abc_sections.specs.EndingFields.{with_fields_in_endings}
-use Rattle.abc_sections.specs.Play.{marks_of}
-use Rattle.abc_sections.specs.Step.{is_field, mark_of}
+use Rattle.abc_voices_sections.specs.EndingFields.{with_fields_in_endings}
+use Rattle.abc_voices_sections.specs.Play.{marks_of}
+use Rattle.abc_voices_sections.specs.Step.{is_field, mark_of}
 
 -- The items that are no fields: their marks are what strains are made of.
 abbrev pub without_fields : List Item → List Item
@@ -18,12 +20,12 @@ abbrev pub has_ending : List Ending → Bool
 has_ending [] = false
 has_ending (ending ∷ endings) = true
 
--- For each mark of an ending's run, whether the bar that ends the ending is that mark or stands in front of it.
+-- For each mark of an ending's run, whether the bar that ends the ending is that mark or is before it.
 abbrev pub past_its_bar : Bool → List Mark → List Bool
 past_its_bar ended [] = []
 past_its_bar ended (mark ∷ run) = (ended || closes_ending mark) ∷ past_its_bar (ended || closes_ending mark) run
 
--- For each mark of the endings of a strain, each sign in front of its run, whether it stands between a bar that ended an
+-- For each mark of the endings of a strain, each sign before its run, whether it is between a bar that ended an
 -- ending and the sign of the next one, or is that bar.
 abbrev pub between_endings : List Ending → List Bool
 between_endings [] = []
@@ -38,7 +40,7 @@ between_endings_of strain = map (λ mark. false) strain.common ++ between_ending
 abbrev pub between_endings_in : List Strain → List Bool
 between_endings_in strains = flat_map between_endings_of strains
 
--- Each item with whether it waits for an ending's sign, where something between two endings stands in front of the
+-- Each item with whether it waits for an ending's sign, where something between two endings is before the
 -- first, and with what so holds for each mark of those that are no fields: fields stand where the mark before them does.
 abbrev pub with_waits : Bool → List Bool → List Item → List (Bool × Item)
 with_waits between others [] = []
@@ -46,14 +48,14 @@ with_waits between others (item ∷ items) =
     (between && not (is_ending (mark_of item)), item)
     ∷ with_waits (if is_field item then between else get_or others 0 false) (if is_field item then others else drop 1 others) items
 
--- What waits, and these before it, behind the first item that does not.
+-- What waits, and these before it, after the first item that does not.
 abbrev pub behind_signs : List Item → List (Bool × Item) → List Item
 behind_signs waiting [] = waiting
 behind_signs waiting (one ∷ others) =
     if one.0 then behind_signs (waiting ++ one.1 ∷ []) others
     else one.1 ∷ (waiting ++ behind_signs [] others)
 
--- What stands between a bar that ended an ending and the sign of the strain's next ending is put behind that sign, and
+-- What is between a bar that ended an ending and the sign of the strain's next ending is put after that sign, and
 -- nothing else is moved, whatever strains the marks of a voice's items in a section are, its fields left out.
 abbrev pub MovesByStrains : Type 0
 MovesByStrains = (part : List Item) (strains : List Strain)

@@ -1,11 +1,11 @@
 -- The items of a tune that its fields give.
 use Rattle.std.specs.Prelude.{Bool, true, false, not, ◌&&◌, List, filter, is_some}
 use Rattle.std.specs.List.{list_all}
-use Rattle.abc_items.specs.declared.item.Item.{Item}
-use Rattle.abc_items.specs.declared.item.Item.TheVariants as items
+use Rattle.abc_bars_items.specs.declared.item.Item.{Item}
+use Rattle.abc_bars_items.specs.declared.item.Item.TheVariants as items
 use Rattle.abc_voices.specs.Change.{program_of}
-use Rattle.abc_sections.specs.Section.{is_step}
-use Rattle.abc_sections.specs.Step.{is_field}
+use Rattle.abc_voices_sections.specs.Section.{is_step}
+use Rattle.abc_voices_sections.specs.Step.{is_field}
 
 -- Whether an item is music: a note, a chord, a rest, a bar line or the beginning of an ending.
 abbrev pub is_music : Item → Bool

@@ -1,16 +1,16 @@
--- The program of a voice on each tick, by what is played there. Our own.
+-- The program of a voice on each tick, by what is played there. Not in ABC 2.1.
 use Rattle.std.specs.Prelude.{◌≡◌, ℕ, ◌+◌, ◌==◌, true, if◌then◌else◌, List, [], ◌∷◌, ◌++◌, map, filter, Option, None, option_map}
 use Rattle.std.specs.Option.{option_to_list}
-use Rattle.abc_items.specs.declared.item.Item.{Item}
-use Rattle.abc_items.specs.declared.item.Item.TheVariants as items
+use Rattle.abc_bars_items.specs.declared.item.Item.{Item}
+use Rattle.abc_bars_items.specs.declared.item.Item.TheVariants as items
 use Rattle.abc_time.specs.declared.grains.Grains.{Grains}
 use Rattle.abc_time.specs.Grains.{tick_at}
-use Rattle.abc_score.specs.declared.score.ProgramChange.{ProgramChange}
+use Rattle.abc_voices_score.specs.declared.score.ProgramChange.{ProgramChange}
 use Rattle.abc_voices.specs.Arrange.{played_sections, score_of}
-use Rattle.abc_sections.specs.PlayedSection.{longest, play_in}
+use Rattle.abc_voices_sections.specs.PlayedSection.{longest, play_in}
 use Rattle.abc_voices.specs.Change.{at_moment, program_of}
-use Rattle.abc_sections.specs.Step.{length_of}
-use Rattle.abc_voices.specs.Track.{everyone, tracks}
+use Rattle.abc_voices_sections.specs.Step.{length_of}
+use Rattle.abc_voices.specs.Track.{voice_names, tracks}
 use Rattle.abc_voices.specs.Voices.{or_said}
 
 -- What the last of some that says something says.
@@ -47,11 +47,11 @@ abbrev pub as_program : Grains × ℕ → ProgramChange
 as_program set = record { at = set.0; number = set.1 }
 
 -- The program of a voice on a tick: the last one that something sets which is played there, or else the one with which
--- the tune opens, where its beginning is on the tick.
+-- the tune opens, if it begins on the tick.
 abbrev pub program_on : List Item → ℕ → List ℕ → Option ProgramChange
 program_on tune tick voice =
     option_map as_program
-    (or_said (last_said (set_by program_of tick) (moments_in (everyone tune) voice 0 (played_sections tune)))
+    (or_said (last_said (set_by program_of tick) (moments_in (voice_names tune) voice 0 (played_sections tune)))
     (set_on tick 0 (last_said opening_program_of tune)))
 
 -- On each tick each voice of a tune has that program, and no other one.

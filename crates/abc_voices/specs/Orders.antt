@@ -1,9 +1,9 @@
--- In which order the parts of a tune are played: that which its header says last. Our own.
+-- In which order the parts of a tune are played: that which its header says last. Not in ABC 2.1.
 use Rattle.std.specs.Prelude.{◌≡◌, ℕ, List, length, filter_map, slice_get, Option, Some, None}
-use Rattle.abc_items.specs.declared.item.Item.{Item}
-use Rattle.abc_items.specs.declared.item.Item.TheVariants as items
+use Rattle.abc_bars_items.specs.declared.item.Item.{Item}
+use Rattle.abc_bars_items.specs.declared.item.Item.TheVariants as items
 use Rattle.abc_repeat.specs.Order.{sections_of, has_unknown}
-use Rattle.abc_sections.specs.Section.{letters, sections}
+use Rattle.abc_voices_sections.specs.Section.{letters, sections}
 use Rattle.abc_voices.specs.Arrange.{arranged_of, played_sections, sections_played}
 use Rattle.abc_voices.specs.OnTicks.{last_said}
 

@@ -1,13 +1,14 @@
--- The stages of a tune in a table: at a section's place what the voices play of it, or none. Our own.
-use Rattle.std.specs.Prelude.{◌≡◌, ℕ, ◌+◌, ◌≤◌, List, Option, Some, None, All, length, map, sum_by, filter_map, slice_get, slice_index_or, slice_set, option_map}
-use Rattle.abc_items.specs.declared.item.Item.{Item}
+-- The stages of a tune in a table: at a section's place what the voices play of it, or none. Not in ABC 2.1.
+use Rattle.std.specs.Prelude.{◌≡◌, ℕ, ◌+◌, ◌≤◌, List, Option, Some, None, All, length, map, sum_by, filter_map, slice_get}
+use Rattle.std.specs.Prelude.{slice_index_or, slice_set, option_map}
+use Rattle.abc_bars_items.specs.declared.item.Item.{Item}
 use Rattle.abc_repeat.specs.declared.play.TheConstants.{MOST_PLACES}
-use Rattle.abc_sections.specs.declared.section.Section.{Section}
-use Rattle.abc_sections.specs.declared.stage.Stage.{Stage}
-use Rattle.abc_sections.specs.PlayedSection.{size_in, longest}
-use Rattle.abc_sections.specs.Stage.{content, stage_of, stage_size}
+use Rattle.abc_voices_sections.specs.declared.section.Section.{Section}
+use Rattle.abc_voices_sections.specs.declared.stage.Stage.{Stage}
+use Rattle.abc_voices_sections.specs.PlayedSection.{size_in, longest}
+use Rattle.abc_voices_sections.specs.Stage.{content, stage_of, stage_size}
 
--- The stage at a place of a table, if one stands there.
+-- The stage at a place of a table, if one is there.
 abbrev pub stage_at : List (Option Stage) → ℕ → Option Stage
 stage_at table place = slice_index_or table place None
 
@@ -54,14 +55,16 @@ pub record IsNew (voices : List (List ℕ)) (section : Section) (place : ℕ) (b
   pub size : stage_size (stage_of voices (content section)) ≡ sum_by (size_in (content section)) voices
   pub few : stage_size (stage_of voices (content section)) ≤ MOST_PLACES
 
--- The stage of the section at a place stands in the table, and those that stood there still do.
+-- The stage of the section at a place is in the table, with those that were there before.
 pub record IsPut (voices : List (List ℕ)) (sections : List Section) (place : ℕ) (before after : List (Option Stage)) : Type 0 where
   pub are : AreStages voices sections after
   pub here : stage_at after place ≡ stage_for voices sections place
-  pub there : (other : ℕ) → stage_at before other ≡ stage_for voices sections other → stage_at after other ≡ stage_for voices sections other
+  pub there : (other : ℕ) → stage_at before other ≡ stage_for voices sections other
+      → stage_at after other ≡ stage_for voices sections other
 
--- The stages of the sections at some places stand in the table, and behind their play this much room is left.
-pub record ArePut (voices : List (List ℕ)) (sections : List Section) (places : List ℕ) (room : ℕ) (table : List (Option Stage)) : Type 0 where
+-- The stages of the sections at some places are in the table, and after their play this much room is left.
+pub record ArePut (voices : List (List ℕ)) (sections : List Section) (places : List ℕ) (room : ℕ)
+    (table : List (Option Stage)) : Type 0 where
   pub long : length table ≡ length sections
   pub are : AreStages voices sections table
   pub here : All (λ place. stage_at table place ≡ stage_for voices sections place) places

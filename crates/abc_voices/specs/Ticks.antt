@@ -1,4 +1,4 @@
--- Of changes of one sort at one tick the last one stands. Our own.
+-- The last change of one sort at a tick counts. Not in ABC 2.1.
 use Rattle.std.specs.Prelude.{ℕ, ◌==◌, ◌||◌, Bool, false, if◌then◌else◌, List, [], ◌∷◌, ◌++◌}
 use Rattle.abc_time.specs.declared.grains.Grains.{Grains}
 use Rattle.abc_time.specs.Grains.{tick_at}

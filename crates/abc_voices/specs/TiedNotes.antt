@@ -1,10 +1,11 @@
 -- The notes of time tokens: a tied tone is joined with one of its key in the next time token. ABC 2.1
--- section 4.11; which one, where there are several, is our own.
-use Rattle.std.specs.Prelude.{ℕ, ◌+◌, ◌==◌, Bool, if◌then◌else◌, List, [], ◌∷◌, ◌++◌, Option, Some, None, slice_index_or, position, remove}
-use Rattle.abc_items.specs.declared.item.Item.{Item}
-use Rattle.abc_items.specs.declared.item.Tone.{Tone}
-use Rattle.abc_score.specs.declared.score.Sounding.{Sounding}
-use Rattle.abc_sections.specs.Step.{length_of, tones_of}
+-- section 4.11; which one, if there are several, is not in ABC 2.1.
+use Rattle.std.specs.Prelude.{ℕ, ◌+◌, ◌==◌, Bool, if◌then◌else◌, List, [], ◌∷◌, ◌++◌, Option, Some, None, slice_index_or}
+use Rattle.std.specs.Prelude.{position, remove}
+use Rattle.abc_bars_items.specs.declared.item.Item.{Item}
+use Rattle.abc_bars_items.specs.declared.item.Tone.{Tone}
+use Rattle.abc_voices_score.specs.declared.score.Sounding.{Sounding}
+use Rattle.abc_voices_sections.specs.Step.{length_of, tones_of}
 
 -- Notes that begin at a time token, and of those that begin at the next one what none of them is tied to.
 pub record TokenNotes : Type 0 where
@@ -30,11 +31,11 @@ with_note note linked None = record linked { begun = linked.begun ++ note ∷ []
 with_note note linked (Some place) =
     record { begun = linked.begun ++ lengthened note linked.next place ∷ []; next = remove linked.next place }
 
--- Where the note stands that a tone of this key is joined with: a tied one with the first of its key.
+-- The place of the note with which a tone of this key is joined: a tied one with the first of its key.
 abbrev pub next_place : Bool → ℕ → List Sounding → Option ℕ
 next_place tied key next = if tied then position (λ note. note.key == key) next else None
 
--- One more tone, at this moment: where MIDI has no key for it, it is silent.
+-- One more tone, at this moment. If MIDI has no key for it, it is silent.
 abbrev pub with_key : ℕ → Tone → TokenNotes → Option ℕ → TokenNotes
 with_key at tone linked None = linked
 with_key at tone linked (Some key) =
@@ -50,11 +51,11 @@ pub record Notes : Type 0 where
   pub first : List Sounding
   pub others : List Sounding
 
--- The notes where a time token comes before a play.
+-- The notes of a time token and the play after it.
 abbrev pub before_all : TokenNotes → List Sounding → Notes
 before_all linked others = record { first = linked.begun; others = others ++ linked.next }
 
--- The notes where something comes before a play: all but time tokens is passed over.
+-- The notes of an item and the play after it. Only time tokens have notes.
 abbrev pub before : ℕ → Option (List Tone) → Notes → Notes
 before at None notes = notes
 before at (Some tones) notes =
@@ -66,7 +67,7 @@ pub record NotesInParts : Type 0 where
   pub linked : TokenNotes
   pub others : List Sounding
 
--- the parts, where a time token begins in front of the first one
+-- the parts, after a time token begins before the first one
 abbrev pub with_token_begun : NotesInParts → NotesInParts
 with_token_begun parts = record {
   linked = record { begun = []; next = parts.linked.begun };
@@ -77,7 +78,7 @@ with_token_begun parts = record {
 abbrev pub notes_in : NotesInParts → Notes
 notes_in parts = before_all parts.linked parts.others
 
--- The notes of what is played from this moment on, in front of a play with these notes.
+-- The notes of what is played from this moment on, before a play with these notes.
 abbrev pub notes_from : ℕ → List Item → Notes → Notes
 notes_from at [] notes = notes
 notes_from at (step ∷ steps) notes =

@@ -1,25 +1,26 @@
--- The notes that are heard, as chains of tied tones. ABC 2.1 section 4.11; which tones are joined is our own.
-use Rattle.std.specs.Prelude.{◌≡◌, ℕ, suc, ◌+◌, ◌==◌, nat_lt, Bool, false, ◌&&◌, if◌then◌else◌, List, [], ◌∷◌, ◌++◌, map, Option, Some, None}
-use Rattle.abc_items.specs.declared.item.Item.{Item}
-use Rattle.abc_items.specs.declared.item.Tone.{Tone}
-use Rattle.abc_score.specs.declared.score.Sounding.{Sounding}
+-- The notes that are heard, as chains of tied tones. ABC 2.1 section 4.11; which tones are joined is not in ABC 2.1.
+use Rattle.std.specs.Prelude.{◌≡◌, ℕ, suc, ◌+◌, ◌==◌, nat_lt, Bool, false, ◌&&◌, if◌then◌else◌, List, [], ◌∷◌, ◌++◌, map}
+use Rattle.std.specs.Prelude.{Option, Some, None}
+use Rattle.abc_bars_items.specs.declared.item.Item.{Item}
+use Rattle.abc_bars_items.specs.declared.item.Tone.{Tone}
+use Rattle.abc_voices_score.specs.declared.score.Sounding.{Sounding}
 use Rattle.abc_voices.specs.Arrange.{all_notes, played_sections, score_of}
-use Rattle.abc_sections.specs.PlayedSection.{longest, play_in}
+use Rattle.abc_voices_sections.specs.PlayedSection.{longest, play_in}
 use Rattle.abc_voices.specs.TiedNotes.{notes_from}
-use Rattle.abc_sections.specs.Step.{length_of, tones_of}
-use Rattle.abc_voices.specs.Track.{everyone, tracks}
+use Rattle.abc_voices_sections.specs.Step.{length_of, tones_of}
+use Rattle.abc_voices.specs.Track.{voice_names, tracks}
 
 -- A time token that is played: the moment at which it begins, and its tones.
 pub record TimeToken : Type 0 where
   pub at : ℕ
   pub tones : List Tone
 
--- A time token, if it is one, in front of others.
+-- A time token, if it is one, before others.
 abbrev pub with_token : ℕ → Option (List Tone) → List TimeToken → List TimeToken
 with_token at None tokens = tokens
 with_token at (Some tones) tokens = record { at = at; tones = tones } ∷ tokens
 
--- The time tokens of what is played from a moment on, in front of others.
+-- The time tokens of what is played from a moment on, before others.
 abbrev pub tokens_from : ℕ → List Item → List TimeToken → List TimeToken
 tokens_from at [] tokens = tokens
 tokens_from at (item ∷ play) tokens = with_token at (tones_of item) (tokens_from (at + length_of item) play tokens)
@@ -45,16 +46,16 @@ abbrev pub tied_with : ℕ → List Tone → ℕ
 tied_with key [] = 0
 tied_with key (tone ∷ tones) = if tone.tied && has_key key tone.key then suc (tied_with key tones) else tied_with key tones
 
--- The tone of a key that so many of the key stand in front of, of tones behind these, the last of these first; and
--- how many tied ones of the key stand in front of it.
+-- The tone of a key at an index among those of the key, of tones after these, the last of these first; and
+-- how many tied ones of the key are before it.
 abbrev pub tone_at : ℕ → ℕ → List Tone → List Tone → Option (Tone × ℕ)
 tone_at key number past [] = None
 tone_at key number past (tone ∷ tones) =
     if has_key key tone.key && (tones_with key past == number) then Some (tone, tied_with key past)
     else tone_at key number (tone ∷ past) tones
 
--- The tone of the next time token that a tone is joined with: a tied one that so many tied ones of its key stand in
--- front of with the one that so many of the key stand in front of.
+-- The tone of the next time token with which a tone is joined: a tied one at an index among the tied ones of its key,
+-- with the one at the same index among those of the key.
 abbrev pub joined_with : Tone → ℕ → ℕ → List Tone → Option (Tone × ℕ)
 joined_with tone key number next = if tone.tied then tone_at key number [] next else None
 
@@ -63,15 +64,15 @@ abbrev pub end_by : ℕ → (Tone × ℕ → ℕ) → Option (Tone × ℕ) → �
 end_by own behind None = own
 end_by own behind (Some other) = behind other
 
--- When the chain of a tone ends, which begins at this moment in front of these time tokens, and which so many tied ones
--- of its key stand in front of: with the last tone that is joined.
+-- The end of the chain of a tone, which begins at this moment before these time tokens, and which this many tied ones
+-- of its key are before: with the last tone that is joined.
 abbrev pub chain_end : ℕ → Tone → ℕ → ℕ → List TimeToken → ℕ
 chain_end at tone key number [] = at + tone.length.0
 chain_end at tone key number (token ∷ tokens) =
     end_by (at + tone.length.0) (λ other. chain_end token.at other.0 key other.1 tokens) (joined_with tone key number token.tones)
 
--- The note of a chain that a tone begins behind these tones of its time token, the last of these first, as loud as that
--- tone; none where the tone is joined with one of the time token before, which has so many tied ones of each key.
+-- The note of a chain that a tone begins after these tones of its time token, the last of these first, as loud as that
+-- tone; none if the tone is joined with one of the time token before, by its counts of tied ones of each key.
 abbrev pub begun_by : (ℕ → ℕ) → ℕ → List Tone → Tone → List TimeToken → Option ℕ → List Sounding
 begun_by tied at past tone tokens None = []
 begun_by tied at past tone tokens (Some key) =
@@ -83,26 +84,28 @@ begun_by tied at past tone tokens (Some key) =
       velocity = tone.velocity;
     } ∷ []
 
--- The notes of the chains that begin with tones of one time token, in front of these.
+-- The notes of the chains that begin with tones of one time token, before these.
 abbrev pub begun_at : (ℕ → ℕ) → ℕ → List Tone → List Tone → List TimeToken → List Sounding
 begun_at tied at past [] tokens = []
-begun_at tied at past (tone ∷ tones) tokens = begun_by tied at past tone tokens tone.key ++ begun_at tied at (tone ∷ past) tones tokens
+begun_at tied at past (tone ∷ tones) tokens = begun_by tied at past tone tokens tone.key
+    ++ begun_at tied at (tone ∷ past) tones tokens
 
 -- The notes of all chains, those that begin at the last time token first.
-abbrev pub chains : (ℕ → ℕ) → List TimeToken → List Sounding
-chains tied [] = []
-chains tied (token ∷ tokens) = chains (λ key. tied_with key token.tones) tokens ++ begun_at tied token.at [] token.tones tokens
+abbrev pub tie_chains : (ℕ → ℕ) → List TimeToken → List Sounding
+tie_chains tied [] = []
+tie_chains tied (token ∷ tokens) = tie_chains (λ key. tied_with key token.tones) tokens
+    ++ begun_at tied token.at [] token.tones tokens
 
 -- What is heard of time tokens: a note for each longest chain of joined tones.
-abbrev pub heard : List TimeToken → List Sounding
-heard tokens = chains (λ key. 0) tokens
+abbrev pub heard_notes : List TimeToken → List Sounding
+heard_notes tokens = tie_chains (λ key. 0) tokens
 
 -- The notes of a play are its chains.
 abbrev pub PlaysChains : Type 0
 PlaysChains = (at : ℕ) (play : List Item)
-    → all_notes (notes_from at play (record { first = []; others = [] })) ≡ heard (tokens_from at play [])
+    → all_notes (notes_from at play (record { first = []; others = [] })) ≡ heard_notes (tokens_from at play [])
 
 -- So are those of each voice of a tune, over its repeats and sections.
 abbrev pub VoicesPlayChains : Type 0
 VoicesPlayChains = (tune : List Item) → (score_of tune).voices
-    ≡ map (λ voice. heard (tokens_in (everyone tune) voice 0 (played_sections tune))) (tracks tune)
+    ≡ map (λ voice. heard_notes (tokens_in (voice_names tune) voice 0 (played_sections tune))) (tracks tune)

@@ -1,14 +1,14 @@
--- What makes a tune too long. Our own.
+-- What makes a tune too long. Not in ABC 2.1.
 use Rattle.std.specs.Prelude.{◌≡◌, ◌↔◌, ◌<◌, ◌≤◌, true, All, List, length}
-use Rattle.abc_items.specs.Item.{IsItem}
-use Rattle.abc_items.specs.declared.item.Item.{Item}
-use Rattle.abc_items.specs.declared.item.TheConstants.{MOST_VOICES}
+use Rattle.abc_bars_items.specs.Item.{IsItem}
+use Rattle.abc_bars_items.specs.declared.item.Item.{Item}
+use Rattle.abc_bars_items.specs.declared.item.TheConstants.{MOST_VOICES}
 use Rattle.abc_repeat.specs.declared.order.TheConstants.{MOST_SECTIONS}
 use Rattle.abc_repeat.specs.declared.play.TheConstants.{MOST_PLACES}
 use Rattle.abc_time.specs.Grains.{grains_of_the_latest_end}
-use Rattle.abc_score.specs.declared.limits.TheConstants.{LONGEST_TITLE}
+use Rattle.abc_voices_score.specs.declared.limits.TheConstants.{LONGEST_TITLE}
 use Rattle.abc_voices.specs.Arrange.{end_of, is_too_long, places_played, score_of, sections_played}
-use Rattle.abc_score.specs.Limits.{IsWithinLimits}
+use Rattle.abc_voices_score.specs.Limits.{IsWithinLimits}
 use Rattle.abc_voices.specs.Opening.{title_of}
 use Rattle.abc_voices.specs.Track.{tracks}
 
@@ -32,6 +32,6 @@ EachShortTuneFits =
     → length (title_of tune) ≤ LONGEST_TITLE
     → IsWithinLimits (score_of tune)
 
--- A tune is too long exactly where it passes a limit.
+-- A tune is too long exactly if it passes a limit.
 abbrev pub IsTooLongByALimit : Type 0
 IsTooLongByALimit = (tune : List Item) → (is_too_long tune ≡ true) ↔ PassesALimit tune

@@ -1,25 +1,26 @@
--- Stages played one after another. Our own.
-use Rattle.std.specs.Prelude.{◌≡◌, ◌≤◌, ℕ, pos, ◌+◌, ◌-◌, Bool, false, not, if◌then◌else◌, ◌&&◌, ◌==◌, zero, suc, List, [], ◌∷◌, ◌++◌, map, sum_by, All, Option, Some, None, slice_get}
+-- Stages played one after another. Not in ABC 2.1.
+use Rattle.std.specs.Prelude.{◌≡◌, ◌≤◌, ℕ, pos, ◌+◌, ◌-◌, Bool, false, not, if◌then◌else◌, ◌&&◌, ◌==◌, zero, suc, List, [], ◌∷◌}
+use Rattle.std.specs.Prelude.{◌++◌, map, sum_by, All, Option, Some, None, slice_get}
 use Rattle.std.specs.List.{list_any, flat_map}
-use Rattle.abc_items.specs.declared.item.Item.{Item}
-use Rattle.abc_items.specs.Item.{IsItem}
+use Rattle.abc_bars_items.specs.declared.item.Item.{Item}
+use Rattle.abc_bars_items.specs.Item.{IsItem}
 use Rattle.abc_fields.specs.declared.meter.Meter.TheVariants as meters
 use Rattle.abc_time.specs.declared.grains.Grains.{Grains}
-use Rattle.abc_score.specs.declared.score.Change.{Change}
-use Rattle.abc_score.specs.declared.score.ProgramChange.{ProgramChange}
-use Rattle.abc_score.specs.declared.score.Score.{Score}
-use Rattle.abc_score.specs.declared.score.Sounding.{Sounding}
-use Rattle.abc_sections.specs.declared.stage.Part.{Part}
-use Rattle.abc_sections.specs.declared.stage.Stage.{Stage}
+use Rattle.abc_voices_score.specs.declared.score.Change.{Change}
+use Rattle.abc_voices_score.specs.declared.score.ProgramChange.{ProgramChange}
+use Rattle.abc_voices_score.specs.declared.score.Score.{Score}
+use Rattle.abc_voices_score.specs.declared.score.Sounding.{Sounding}
+use Rattle.abc_voices_sections.specs.declared.stage.Part.{Part}
+use Rattle.abc_voices_sections.specs.declared.stage.Stage.{Stage}
 use Rattle.abc_voices.specs.declared.turns.Turn.{Turn}
 use Rattle.abc_voices.specs.Arrange.{all_notes, takes_time, last_off, or_else, usual_tempo}
-use Rattle.abc_voices.specs.Change.{tempo_of, meter_of, key_of, program_of, set_from, behind}
-use Rattle.abc_voices.specs.ScoreChanges.{changes_that_stand, programs_that_stand}
+use Rattle.abc_voices.specs.Change.{tempo_of, meter_of, key_of, program_of, set_from, after_opening}
+use Rattle.abc_voices.specs.ScoreChanges.{changes_in_force, programs_in_force}
 use Rattle.abc_voices.specs.TiedNotes.{Notes, notes_from}
-use Rattle.abc_voices.specs.Opening.{tempo_past, meter_past, key_past, program_past, past_all, title_of}
-use Rattle.abc_sections.specs.Play.{duration}
-use Rattle.abc_sections.specs.Step.{is_field}
-use Rattle.abc_voices.specs.Track.{nameless_plays}
+use Rattle.abc_voices.specs.Opening.{tempo_after, meter_after, key_after, program_after, after_all, title_of}
+use Rattle.abc_voices_sections.specs.Play.{duration}
+use Rattle.abc_voices_sections.specs.Step.{is_field}
+use Rattle.abc_voices.specs.Track.{has_unnamed_track}
 
 -- A part of items that can be, which says how long it is, and is not longer than its stage.
 pub record IsPart (longest : Grains) (part : Part) : Type 0 where
@@ -52,7 +53,7 @@ abbrev pub steps_of : Option Part → List Item
 steps_of None = []
 steps_of (Some part) = part.steps
 
--- What the voice at this place plays of a stage, in front of these notes.
+-- What the voice at this place plays of a stage, before these notes.
 abbrev pub before_rest : ℕ → ℕ → Stage → Notes → Notes
 before_rest voice at stage notes = notes_from at (steps_of (slice_get stage.parts voice)) notes
 
@@ -61,12 +62,12 @@ abbrev pub notes_along : ℕ → ℕ → List Stage → Notes
 notes_along voice at [] = record { first = []; others = [] }
 notes_along voice at (stage ∷ stages) = before_rest voice at stage (notes_along voice (at + stage.longest.0) stages)
 
--- What there is for each of so many voices, from the one at this place on.
+-- The values of `count` voices, from the one at this place on.
 abbrev pub for_voices : {X : Type 0} → (ℕ → X) → ℕ → ℕ → List X
 for_voices one voice zero = []
 for_voices one voice (suc count) = one voice ∷ for_voices one (voice + 1) count
 
--- The notes of so many voices, from the one at this place on.
+-- The notes of `count` voices, from the one at this place on.
 abbrev pub voices_along : List Stage → ℕ → ℕ → List (List Sounding)
 voices_along stages voice count = for_voices (λ one. all_notes (notes_along one 0 stages)) voice count
 
@@ -86,7 +87,8 @@ set_at value_of voice at stage = set_from value_of at (steps_of (slice_get stage
 -- What the voice at this place sets in stages that are played from a moment on.
 abbrev pub set_by_one : {V : Type 0} → (Item → Option V) → ℕ → ℕ → List Stage → List (Grains × V)
 set_by_one value_of voice at [] = []
-set_by_one value_of voice at (stage ∷ stages) = set_at value_of voice at stage ++ set_by_one value_of voice (at + stage.longest.0) stages
+set_by_one value_of voice at (stage ∷ stages) = set_at value_of voice at stage
+    ++ set_by_one value_of voice (at + stage.longest.0) stages
 
 -- Whether two parts that play time differ in length.
 abbrev pub parts_differ : Part → Part → Bool
@@ -97,23 +99,23 @@ parts_differ a b =
 abbrev pub is_stage_uneven : Stage → Bool
 is_stage_uneven stage = list_any (λ a. list_any (parts_differ a) stage.parts) stage.parts
 
--- The tempos of all voices and the meters and keys of the one at this place, behind those with which a tune opens.
+-- The tempos of all voices and the meters and keys of the one at this place, after those with which a tune opens.
 abbrev pub changes_along : List Item → ℕ → List Stage → List Change
 changes_along tune first stages =
-    changes_that_stand
-    ((record { 0 = 0 }, or_else usual_tempo (past_all tempo_past None tune)) ∷ set_by_all tempo_of 0 stages)
-    ((record { 0 = 0 }, or_else meters.Free (past_all meter_past None tune)) ∷ set_by_one meter_of first 0 stages)
-    ((record { 0 = 0 }, or_else (pos 0, false) (past_all key_past None tune)) ∷ set_by_one key_of first 0 stages)
+    changes_in_force
+    ((record { 0 = 0 }, or_else usual_tempo (after_all tempo_after None tune)) ∷ set_by_all tempo_of 0 stages)
+    ((record { 0 = 0 }, or_else meters.Free (after_all meter_after None tune)) ∷ set_by_one meter_of first 0 stages)
+    ((record { 0 = 0 }, or_else (pos 0, false) (after_all key_after None tune)) ∷ set_by_one key_of first 0 stages)
 
--- The place of the first voice that has a track: that without a name, or else the one behind it.
+-- The place of the first voice that has a track: that without a name, or else the one after it.
 abbrev pub first_place : List Item → ℕ
-first_place tune = if nameless_plays tune then 0 else 1
+first_place tune = if has_unnamed_track tune then 0 else 1
 
--- The programs of the voice at this place, behind the one with which a tune opens, if it opens with one.
+-- The programs of the voice at this place, after the one with which a tune opens, if it opens with one.
 abbrev pub programs_by : Option ℕ → List Stage → ℕ → List ProgramChange
-programs_by opening stages voice = programs_that_stand (behind opening (set_by_one program_of voice 0 stages))
+programs_by opening stages voice = programs_in_force (after_opening opening (set_by_one program_of voice 0 stages))
 
--- The programs of so many voices, from the one at this place on.
+-- The programs of `count` voices, from the one at this place on.
 abbrev pub programs_along : Option ℕ → List Stage → ℕ → ℕ → List (List ProgramChange)
 programs_along opening stages voice count = for_voices (programs_by opening stages) voice count
 
@@ -121,12 +123,12 @@ programs_along opening stages voice count = for_voices (programs_by opening stag
 abbrev pub end_along : List Stage → List (List Sounding) → ℕ
 end_along stages voices = last_off (length_along stages) (flat_map (λ notes. notes) voices)
 
--- The score of stages, whose voices from the one at this place on have tracks, up to so many.
+-- The score of stages. The voices from the one at this place on have tracks, up to `count`.
 abbrev pub score_along : List Item → ℕ → ℕ → List Stage → Score
 score_along tune first count stages = record {
   title = title_of tune;
   end = record { 0 = end_along stages (voices_along stages first (count - first)) };
   conductor = changes_along tune first stages;
   voices = voices_along stages first (count - first);
-  programs = programs_along (past_all program_past None tune) stages first (count - first);
+  programs = programs_along (after_all program_after None tune) stages first (count - first);
 }

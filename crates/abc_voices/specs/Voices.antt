@@ -1,8 +1,9 @@
 -- The voice of an item, by looking back. ABC 2.1 section 7.
-use Rattle.std.specs.Prelude.{◌≡◌, ℕ, Bool, true, false, ◌&&◌, if◌then◌else◌, bytes_eq, unwrap_or, List, [], ◌∷◌, map, filter, Option, Some, None}
-use Rattle.abc_items.specs.declared.item.Item.{Item}
-use Rattle.abc_items.specs.declared.item.Item.TheVariants as items
-use Rattle.abc_sections.specs.Section.{is_section, is_step, part, sections}
+use Rattle.std.specs.Prelude.{◌≡◌, ℕ, Bool, true, false, ◌&&◌, if◌then◌else◌, bytes_eq, unwrap_or, List, [], ◌∷◌, map, filter}
+use Rattle.std.specs.Prelude.{Option, Some, None}
+use Rattle.abc_bars_items.specs.declared.item.Item.{Item}
+use Rattle.abc_bars_items.specs.declared.item.Item.TheVariants as items
+use Rattle.abc_voices_sections.specs.Section.{is_section, is_step, part, sections}
 
 -- The voice that a V: of the body makes the current one.
 abbrev pub named_by : Item → Option (List ℕ)
@@ -14,7 +15,7 @@ abbrev pub declared_by : Item → Option (List ℕ)
 declared_by (items.Voice true name) = Some name
 declared_by _ = None
 
--- What is said, or else what another says.
+-- The first value, or else the second.
 abbrev pub or_said : {V : Type 0} → Option V → Option V → Option V
 or_said None other = other
 or_said (Some value) other = Some value
@@ -24,37 +25,37 @@ abbrev pub first_said : {V : Type 0} → (Item → Option V) → List Item → O
 first_said says [] = None
 first_said says (item ∷ others) = or_said (says item) (first_said says others)
 
--- The voice behind these items of a tune, the last of them first: that of the last V: of the body, else the first
--- voice that the header declares, else the one without a name. The one without a name is our own.
-abbrev pub voice_behind : List Item → List Item → List ℕ
-voice_behind tune past = unwrap_or (first_said named_by past) (unwrap_or (first_said declared_by tune) [])
+-- The voice after these items of a tune, the last of them first: that of the last V: of the body, else the first
+-- voice that the header declares, else the one without a name. The one without a name is not in ABC 2.1.
+abbrev pub voice_at_place : List Item → List Item → List ℕ
+voice_at_place tune past = unwrap_or (first_said named_by past) (unwrap_or (first_said declared_by tune) [])
 
--- What stands in a tune behind these items, the last of them first, each with the items before it.
-abbrev pub with_past : List Item → List Item → List (List Item × Item)
-with_past past [] = []
-with_past past (item ∷ rest) = (past, item) ∷ with_past (item ∷ past) rest
+-- What is in a tune after these items, the last of them first, each with the items before it.
+abbrev pub with_items_before : List Item → List Item → List (List Item × Item)
+with_items_before past [] = []
+with_items_before past (item ∷ rest) = (past, item) ∷ with_items_before (item ∷ past) rest
 
 -- The same, each with the voice that it belongs to.
 abbrev pub with_voices : List Item → List Item → List Item → List (List ℕ × Item)
-with_voices tune past rest = map (λ one. (voice_behind tune one.0, one.1)) (with_past past rest)
+with_voices tune past rest = map (λ one. (voice_at_place tune one.0, one.1)) (with_items_before past rest)
 
--- Something in front of the first of some lists.
+-- Something before the first of some lists.
 abbrev pub put_in_front : {X : Type 0} → X → List (List X) → List (List X)
 put_in_front x [] = (x ∷ []) ∷ []
 put_in_front x (xs ∷ others) = (x ∷ xs) ∷ others
 
--- What stands between the letters of sections.
+-- What is between the letters of sections.
 abbrev pub between : {X : Type 0} → (X → Bool) → List X → List (List X)
 between is_letter [] = [] ∷ []
 between is_letter (x ∷ xs) =
     if is_letter x then [] ∷ between is_letter xs else put_in_front x (between is_letter xs)
 
--- What a voice has to play of items that stand with their voices, and the marks that say how.
-abbrev pub of_voice : List ℕ → List (List ℕ × Item) → List Item
-of_voice voice placed = map (λ one. one.1) (filter (λ one. is_step one.1 && bytes_eq one.0 voice) placed)
+-- What a voice has to play of items that are with their voices, and the marks that say how.
+abbrev pub items_of_voice : List ℕ → List (List ℕ × Item) → List Item
+items_of_voice voice placed = map (λ one. one.1) (filter (λ one. is_step one.1 && bytes_eq one.0 voice) placed)
 
 -- What a voice has in the sections of a tune is, from letter to letter, each item that belongs to it.
 abbrev pub AreOfVoices : Type 0
 AreOfVoices = (tune : List Item) (voice : List ℕ)
     → map (part voice) (sections tune)
-    ≡ map (of_voice voice) (between (λ one. is_section one.1) (with_voices tune [] tune))
+    ≡ map (items_of_voice voice) (between (λ one. is_section one.1) (with_voices tune [] tune))

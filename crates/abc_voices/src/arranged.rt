@@ -1,9 +1,9 @@
-//! A tune laid out, and why it is not.
+//! A tune laid out in time, and the errors of the layout.
 
 ghost use Rattle.std.specs.Prelude.{◌≡◌};
 ghost use Rattle.abc_voices.specs.declared.arranged.BuildFault.TheVariants.{OutOfMemory};
 
-use abc_score::Score;
+use abc_voices_score::Score;
 use std::alloc::AllocError;
 use thiserror::Error;
 
@@ -11,13 +11,13 @@ use thiserror::Error;
 #[derive(Debug, Drop)]
 pub struct Arranged {
     pub score: Score,
-    /// Whether two voices that play time in a section that is played differ in length there.
+    /// Whether two voices with notes or rests in a section that is played differ in length there.
     pub uneven: bool,
     /// Whether the order of the parts has a letter without a section.
     pub unknown: bool,
 }
 
-/// Why a tune is not laid out.
+/// The reason why a tune is not laid out.
 #[derive(Clone, Copy, Debug, PartialEq, Eq, Error)]
 pub enum BuildFault {
     /// More sections or places are played than may be, it ends too late, or no file can hold its score.
@@ -26,7 +26,7 @@ pub enum BuildFault {
         /// Whether the order of the parts has a letter without a section.
         unknown: bool,
     },
-    /// There is no memory.
+    /// An allocation fails.
     #[error("out of memory")]
     OutOfMemory,
 }

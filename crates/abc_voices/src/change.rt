@@ -1,27 +1,27 @@
 //! Changes of tempo, meter, key and program, at their moments.
 
 ghost use Rattle.std.specs.Prelude.{◌≡◌, ◌+◌, ◌++◌, ◌≤◌, Option, OnOk};
-ghost use Rattle.abc_items.specs.declared.item.Item.{Item};
+ghost use Rattle.abc_bars_items.specs.declared.item.Item.{Item};
 ghost use Rattle.abc_time.specs.Grains.{grains_of_the_latest_end};
-ghost use Rattle.abc_sections.specs.Items.{items_of};
+ghost use Rattle.abc_voices_sections.specs.Items.{items_of};
 ghost use Rattle.abc_voices.specs.Change.{tempo_of, meter_of, key_of, program_of, set_from};
-ghost use Rattle.abc_sections.specs.Play.{duration};
+ghost use Rattle.abc_voices_sections.specs.Play.{duration};
 
+use abc_bars_items::Item;
 use abc_fields::Meter;
-use abc_items::Item;
-use abc_sections::length_of;
 use abc_time::Grains;
+use abc_voices_sections::length_of;
 use std::alloc::AllocError;
 
 /// A sort of changes: tempos, meters, keys or programs.
 pub(crate) trait Setting {
-    /// What a change of this sort sets.
+    /// The value that a change of this sort sets.
     type Value: Copy;
 
-    // What an item sets, if it sets a value of this sort.
+    // The value that an item sets, if it is of this sort.
     ghost value_of: { Item → Option Self.Value };
 
-    /// What an item sets, if it sets a value of this sort.
+    /// Returns the value that an item sets, if it is of this sort.
     fn value_of(item: &Item) -> Option<Self::Value>
         ensures { result ≡ value_of item.now };
 }
@@ -90,7 +90,7 @@ impl Setting for Programs {
     }
 }
 
-/// Puts what is set by items played one after another from a moment on.
+/// Appends the values of items that are played one after another from a moment on.
 #[tactic(auto, unfolding(abc_time::specs::Grains::grains_of_a_whole_note, abc_time::specs::Grains::grains_of_the_latest_end))]
 pub(crate) fn put_set<S: Setting>(
     sets: &mut Vec<(Grains, S::Value)>,

@@ -1,15 +1,15 @@
-//! The items of a tune that its fields give.
+//! The items of a tune that come from its fields.
 
 ghost use Rattle.std.specs.Prelude.{◌≡◌, IfOk};
-ghost use Rattle.abc_sections.specs.Items.{items_of};
+ghost use Rattle.abc_voices_sections.specs.Items.{items_of};
 ghost use Rattle.abc_voices.specs.Fields.{is_music, is_change, is_steady, sets_program, keeps_programs, without_music};
 
 use crate::change::{Programs, Setting};
-use abc_items::Item;
-use abc_sections::{is_field, is_step};
+use abc_bars_items::Item;
+use abc_voices_sections::{is_field, is_step};
 use std::alloc::{AllocError, Global};
 
-/// Whether it is music: a note, a chord, a rest, a bar line or the beginning of an ending.
+/// Whether an item is music: a note, a chord, a rest, a bar line or the beginning of an ending.
 fn is_music(item: &Item) -> bool
     ensures { result ≡ is_music item.now }
 {
@@ -19,7 +19,7 @@ fn is_music(item: &Item) -> bool
     )
 }
 
-/// Whether it may change the tempo, the meter, the key or the program while a tune is played.
+/// Whether an item may change the tempo, the meter, the key or the program while a tune is played.
 fn is_change(item: &Item) -> bool
     ensures { result ≡ is_change item.now }
 {
@@ -38,7 +38,7 @@ pub(crate) fn is_steady(given: &[&Item]) -> bool
     true
 }
 
-/// Whether it sets a program.
+/// Whether an item sets a program.
 fn sets_program(item: &Item) -> bool
     ensures { result ≡ sets_program item.now }
 {
@@ -57,8 +57,8 @@ pub(crate) fn keeps_programs(given: &[&Item]) -> bool
     true
 }
 
-/// The items of a tune that are no music. They are few, and they alone say what the tune opens with, which parts it
-/// has and in which order, and which voices.
+/// Returns the items of a tune that are not music. They are few, and they alone determine what the tune opens with, its
+/// parts and their order, and its voices.
 pub(crate) fn without_music<'a>(
     alloc: Global,
     tune: &[&'a Item],

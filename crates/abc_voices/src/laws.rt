@@ -1,4 +1,4 @@
-//! Laws of the layout: what a tune is laid out by is what ABC says.
+//! Laws of the layout and the scores of tunes. Each function has no body: its contract is the law.
 
 ghost use Rattle.abc_voices.specs.Chains.{HearsChains, HearsNoOthers};
 ghost use Rattle.abc_voices.specs.Conductor.{IsConductedOnTicks};
@@ -7,27 +7,28 @@ ghost use Rattle.abc_voices.specs.Ends.{EndsOnce};
 ghost use Rattle.abc_voices.specs.OnTicks.{HaveProgramsOnTicks};
 ghost use Rattle.abc_voices.specs.Orders.{AreInLastOrder};
 ghost use Rattle.abc_voices.specs.Ties.{PlaysChains, VoicesPlayChains};
+ghost use Rattle.abc_voices.specs.TooLong.{EachShortTuneFits, IsTooLongByALimit};
 ghost use Rattle.abc_voices.specs.Tracks.{HaveTracksByMention};
 ghost use Rattle.abc_voices.specs.Uneven.{TellsUneven};
 ghost use Rattle.abc_voices.specs.Voices.{AreOfVoices};
 
-/// Each item is played by the voice of the last V: of the body before it, else by the first declared one, else by the
-/// one without a name.
+/// The voice that plays an item is that of the last V: of the body before it; without one, the first declared voice; and
+/// without that, the voice without a name.
 #[tactic(auto, using(crate::proofs::Voices::are_of_voices))]
 pub fn voices_by_looking_back()
     ensures { AreOfVoices }
 {}
 
-/// The tracks of a tune are those of the voices that it mentions, each once, in the order of their first mention, in the
-/// header or in the body; in front of them that of the voice without a name, where a note, chord or rest belongs to it and
-/// no V: of the body stands before that.
+/// The tracks of a tune are those of the voices that it mentions, each once, in the order of their first mention in the
+/// header or in the body. The voice without a name has a track before them if it has a note, chord or rest before the
+/// first V: of the body.
 #[tactic(auto, using(crate::proofs::Tracks::have_tracks))]
 pub fn tracks_by_mention()
     ensures { HaveTracksByMention }
 {}
 
-/// A note is heard for each longest chain of tied tones, of which each is joined with one of its key in the next
-/// time token that is played: the first tied one of the key with the first of the key, and so on.
+/// The notes of a voice are the longest chains of tied tones. A tied tone is joined with one of its key in the next time
+/// token that is played: the first tied one of the key with the first of the key, and so on.
 #[tactic(auto, using(crate::proofs::Chains::hears_chains, crate::proofs::Chains::hears_no_others, crate::proofs::Ties::plays_chains, crate::proofs::Ties::voices_play_chains))]
 pub fn ties_in_play()
     ensures chains { HearsChains }
@@ -36,42 +37,54 @@ pub fn ties_in_play()
     ensures voices { VoicesPlayChains }
 {}
 
-/// Of the fields of tempo, meter and key and the directives of programs those that stand between a bar that ended an
-/// ending and the sign of the strain's next ending are played with that one, and nothing else is moved. Our own.
+/// A tempo, meter, key or program between a bar that ended an ending and the sign of the strain's next ending is played
+/// with that ending. Nothing else is moved. Not in ABC 2.1.
 #[tactic(auto, using(crate::proofs::Endings::moves_by_strains))]
 pub fn fields_before_endings()
     ensures { MovesByStrains }
 {}
 
-/// On each tick a voice has the last program that it plays there, in order of play; on the tick with which the tune
-/// begins, where it plays none, the last one that the header sets; and no other one. A repeat restores none. Our own.
+/// On each tick a voice has the last program that it plays there, in order of play, and no other. If it plays none on the
+/// first tick, it has the last one that the header sets. A repeat restores none. Not in ABC 2.1.
 #[tactic(auto, using(crate::proofs::OnTicks::programs_on_ticks))]
 pub fn programs_on_ticks()
     ensures { HaveProgramsOnTicks }
 {}
 
-/// On each tick the conductor's track of a tune has the tempo, the meter and the key that are set there last, and no
-/// others; where none is set on the tick with which the tune begins, those with which it opens. All voices set the tempo,
-/// the first one with a track the meter and the key. The last section that sets one decides, in order of play, of its
-/// voices the last that does, in the order of the voices, and of what that plays the last. Our own.
+/// On each tick the conductor's track has the tempo, the meter and the key that are set there last, and no others. If none
+/// is set on the first tick, it has those with which the tune opens. All voices set the tempo, the first one with a track
+/// the meter and the key. The last value counts: by section in order of play, then by voice, then by item. Not in ABC 2.1.
 pub fn conductor_on_ticks()
     ensures { IsConductedOnTicks }
 {}
 
-/// The sections of a tune are played in the order that its header says last, or all as they stand where it says none; as
-/// many are counted, and a letter without a section is told of that order alone. Our own.
+/// The sections of a tune are played in the last order of its header, or all in the order of the text if it has none. As
+/// many are counted, and a letter without a section counts in that order alone. Not in ABC 2.1.
 pub fn sections_in_last_order()
     ensures { AreInLastOrder }
 {}
 
-/// The voices of a tune are uneven exactly where two of them differ in length in a section that is played, and both play
-/// a note, chord, rest or bar rest there. Our own.
+/// The voices of a tune are uneven exactly if two of them differ in length in a section that is played, and both play
+/// a note, chord, rest or bar rest there. Not in ABC 2.1.
 #[tactic(auto, using(crate::proofs::Uneven::tells_uneven))]
 pub fn uneven_voices()
     ensures { TellsUneven }
 {}
 
-/// A tune ends as soon as its sections, one after another, and all of its notes are over, and no sooner. Our own.
+/// A tune ends when its sections, one after another, and all of its notes are over, and no sooner. Not in ABC 2.1.
 pub fn ends_of_tunes()
     ensures { EndsOnce }
+{}
+
+/// A file can hold the score of each tune that plays no more places than may be, ends in time, has no more voices than
+/// channels, and a title that fits a line. So a tune is too long for nothing else.
+#[tactic(auto, using(crate::proofs::Fitting::Whole::fits_a_file))]
+pub fn scores_fit()
+    ensures { EachShortTuneFits }
+{}
+
+/// A tune is too long exactly if it passes a limit: of sections, of places, of time, of voices, or of a title.
+#[tactic(auto, using(crate::proofs::TooLong::by_a_limit))]
+pub fn too_long_by_a_limit()
+    ensures { IsTooLongByALimit }
 {}

@@ -1,40 +1,42 @@
-//! A tune laid out in time.
+//! The layout of a tune in time.
 
-ghost use Rattle.std.specs.Prelude.{◌≡◌, ◌≢◌, ◌<◌, ◌≤◌, ◌++◌, ◌-◌, ◌^◌, ◌&&◌, nat_le, Bool, true, false, min, length, map, All, None, IfOk, OnOk};
+ghost use Rattle.std.specs.Prelude.{◌≡◌, ◌≢◌, ◌<◌, ◌≤◌, ◌++◌, ◌-◌, ◌^◌, ◌&&◌, nat_le, Bool, true, false, min, length, map, All};
+ghost use Rattle.std.specs.Prelude.{None, IfOk, OnOk};
 ghost use Rattle.std.specs.List.{list_any};
-ghost use Rattle.abc_items.specs.Item.{IsItem};
-ghost use Rattle.abc_items.specs.declared.item.TheConstants.{MOST_VOICES};
+ghost use Rattle.abc_bars_items.specs.Item.{IsItem};
+ghost use Rattle.abc_bars_items.specs.declared.item.TheConstants.{MOST_VOICES};
 ghost use Rattle.abc_repeat.specs.Order.{sections_of, has_unknown};
 ghost use Rattle.abc_time.specs.Grains.{grains_of_the_latest_end};
-ghost use Rattle.abc_sections.specs.Items.{items_of};
-ghost use Rattle.abc_sections.specs.declared.stage.StageFault.TheVariants.{TooMany, TooLate};
+ghost use Rattle.abc_voices_sections.specs.Items.{items_of};
+ghost use Rattle.abc_voices_sections.specs.declared.stage.StageFault.TheVariants.{TooMany, TooLate};
 ghost use Rattle.abc_repeat.specs.declared.order.TheConstants.{MOST_SECTIONS};
 ghost use Rattle.abc_repeat.specs.declared.play.TheConstants.{MOST_PLACES};
 ghost use Rattle.abc_voices.specs.Turns.{first_place, stages_in};
-ghost use Rattle.abc_voices.specs.Arrange.{played_sections, is_uneven, end_of, score_of, arranged_of, sections_played, places_played, is_too_long, items_in};
+ghost use Rattle.abc_voices.specs.Arrange.{played_sections, is_uneven, end_of, score_of, arranged_of, sections_played};
+ghost use Rattle.abc_voices.specs.Arrange.{places_played, is_too_long, items_in};
 ghost use Rattle.abc_voices.specs.Fields.{without_music};
-ghost use Rattle.abc_score.specs.Limits.{IsWithinLimits};
-ghost use Rattle.abc_score.specs.declared.limits.TheConstants.{LONGEST_TITLE};
-ghost use Rattle.abc_voices.specs.Opening.{order_past, past_all};
-ghost use Rattle.abc_sections.specs.Section.{letters};
-ghost use Rattle.abc_sections.specs.Stage.{stage_of};
+ghost use Rattle.abc_voices_score.specs.Limits.{IsWithinLimits};
+ghost use Rattle.abc_voices_score.specs.declared.limits.TheConstants.{LONGEST_TITLE};
+ghost use Rattle.abc_voices.specs.Opening.{order_after, after_all};
+ghost use Rattle.abc_voices_sections.specs.Section.{letters};
+ghost use Rattle.abc_voices_sections.specs.Stage.{stage_of};
 ghost use Rattle.abc_voices.specs.Stages.{at_places};
-ghost use Rattle.abc_voices.specs.Track.{everyone};
+ghost use Rattle.abc_voices.specs.Track.{voice_names};
 
 use crate::arranged::{Arranged, BuildFault};
 use crate::fields::without_music;
 use crate::opening::order_of;
-use crate::stages::{in_order, stages};
-use crate::track::{everyone, nameless_plays};
+use crate::stages::{stages, turns_in_order};
+use crate::track::{has_unnamed_track, voice_names};
 use crate::tune_score::score_along;
 use crate::turns::{Turn, is_uneven, length_along};
-use abc_items::{Item, Items, MOST_VOICES};
+use abc_bars_items::{Item, Items, MOST_VOICES};
 use abc_repeat::{OrderFault, Played, play_order};
-use abc_score::{LONGEST_TITLE, Score};
-use abc_sections::{Stage, StageFault, letters, opening_voice, sections};
+use abc_voices_score::{LONGEST_TITLE, Score};
+use abc_voices_sections::{Stage, StageFault, letters, opening_voice, sections};
 use std::alloc::{AllocError, Global};
 
-/// Puts items behind those of a tune.
+/// Appends items to those of a tune.
 fn put_items<'a>(tune: &mut Vec<&'a Item>, items: &'a [Item]) -> Result<(), AllocError>
     ensures { OnOk result (items_of tune.new.items
         ≡ items_of tune.old.items ++ items.entry.now) }
@@ -45,7 +47,7 @@ fn put_items<'a>(tune: &mut Vec<&'a Item>, items: &'a [Item]) -> Result<(), Allo
     Ok(())
 }
 
-/// How many items cells give, and 2^64 - 1 for more.
+/// Returns the number of items that cells give, at most 2^64 - 1.
 fn count_of(items: &[Items]) -> usize
     ensures { result ≡ min (length (items_in items.now)) (2 ^ 64 - 1) }
 {
@@ -56,7 +58,7 @@ fn count_of(items: &[Items]) -> usize
     count
 }
 
-/// The items of a tune, of what its cells give.
+/// Returns the items of a tune, from what its cells give.
 fn tune_of<'a>(alloc: Global, items: &'a [Items]) -> Result<Vec<&'a Item>, AllocError>
     ensures value { IfOk result (λ tune. items_of tune.items ≡ items_in items.entry.now) }
     ensures range { IfOk result (λ tune. All IsItem (items_of tune.items)) }
@@ -68,18 +70,18 @@ fn tune_of<'a>(alloc: Global, items: &'a [Items]) -> Result<Vec<&'a Item>, Alloc
     Ok(tune)
 }
 
-/// The sections of a tune that are played, in order, by what its fields give.
-fn order_played(alloc: Global, given: &[&Item]) -> Result<Played, BuildFault>
+/// Returns the sections of a tune in order of play, from what its fields give.
+fn order_of_sections(alloc: Global, given: &[&Item]) -> Result<Played, BuildFault>
     requires { All IsItem (items_of given.now) }
     ensures sections { IfOk result (λ played. played.sections.items
-        ≡ sections_of (past_all order_past None (items_of given.now)) (letters (items_of given.now))) }
+        ≡ sections_of (after_all order_after None (items_of given.now)) (letters (items_of given.now))) }
     ensures few { IfOk result (λ _. sections_played (items_of given.now) ≤ MOST_SECTIONS) }
     ensures unknown { IfOk result (λ played. played.unknown
-        ≡ has_unknown (past_all order_past None (items_of given.now)) (letters (items_of given.now))) }
+        ≡ has_unknown (after_all order_after None (items_of given.now)) (letters (items_of given.now))) }
     ensures too_long { (unknown : Bool) → result ≡ Err (BuildFault.TooLong unknown)
         → MOST_SECTIONS < sections_played (items_of given.now) }
     ensures too_long_unknown { (unknown : Bool) → result ≡ Err (BuildFault.TooLong unknown)
-        → unknown ≡ has_unknown (past_all order_past None (items_of given.now)) (letters (items_of given.now)) }
+        → unknown ≡ has_unknown (after_all order_after None (items_of given.now)) (letters (items_of given.now)) }
 {
     let found = letters(alloc, given)?;
     match play_order(alloc, order_of(given), &found) {
@@ -89,19 +91,19 @@ fn order_played(alloc: Global, given: &[&Item]) -> Result<Played, BuildFault>
     }
 }
 
-/// The place of the first voice that has a track.
+/// Returns the place of the first voice that has a track.
 fn first_track(tune: &[&Item], given: &[&Item]) -> usize
     requires { items_of given.now ≡ without_music (items_of tune.now) }
     ensures { result ≡ first_place (items_of tune.now) }
 {
-    if nameless_plays(tune, opening_voice(given)) {
+    if has_unnamed_track(tune, opening_voice(given)) {
         0
     } else {
         1
     }
 }
 
-/// The stages of the sections of a tune that are played.
+/// Returns the stages of the sections of a tune that are played.
 fn stages_of<'t>(
     alloc: Global,
     tune: &[&'t Item],
@@ -110,10 +112,10 @@ fn stages_of<'t>(
     played: &[usize],
 ) -> Result<Vec<Option<Stage<'t>>>, StageFault>
     requires given { items_of given.now ≡ without_music (items_of tune.now) }
-    requires voices { map (λ voice. voice.now) voices.now ≡ everyone (items_of tune.now) }
-    requires played { played.now ≡ sections_of (past_all order_past None (items_of tune.now)) (letters (items_of tune.now)) }
+    requires voices { map (λ voice. voice.now) voices.now ≡ voice_names (items_of tune.now) }
+    requires played { played.now ≡ sections_of (after_all order_after None (items_of tune.now)) (letters (items_of tune.now)) }
     ensures value { IfOk result (λ table. at_places table.items played.now
-        ≡ map (stage_of (everyone (items_of tune.now))) (played_sections (items_of tune.now))) }
+        ≡ map (stage_of (voice_names (items_of tune.now))) (played_sections (items_of tune.now))) }
     ensures few { IfOk result (λ _. places_played (items_of tune.now) ≤ MOST_PLACES) }
     ensures too_many { result ≡ Err TooMany → MOST_PLACES < places_played (items_of tune.now) }
     ensures too_late { result ≡ Err TooLate → grains_of_the_latest_end < end_of (items_of tune.now) }
@@ -122,8 +124,8 @@ fn stages_of<'t>(
     stages(alloc, &found, voices, played)
 }
 
-/// The score of the stages of a tune with so many voices, and whether voices are uneven in one of them.
-fn laid_along(
+/// Returns the score of the stages of a tune with `count` voices, and whether voices are uneven in one of them.
+fn lay_out_turns(
     alloc: Global,
     tune: &[&Item],
     given: &[&Item],
@@ -133,11 +135,11 @@ fn laid_along(
     requires tune { All IsItem (items_of tune.now) }
     requires given { items_of given.now ≡ without_music (items_of tune.now) }
     requires stages { stages_in turns.now
-        ≡ map (stage_of (everyone (items_of tune.now))) (played_sections (items_of tune.now)) }
-    requires count { count ≡ length (everyone (items_of tune.now)) }
+        ≡ map (stage_of (voice_names (items_of tune.now))) (played_sections (items_of tune.now)) }
+    requires count { count ≡ length (voice_names (items_of tune.now)) }
     ensures score { IfOk result (λ laid. laid.0 ≡ score_of (items_of tune.now)) }
     ensures uneven { IfOk result (λ laid. laid.1
-        ≡ list_any (is_uneven (everyone (items_of tune.now))) (played_sections (items_of tune.now))) }
+        ≡ list_any (is_uneven (voice_names (items_of tune.now))) (played_sections (items_of tune.now))) }
     ensures in_time { IfOk result (λ _. end_of (items_of tune.now) ≤ grains_of_the_latest_end) }
     ensures too_many { result ≢ Err TooMany }
     ensures too_late { result ≡ Err TooLate → grains_of_the_latest_end < end_of (items_of tune.now) }
@@ -155,8 +157,8 @@ fn laid_along(
     }
 }
 
-/// The score of the sections of a tune that are played, and whether voices are uneven in one of them.
-fn laid_out(
+/// Returns the score of the sections of a tune that are played, and whether voices are uneven in one of them.
+fn lay_out_sections(
     alloc: Global,
     tune: &[&Item],
     given: &[&Item],
@@ -164,34 +166,34 @@ fn laid_out(
 ) -> Result<(Score, bool), StageFault>
     requires tune { All IsItem (items_of tune.now) }
     requires given { items_of given.now ≡ without_music (items_of tune.now) }
-    requires played { played.now ≡ sections_of (past_all order_past None (items_of tune.now)) (letters (items_of tune.now)) }
+    requires played { played.now ≡ sections_of (after_all order_after None (items_of tune.now)) (letters (items_of tune.now)) }
     ensures score { IfOk result (λ laid. laid.0 ≡ score_of (items_of tune.now)) }
     ensures uneven { IfOk result (λ laid. laid.1
-        ≡ list_any (is_uneven (everyone (items_of tune.now))) (played_sections (items_of tune.now))) }
+        ≡ list_any (is_uneven (voice_names (items_of tune.now))) (played_sections (items_of tune.now))) }
     ensures few { IfOk result (λ _. places_played (items_of tune.now) ≤ MOST_PLACES) }
     ensures in_time { IfOk result (λ _. end_of (items_of tune.now) ≤ grains_of_the_latest_end) }
     ensures too_many { result ≡ Err TooMany → MOST_PLACES < places_played (items_of tune.now) }
     ensures too_late { result ≡ Err TooLate → grains_of_the_latest_end < end_of (items_of tune.now) }
 {
-    let voices = everyone(alloc, given)?;
+    let voices = voice_names(alloc, given)?;
     match stages_of(alloc, tune, given, voices.as_slice(), played) {
         Ok(table) => {
-            let turns = in_order(alloc, &table, played)?;
-            laid_along(alloc, tune, given, &turns, voices.len())
+            let turns = turns_in_order(alloc, &table, played)?;
+            lay_out_turns(alloc, tune, given, &turns, voices.len())
         }
         Err(why) => Err(why),
     }
 }
 
-/// Whether each voice of a score may have a track, and its title stands in a line.
+/// Whether each voice of a score may have a track, and its title fits a line.
 fn are_voices_and_title_within(score: &Score) -> bool
     ensures { result ≡ (nat_le (length score.now.voices) MOST_VOICES && nat_le (length score.now.title) LONGEST_TITLE) }
 {
     score.voices.len() <= MOST_VOICES && score.title.len() <= LONGEST_TITLE
 }
 
-/// A tune laid out, of its items and the sections that are played.
-fn within_limits(
+/// Lays out a tune, from its items and the sections that are played, unless it passes a limit.
+fn arrange_within_limits(
     alloc: Global,
     tune: &[&Item],
     given: &[&Item],
@@ -200,9 +202,9 @@ fn within_limits(
 ) -> Result<Arranged, BuildFault>
     requires tune { All IsItem (items_of tune.now) }
     requires given { items_of given.now ≡ without_music (items_of tune.now) }
-    requires played { played.now ≡ sections_of (past_all order_past None (items_of tune.now)) (letters (items_of tune.now)) }
+    requires played { played.now ≡ sections_of (after_all order_after None (items_of tune.now)) (letters (items_of tune.now)) }
     requires few { sections_played (items_of tune.now) ≤ MOST_SECTIONS }
-    requires unknown { unknown ≡ has_unknown (past_all order_past None (items_of tune.now)) (letters (items_of tune.now)) }
+    requires unknown { unknown ≡ has_unknown (after_all order_after None (items_of tune.now)) (letters (items_of tune.now)) }
     ensures value { IfOk result (λ laid. laid ≡ arranged_of (items_of tune.now)) }
     ensures short { IfOk result (λ _. is_too_long (items_of tune.now) ≡ false) }
     ensures limits { IfOk result (λ laid. IsWithinLimits laid.score) }
@@ -210,7 +212,7 @@ fn within_limits(
         → is_too_long (items_of tune.now) ≡ true }
     ensures unknown { (other : Bool) → result ≡ Err (BuildFault.TooLong other) → other ≡ unknown }
 {
-    match laid_out(alloc, tune, given, played) {
+    match lay_out_sections(alloc, tune, given, played) {
         Ok((score, uneven)) => {
             if are_voices_and_title_within(&score) {
                 Ok(Arranged {
@@ -228,8 +230,8 @@ fn within_limits(
     }
 }
 
-/// A tune laid out, of its items and those of them that its fields give.
-fn arranged(alloc: Global, tune: &[&Item], given: &[&Item]) -> Result<Arranged, BuildFault>
+/// Lays out a tune, from its items and those of them that its fields give.
+fn arrange_items(alloc: Global, tune: &[&Item], given: &[&Item]) -> Result<Arranged, BuildFault>
     requires tune { All IsItem (items_of tune.now) }
     requires given { items_of given.now ≡ without_music (items_of tune.now) }
     ensures value { IfOk result (λ laid. laid ≡ arranged_of (items_of tune.now)) }
@@ -240,13 +242,13 @@ fn arranged(alloc: Global, tune: &[&Item], given: &[&Item]) -> Result<Arranged, 
     ensures unknown { (unknown : Bool) → result ≡ Err (BuildFault.TooLong unknown)
         → unknown ≡ (arranged_of (items_of tune.now)).unknown }
 {
-    match order_played(alloc, given) {
-        Ok(played) => within_limits(alloc, tune, given, &played.sections, played.unknown),
+    match order_of_sections(alloc, given) {
+        Ok(played) => arrange_within_limits(alloc, tune, given, &played.sections, played.unknown),
         Err(why) => Err(why),
     }
 }
 
-/// A tune laid out in time, of what its cells give, or why it is not: it is too long, or there is no memory.
+/// Lays out a tune in time, from what its cells give, or reports that it is too long or that an allocation failed.
 pub fn arrange(alloc: Global, items: &[Items]) -> Result<Arranged, BuildFault>
     ensures value { IfOk result (λ laid. laid ≡ arranged_of (items_in items.now)) }
     ensures short { IfOk result (λ _. is_too_long (items_in items.now) ≡ false) }
@@ -258,5 +260,5 @@ pub fn arrange(alloc: Global, items: &[Items]) -> Result<Arranged, BuildFault>
 {
     let tune = tune_of(alloc, items)?;
     let given = without_music(alloc, &tune)?;
-    arranged(alloc, &tune, &given)
+    arrange_items(alloc, &tune, &given)
 }

@@ -1,32 +1,32 @@
-//! The notes of what a voice plays.
+//! The notes of the items that a voice plays.
 
 ghost use Rattle.std.specs.Prelude.{◌≡◌, ◌-◌, ◌≤◌, All, Some, IfOk, OnOk};
-ghost use Rattle.abc_items.specs.Item.{IsItem, IsTone};
+ghost use Rattle.abc_bars_items.specs.Item.{IsItem, IsTone};
 ghost use Rattle.abc_time.specs.Grains.{grains_of_the_latest_end};
-ghost use Rattle.abc_sections.specs.Items.{items_of};
+ghost use Rattle.abc_voices_sections.specs.Items.{items_of};
 ghost use Rattle.abc_voices.specs.TiedNotes.{before, notes_from, notes_in};
-ghost use Rattle.abc_sections.specs.Play.{duration};
-ghost use Rattle.abc_sections.specs.Step.{length_of, tones_of};
+ghost use Rattle.abc_voices_sections.specs.Play.{duration};
+ghost use Rattle.abc_voices_sections.specs.Step.{length_of, tones_of};
 
-use crate::tied_notes::NotesInOne;
-use abc_items::{Item, LentTones, Tones};
+use crate::tied_notes::ReverseNotes;
+use abc_bars_items::{Item, Tones, TonesView};
 use abc_time::Grains;
 use std::alloc::AllocError;
 
-/// Puts the tones of a time token before the notes of what comes behind it.
-fn put_tones(notes: &mut NotesInOne, at: Grains, tones: &Tones) -> Result<(), AllocError>
+/// Puts the tones of a time token before the notes after it.
+fn put_tones(notes: &mut ReverseNotes, at: Grains, tones: &Tones) -> Result<(), AllocError>
     requires at { at.0 ≤ grains_of_the_latest_end }
     requires tones { All IsTone tones.now }
     ensures { OnOk result (notes_in notes.new ≡ before at.0 (Some tones.now) (notes_in notes.old)) }
 {
-    match tones.lent() {
-        LentTones::One(tone) => notes.put_tone(at, &tone),
-        LentTones::List(tones) => notes.put_token(at, tones),
+    match tones.view() {
+        TonesView::One(tone) => notes.put_tone(at, &tone),
+        TonesView::List(tones) => notes.put_token(at, tones),
     }
 }
 
-/// Puts an item that ends at a moment before the notes of what comes behind it, and gives the moment at which it begins.
-fn put_item(notes: &mut NotesInOne, end: Grains, item: &Item) -> Result<Grains, AllocError>
+/// Puts an item that ends at a moment before the notes after it, and returns the moment at which it begins.
+fn put_item(notes: &mut ReverseNotes, end: Grains, item: &Item) -> Result<Grains, AllocError>
     requires end { end.0 ≤ grains_of_the_latest_end }
     requires length { length_of item.now ≤ end.0 }
     requires item { IsItem item.now }
@@ -51,11 +51,11 @@ fn put_item(notes: &mut NotesInOne, end: Grains, item: &Item) -> Result<Grains, 
     }
 }
 
-/// Puts what is played up to a moment before the notes of what comes behind it. Most of what a tune costs is this
-/// loop: by itself it keeps more in registers.
+/// Puts the items that are played up to a moment before the notes after them. Most of the time of a tune is spent here:
+/// not inlined, the loop keeps more in registers.
 #[inline(never)]
 pub(crate) fn put_notes(
-    notes: &mut NotesInOne,
+    notes: &mut ReverseNotes,
     end: Grains,
     steps: &[&Item],
 ) -> Result<(), AllocError>
@@ -65,7 +65,7 @@ pub(crate) fn put_notes(
     ensures { OnOk result (notes_in notes.new
         ≡ notes_from (end.0 - duration (items_of steps.now)) (items_of steps.now) (notes_in notes.old)) }
 {
-    // A chord has more notes than one: there is room for some, so that a list of many notes is seldom moved.
+    // The room for notes of chords makes it rare that a long list is moved.
     notes.reserve(steps.len().saturating_add(steps.len() / 8))?;
     let mut at = end;
     let mut left = steps.len();

@@ -1,15 +1,15 @@
-//! What a tune opens with, its title and the order of its parts.
+//! The tempo, meter, key and program with which a tune opens, its title and the order of its parts.
 
 ghost use Rattle.std.specs.Prelude.{◌≡◌, None, option_copied};
-ghost use Rattle.abc_sections.specs.Items.{items_of};
-ghost use Rattle.abc_voices.specs.Opening.{tempo_past, meter_past, key_past, program_past, order_past, past_all, title_of};
+ghost use Rattle.abc_voices_sections.specs.Items.{items_of};
+ghost use Rattle.abc_voices.specs.Opening.{tempo_after, meter_after, key_after, program_after, order_after, after_all, title_of};
 
+use abc_bars_items::Item;
 use abc_fields::Meter;
-use abc_items::Item;
 
-/// The microseconds of a quarter note with which a tune opens, where its header sets a tempo.
+/// Returns the microseconds of a quarter note with which a tune opens, if its header sets a tempo.
 pub(crate) fn opening_tempo(tune: &[&Item]) -> Option<u32>
-    ensures { result ≡ past_all tempo_past None (items_of tune.now) }
+    ensures { result ≡ after_all tempo_after None (items_of tune.now) }
 {
     let mut tempo = None;
     for item in tune {
@@ -25,9 +25,9 @@ pub(crate) fn opening_tempo(tune: &[&Item]) -> Option<u32>
     tempo
 }
 
-/// The meter with which a tune opens, where its items say one.
+/// Returns the meter with which a tune opens, if it has one.
 pub(crate) fn opening_meter(tune: &[&Item]) -> Option<Meter>
-    ensures { result ≡ past_all meter_past None (items_of tune.now) }
+    ensures { result ≡ after_all meter_after None (items_of tune.now) }
 {
     let mut meter = None;
     for item in tune {
@@ -42,9 +42,9 @@ pub(crate) fn opening_meter(tune: &[&Item]) -> Option<Meter>
     meter
 }
 
-/// The key with which a tune opens, where its items say one: its sharps, and whether it is minor.
+/// Returns the key with which a tune opens, if it has one: its sharps, and whether it is minor.
 pub(crate) fn opening_key(tune: &[&Item]) -> Option<(i8, bool)>
-    ensures { result ≡ past_all key_past None (items_of tune.now) }
+    ensures { result ≡ after_all key_after None (items_of tune.now) }
 {
     let mut key = None;
     for item in tune {
@@ -59,9 +59,9 @@ pub(crate) fn opening_key(tune: &[&Item]) -> Option<(i8, bool)>
     key
 }
 
-/// The program with which a tune opens, where its header sets one.
+/// Returns the program with which a tune opens, if its header sets one.
 pub(crate) fn opening_program(tune: &[&Item]) -> Option<u8>
-    ensures { result ≡ past_all program_past None (items_of tune.now) }
+    ensures { result ≡ after_all program_after None (items_of tune.now) }
 {
     let mut program = None;
     for item in tune {
@@ -76,9 +76,9 @@ pub(crate) fn opening_program(tune: &[&Item]) -> Option<u8>
     program
 }
 
-/// The order of a tune's parts, where its header has one.
+/// Returns the order of a tune's parts, if its header has one.
 pub(crate) fn order_of<'a>(tune: &[&'a Item]) -> Option<&'a [u8]>
-    ensures { option_copied result ≡ past_all order_past None (items_of tune.now) }
+    ensures { option_copied result ≡ after_all order_after None (items_of tune.now) }
 {
     let mut order: Option<&'a [u8]> = None;
     for item in tune {
@@ -89,7 +89,7 @@ pub(crate) fn order_of<'a>(tune: &[&'a Item]) -> Option<&'a [u8]>
     order
 }
 
-/// The title of a tune, empty where it has none.
+/// Returns the title of a tune, empty if it has none.
 pub(crate) fn title_of<'a>(tune: &[&'a Item]) -> &'a [u8]
     ensures { result.now ≡ title_of (items_of tune.now) }
 {

@@ -2,23 +2,23 @@
 
 ghost use Rattle.std.specs.Prelude.{◌≡◌, true, ◌-◌, ◌≤◌, All, None, IfOk};
 ghost use Rattle.abc_time.specs.Grains.{grains_of_the_latest_end};
-ghost use Rattle.abc_sections.specs.Items.{items_of};
+ghost use Rattle.abc_voices_sections.specs.Items.{items_of};
 ghost use Rattle.abc_voices.specs.Fields.{sets_program, keeps_programs};
-ghost use Rattle.abc_voices.specs.Opening.{program_past, past_all};
+ghost use Rattle.abc_voices.specs.Opening.{program_after, after_all};
 ghost use Rattle.abc_voices.specs.Turns.{IsStage, PlaysNone, stages_in, length_along, programs_by, programs_along};
 
 use crate::change::Programs;
 use crate::fields::keeps_programs;
 use crate::opening::opening_program;
-use crate::score_changes::programs_that_stand;
+use crate::score_changes::programs_in_force;
 use crate::setting::one_along;
 use crate::turns::Turn;
-use abc_items::Item;
-use abc_score::ProgramChange;
+use abc_bars_items::Item;
 use abc_text::Sequence;
+use abc_voices_score::ProgramChange;
 use std::alloc::{AllocError, Global};
 
-/// The programs of a voice in the stages that are played, behind the one with which the tune opens, if it opens with one.
+/// Returns the programs of a voice in the stages that are played, after the one with which the tune opens, if any.
 fn voice_programs(
     alloc: Global,
     turns: &[Turn],
@@ -30,11 +30,11 @@ fn voice_programs(
     ensures { IfOk result (λ programs. programs ≡ programs_by opening (stages_in turns.now) voice) }
 {
     let sets = one_along::<Programs>(alloc, turns, voice, opening)?;
-    let standing = programs_that_stand(alloc, &sets)?;
+    let standing = programs_in_force(alloc, &sets)?;
     Ok(Sequence::from(standing))
 }
 
-/// The programs of the voices from the first that is counted on up to so many.
+/// Returns the programs of the voices from `first` on, up to `count`.
 fn each_programs(
     alloc: Global,
     turns: &[Turn],
@@ -55,7 +55,7 @@ fn each_programs(
     Ok(Sequence::from(voices))
 }
 
-/// The programs of the voices from the first that is counted on up to so many, by what the fields of their tune give.
+/// Returns the programs of the voices from `first` on, up to `count`, from the items of their tune's fields.
 pub(crate) fn voices_programs(
     alloc: Global,
     given: &[&Item],
@@ -68,10 +68,10 @@ pub(crate) fn voices_programs(
     requires kept { keeps_programs (items_of given.now) ≡ true → All (PlaysNone sets_program) (stages_in turns.now) }
     requires voices { first ≤ count }
     ensures { IfOk result (λ voices. voices
-        ≡ programs_along (past_all program_past None (items_of given.now)) (stages_in turns.now) first (count - first)) }
+        ≡ programs_along (after_all program_after None (items_of given.now)) (stages_in turns.now) first (count - first)) }
 {
     let opening = opening_program(given);
-    // Most tunes keep the programs with which they open, and then what is played need not be looked through.
+    // Most tunes keep the programs with which they open: then no stage is searched.
     if keeps_programs(given) {
         return each_programs(alloc, &[], opening, first, count);
     }

@@ -2,15 +2,16 @@
 
 ghost use Rattle.std.specs.Prelude.{◌≡◌, ◌≤◌, ◌++◌, All, IfOk, OnOk, map, filter_map};
 ghost use Rattle.abc_time.specs.Grains.{grains_of_the_latest_end};
-ghost use Rattle.abc_voices.specs.ScoreChanges.{tempo_change, meter_change, key_change, program_change, changes_that_stand, programs_that_stand};
+ghost use Rattle.abc_voices.specs.ScoreChanges.{tempo_change, meter_change, key_change, program_change, changes_in_force};
+ghost use Rattle.abc_voices.specs.ScoreChanges.{programs_in_force};
 
 use crate::ticks::last_of_each_tick;
 use abc_fields::Meter;
-use abc_score::{Change, ChangeKind, ProgramChange};
 use abc_time::Grains;
+use abc_voices_score::{Change, ChangeKind, ProgramChange};
 use std::alloc::{AllocError, Global};
 
-/// Puts tempos as changes.
+/// Appends tempos as changes.
 fn put_tempo_changes(out: &mut Vec<Change>, tempos: &[(Grains, u32)]) -> Result<(), AllocError>
     ensures { OnOk result (out.new.items ≡ out.old.items ++ map tempo_change tempos.now) }
 {
@@ -23,7 +24,7 @@ fn put_tempo_changes(out: &mut Vec<Change>, tempos: &[(Grains, u32)]) -> Result<
     Ok(())
 }
 
-/// Puts meters as changes, without free meter.
+/// Appends meters as changes, without free meter.
 fn put_meter_changes(out: &mut Vec<Change>, meters: &[(Grains, Meter)]) -> Result<(), AllocError>
     ensures { OnOk result (out.new.items ≡ out.old.items ++ filter_map meter_change meters.now) }
 {
@@ -38,7 +39,7 @@ fn put_meter_changes(out: &mut Vec<Change>, meters: &[(Grains, Meter)]) -> Resul
     Ok(())
 }
 
-/// Puts keys as changes.
+/// Appends keys as changes.
 fn put_key_changes(out: &mut Vec<Change>, keys: &[(Grains, (i8, bool))]) -> Result<(), AllocError>
     ensures { OnOk result (out.new.items ≡ out.old.items ++ map key_change keys.now) }
 {
@@ -54,7 +55,7 @@ fn put_key_changes(out: &mut Vec<Change>, keys: &[(Grains, (i8, bool))]) -> Resu
     Ok(())
 }
 
-/// Puts programs as changes.
+/// Appends programs as changes.
 fn put_program_changes(
     out: &mut Vec<ProgramChange>,
     programs: &[(Grains, u8)],
@@ -70,8 +71,8 @@ fn put_program_changes(
     Ok(())
 }
 
-/// The changes of a score, of the tempos, meters and keys in order of play.
-pub(crate) fn changes_that_stand(
+/// Returns the changes of a score, from the tempos, meters and keys in order of play.
+pub(crate) fn changes_in_force(
     alloc: Global,
     tempos: &[(Grains, u32)],
     meters: &[(Grains, Meter)],
@@ -80,7 +81,7 @@ pub(crate) fn changes_that_stand(
     requires tempos { All (λ set. set.0.0 ≤ grains_of_the_latest_end) tempos.now }
     requires meters { All (λ set. set.0.0 ≤ grains_of_the_latest_end) meters.now }
     requires keys { All (λ set. set.0.0 ≤ grains_of_the_latest_end) keys.now }
-    ensures { IfOk result (λ changes. changes.items ≡ changes_that_stand tempos.now meters.now keys.now) }
+    ensures { IfOk result (λ changes. changes.items ≡ changes_in_force tempos.now meters.now keys.now) }
 {
     let mut changes = Vec::new(alloc);
     put_tempo_changes(&mut changes, &last_of_each_tick(alloc, tempos)?)?;
@@ -89,13 +90,13 @@ pub(crate) fn changes_that_stand(
     Ok(changes)
 }
 
-/// The programs of a voice, of those in order of play.
-pub(crate) fn programs_that_stand(
+/// Returns the programs of a voice in its score, from those in order of play.
+pub(crate) fn programs_in_force(
     alloc: Global,
     programs: &[(Grains, u8)],
 ) -> Result<Vec<ProgramChange>, AllocError>
     requires { All (λ set. set.0.0 ≤ grains_of_the_latest_end) programs.now }
-    ensures { IfOk result (λ changes. changes.items ≡ programs_that_stand programs.now) }
+    ensures { IfOk result (λ changes. changes.items ≡ programs_in_force programs.now) }
 {
     let mut changes = Vec::new(alloc);
     put_program_changes(&mut changes, &last_of_each_tick(alloc, programs)?)?;

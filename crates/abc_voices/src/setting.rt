@@ -1,17 +1,17 @@
-//! What voices set in stages that are played one after another: tempos, meters, keys and programs.
+//! The tempos, meters, keys and programs that voices set in stages, played one after another.
 
 ghost use Rattle.std.specs.Prelude.{◌≡◌, ◌+◌, ◌≤◌, [], ◌∷◌, ◌++◌, All, IfOk, OnOk};
 ghost use Rattle.abc_time.specs.Grains.{grains_of_the_latest_end};
 ghost use Rattle.abc_voices.specs.Turns.{IsStage, IsPart, stages_in, length_along, set_beside, set_by_all, set_at, set_by_one};
-ghost use Rattle.abc_voices.specs.Change.{tempo_of, set_from, behind};
+ghost use Rattle.abc_voices.specs.Change.{tempo_of, set_from, after_opening};
 
 use crate::change::{Setting, Tempos, put_set};
 use crate::turns::Turn;
-use abc_sections::{Part, Stage};
 use abc_time::Grains;
+use abc_voices_sections::{Part, Stage};
 use std::alloc::{AllocError, Global};
 
-/// Puts the tempos of all voices in a stage that is played from a moment on.
+/// Appends the tempos of all voices in a stage that is played from a moment on.
 fn put_stage_tempos(
     tempos: &mut Vec<(Grains, u32)>,
     at: Grains,
@@ -27,7 +27,7 @@ fn put_stage_tempos(
     Ok(())
 }
 
-/// The tempos of all voices in the stages that are played, behind the one with which the tune opens.
+/// Returns the tempos of all voices in the stages that are played, after the one with which the tune opens.
 #[tactic(auto, unfolding(abc_time::specs::Grains::grains_of_a_whole_note, abc_time::specs::Grains::grains_of_the_latest_end))]
 pub(crate) fn tempos_along(
     alloc: Global,
@@ -49,7 +49,7 @@ pub(crate) fn tempos_along(
     Ok(tempos)
 }
 
-/// Puts what is set in a part that is played from a moment on.
+/// Appends the values of a part that is played from a moment on.
 #[tactic(auto, unfolding(abc_time::specs::Grains::grains_of_a_whole_note, abc_time::specs::Grains::grains_of_the_latest_end))]
 fn put_part<S: Setting>(
     sets: &mut Vec<(Grains, S::Value)>,
@@ -65,7 +65,7 @@ fn put_part<S: Setting>(
     put_set::<S>(sets, at, part.steps.as_slice())
 }
 
-/// Puts what a voice sets in a stage that is played from a moment on.
+/// Appends the values of a voice in a stage that is played from a moment on.
 fn put_stage<S: Setting>(
     sets: &mut Vec<(Grains, S::Value)>,
     at: Grains,
@@ -83,7 +83,7 @@ fn put_stage<S: Setting>(
     }
 }
 
-/// Puts what a voice sets in the stages that are played.
+/// Appends the values of a voice in the stages that are played.
 #[tactic(auto, unfolding(abc_time::specs::Grains::grains_of_a_whole_note, abc_time::specs::Grains::grains_of_the_latest_end))]
 fn put_stages<S: Setting>(
     sets: &mut Vec<(Grains, S::Value)>,
@@ -103,12 +103,12 @@ fn put_stages<S: Setting>(
     Ok(())
 }
 
-/// What holds at the beginning, if something does.
-fn opened<S: Setting>(
+/// Returns the list of the opening value, if there is one.
+fn opening_sets<S: Setting>(
     alloc: Global,
     opening: Option<S::Value>,
 ) -> Result<Vec<(Grains, S::Value)>, AllocError>
-    ensures { IfOk result (λ sets. sets.items ≡ behind opening []) }
+    ensures { IfOk result (λ sets. sets.items ≡ after_opening opening []) }
 {
     let mut sets = Vec::new(alloc);
     if let Some(value) = opening {
@@ -117,7 +117,7 @@ fn opened<S: Setting>(
     Ok(sets)
 }
 
-/// What a voice sets in the stages that are played, behind what holds at the beginning, if something does.
+/// Returns the values of a voice in the stages that are played, after the opening value, if there is one.
 #[tactic(auto, using(crate::proofs::Lengths::behind_nothing))]
 pub(crate) fn one_along<S: Setting>(
     alloc: Global,
@@ -128,9 +128,9 @@ pub(crate) fn one_along<S: Setting>(
     requires stages { All (λ turn. IsStage turn.stage.now) turns.now }
     requires in_time { length_along (stages_in turns.now) ≤ grains_of_the_latest_end }
     ensures { IfOk result (λ sets. sets.items
-        ≡ behind opening (set_by_one S.value_of voice 0 (stages_in turns.now))) }
+        ≡ after_opening opening (set_by_one S.value_of voice 0 (stages_in turns.now))) }
 {
-    let mut sets = opened::<S>(alloc, opening)?;
+    let mut sets = opening_sets::<S>(alloc, opening)?;
     put_stages::<S>(&mut sets, turns, voice)?;
     Ok(sets)
 }

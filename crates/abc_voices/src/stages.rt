@@ -4,16 +4,16 @@ ghost use Rattle.std.specs.Prelude.{◌≡◌, ◌+◌, ◌<◌, ◌≤◌, ◌^
 ghost use Rattle.abc_repeat.specs.declared.play.TheConstants.{MOST_PLACES};
 ghost use Rattle.abc_time.specs.Grains.{grains_of_the_latest_end};
 ghost use Rattle.abc_voices.specs.Turns.{stages_in};
-ghost use Rattle.abc_sections.specs.PlayedSection.{size_in, longest};
-ghost use Rattle.abc_sections.specs.Stage.{content, stage_of, stage_size};
+ghost use Rattle.abc_voices_sections.specs.PlayedSection.{size_in, longest};
+ghost use Rattle.abc_voices_sections.specs.Stage.{content, stage_of, stage_size};
 ghost use Rattle.abc_voices.specs.Stages.{stage_at, at_places, sections_at, size_for, longest_for, AreStages, IsNew, IsPut};
 
 use crate::turns::Turn;
 use abc_repeat::MOST_PLACES;
-use abc_sections::{Section, Stage, StageFault};
+use abc_voices_sections::{Section, Stage, StageFault};
 use std::alloc::{AllocError, Global};
 
-/// The stage at a place of a table, if one stands there.
+/// Returns the stage at a place of a table, if there is one.
 fn stage_at<'s, 't>(table: &'s [Option<Stage<'t>>], place: usize) -> Option<&'s Stage<'t>>
     ensures { option_copied result ≡ stage_at table.entry.now place }
 {
@@ -24,8 +24,8 @@ fn stage_at<'s, 't>(table: &'s [Option<Stage<'t>>], place: usize) -> Option<&'s 
     }
 }
 
-/// How much room is left behind a stage.
-fn room_behind(stage: &Stage, room: u64) -> Result<u64, StageFault>
+/// Returns the room that is left after a stage.
+fn room_after(stage: &Stage, room: u64) -> Result<u64, StageFault>
     requires { stage_size stage.now < 2 ^ 64 }
     ensures room { IfOk result (λ left. left + stage_size stage.now ≡ room) }
     ensures too_many { result ≡ Err StageFault.TooMany → room < stage_size stage.now }
@@ -38,7 +38,7 @@ fn room_behind(stage: &Stage, room: u64) -> Result<u64, StageFault>
     Ok(room - size)
 }
 
-/// The section at a place, if there is one.
+/// Returns the section at a place, if there is one.
 fn section_at<'p, 's, 't>(
     sections: &'p [Section<'s, 't>],
     place: usize,
@@ -48,7 +48,7 @@ fn section_at<'p, 's, 't>(
     sections.get(place)
 }
 
-/// Puts the stage of a section into the table at its place, and gives how much room is left behind its play.
+/// Puts the stage of a section into the table at its place, and returns the room that is left after its play.
 fn put_new<'t>(
     alloc: Global,
     table: &mut [Option<Stage<'t>>],
@@ -60,7 +60,8 @@ fn put_new<'t>(
     requires place { place < length table.old }
     requires room { room ≤ MOST_PLACES }
     ensures put { IfOk result (λ _. IsNew (map (λ voice. voice.now) voices.now) section.now place table.old table.new) }
-    ensures fits { IfOk result (λ left. left + sum_by (size_in (content section.now)) (map (λ voice. voice.now) voices.now) ≡ room) }
+    ensures fits { IfOk result (λ left. left
+        + sum_by (size_in (content section.now)) (map (λ voice. voice.now) voices.now) ≡ room) }
     ensures too_many { result ≡ Err StageFault.TooMany
         → room < sum_by (size_in (content section.now)) (map (λ voice. voice.now) voices.now) }
     ensures too_late { result ≡ Err StageFault.TooLate
@@ -72,8 +73,8 @@ fn put_new<'t>(
     Ok(left)
 }
 
-/// Puts the stage of the section at a place into the table, where none stands there, and gives how much room
-/// is left behind its play. A place beyond the sections plays nothing.
+/// Puts the stage of the section at a place into the table, if none is there, and returns the room that is left after its
+/// play. A place beyond the sections plays nothing.
 fn put_stage<'t>(
     alloc: Global,
     table: &mut [Option<Stage<'t>>],
@@ -96,13 +97,13 @@ fn put_stage<'t>(
         return Ok(room);
     };
     if let Some(stage) = stage_at(table, place) {
-        return room_behind(stage, room);
+        return room_after(stage, room);
     }
     put_new(alloc, table, section, voices, place, room)
 }
 
-/// No stage for each of some sections.
-fn no_stages<'t>(
+/// Returns a table without stages, one place for each section.
+fn empty_table<'t>(
     alloc: Global,
     sections: &[Section<'_, 't>],
 ) -> Result<Vec<Option<Stage<'t>>>, AllocError>
@@ -115,7 +116,7 @@ fn no_stages<'t>(
     Ok(table)
 }
 
-/// The stages of those sections that are at some places, each at its section's place.
+/// Returns the stages of the sections at some places, each at its section's place.
 pub(crate) fn stages<'t>(
     alloc: Global,
     sections: &[Section<'_, 't>],
@@ -124,13 +125,16 @@ pub(crate) fn stages<'t>(
 ) -> Result<Vec<Option<Stage<'t>>>, StageFault>
     ensures value { IfOk result (λ table. at_places table.items played.now
         ≡ map (stage_of (map (λ voice. voice.now) voices.now)) (sections_at sections.now played.now)) }
-    ensures places { IfOk result (λ table. sum_by (λ section. sum_by (size_in section) (map (λ voice. voice.now) voices.now)) (sections_at sections.now played.now) ≤ MOST_PLACES) }
+    ensures places { IfOk result (λ table.
+        sum_by (λ section. sum_by (size_in section) (map (λ voice. voice.now) voices.now)) (sections_at sections.now played.now)
+        ≤ MOST_PLACES) }
     ensures too_many { result ≡ Err StageFault.TooMany
-        → MOST_PLACES < sum_by (λ section. sum_by (size_in section) (map (λ voice. voice.now) voices.now)) (sections_at sections.now played.now) }
+        → MOST_PLACES
+        < sum_by (λ section. sum_by (size_in section) (map (λ voice. voice.now) voices.now)) (sections_at sections.now played.now) }
     ensures too_late { result ≡ Err StageFault.TooLate
         → grains_of_the_latest_end < sum_by (longest (map (λ voice. voice.now) voices.now)) (sections_at sections.now played.now) }
 {
-    let mut table = no_stages(alloc, sections)?;
+    let mut table = empty_table(alloc, sections)?;
     let mut room = MOST_PLACES;
     for place in played {
         room = put_stage(alloc, &mut table, sections, voices, *place, room)?;
@@ -138,8 +142,8 @@ pub(crate) fn stages<'t>(
     Ok(table)
 }
 
-/// The stages of a table that are at some places, in this order.
-pub(crate) fn in_order<'s, 't>(
+/// Returns the stages of a table at some places, in this order.
+pub(crate) fn turns_in_order<'s, 't>(
     alloc: Global,
     table: &'s [Option<Stage<'t>>],
     places: &[usize],

@@ -1,4 +1,4 @@
-//! Changes of one sort, of which one stands at each tick.
+//! The last change of one sort at each tick.
 
 ghost use Rattle.std.specs.Prelude.{◌≡◌, ◌≤◌, All, IfOk};
 ghost use Rattle.abc_time.specs.Grains.{grains_of_the_latest_end};
@@ -8,7 +8,7 @@ use abc_time::{Grains, tick_of};
 use std::alloc::{AllocError, Global};
 use std::collections::HashSet;
 
-/// Of many changes of one sort in order of play the last one of each tick, the last of all first.
+/// Returns the last change of each tick, of many changes of one sort in order of play; the last of all first.
 fn last_of_many<T: Copy>(
     alloc: Global,
     changes: &[(Grains, T)],
@@ -29,8 +29,8 @@ fn last_of_many<T: Copy>(
     Ok(standing)
 }
 
-/// Of changes of one sort in order of play the last one of each tick, the last of all first. Most tunes set each of
-/// them once at most, and then no ticks are noted.
+/// Returns the last change of each tick, of changes of one sort in order of play; the last of all first. Most tunes set each
+/// sort once at most: then no ticks are compared.
 pub(crate) fn last_of_each_tick<T: Copy>(
     alloc: Global,
     changes: &[(Grains, T)],

@@ -1,25 +1,26 @@
 //! Notes of time tokens, tied ones joined, from the last token to the first.
 
-ghost use Rattle.std.specs.Prelude.{◌≡◌, ◌==◌, ◌≤◌, ◌<◌, ◌++◌, [], ◌∷◌, length, position, remove, slice_index_or, All, Some, IfSome, OnOk};
-ghost use Rattle.abc_items.specs.Item.{IsTone};
+ghost use Rattle.std.specs.Prelude.{◌≡◌, ◌==◌, ◌≤◌, ◌<◌, ◌++◌, [], ◌∷◌, length, position, remove, slice_index_or, All, Some};
+ghost use Rattle.std.specs.Prelude.{IfSome, OnOk};
+ghost use Rattle.abc_bars_items.specs.Item.{IsTone};
 ghost use Rattle.abc_time.specs.Grains.{grains_of_the_latest_end};
 ghost use Rattle.abc_voices.specs.Arrange.{all_notes};
 ghost use Rattle.abc_voices.specs.TiedNotes.{before, next_place, notes_in, with_key, with_token_begun};
 
-use abc_items::Tone;
-use abc_score::Sounding;
+use abc_bars_items::Tone;
 use abc_time::Grains;
+use abc_voices_score::Sounding;
 use std::alloc::{AllocError, Global};
 use std::marker::Model;
 
-/// The place of the first note of a key.
+/// Returns the place of the first note of a key.
 fn place_of(notes: &[Sounding], key: u8) -> Option<usize>
     ensures { result ≡ position (λ note. note.key == key) notes.now }
 {
     notes.iter().position(|note| note.key == key)
 }
 
-/// Where the note stands that a tone is joined with.
+/// Returns the place of the note with which a tone is joined.
 fn next_place(tied: bool, key: u8, next: &[Sounding]) -> Option<usize>
     ensures value { result ≡ next_place tied key next.now }
     ensures inside { IfSome result (λ place. place < length next.now) }
@@ -27,18 +28,18 @@ fn next_place(tied: bool, key: u8, next: &[Sounding]) -> Option<usize>
     if tied { place_of(next, key) } else { None }
 }
 
-/// The notes of a play, in one list: those that begin at its first time token last, and in front of them those of the
+/// The notes of a play, in one list: those that begin at its first time token last, and before them those of the
 /// next one that none of them is tied to. Contracts see the parts.
 #[derive(Drop)]
-pub(crate) struct NotesInOne {
+pub(crate) struct ReverseNotes {
     notes: Vec<Sounding>,
-    /// Where those that begin at the next time token begin.
+    /// The place of the first that begins at the next time token.
     next: usize,
-    /// Where those that begin at the first time token begin.
+    /// The place of the first that begins at the first time token.
     begun: usize,
 }
 
-impl Model for NotesInOne {
+impl Model for ReverseNotes {
     ghost use Rattle.std.specs.Prelude.{◌≤◌, length, take, drop, slice_range};
     ghost use Rattle.abc_voices.specs.TiedNotes.{NotesInParts};
 
@@ -52,19 +53,19 @@ impl Model for NotesInOne {
     ghost invariant = { λ one. (one.next ≤ one.begun) × (one.begun ≤ length one.notes.items) };
 }
 
-impl NotesInOne {
-    /// No notes yet.
-    pub(crate) fn new(alloc: Global) -> NotesInOne
+impl ReverseNotes {
+    /// Returns an empty play.
+    pub(crate) fn new(alloc: Global) -> ReverseNotes
         ensures { result ≡ record { linked = record { begun = []; next = [] }; others = [] } }
     {
-        NotesInOne {
+        ReverseNotes {
             notes: Vec::new(alloc),
             next: 0,
             begun: 0,
         }
     }
 
-    /// Makes room for so many more.
+    /// Makes room for `more` notes.
     pub(crate) fn reserve(&mut self, more: usize) -> Result<(), AllocError>
         ensures { self.new ≡ self.old }
     {
@@ -72,7 +73,7 @@ impl NotesInOne {
         Ok(())
     }
 
-    /// Where the note stands that a tone is joined with, of those that begin at the next time token.
+    /// Returns the place of the note with which a tone is joined, among those that begin at the next time token.
     fn next_place(&self, tied: bool, key: u8) -> Option<usize>
         ensures value { result ≡ next_place tied key self.now.linked.next }
         ensures inside { IfSome result (λ place. place < length self.now.linked.next) }
@@ -80,8 +81,8 @@ impl NotesInOne {
         next_place(tied, key, &self.notes[self.next..self.begun])
     }
 
-    /// Takes out the note at a place, of those that begin at the next time token. Few tones are tied: by itself it leaves
-    /// the way of the others short.
+    /// Removes the note at a place, among those that begin at the next time token. It is a call of its own, since few tones
+    /// are tied.
     #[inline(never)]
     fn take_next(&mut self, place: usize) -> Sounding
         requires { place < length self.old.linked.next }
@@ -92,7 +93,7 @@ impl NotesInOne {
         self.notes.remove(self.next + place)
     }
 
-    /// Puts one more that begins at the first time token.
+    /// Appends a note that begins at the first time token.
     fn push(&mut self, note: Sounding) -> Result<(), AllocError>
         ensures { OnOk result (self.new
             ≡ record self.old { linked = record self.old.linked { begun = self.old.linked.begun ++ note ∷ [] } }) }
@@ -101,7 +102,7 @@ impl NotesInOne {
         Ok(())
     }
 
-    /// Begins the note of a tone at a moment, where it has a key.
+    /// Begins the note of a tone at a moment, if it has a key.
     #[tactic(auto, unfolding(abc_time::specs::Grains::grains_of_a_whole_note, abc_time::specs::Grains::grains_of_the_longest_length, abc_time::specs::Grains::grains_of_the_latest_end))]
     fn begin_note(&mut self, at: Grains, tone: &Tone) -> Result<(), AllocError>
         requires at { at.0 ≤ grains_of_the_latest_end }
@@ -124,7 +125,7 @@ impl NotesInOne {
         self.push(note)
     }
 
-    /// Begins a time token in front of the first one.
+    /// Begins a time token before the first one.
     fn begin_token(&mut self)
         ensures { self.new ≡ with_token_begun self.old }
     {
@@ -132,7 +133,7 @@ impl NotesInOne {
         self.begun = self.notes.len();
     }
 
-    /// Puts a time token before a play.
+    /// Puts a time token before the play.
     pub(crate) fn put_token(&mut self, at: Grains, tones: &[Tone]) -> Result<(), AllocError>
         requires at { at.0 ≤ grains_of_the_latest_end }
         requires tones { All IsTone tones.now }
@@ -145,7 +146,7 @@ impl NotesInOne {
         Ok(())
     }
 
-    /// Puts a time token of one tone before a play.
+    /// Puts a time token of one tone before the play.
     pub(crate) fn put_tone(&mut self, at: Grains, tone: &Tone) -> Result<(), AllocError>
         requires at { at.0 ≤ grains_of_the_latest_end }
         requires tone { IsTone tone.now }
@@ -155,7 +156,7 @@ impl NotesInOne {
         self.begin_note(at, tone)
     }
 
-    /// All of them.
+    /// Returns all notes.
     pub(crate) fn into_notes(self) -> Vec<Sounding>
         ensures { result.items ≡ all_notes (notes_in self) }
     {

@@ -1,15 +1,15 @@
 //! The voices of a tune.
 
 ghost use Rattle.std.specs.Prelude.{◌≡◌, IfOk, OnOk, map};
-ghost use Rattle.abc_sections.specs.Items.{items_of};
-ghost use Rattle.abc_sections.specs.Section.{opening_voice};
-ghost use Rattle.abc_voices.specs.Track.{with_name, everyone, plays_first, nameless_plays};
+ghost use Rattle.abc_voices_sections.specs.Items.{items_of};
+ghost use Rattle.abc_voices_sections.specs.Section.{opening_voice};
+ghost use Rattle.abc_voices.specs.Track.{with_name, voice_names, plays_first, has_unnamed_track};
 
-use abc_items::Item;
+use abc_bars_items::Item;
 use indexmap::IndexSet;
 use std::alloc::{AllocError, Global};
 
-/// Puts the name of a voice after the known ones, unless it is one of them.
+/// Appends the name of a voice to the known ones, unless it is one of them.
 fn put_name<'a>(known: &mut IndexSet<&'a [u8]>, name: &'a [u8]) -> Result<(), AllocError>
     ensures { OnOk result (map (λ voice. voice.now) known.new.keys
         ≡ with_name (map (λ voice. voice.now) known.old.keys) name.entry.now) }
@@ -18,12 +18,12 @@ fn put_name<'a>(known: &mut IndexSet<&'a [u8]>, name: &'a [u8]) -> Result<(), Al
     Ok(())
 }
 
-/// The voices of a tune, that without a name before those that have one.
-pub(crate) fn everyone<'a>(
+/// Returns the names of the voices of a tune, first the empty one for the voice without a name.
+pub(crate) fn voice_names<'a>(
     alloc: Global,
     tune: &[&'a Item],
 ) -> Result<IndexSet<&'a [u8]>, AllocError>
-    ensures { IfOk result (λ voices. map (λ voice. voice.now) voices.keys ≡ everyone (items_of tune.now)) }
+    ensures { IfOk result (λ voices. map (λ voice. voice.now) voices.keys ≡ voice_names (items_of tune.now)) }
 {
     let mut voices = IndexSet::new(alloc);
     let nameless: &[u8] = &[];
@@ -36,7 +36,7 @@ pub(crate) fn everyone<'a>(
     Ok(voices)
 }
 
-/// Whether a note, chord, rest or bar rest stands before the first V: of the body.
+/// Whether a note, chord, rest or bar rest is before the first V: of the body.
 fn plays_first(tune: &[&Item]) -> bool
     ensures { result ≡ plays_first (items_of tune.now) }
 {
@@ -50,11 +50,10 @@ fn plays_first(tune: &[&Item]) -> bool
     false
 }
 
-/// Whether the voice without a name has a track, where this one is the current one before the
-/// first V: of the body.
-pub(crate) fn nameless_plays(tune: &[&Item], opening: &[u8]) -> bool
+/// Whether the voice without a name has a track, if `opening` is the current voice before the first V: of the body.
+pub(crate) fn has_unnamed_track(tune: &[&Item], opening: &[u8]) -> bool
     requires { opening.now ≡ opening_voice (items_of tune.now) }
-    ensures { result ≡ nameless_plays (items_of tune.now) }
+    ensures { result ≡ has_unnamed_track (items_of tune.now) }
 {
     opening.is_empty() && plays_first(tune)
 }

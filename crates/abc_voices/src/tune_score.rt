@@ -3,9 +3,10 @@
 ghost use Rattle.std.specs.Prelude.{true, ◌≡◌, ◌≢◌, ◌<◌, ◌≤◌, ◌-◌, All, IfOk};
 ghost use Rattle.std.specs.List.{flat_map};
 ghost use Rattle.abc_time.specs.Grains.{grains_of_the_latest_end};
-ghost use Rattle.abc_sections.specs.Items.{items_of};
-ghost use Rattle.abc_sections.specs.declared.stage.StageFault.TheVariants.{TooMany, TooLate};
-ghost use Rattle.abc_voices.specs.Turns.{IsStage, IsSteady, PlaysNone, stages_in, length_along, voices_along, changes_along, end_along, score_along};
+ghost use Rattle.abc_voices_sections.specs.Items.{items_of};
+ghost use Rattle.abc_voices_sections.specs.declared.stage.StageFault.TheVariants.{TooMany, TooLate};
+ghost use Rattle.abc_voices.specs.Turns.{IsStage, IsSteady, PlaysNone, stages_in, length_along, voices_along, changes_along};
+ghost use Rattle.abc_voices.specs.Turns.{end_along, score_along};
 ghost use Rattle.abc_voices.specs.Arrange.{last_off};
 ghost use Rattle.abc_voices.specs.Fields.{is_steady, sets_program, keeps_programs};
 
@@ -13,23 +14,23 @@ use crate::change::{Keys, Meters};
 use crate::fields::is_steady;
 use crate::opening::{opening_key, opening_meter, opening_tempo, title_of};
 use crate::programs::voices_programs;
-use crate::score_changes::changes_that_stand;
+use crate::score_changes::changes_in_force;
 use crate::setting::{one_along, tempos_along};
 use crate::timing::last_off;
 use crate::turns::Turn;
 use crate::voice::voices_notes;
+use abc_bars_items::Item;
 use abc_fields::Meter;
-use abc_items::Item;
-use abc_score::{Change, Score, Sounding};
-use abc_sections::StageFault;
 use abc_text::Sequence;
 use abc_time::{Grains, LATEST_END};
+use abc_voices_score::{Change, Score, Sounding};
+use abc_voices_sections::StageFault;
 use std::alloc::{AllocError, Global};
 
-/// The microseconds of a quarter note where no tempo is set: 120 quarters a minute.
+/// The microseconds of a quarter note if no tempo is set: 120 quarters a minute.
 const USUAL_TEMPO: u32 = 500_000;
 
-/// The changes of stages, by what the fields of their tune give; the voice at a place has the first track.
+/// Returns the changes of stages, from the items of their tune's fields. The voice at place `first` has the first track.
 fn changes_along(
     alloc: Global,
     given: &[&Item],
@@ -44,19 +45,19 @@ fn changes_along(
     let tempo = opening_tempo(given).unwrap_or(USUAL_TEMPO);
     let meter = opening_meter(given).unwrap_or(Meter::Free);
     let key = opening_key(given).unwrap_or((0, false));
-    // Most tunes go on as they open, and then what is played need not be looked through.
+    // Most tunes keep the tempo, meter and key with which they open: then no stage is searched.
     if is_steady(given) {
         let start = Grains(0);
-        return changes_that_stand(alloc, &[(start, tempo)], &[(start, meter)], &[(start, key)]);
+        return changes_in_force(alloc, &[(start, tempo)], &[(start, meter)], &[(start, key)]);
     }
     let tempos = tempos_along(alloc, turns, tempo)?;
     let meters = one_along::<Meters>(alloc, turns, first, Some(meter))?;
     let keys = one_along::<Keys>(alloc, turns, first, Some(key))?;
-    changes_that_stand(alloc, &tempos, &meters, &keys)
+    changes_in_force(alloc, &tempos, &meters, &keys)
 }
 
-/// The later of a moment and the last end of the notes of some voices.
-fn last_of_all(at: Grains, voices: &[Sequence<Sounding>]) -> Grains
+/// Returns the later of a moment and the last end of the notes of some voices.
+fn latest_end(at: Grains, voices: &[Sequence<Sounding>]) -> Grains
     ensures { result.0 ≡ last_off at.0 (flat_map (λ notes. notes) voices.now) }
 {
     let mut last = at;
@@ -66,8 +67,8 @@ fn last_of_all(at: Grains, voices: &[Sequence<Sounding>]) -> Grains
     last
 }
 
-/// The score of stages that are played up to a moment, by what the fields of their tune give; the voices from the first
-/// track on have tracks.
+/// Returns the score of stages that are played up to a moment, from the items of their tune's fields. The voices from
+/// place `first` on have tracks.
 #[tactic(auto, unfolding(abc_time::specs::Grains::grains_of_a_whole_note, abc_time::specs::Grains::grains_of_the_latest_end))]
 pub(crate) fn score_along(
     alloc: Global,
@@ -90,7 +91,7 @@ pub(crate) fn score_along(
         → grains_of_the_latest_end < end_along (stages_in turns.now) (voices_along (stages_in turns.now) first (count - first)) }
 {
     let voices = voices_notes(alloc, turns, total, first, count)?;
-    let end = last_of_all(total, voices.as_slice());
+    let end = latest_end(total, voices.as_slice());
     if end > LATEST_END {
         return Err(StageFault::TooLate);
     }

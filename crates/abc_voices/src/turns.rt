@@ -1,4 +1,4 @@
-//! How long stages are one after another, and whether voices are uneven in them.
+//! The length of stages one after another, and whether voices are uneven in them.
 
 ghost use Rattle.std.specs.Prelude.{◌≡◌, ◌<◌, ◌≤◌, MatchOption};
 ghost use Rattle.std.specs.List.{list_any};
@@ -6,20 +6,21 @@ ghost use Rattle.abc_time.specs.Grains.{grains_of_the_latest_end};
 ghost use Rattle.abc_voices.specs.Turns.{stages_in, length_along, parts_differ, is_stage_uneven};
 
 use crate::timing::plays_time;
-use abc_sections::{Part, Stage};
 use abc_time::{Grains, LATEST_END};
+use abc_voices_sections::{Part, Stage};
 
-/// One playing of a section: its stage, which the playings of one section share.
+/// One playing of a section: its stage, which all playings of the section share.
 #[derive(Clone, Copy)]
 pub(crate) struct Turn<'s, 't> {
     pub(crate) stage: &'s Stage<'t>,
 }
 
-/// How long stages are one after another, unless that is later than a tune may end.
+/// Returns the length of stages one after another, unless that is later than a tune may end.
 #[tactic(auto, unfolding(abc_time::specs::Grains::grains_of_a_whole_note, abc_time::specs::Grains::grains_of_the_latest_end))]
 pub(crate) fn length_along(turns: &[Turn]) -> Option<Grains>
     ensures { let along = length_along (stages_in turns.now) in
-        MatchOption result (grains_of_the_latest_end < along) (λ grains. (grains.0 ≡ along) × (grains.0 ≤ grains_of_the_latest_end)) }
+        MatchOption result (grains_of_the_latest_end < along)
+        (λ grains. (grains.0 ≡ along) × (grains.0 ≤ grains_of_the_latest_end)) }
 {
     let mut sum: u64 = 0;
     for turn in turns {

@@ -7,18 +7,18 @@ ghost use Rattle.abc_voices.specs.Arrange.{all_notes};
 ghost use Rattle.abc_voices.specs.TiedNotes.{notes_from, notes_in};
 
 use crate::notes::put_notes;
-use crate::tied_notes::NotesInOne;
+use crate::tied_notes::ReverseNotes;
 use crate::turns::Turn;
-use abc_score::Sounding;
-use abc_sections::{Part, Stage};
 use abc_text::Sequence;
 use abc_time::Grains;
+use abc_voices_score::Sounding;
+use abc_voices_sections::{Part, Stage};
 use std::alloc::{AllocError, Global};
 
-/// Puts a part that is played from a moment on before the notes of what comes behind it.
+/// Puts a part that is played from a moment on before the notes after it.
 #[tactic(auto, unfolding(abc_time::specs::Grains::grains_of_a_whole_note, abc_time::specs::Grains::grains_of_the_latest_end))]
 fn put_part(
-    notes: &mut NotesInOne,
+    notes: &mut ReverseNotes,
     at: Grains,
     longest: Grains,
     part: &Part,
@@ -32,9 +32,9 @@ fn put_part(
     put_notes(notes, end, part.steps.as_slice())
 }
 
-/// Puts what a voice plays of a stage before the notes of what comes behind it.
+/// Puts the part of a voice in a stage before the notes after it.
 fn put_stage(
-    notes: &mut NotesInOne,
+    notes: &mut ReverseNotes,
     at: Grains,
     stage: &Stage,
     voice: usize,
@@ -50,7 +50,7 @@ fn put_stage(
     }
 }
 
-/// The notes of a voice in stages that are played from the beginning of a tune to a moment.
+/// Returns the notes of a voice in stages that are played from the beginning of a tune to a moment.
 fn voice_notes(
     alloc: Global,
     turns: &[Turn],
@@ -62,7 +62,7 @@ fn voice_notes(
     requires in_time { end.0 ≤ grains_of_the_latest_end }
     ensures { IfOk result (λ notes. notes ≡ all_notes (notes_along voice 0 (stages_in turns.now))) }
 {
-    let mut notes = NotesInOne::new(alloc);
+    let mut notes = ReverseNotes::new(alloc);
     let mut at = end;
     let mut left = turns.len();
     while left > 0 {
@@ -74,7 +74,7 @@ fn voice_notes(
     Ok(Sequence::from(notes.into_notes()))
 }
 
-/// The notes of the voices from the first that is counted on up to so many.
+/// Returns the notes of the voices from `first` on, up to `count`.
 pub(crate) fn voices_notes(
     alloc: Global,
     turns: &[Turn],

@@ -1,4 +1,4 @@
-//! The library as another program calls it: opens a session over a tune, makes an edit, and writes what changed.
+//! The library as another program calls it: opens a session over a tune, makes an edit, and prints what changed.
 #![tactic(auto)]
 
 use abc_fold::Work;
@@ -17,7 +17,7 @@ fn main(rt: HostRuntime) -> ExitCode {
     }
 }
 
-/// Edits a text, and writes how long each file is that the last edit changed.
+/// Edits a text, and prints the length of each file that the last edit changed.
 fn edit_a_tune<R: Runtime + AllocGlobal>(rt: &R) -> Result<(), EditError> {
     let mut session = Session::new(rt.alloc())?;
     let mut work = Work::mint(rt);
@@ -42,7 +42,7 @@ fn change_a_note(
     session.apply(&Edit::Replace { from, to, lines }, work)
 }
 
-/// Each text as a line.
+/// Returns each text as a line.
 fn lines_of(alloc: Global, texts: &[&[u8]]) -> Result<Vec<Vec<u8>>, AllocError> {
     let mut lines = Vec::new(alloc);
     for text in texts {

@@ -1,6 +1,6 @@
-//! What each edit costs: reads the commands of the program from standard input, carries out those that are edits on a
-//! session, and writes a line `work S F B` for each: how many lines it scanned, steps it folded and tunes it built.
-//! One that is refused costs nothing.
+//! Prints the work of each edit: reads the commands of the program from standard input, applies the edits among them to a
+//! session, and prints a line `work S F B` for each: the lines that it scanned, the steps that it folded and the tunes that
+//! it built. A refused edit costs nothing.
 #![tactic(auto)]
 
 use abc_fold::Work;
@@ -21,17 +21,17 @@ fn main(rt: HostRuntime) -> ExitCode {
     }
 }
 
-/// A command, and those of its lines that have come.
+/// A command, and the lines of it that were read so far.
 #[derive(Drop)]
-struct Begun {
+struct PartialCommand {
     command: Command,
     lines: Vec<Vec<u8>>,
 }
 
-impl Begun {
-    /// The command that a line begins.
-    fn new(alloc: Global, line: &[u8]) -> Begun {
-        Begun {
+impl PartialCommand {
+    /// Returns the command that a line begins.
+    fn new(alloc: Global, line: &[u8]) -> PartialCommand {
+        PartialCommand {
             command: Command::of(line),
             lines: Vec::new(alloc),
         }
@@ -41,7 +41,7 @@ impl Begun {
         self.lines.len() >= self.command.line_count()
     }
 
-    /// The edit that it asks for, if it is one.
+    /// Returns its edit, if it is one.
     fn edit(self) -> Option<Edit> {
         let lines = self.lines;
         match self.command {
@@ -53,48 +53,52 @@ impl Begun {
     }
 }
 
-/// Tells the work of each edit of the input, up to `quit`.
+/// Prints the work of each edit of the input, up to `quit`.
 fn converse<R: Runtime + AllocGlobal>(rt: &R) -> io::Result<()> {
     let mut session = Session::new(rt.alloc())?;
     listen(rt, &mut session)
 }
 
-/// The same for a session that is there.
+/// Prints the work of each edit of the input on this session.
 fn listen<R: Runtime + AllocGlobal>(rt: &R, session: &mut Session) -> io::Result<()> {
     let alloc = rt.alloc();
-    let mut begun = None;
+    let mut pending = None;
     for line in BufReader::new(alloc, rt.reader())?.split(alloc, b'\n') {
-        let next = with_line(alloc, begun.take(), line?)?;
+        let next = with_line(alloc, pending.take(), line?)?;
         if matches!(next.command, Command::Quit) {
             return Ok(());
         }
         if next.is_whole() {
             carry_out(rt, session, next)?;
         } else {
-            begun = Some(next);
+            pending = Some(next);
         }
     }
     Ok(())
 }
 
-/// What has come with one more line.
-fn with_line(alloc: Global, begun: Option<Begun>, line: Vec<u8>) -> io::Result<Begun> {
-    match begun {
-        Some(mut begun) => {
-            begun.lines.push(line)?;
-            Ok(begun)
+/// Returns a command with one more line.
+fn with_line(
+    alloc: Global,
+    pending: Option<PartialCommand>,
+    line: Vec<u8>,
+) -> io::Result<PartialCommand> {
+    match pending {
+        Some(mut pending) => {
+            pending.lines.push(line)?;
+            Ok(pending)
         }
-        None => Ok(Begun::new(alloc, &line)),
+        None => Ok(PartialCommand::new(alloc, &line)),
     }
 }
 
-/// Carries out a command that is an edit, and tells its work.
+/// Applies a command that is an edit, and prints its work.
 fn carry_out<R: Runtime + AllocGlobal>(
     rt: &R,
     session: &mut Session,
-    begun: Begun,
+    pending: PartialCommand,
 ) -> io::Result<()> {
-    let Some(edit) = begun.edit() else {
+    let Some(edit) = pending.edit() else {
         return Ok(());
     };
     let mut work = Work::mint(rt);

@@ -1,9 +1,9 @@
--- The scores, and the changes and the notes of a track, of the worked examples of files. Our own.
+-- The scores, and the changes and the notes of a track, of the worked examples of files. Not in ABC 2.1.
 use Rattle.std.specs.Prelude.{ℕ, pos, negsuc, true, false, List, [], ◌∷◌, codes, replicate}
-use Rattle.abc_score.specs.declared.score.Change.{Change}
-use Rattle.abc_score.specs.declared.score.ChangeKind.TheVariants.{Tempo, Meter, Key}
-use Rattle.abc_score.specs.declared.score.Score.{Score}
-use Rattle.abc_score.specs.declared.score.Sounding.{Sounding}
+use Rattle.abc_voices_score.specs.declared.score.Change.{Change}
+use Rattle.abc_voices_score.specs.declared.score.ChangeKind.TheVariants.{Tempo, Meter, Key}
+use Rattle.abc_voices_score.specs.declared.score.Score.{Score}
+use Rattle.abc_voices_score.specs.declared.score.Sounding.{Sounding}
 use Rattle.smf_bytes.specs.Event.{end_event, note_off, note_on}
 use Rattle.smf_bytes.specs.declared.event.Event.{Event}
 use Rattle.file_examples.specs.Values.{at_tick, change_at, program_at, seventh, sounding, sounding_with}
@@ -24,7 +24,8 @@ one_eighth = record {
 
 -- Its file, in hexadecimal. SMF 1.0.
 abbrev pub one_eighth_file : List ℕ
-one_eighth_file = codes "4D546864000000060001000201E04D54726B0000001700FF03014100FF510307A12000FF590200008170FF2F004D54726B0000000D00903C508170803C4000FF2F00"
+one_eighth_file =
+    codes "4D546864000000060001000201E04D54726B0000001700FF03014100FF510307A12000FF590200008170FF2F004D54726B0000000D00903C508170803C4000FF2F00"
 
 -- Seven notes one after another in the time of four.
 abbrev pub seven_notes : List Sounding
@@ -32,7 +33,8 @@ seven_notes = seventh 60 0 ∷ seventh 62 1 ∷ seventh 64 2 ∷ seventh 65 3 �
 
 -- Their track, in hexadecimal. The bytes are those of a second compiler.
 abbrev pub seven_notes_track : List ℕ
-seven_notes_track = codes "4D54726B0000004300903C508109803C4000903E508109803E4000904050810980404000904150810980414000904350810980434000904550810980454000904750810A80474000FF2F00"
+seven_notes_track =
+    codes "4D54726B0000004300903C508109803C4000903E508109803E4000904050810980404000904150810980414000904350810980434000904550810980454000904750810A80474000FF2F00"
 
 -- A key, a meter and a tempo of tick 0.
 abbrev pub opening_changes : List Change
@@ -52,7 +54,8 @@ changes_in_no_order =
 
 -- Their track, in hexadecimal. The bytes are those of a second compiler.
 abbrev pub changes_track : List ℕ
-changes_track = codes "4D54726B0000003700FF510307A12000FF58040603180800FF5902F9018360FF510300000100FF5103FFFFFF00FF5804FF06180800FF590207008360FF2F00"
+changes_track =
+    codes "4D54726B0000003700FF510307A12000FF58040603180800FF5902F9018360FF510300000100FF5103FFFFFF00FF5804FF06180800FF590207008360FF2F00"
 
 -- A note of a tune without dynamics, and two loud ones after it.
 abbrev pub two_loud_notes : List Sounding
@@ -96,4 +99,5 @@ two_voices = record {
 
 -- Their file, in hexadecimal. SMF 1.0.
 abbrev pub two_voices_file : List ℕ
-two_voices_file = codes "4D546864000000060001000301E04D54726B000000058170FF2F004D54726B0000000D00903C508170803C4000FF2F004D54726B0000001000C1010091402D817081404000FF2F00"
+two_voices_file =
+    codes "4D546864000000060001000301E04D54726B000000058170FF2F004D54726B0000000D00903C508170803C4000FF2F004D54726B0000001000C1010091402D817081404000FF2F00"

@@ -1,13 +1,13 @@
--- Items of tunes as the worked examples write them: a note lasts one grain. Our own.
+-- Items of tunes as the worked examples write them: a note lasts one grain. Not in ABC 2.1.
 use Rattle.std.specs.Prelude.{ℕ, pos, Bool, true, false, List, [], ◌∷◌, Option, Some, None}
-use Rattle.abc_items.specs.declared.item.Item.{Item}
-use Rattle.abc_items.specs.declared.item.Item.TheVariants as items
-use Rattle.abc_items.specs.declared.item.Tone.{Tone}
+use Rattle.abc_bars_items.specs.declared.item.Item.{Item}
+use Rattle.abc_bars_items.specs.declared.item.Item.TheVariants as items
+use Rattle.abc_bars_items.specs.declared.item.Tone.{Tone}
 use Rattle.abc_fields.specs.declared.meter.Meter.TheVariants as meters
-use Rattle.abc_score.specs.declared.score.Change.{Change}
-use Rattle.abc_score.specs.declared.score.ChangeKind.TheVariants as kinds
-use Rattle.abc_score.specs.declared.score.ProgramChange.{ProgramChange}
-use Rattle.abc_score.specs.declared.score.Sounding.{Sounding}
+use Rattle.abc_voices_score.specs.declared.score.Change.{Change}
+use Rattle.abc_voices_score.specs.declared.score.ChangeKind.TheVariants as kinds
+use Rattle.abc_voices_score.specs.declared.score.ProgramChange.{ProgramChange}
+use Rattle.abc_voices_score.specs.declared.score.Sounding.{Sounding}
 
 -- A tone of a key, or a silent one, of so many grains, that is tied or not, with a velocity, and one with that of a tune
 -- without dynamics.
@@ -144,7 +144,8 @@ ordered_parts = items.Order (66 ∷ 65 ∷ 66 ∷ []) ∷ part_a ∷ note 60 ∷
 
 -- `|:A|1B:|[Q:]|2F||`, where a tempo is between two endings, and `|:A|1B::[Q:]|2F||`, where it is in a strain of its own.
 abbrev pub tempo_between_endings : List Item
-tempo_between_endings = opening ∷ note 69 ∷ single ∷ first ∷ note 71 ∷ closing ∷ tempo 1000000 ∷ single ∷ second ∷ note 66 ∷ double ∷ []
+tempo_between_endings = opening ∷ note 69 ∷ single ∷ first ∷ note 71 ∷ closing ∷ tempo 1000000 ∷ single ∷ second ∷ note 66 ∷ double
+    ∷ []
 
 abbrev pub tempo_in_a_strain : List Item
 tempo_in_a_strain = opening ∷ note 69 ∷ single ∷ first ∷ note 71 ∷ between ∷ tempo 1000000 ∷ single ∷ second ∷ note 66 ∷ double ∷ []

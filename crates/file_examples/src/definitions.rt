@@ -1,20 +1,22 @@
 //! Worked examples by the definitions of `smf_bytes`: number texts, events, tracks and files. A body here does nothing;
 //! its contract is the example.
-#![tactic(auto, unfolding(abc_text::specs::Power::is_power_up_to, abc_time::specs::Grains::grains_of_a_tick, abc_time::specs::Grains::grains_of_the_latest_end, crate::specs::Words::count_trailing_zeros, smf_bytes::specs::File::file_bytes, smf_bytes::specs::File::header, smf_bytes::specs::Number::number_text, smf_bytes::specs::Number::reading, smf_bytes::specs::Track::track, smf_bytes::specs::Track::track_body, hex::specs::Hex::encode_with))]
+#![tactic(auto, unfolding(abc_text::specs::Power::is_power_up_to, abc_time::specs::Grains::grains_of_a_tick, abc_time::specs::Grains::grains_of_the_latest_end, crate::specs::Words::count_trailing_zeros, smf_bytes::specs::File::file_bytes, smf_bytes::specs::File::header_chunk, smf_bytes::specs::Number::number_text, smf_bytes::specs::Number::read_result, smf_bytes::specs::Track::track, smf_bytes::specs::Track::track_body, hex::specs::Hex::encode_with))]
 
 ghost use Rattle.std.specs.Prelude.{◌≡◌, pos, negsuc, true, false, [], ◌∷◌, ◌++◌, codes, replicate};
 ghost use Rattle.std.specs.List.{concat, list_all, list_any};
 ghost use Rattle.hex.specs.Hex.{encode_upper};
 ghost use Rattle.smf_bytes.specs.declared.number.NumberFault.TheVariants.{Padded, TooLong, Truncated};
-ghost use Rattle.abc_score.specs.Limits.{IsWritable};
-ghost use Rattle.abc_score.specs.declared.score.ChangeKind.TheVariants.{Tempo, Meter, Key};
+ghost use Rattle.abc_voices_score.specs.Limits.{IsWritable};
+ghost use Rattle.abc_voices_score.specs.declared.score.ChangeKind.TheVariants.{Tempo, Meter, Key};
 ghost use Rattle.smf_bytes.specs.Event.{change_bytes, end_event, note_events, note_off, note_on, title_events};
 ghost use Rattle.smf_bytes.specs.File.{file_bytes};
 ghost use Rattle.abc_text.specs.Power.{is_power_up_to};
-ghost use Rattle.smf_bytes.specs.Number.{number_text, reading};
+ghost use Rattle.smf_bytes.specs.Number.{number_text, read_result};
 ghost use Rattle.smf_bytes.specs.Order.{in_order};
 ghost use Rattle.smf_bytes.specs.Track.{channel_of, conductor_events, track, track_body, voice_events};
-ghost use Rattle.file_examples.specs.Scores.{two_tempos, one_eighth, one_eighth_file, seven_notes, seven_notes_track, opening_changes, events_in_no_order, changes_in_no_order, changes_track, notes_in_no_order, fifteen_silent_voices, the_longest};
+ghost use Rattle.file_examples.specs.Scores.{two_tempos, one_eighth, one_eighth_file, seven_notes, seven_notes_track};
+ghost use Rattle.file_examples.specs.Scores.{opening_changes, events_in_no_order, changes_in_no_order, changes_track};
+ghost use Rattle.file_examples.specs.Scores.{notes_in_no_order, fifteen_silent_voices, the_longest};
 ghost use Rattle.file_examples.specs.Values.{sounding};
 
 /// Variable-length quantities, the first and the last of each count of bytes, and 240. SMF 1.0.
@@ -30,22 +32,22 @@ pub fn number_texts()
     ensures greatest { number_text 268435455 ≡ 0xFF ∷ 0xFF ∷ 0xFF ∷ 0x7F ∷ [] }
 {}
 
-/// What is read of bytes: a number and how many bytes it has (SMF 1.0), or what is wrong with it, our own.
+/// The number at the front of bytes and its count of bytes (SMF 1.0), or the fault. The faults are not in ABC 2.1.
 pub fn readings()
-    ensures padded { reading (0x80 ∷ 1 ∷ []) ≡ Err Padded }
-    ensures padded_alone { reading (0x80 ∷ []) ≡ Err Padded }
-    ensures truncated { reading (0x81 ∷ []) ≡ Err Truncated }
-    ensures empty { reading [] ≡ Err Truncated }
-    ensures too_long { reading (0xFF ∷ 0xFF ∷ 0xFF ∷ 0xFF ∷ []) ≡ Err TooLong }
-    ensures one_byte { reading (0x7F ∷ 0x81 ∷ []) ≡ Ok (127, 1) }
-    ensures greatest { reading (0xFF ∷ 0xFF ∷ 0xFF ∷ 0x7F ∷ []) ≡ Ok (268435455, 4) }
+    ensures padded { read_result (0x80 ∷ 1 ∷ []) ≡ Err Padded }
+    ensures padded_alone { read_result (0x80 ∷ []) ≡ Err Padded }
+    ensures truncated { read_result (0x81 ∷ []) ≡ Err Truncated }
+    ensures empty { read_result [] ≡ Err Truncated }
+    ensures too_long { read_result (0xFF ∷ 0xFF ∷ 0xFF ∷ 0xFF ∷ []) ≡ Err TooLong }
+    ensures one_byte { read_result (0x7F ∷ 0x81 ∷ []) ≡ Ok (127, 1) }
+    ensures greatest { read_result (0xFF ∷ 0xFF ∷ 0xFF ∷ 0x7F ∷ []) ≡ Ok (268435455, 4) }
 {}
 
-/// What comes first of two refusals: padded before too long, too long before truncated. Our own.
+/// What comes first of two refusals: padded before too long, too long before truncated. Not in ABC 2.1.
 pub fn refusals_of_numbers()
-    ensures padded { reading (0x80 ∷ 0x80 ∷ 0x80 ∷ 0x80 ∷ []) ≡ Err Padded }
-    ensures too_long { reading (0x81 ∷ 0x80 ∷ 0x80 ∷ 0x80 ∷ 0 ∷ []) ≡ Err TooLong }
-    ensures truncated { reading (0x81 ∷ 0x80 ∷ 0x80 ∷ []) ≡ Err Truncated }
+    ensures padded { read_result (0x80 ∷ 0x80 ∷ 0x80 ∷ 0x80 ∷ []) ≡ Err Padded }
+    ensures too_long { read_result (0x81 ∷ 0x80 ∷ 0x80 ∷ 0x80 ∷ 0 ∷ []) ≡ Err TooLong }
+    ensures truncated { read_result (0x81 ∷ 0x80 ∷ 0x80 ∷ []) ≡ Err Truncated }
 {}
 
 /// The bytes of tempos, meters and keys: 500,000, 300,000 and 1,000,000 microseconds to a quarter; 2/4 and 3/4; no
@@ -62,7 +64,7 @@ pub fn changes()
     ensures seven_flats { encode_upper (change_bytes (Key (negsuc 6) false)) ≡ codes "FF5902F900" }
 {}
 
-/// The denominators of meters: powers of two, from 1 to 64. SMF 1.0; the bound is our own.
+/// The denominators of meters: powers of two, from 1 to 64. SMF 1.0; the bound is not in ABC 2.1.
 pub fn denominators()
     ensures accepted { list_all (is_power_up_to 6) (1 ∷ 2 ∷ 4 ∷ 8 ∷ 16 ∷ 32 ∷ 64 ∷ []) ≡ true }
     ensures refused { list_any (is_power_up_to 6) (0 ∷ 3 ∷ 6 ∷ 12 ∷ 63 ∷ 65 ∷ 128 ∷ []) ≡ false }
@@ -79,30 +81,36 @@ pub fn changes_that_a_file_can_hold()
     ensures eight_sharps { ¬ (IsWritable (Key (pos 8) false)) }
 {}
 
-/// At one tick offs come before ons, and each by key; the end comes last. Our own.
+/// At one tick offs come before ons, and each by key; the end comes last. Not in ABC 2.1.
 pub fn the_order_at_a_tick()
     ensures { in_order events_in_no_order
-        ≡ note_on 0 64 80 0 ∷ note_off 0 60 240 ∷ note_off 0 64 240 ∷ note_on 0 60 80 240 ∷ note_on 0 62 80 240 ∷ end_event 240 ∷ [] }
+        ≡ note_on 0 64 80 0 ∷ note_off 0 60 240 ∷ note_off 0 64 240 ∷ note_on 0 60 80 240 ∷ note_on 0 62 80 240
+        ∷ end_event 240 ∷ [] }
 {}
 
 /// At tick 0 the title comes before the tempo, and the tempo before the meter and the key, in whatever order they are
-/// given. Our own.
+/// given. Not in ABC 2.1.
 pub fn the_order_of_an_opening()
     ensures { encode_upper (track_body 0 (conductor_events (codes "A") opening_changes))
         ≡ codes "00FF03014100FF510307A12000FF58040302180800FF5902000000FF2F00" }
 {}
 
-/// Two notes of 240 ticks, one behind the other: the first ends before the second begins. SMF 1.0; the order is our
+/// Two notes of 240 ticks, one after the other: the first ends before the second begins. SMF 1.0; the order is our
 /// own.
 pub fn notes_in_turn()
     ensures { encode_upper (track_body 480 (voice_events 0 [] (sounding 60 0 240 ∷ sounding 62 240 480 ∷ [])))
         ≡ codes "00903C508170803C4000903E508170803E4000FF2F00" }
 {}
 
-/// A note whose on and off fall on one tick is not written, also where its moments differ. Our own.
+/// A note whose on and off fall on one tick is not written, also if its moments differ. Not in ABC 2.1.
 pub fn a_note_within_a_tick()
     ensures same_moment { note_events 0 (sounding 60 240 240) ≡ [] }
-    ensures later_grain { note_events 0 (record { key = 60; on = record { 0 = 484323840 }; off = record { 0 = 968647679 }; velocity = 80 }) ≡ [] }
+    ensures later_grain { note_events 0 (record {
+      key = 60;
+      on = record { 0 = 484323840 };
+      off = record { 0 = 968647679 };
+      velocity = 80;
+    }) ≡ [] }
 {}
 
 /// The ninth voice has channel 8 and the tenth channel 10, since the tenth channel is for percussion. General MIDI.
@@ -115,7 +123,7 @@ pub fn channels()
     ensures tenth_on { (note_on (channel_of 9) 60 80 0).bytes ≡ 0x9A ∷ 0x3C ∷ 0x50 ∷ [] }
 {}
 
-/// No title, no event. Our own.
+/// No title, no event. Not in ABC 2.1.
 pub fn an_empty_title()
     ensures { title_events [] ≡ [] }
 {}

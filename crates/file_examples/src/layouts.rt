@@ -1,20 +1,26 @@
 //! Worked examples by the definitions of `abc_voices`: sections, plays, notes and changes of tunes. A body here does
 //! nothing; its contract is the example. Notes last one grain.
-#![tactic(auto, unfolding(abc_fields::specs::Letters::play_on, abc_repeat::specs::Mark::names, abc_repeat::specs::Mark::greatest, abc_repeat::specs::Mark::greatest_to, abc_repeat::specs::Order::sections_of, abc_repeat::specs::Play::play_of, abc_repeat::specs::Play::strain_play, abc_time::specs::Grains::grains_of_a_tick))]
+#![tactic(auto, unfolding(abc_fields::specs::Letters::play_on, abc_repeat::specs::Mark::has_number, abc_repeat::specs::Mark::greatest_number, abc_repeat::specs::Mark::greatest_number_to, abc_repeat::specs::Order::sections_of, abc_repeat::specs::Play::play_of, abc_repeat::specs::Play::strain_play, abc_time::specs::Grains::grains_of_a_tick))]
 
 ghost use Rattle.std.specs.Prelude.{◌≡◌, true, false, [], ◌∷◌, Some, None};
 ghost use Rattle.std.specs.List.{list_any};
-ghost use Rattle.abc_items.specs.declared.item.Item.TheVariants as items;
+ghost use Rattle.abc_bars_items.specs.declared.item.Item.TheVariants as items;
 ghost use Rattle.abc_repeat.specs.Strain.{strains_of};
-ghost use Rattle.abc_voices.specs.Arrange.{changes_of, end_of, is_uneven, places_played, played_sections, programs_of, set_in, voices_notes};
+ghost use Rattle.abc_voices.specs.Arrange.{changes_of, end_of, is_uneven, places_played, played_sections, programs_of, set_in};
+ghost use Rattle.abc_voices.specs.Arrange.{voices_notes};
 ghost use Rattle.abc_voices.specs.Change.{program_of, tempo_of};
 ghost use Rattle.abc_voices.specs.Endings.{between_endings_in, without_fields};
-ghost use Rattle.abc_sections.specs.EndingFields.{with_fields_in_endings};
-ghost use Rattle.abc_sections.specs.Play.{marks_of, played};
-ghost use Rattle.abc_sections.specs.Section.{part, sections};
-ghost use Rattle.abc_voices.specs.Ties.{heard, tokens_from};
+ghost use Rattle.abc_voices_sections.specs.EndingFields.{with_fields_in_endings};
+ghost use Rattle.abc_voices_sections.specs.Play.{marks_of, played_items};
+ghost use Rattle.abc_voices_sections.specs.Section.{part, sections};
+ghost use Rattle.abc_voices.specs.Ties.{heard_notes, tokens_from};
 ghost use Rattle.abc_voices.specs.Track.{tracks};
-ghost use Rattle.file_examples.specs.Tunes.{tone, chord, note, tied, rest, bar_rest, single, opening, closing, between, double, first, second, part_a, part_b, voice_1, voice_2, declared_1, opening_tempo, tempo, opening_meter, refused_meter, opening_key, properties, sounding, tempo_change, key_change, note_with, tied_with, held, opening_program, program, refused_opening, refused, sounding_with, program_change, ordered_parts, tempo_between_endings, tempo_in_a_strain};
+ghost use Rattle.file_examples.specs.Tunes.{tone, chord, note, tied, rest, bar_rest, single, opening, closing, between, double};
+ghost use Rattle.file_examples.specs.Tunes.{first, second, part_a, part_b, voice_1, voice_2, declared_1, opening_tempo, tempo};
+ghost use Rattle.file_examples.specs.Tunes.{opening_meter, refused_meter, opening_key, properties, sounding, tempo_change};
+ghost use Rattle.file_examples.specs.Tunes.{key_change, note_with, tied_with, held, opening_program, program, refused_opening};
+ghost use Rattle.file_examples.specs.Tunes.{refused, sounding_with, program_change, ordered_parts, tempo_between_endings};
+ghost use Rattle.file_examples.specs.Tunes.{tempo_in_a_strain};
 
 /// A section begins at each part, and goes on in the voice that is the current one there. ABC 2.1 sections 3.1.9 and 7.
 pub fn sections_of_a_tune()
@@ -26,7 +32,7 @@ pub fn sections_of_a_tune()
         ≡ ([], items.Order (66 ∷ 65 ∷ 66 ∷ []) ∷ []) ∷ ([], note 62 ∷ []) ∷ ([], note 60 ∷ []) ∷ ([], note 62 ∷ []) ∷ [] }
 {}
 
-/// What a voice has in a section is what stands where it is the current one. ABC 2.1 section 7.
+/// A voice has the items of a section at which it is the current voice. ABC 2.1 section 7.
 pub fn parts_of_voices()
     ensures other { part (50 ∷ []) (49 ∷ [], note 60 ∷ voice_2 ∷ note 62 ∷ voice_1 ∷ note 64 ∷ []) ≡ note 62 ∷ [] }
     ensures own { part (49 ∷ []) (49 ∷ [], note 60 ∷ voice_2 ∷ note 62 ∷ voice_1 ∷ note 64 ∷ []) ≡ note 60 ∷ note 64 ∷ [] }
@@ -36,22 +42,22 @@ pub fn parts_of_voices()
 
 /// What is played of a voice's items. ABC 2.1 sections 4.8 and 4.9.
 pub fn plays()
-    ensures straight { played (note 60 ∷ single ∷ note 62 ∷ []) ≡ note 60 ∷ note 62 ∷ [] }
-    ensures repeated { played (opening ∷ note 60 ∷ closing ∷ note 62 ∷ []) ≡ note 60 ∷ note 60 ∷ note 62 ∷ [] }
-    ensures endings { played (opening ∷ note 60 ∷ single ∷ first ∷ note 62 ∷ closing ∷ second ∷ note 64 ∷ double ∷ [])
+    ensures straight { played_items (note 60 ∷ single ∷ note 62 ∷ []) ≡ note 60 ∷ note 62 ∷ [] }
+    ensures repeated { played_items (opening ∷ note 60 ∷ closing ∷ note 62 ∷ []) ≡ note 60 ∷ note 60 ∷ note 62 ∷ [] }
+    ensures endings { played_items (opening ∷ note 60 ∷ single ∷ first ∷ note 62 ∷ closing ∷ second ∷ note 64 ∷ double ∷ [])
         ≡ note 60 ∷ note 62 ∷ note 60 ∷ note 64 ∷ [] }
 {}
 
-/// A field between the endings is played with the one behind it: `|:A|1B:|[Q:]|2F||`. Our own.
+/// A field between the endings is played with the one after it: `|:A|1B:|[Q:]|2F||`. Not in ABC 2.1.
 pub fn fields_before_an_ending()
-    ensures played { played tempo_between_endings
+    ensures played { played_items tempo_between_endings
         ≡ note 69 ∷ note 71 ∷ note 69 ∷ tempo 1000000 ∷ note 66 ∷ [] }
     ensures waiting { between_endings_in (strains_of (marks_of (without_fields tempo_between_endings)))
         ≡ false ∷ false ∷ false ∷ false ∷ false ∷ true ∷ true ∷ false ∷ false ∷ false ∷ [] }
 {}
 
-/// No field is moved behind a bar that opens a strain of its own, `|:A|1B::[Q:]|2F||`, nor behind the common part's own
-/// bar, `A:|[Q:]|1B||`. Our own.
+/// No field is moved after a bar that opens a strain of its own, `|:A|1B::[Q:]|2F||`, nor after the common part's own
+/// bar, `A:|[Q:]|1B||`. Not in ABC 2.1.
 pub fn fields_that_stay()
     ensures opened { with_fields_in_endings tempo_in_a_strain ≡ tempo_in_a_strain }
     ensures common { with_fields_in_endings (note 69 ∷ closing ∷ tempo 1000000 ∷ single ∷ first ∷ note 71 ∷ double ∷ [])
@@ -59,7 +65,7 @@ pub fn fields_that_stay()
 {}
 
 /// Ties go on in play: over a repeat, `|:C-|1C:|2C-||C`, and over sections, while another voice plays on, `P:A`, `V:1`
-/// with `C-`, `V:2` with `EE`, `P:B`, `V:1` with `C`. ABC 2.1 section 4.11; that they do is our own.
+/// with `C-`, `V:2` with `EE`, `P:B`, `V:1` with `C`. ABC 2.1 section 4.11; that they do is not in ABC 2.1.
 pub fn ties_over_repeats_and_sections()
     ensures repeated { voices_notes (opening ∷ tied 60 ∷ single ∷ first ∷ note 60 ∷ closing ∷ second ∷ tied 60 ∷ double ∷ note 60 ∷ [])
         ≡ (sounding 60 2 5 ∷ sounding 60 0 2 ∷ []) ∷ [] }
@@ -68,36 +74,37 @@ pub fn ties_over_repeats_and_sections()
 {}
 
 /// A rest ends a tie, a rest of bars does not; a tied tone is joined with one of its key alone; and of two tied tones of
-/// a key each is joined with its own. Our own.
+/// a key each is joined with its own. Not in ABC 2.1.
 pub fn ties_of_tones()
-    ensures rest { heard (tokens_from 0 (tied 60 ∷ rest ∷ note 60 ∷ []) []) ≡ sounding 60 2 3 ∷ sounding 60 0 1 ∷ [] }
-    ensures bar_rest { heard (tokens_from 0 (tied 60 ∷ bar_rest ∷ note 60 ∷ []) []) ≡ sounding 60 0 3 ∷ [] }
-    ensures other_key { heard (tokens_from 0 (tied 60 ∷ note 62 ∷ []) []) ≡ sounding 62 1 2 ∷ sounding 60 0 1 ∷ [] }
-    ensures not_tied { heard (tokens_from 0 (note 60 ∷ note 60 ∷ []) []) ≡ sounding 60 1 2 ∷ sounding 60 0 1 ∷ [] }
-    ensures in_turn { heard (tokens_from 0 (chord (tone (Some 60) 1 true ∷ tone (Some 60) 2 true ∷ [])
+    ensures rest { heard_notes (tokens_from 0 (tied 60 ∷ rest ∷ note 60 ∷ []) []) ≡ sounding 60 2 3 ∷ sounding 60 0 1 ∷ [] }
+    ensures bar_rest { heard_notes (tokens_from 0 (tied 60 ∷ bar_rest ∷ note 60 ∷ []) []) ≡ sounding 60 0 3 ∷ [] }
+    ensures other_key { heard_notes (tokens_from 0 (tied 60 ∷ note 62 ∷ []) []) ≡ sounding 62 1 2 ∷ sounding 60 0 1 ∷ [] }
+    ensures not_tied { heard_notes (tokens_from 0 (note 60 ∷ note 60 ∷ []) []) ≡ sounding 60 1 2 ∷ sounding 60 0 1 ∷ [] }
+    ensures in_turn { heard_notes (tokens_from 0 (chord (tone (Some 60) 1 true ∷ tone (Some 60) 2 true ∷ [])
         ∷ chord (tone (Some 60) 1 false ∷ tone (Some 60) 4 false ∷ []) ∷ []) [])
         ≡ sounding 60 0 2 ∷ sounding 60 0 5 ∷ [] }
 {}
 
-/// Rests and rests of bars take their time in the play, fields and directives of the body their turn, also where they set
-/// nothing, and those of the header neither. Our own.
+/// Rests and rests of bars take their time in the play, fields and directives of the body their turn, also if they set
+/// nothing, and those of the header neither. Not in ABC 2.1.
 pub fn what_is_played()
-    ensures moments { voices_notes (opening_key ∷ note 60 ∷ rest ∷ bar_rest ∷ note 62 ∷ []) ≡ (sounding 62 3 4 ∷ sounding 60 0 1 ∷ []) ∷ [] }
+    ensures moments { voices_notes (opening_key ∷ note 60 ∷ rest ∷ bar_rest ∷ note 62 ∷ [])
+        ≡ (sounding 62 3 4 ∷ sounding 60 0 1 ∷ []) ∷ [] }
     ensures places { places_played (opening_tempo 400000 ∷ opening_meter ∷ opening_program 5 ∷ opening_key
         ∷ rest ∷ bar_rest ∷ refused_meter ∷ properties ∷ tempo 300000 ∷ program 41 ∷ note 60 ∷ []) ≡ 7 }
     ensures end { end_of (opening_tempo 400000 ∷ opening_key ∷ rest ∷ bar_rest ∷ refused_meter ∷ properties ∷ note 60 ∷ []) ≡ 3 }
 {}
 
 /// A tune ends with its sections, of which a rest is a part. A tone that lasts longer than its chord ends the tune, but a
-/// silent one does not. Our own.
+/// silent one does not. Not in ABC 2.1.
 pub fn the_end_of_a_tune()
     ensures rest { end_of (note 60 ∷ rest ∷ []) ≡ 2 }
     ensures heard { end_of (chord (tone (Some 60) 1 false ∷ tone (Some 62) 5 false ∷ []) ∷ []) ≡ 5 }
     ensures silent { end_of (chord (tone (Some 60) 1 false ∷ tone None 5 false ∷ []) ∷ []) ≡ 1 }
 {}
 
-/// Voices are uneven where they play time in a section and differ in length there, be it by rests of bars; one that plays
-/// none is not. Our own.
+/// Voices are uneven if they differ in length in a section in which both have notes or rests, bar rests included. Not in ABC
+/// 2.1.
 pub fn uneven_voices()
     ensures uneven { list_any (is_uneven ([] ∷ (49 ∷ []) ∷ (50 ∷ []) ∷ []))
         (played_sections (voice_1 ∷ note 60 ∷ voice_2 ∷ note 64 ∷ note 64 ∷ [])) ≡ true }
@@ -111,8 +118,8 @@ pub fn uneven_voices()
         (played_sections (voice_1 ∷ note 60 ∷ voice_2 ∷ bar_rest ∷ [])) ≡ false }
 {}
 
-/// Of tempos at one tick the last in order of play stands, here that of the second voice; and a field between two
-/// endings is heard with the second. Our own.
+/// The last tempo at a tick in order of play counts, here that of the second voice. A field between two endings is played
+/// with the second. Not in ABC 2.1.
 pub fn tempos_at_a_tick()
     ensures last { changes_of (voice_1 ∷ tempo 400000 ∷ note 60 ∷ voice_2 ∷ tempo 300000 ∷ note 60 ∷ [])
         ≡ tempo_change 0 300000 ∷ key_change 0 ∷ [] }
@@ -122,27 +129,29 @@ pub fn tempos_at_a_tick()
 {}
 
 /// A note is as loud as its first tone, `!f!C-!p!C` and over a repeat `|:!p!C!f!C-:|`; notes that are not joined are each
-/// as loud as their own, `!f!C!p!C`. Our own.
+/// as loud as their own, `!f!C!p!C`. Not in ABC 2.1.
 pub fn velocities_of_notes()
-    ensures joined { heard (tokens_from 0 (tied_with 105 60 ∷ note_with 45 60 ∷ []) []) ≡ sounding_with 105 60 0 2 ∷ [] }
+    ensures joined { heard_notes (tokens_from 0 (tied_with 105 60 ∷ note_with 45 60 ∷ []) []) ≡ sounding_with 105 60 0 2 ∷ [] }
     ensures repeated { voices_notes (opening ∷ note_with 45 60 ∷ tied_with 105 60 ∷ closing ∷ [])
         ≡ (sounding_with 105 60 3 4 ∷ sounding_with 105 60 1 3 ∷ sounding_with 45 60 0 1 ∷ []) ∷ [] }
-    ensures apart { heard (tokens_from 0 (note_with 105 60 ∷ note_with 45 60 ∷ []) []) ≡ sounding_with 45 60 1 2 ∷ sounding_with 105 60 0 1 ∷ [] }
+    ensures apart { heard_notes (tokens_from 0 (note_with 105 60 ∷ note_with 45 60 ∷ []) [])
+        ≡ sounding_with 45 60 1 2 ∷ sounding_with 105 60 0 1 ∷ [] }
 {}
 
 /// A voice has the last program of its header, or the last one that it plays on the first tick in its place; one that is
-/// refused sets none. Our own.
+/// refused sets none. Not in ABC 2.1.
 pub fn programs_at_the_beginning()
     ensures none { programs_of (note 60 ∷ []) ≡ [] ∷ [] }
     ensures played { programs_of (program 41 ∷ note 60 ∷ []) ≡ (program_change 0 41 ∷ []) ∷ [] }
-    ensures opening { programs_of (opening_program 5 ∷ opening_program 7 ∷ refused_opening ∷ note 60 ∷ []) ≡ (program_change 0 7 ∷ []) ∷ [] }
+    ensures opening { programs_of (opening_program 5 ∷ opening_program 7 ∷ refused_opening ∷ note 60 ∷ [])
+        ≡ (program_change 0 7 ∷ []) ∷ [] }
     ensures replaced { programs_of (opening_program 5 ∷ program 3 ∷ program 41 ∷ note 60 ∷ []) ≡ (program_change 0 41 ∷ []) ∷ [] }
     ensures on_the_tick { programs_of (opening_program 5 ∷ note 60 ∷ program 41 ∷ note 62 ∷ []) ≡ (program_change 1 41 ∷ []) ∷ [] }
     ensures refused { programs_of (opening_program 5 ∷ refused ∷ note 60 ∷ []) ≡ (program_change 0 5 ∷ []) ∷ [] }
 {}
 
-/// Each voice has the programs that it plays, and none is restored at a repeat: `|:C`, program 41, `D:|E` behind program 5.
-/// Our own.
+/// Each voice has the programs that it plays, and none is restored at a repeat: `|:C`, program 41, `D:|E` after program 5.
+/// Not in ABC 2.1.
 pub fn programs_in_play()
     ensures own { programs_of (opening_program 5 ∷ voice_1 ∷ note 60 ∷ voice_2 ∷ program 6 ∷ note 62 ∷ [])
         ≡ (program_change 0 5 ∷ []) ∷ (program_change 0 6 ∷ []) ∷ [] }
@@ -154,10 +163,10 @@ pub fn programs_in_play()
 {}
 
 /// A program takes its turn in the play, also one that is refused, but no time: ties go on over it, and a voice that plays
-/// nothing else is not uneven. Our own.
+/// nothing else is not uneven. Not in ABC 2.1.
 pub fn programs_take_no_time()
     ensures places { places_played (note 60 ∷ refused ∷ program 41 ∷ []) ≡ 3 }
-    ensures tied { heard (tokens_from 0 (tied 60 ∷ program 41 ∷ note 60 ∷ []) []) ≡ sounding 60 0 2 ∷ [] }
+    ensures tied { heard_notes (tokens_from 0 (tied 60 ∷ program 41 ∷ note 60 ∷ []) []) ≡ sounding 60 0 2 ∷ [] }
     ensures even { list_any (is_uneven ([] ∷ (49 ∷ []) ∷ (50 ∷ []) ∷ []))
         (played_sections (voice_1 ∷ note 60 ∷ voice_2 ∷ program 41 ∷ [])) ≡ false }
 {}

@@ -1,6 +1,6 @@
 //! Worked examples of the tracks of voices by the definitions of `smf_bytes`: velocities and programs. A body here does
 //! nothing; its contract is the example.
-#![tactic(auto, unfolding(abc_time::specs::Grains::grains_of_a_tick, smf_bytes::specs::File::file_bytes, smf_bytes::specs::File::header, smf_bytes::specs::Number::number_text, smf_bytes::specs::Track::track, smf_bytes::specs::Track::track_body, hex::specs::Hex::encode_with))]
+#![tactic(auto, unfolding(abc_time::specs::Grains::grains_of_a_tick, smf_bytes::specs::File::file_bytes, smf_bytes::specs::File::header_chunk, smf_bytes::specs::Number::number_text, smf_bytes::specs::Track::track, smf_bytes::specs::Track::track_body, hex::specs::Hex::encode_with))]
 
 ghost use Rattle.std.specs.Prelude.{◌≡◌, [], ◌∷◌, codes};
 ghost use Rattle.hex.specs.Hex.{encode_upper};
@@ -17,7 +17,7 @@ pub fn a_program()
         ≡ codes "4D54726B0000001000C02900903C508170803C4000FF2F00" }
 {}
 
-/// A note without a dynamic before it, and two behind a forte. SMF 1.0; the velocities are our own.
+/// A note without a dynamic before it, and two after a forte. SMF 1.0; the velocities are not in ABC 2.1.
 pub fn velocities()
     ensures { encode_upper (track_body 720 (voice_events 0 [] two_loud_notes))
         ≡ codes "00903C508170803C4000903E698170803E4000904069817080404000FF2F00" }
@@ -30,11 +30,12 @@ pub fn bounds()
     ensures last_program { (program_change 0 127 0).bytes ≡ 0xC0 ∷ 0x7F ∷ [] }
 {}
 
-/// At one tick a program comes behind the note that ends and before the one that begins, whatever their keys. Our own.
+/// At one tick a program comes after the note that ends and before the one that begins, whatever their keys. Not in ABC 2.1.
 pub fn a_program_between_notes()
     ensures events { in_order (note_on 0 0 1 240 ∷ program_change 0 41 240 ∷ end_event 240 ∷ note_off 0 127 240 ∷ [])
         ≡ note_off 0 127 240 ∷ program_change 0 41 240 ∷ note_on 0 0 1 240 ∷ end_event 240 ∷ [] }
-    ensures bytes { encode_upper (track_body 480 (voice_events 0 (program_at 240 41 ∷ []) (sounding 60 240 480 ∷ sounding 62 0 240 ∷ [])))
+    ensures bytes { encode_upper (track_body 480 (voice_events 0 (program_at 240 41 ∷ [])
+        (sounding 60 240 480 ∷ sounding 62 0 240 ∷ [])))
         ≡ codes "00903E508170803E4000C02900903C508170803C4000FF2F00" }
 {}
 
@@ -45,7 +46,7 @@ pub fn programs_in_no_order()
         ≡ codes "00C00500903C5078C00678803C4000C00700FF2F00" }
 {}
 
-/// Two notes of one key that begin at one tick: the softer one comes first. Our own.
+/// Two notes of one key that begin at one tick: the softer one comes first. Not in ABC 2.1.
 pub fn the_softer_note_first()
     ensures { in_order (note_on 0 60 80 0 ∷ note_on 0 60 30 0 ∷ []) ≡ note_on 0 60 30 0 ∷ note_on 0 60 80 0 ∷ [] }
 {}

@@ -1,5 +1,5 @@
-//! Splices of one line in a long text, for the clock. The arguments: how many lines, how many splices, and how far from
-//! the last one each of them is.
+//! Splices of one line in a long text, for timing. The arguments are the number of lines, the number of splices, and the
+//! distance of each splice from the one before it.
 #![tactic(auto)]
 
 use abc_lines::{EditError, LineBuffer};
@@ -9,7 +9,7 @@ use std::process::ExitCode;
 use std::rt::Runtime;
 
 fn main(rt: HostRuntime) -> ExitCode {
-    match timed(&rt) {
+    match make_splices(&rt) {
         Ok(()) => ExitCode::SUCCESS,
         Err(error) => {
             let _ = eprintln!(rt; "{error}");
@@ -19,14 +19,14 @@ fn main(rt: HostRuntime) -> ExitCode {
 }
 
 /// Makes the splices that the command line asks for.
-fn timed<R: Runtime + AllocGlobal>(rt: &R) -> Result<(), EditError> {
+fn make_splices<R: Runtime + AllocGlobal>(rt: &R) -> Result<(), EditError> {
     let numbers = numbers(rt)?;
-    let count = spliced(rt.alloc(), numbers[0], numbers[1], numbers[2])?;
+    let count = splice_lines(rt.alloc(), numbers[0], numbers[1], numbers[2])?;
     let _ = println!(rt; "{count} lines");
     Ok(())
 }
 
-/// The three numbers of the command line; 0 where there is none.
+/// Returns the three numbers of the command line, 0 for a missing one.
 fn numbers<R: Runtime + AllocGlobal>(rt: &R) -> Result<[u32; 3], AllocError> {
     let mut numbers = [0; 3];
     let Ok(words) = env::args(rt) else {
@@ -41,8 +41,8 @@ fn numbers<R: Runtime + AllocGlobal>(rt: &R) -> Result<[u32; 3], AllocError> {
     Ok(numbers)
 }
 
-/// How many lines a text has after splices of one line, each so far from the last one.
-fn spliced(alloc: Global, lines: u32, splices: u32, step: u32) -> Result<usize, EditError> {
+/// Returns the number of lines of a text after splices of one line, each `step` lines after the one before it.
+fn splice_lines(alloc: Global, lines: u32, splices: u32, step: u32) -> Result<usize, EditError> {
     let mut text = LineBuffer::new(alloc)?;
     let mut all = Vec::new(alloc);
     for _ in 0..lines {

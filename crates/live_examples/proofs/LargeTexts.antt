@@ -1,4 +1,5 @@
-use Rattle.std.proofs.Common.{◌≡◌, ℕ, ◌+◌, [], ◌∷◌, ◌++◌, Bool, true, false, not, length, cond, nat_le, Result, Ok, Err, codes, ap, ap₂, ◌∙◌, length-append}
+use Rattle.std.proofs.Common.{◌≡◌, ℕ, ◌+◌, [], ◌∷◌, ◌++◌, Bool, true, false, not, length, cond, nat_le, Result, Ok, Err, codes}
+use Rattle.std.proofs.Common.{ap, ap₂, ◌∙◌, length-append}
 use Rattle.std.specs.List.{list_all}
 use Rattle.abc_lines.specs.Text.{Text, is_line, spliced}
 use Rattle.abc_lines.specs.Edits.{edited, insertion, replaced}

@@ -1,5 +1,5 @@
-pub mod Held
-pub mod Marked
+pub mod HeldJobs
+pub mod MarkedToy
 pub mod Toy
 pub mod ToyLaws
 pub mod Values

@@ -1,7 +1,8 @@
--- A toy language of tunes, small enough to be worked by hand. A field D: sets the byte that stands before each music
--- line of a file, in a file header for all tunes; T: is a title; a line of music that begins with `!` is a fault; a
--- tune of more than four lines has no file. Our own.
-use Rattle.std.specs.Prelude.{ℕ, ◌-◌, ◌==◌, Bool, false, if◌then◌else◌, List, [], ◌∷◌, length, drop, nat_le, Option, Some, None, unwrap_or, slice_index}
+-- A toy language of tunes, small enough to be worked by hand. A field D: sets the byte that is before each music line
+-- of a file, in a file header for all tunes; T: is a title; a line of music that begins with `!` is a fault; a tune of
+-- more than four lines has no file. Not in ABC 2.1.
+use Rattle.std.specs.Prelude.{ℕ, ◌-◌, ◌==◌, Bool, false, if◌then◌else◌, List, [], ◌∷◌, length, drop, nat_le, Option, Some, None}
+use Rattle.std.specs.Prelude.{unwrap_or, slice_index}
 use Rattle.std.specs.List.{flat_map}
 use Rattle.abc_fields.specs.declared.fault.FaultCode.{FaultCode}
 use Rattle.abc_fields.specs.declared.fault.FaultCode.TheVariants.{BadByte, TuneTooLong}
@@ -10,8 +11,8 @@ use Rattle.abc_lines.specs.Text.{Text}
 use Rattle.abc_scan.specs.Class.{class_of}
 use Rattle.abc_scan.specs.declared.class.LineClass.{LineClass}
 use Rattle.abc_scan.specs.declared.class.LineClass.TheVariants.{Blank, Comment, Field, Directive, Music}
-use Rattle.abc_tunebook.specs.Book.{Book, book_of}
-use Rattle.abc_tunebook.specs.Rules.{Rules}
+use Rattle.abc_tune_compiler.specs.Book.{Book, book_of}
+use Rattle.abc_tune_compiler.specs.Rules.{Rules}
 use Rattle.live_examples.specs.declared.toy.Played.{Played}
 
 -- Whether a line begins with this byte.
@@ -19,11 +20,11 @@ abbrev pub begins_with : ℕ → List ℕ → Bool
 begins_with byte [] = false
 begins_with byte (first ∷ rest) = first == byte
 
--- What a line has behind its first two bytes.
+-- What a line has after its first two bytes.
 abbrev pub value_of : List ℕ → List ℕ
 value_of line = drop 2 line
 
--- The first byte of that, 0 where there is none.
+-- The first byte of that, 0 if there is none.
 abbrev pub first_of_value : List ℕ → ℕ
 first_of_value line = slice_index line 2
 
@@ -39,13 +40,13 @@ cells_of_class Music line = line ∷ []
 abbrev pub cells_of : List ℕ → List (List ℕ)
 cells_of line = cells_of_class (class_of line) line
 
--- The byte that stands before music lines, behind a line.
+-- The byte that is put before music lines, after a line.
 abbrev pub next_byte : ℕ → List ℕ → ℕ
 next_byte byte line = if begins_with 68 line then first_of_value line else byte
 
--- A line, and the byte that stands before music lines there.
-abbrev pub played : ℕ → List ℕ → Played
-played byte line = record { byte = byte; line = line }
+-- A line, and the byte that is put before music lines there.
+abbrev pub played_line : ℕ → List ℕ → Played
+played_line byte line = record { byte = byte; line = line }
 
 -- The byte where nothing sets it: `0`.
 abbrev pub no_byte : ℕ
@@ -100,7 +101,7 @@ toy_rules = record {
 
 -- The toy's fold, whose states are alike where they are equal.
 abbrev pub toy_steps : Steps ℕ (List ℕ) Played
-toy_steps = record { next = next_byte; gives = played; alike = λ a b. a == b }
+toy_steps = record { next = next_byte; gives = played_line; alike = λ a b. a == b }
 
 -- The book of a text in the toy language.
 abbrev pub toy_book : Text → Book

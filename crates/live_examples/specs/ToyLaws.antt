@@ -1,8 +1,8 @@
--- What a session relies on of the toy. Our own.
+-- What a session relies on of the toy. Not in ABC 2.1.
 use Rattle.std.specs.Prelude.{◌≡◌, ◌↔◌, ◌⊎◌, ℕ, ◌==◌, IsTrue, List, [], refl}
 use Rattle.std.proofs.Common.{inl, inr}
 use Rattle.std.proofs.lemmas.Bool.{eqb-true, eq-eqb}
-use Rattle.abc_compiler.specs.Lawful.{AreLawful}
+use Rattle.abc_tune_compiler.specs.Lawful.{AreLawful}
 use Rattle.abc_fold.specs.Steps.{IsResumable, resumable_where_equal}
 use Rattle.abc_scan.specs.Class.{class_of}
 use Rattle.abc_scan.specs.declared.class.LineClass.{LineClass}
@@ -31,5 +31,5 @@ toy_lawful = record {
   without_cells = toy_without_cells;
 }
 
-pub toy_told_apart : (a b : ℕ) → IsTrue (a == b) → a ≡ b
-toy_told_apart a b same = eqb-true a b same
+pub toy_eq_is_sound : (a b : ℕ) → IsTrue (a == b) → a ≡ b
+toy_eq_is_sound a b same = eqb-true a b same

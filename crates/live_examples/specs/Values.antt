@@ -1,9 +1,9 @@
--- Values as the worked examples write them. Our own.
+-- Values as the worked examples write them. Not in ABC 2.1.
 use Rattle.std.specs.Prelude.{List, [], ◌∷◌, codes}
 use Rattle.abc_fields.specs.declared.fault.FaultCode.TheVariants.{BadByte, BadReference}
 use Rattle.abc_lines.specs.Text.{Text}
-use Rattle.abc_tunebook.specs.Tune.{fault_in}
-use Rattle.abc_tunebook.specs.declared.fault.Fault.{Fault}
+use Rattle.abc_tune_compiler.specs.Tune.{fault_in}
+use Rattle.abc_tune_compiler.specs.declared.fault.Fault.{Fault}
 
 -- a text of four lines
 abbrev pub four_lines : Text
@@ -16,4 +16,5 @@ faulty_blocks = codes "D:5" ∷ codes "!" ∷ [] ∷ codes "X:2" ∷ codes "!" �
 -- faults in no order, of which one stands twice
 abbrev pub faults_in_no_order : List Fault
 faults_in_no_order =
-    fault_in 2 (1, BadByte) ∷ fault_in 1 (9, BadByte) ∷ fault_in 1 (2, BadByte) ∷ fault_in 1 (2, BadReference) ∷ fault_in 2 (1, BadByte) ∷ []
+    fault_in 2 (1, BadByte) ∷ fault_in 1 (9, BadByte) ∷ fault_in 1 (2, BadByte) ∷ fault_in 1 (2, BadReference)
+    ∷ fault_in 2 (1, BadByte) ∷ []

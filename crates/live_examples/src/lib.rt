@@ -1,11 +1,11 @@
 //! Code over the public calls of a session and a publisher, and worked examples by the definitions alone: toy compilers
 //! of tunes, a memo of such tunes, jobs that a caller holds, edits of a text, books in the toy language, the lines of
 //! tune books and the lists that are answered. Expected values are worked by hand from the toy's definitions and from
-//! `docs/program.md`. The tests of all these are in `session_examples`, so that nothing here is proved again with them.
+//! `docs/protocol.md`. The tests of all these are in `tests`, so that nothing here is proved again with them.
 #![tactic(auto)]
 
 pub mod definitions;
-pub mod held;
-pub mod marked;
+pub mod held_jobs;
+pub mod marked_toy;
 pub mod memo;
 pub mod toy;

@@ -21,9 +21,9 @@ pub struct ToyMemo {
 
 impl Model for ToyMemo {
     ghost use Rattle.std.specs.Prelude.{ℕ, List};
-    ghost use Rattle.abc_compiler.specs.declared.built.Built.{Built};
-    ghost use Rattle.abc_memo.specs.declared.key.TuneKey.{TuneKey};
-    ghost use Rattle.abc_memo.specs.Memo.{Remembers};
+    ghost use Rattle.abc_tune_compiler.specs.declared.built.Built.{Built};
+    ghost use Rattle.abc_tune_memo.specs.declared.key.TuneKey.{TuneKey};
+    ghost use Rattle.abc_tune_memo.specs.Memo.{Remembers};
     ghost use Rattle.live_examples.specs.Toy.{toy_rules, toy_steps};
 
     ghost Value = { List (TuneKey ℕ × Built) };
@@ -33,7 +33,7 @@ impl Model for ToyMemo {
     ghost invariant = { λ own. Remembers toy_steps toy_rules own.memo };
 }
 
-/// What the cells of a line give behind a byte.
+/// What the cells of a line give after a byte.
 fn items_of(
     alloc: Global,
     byte: u8,
@@ -47,8 +47,8 @@ fn items_of(
         LineClass::Blank | LineClass::Comment => Ok(items),
         LineClass::Field(_) | LineClass::Directive | LineClass::Music => {
             let cell = Sequence::from_slice(alloc, line)?;
-            let (_, played) = Toy.step(alloc, &byte, &cell, work)?;
-            items.push(played)?;
+            let (_, played_line) = Toy.step(alloc, &byte, &cell, work)?;
+            items.push(played_line)?;
             Ok(items)
         }
     }
@@ -61,7 +61,7 @@ impl ToyMemo {
         Ok(ToyMemo { memo })
     }
 
-    /// What is built of a tune of one line behind a file header that sets this byte.
+    /// What is built of a tune of one line after a file header that sets this byte.
     pub fn ask(
         &mut self,
         alloc: Global,

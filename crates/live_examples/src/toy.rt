@@ -3,9 +3,10 @@
 ghost use Rattle.std.specs.Prelude.{◌≡◌, ◌++◌, ◌==◌, IfOk, OnOk, option_copied};
 ghost use Rattle.std.specs.List.{flat_map};
 ghost use Rattle.abc_scan.specs.Class.{class_of};
-ghost use Rattle.abc_tunebook.specs.Files.{file_at};
-ghost use Rattle.live_examples.specs.Toy.{begins_with, bytes_of_class, cells_of, first_of_value, is_long, next_byte, played, toy_book, toy_rules, toy_steps, value_of};
-ghost use Rattle.live_examples.specs.ToyLaws.{toy_lawful, toy_resumable, toy_told_apart};
+ghost use Rattle.abc_tune_compiler.specs.Files.{file_at};
+ghost use Rattle.live_examples.specs.Toy.{begins_with, bytes_of_class, cells_of, first_of_value, is_long, next_byte, played_line};
+ghost use Rattle.live_examples.specs.Toy.{toy_book, toy_rules, toy_steps, value_of};
+ghost use Rattle.live_examples.specs.ToyLaws.{toy_lawful, toy_resumable, toy_eq_is_sound};
 
 use abc_fields::FaultCode;
 use abc_fold::{Fold, Shared, Work};
@@ -19,7 +20,7 @@ use std::alloc::{AllocError, Global};
 #[derive(Drop)]
 pub struct Toy;
 
-/// A line, and the byte that stands before music lines there.
+/// A line, and the byte that is put before music lines there.
 #[derive(Drop)]
 pub struct Played {
     byte: u8,
@@ -36,7 +37,7 @@ fn begins_with(byte: u8, line: &[u8]) -> bool
     }
 }
 
-/// What a line has behind its first two bytes.
+/// What a line has after its first two bytes.
 fn value_of(line: &[u8]) -> &[u8]
     ensures { result.now ≡ value_of line.now }
 {
@@ -47,7 +48,7 @@ fn value_of(line: &[u8]) -> &[u8]
     }
 }
 
-/// The first byte of that, 0 where there is none.
+/// The first byte of that, 0 if there is none.
 fn first_of_value(line: &[u8]) -> u8
     ensures { result ≡ first_of_value line.now }
 {
@@ -57,7 +58,7 @@ fn first_of_value(line: &[u8]) -> u8
     }
 }
 
-/// The byte that stands before music lines, behind a line.
+/// The byte that is put before music lines, after a line.
 fn next_byte(byte: u8, line: &[u8]) -> u8
     ensures { result ≡ next_byte byte line.now }
 {
@@ -142,7 +143,7 @@ fn is_long(all: &[Played]) -> bool
     all.len() >= 5
 }
 
-/// Puts what a line gives behind what a file has.
+/// Puts what a line gives after what a file has.
 fn put_line(file: &mut Sequence<u8>, one: &Played) -> Result<(), AllocError>
     ensures { OnOk result (file.new ≡ file.old ++ bytes_of_class (class_of one.now.line) one.now) }
 {
@@ -157,7 +158,7 @@ fn put_line(file: &mut Sequence<u8>, one: &Played) -> Result<(), AllocError>
     }
 }
 
-/// Puts bytes behind others.
+/// Puts bytes after others.
 fn put_bytes(file: &mut Sequence<u8>, bytes: &[u8]) -> Result<(), AllocError>
     ensures { OnOk result (file.new ≡ file.old ++ bytes.now) }
 {
@@ -185,7 +186,7 @@ impl Compiler for Toy {
 
     ghost lawful = { λ _. toy_lawful };
 
-    ghost told_apart = { toy_told_apart };
+    ghost eq_is_sound = { toy_eq_is_sound };
 
     fn class(&self, line: &[u8]) -> LineClass {
         class_of(line)

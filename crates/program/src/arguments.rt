@@ -6,7 +6,7 @@ use std::alloc::{AllocError, Global};
 /// The version of the program, its clients and its packages. `scripts/version` reads this line.
 const VERSION: &str = "1.0.0";
 
-/// The commands in a line each, and what is answered.
+/// The commands in a line each, and their answers.
 const COMMANDS: &str = "\
 Commands, one on a line of standard input:
   insert L K     puts the K lines that follow before line L; lines are counted from 1
@@ -24,7 +24,7 @@ An edit is answered 'ok written' and the tunes whose files are new or changed, t
 that have no file any more; or 'error' and why it was refused. A line that is no command is answered
 'error command'. Answers are lines of standard output, each complete before the next command is read.";
 
-/// What the program takes from its command line.
+/// Returns the description of the command line.
 pub(crate) fn command<'a>(alloc: Global) -> Result<Command<'a>, AllocError> {
     let dir = Arg::new(alloc, "dir")
         .long("dir")

@@ -1,4 +1,4 @@
-//! The folder that the MIDI files are kept in.
+//! The folder of the MIDI files.
 
 ghost use Rattle.std.specs.Prelude.{None};
 ghost use Rattle.abc2midi_live.specs.Storing.{store_seen};
@@ -8,19 +8,19 @@ use std::fs::{self, File};
 use std::io::{self, ErrorKind, Write};
 use std::rt::Runtime;
 
-/// What stands under a name.
+/// The kind of thing under a name.
 #[derive(Drop)]
 pub(crate) enum Place {
     Folder,
-    /// A file, or something else that is no folder.
+    /// A file, or something else that is not a folder.
     NoFolder,
     Nothing,
-    /// It cannot be seen, as where a folder in the path may not be entered.
+    /// It cannot be reached, for instance if a folder in the path may not be entered.
     Hidden(io::Error),
 }
 
-/// Files by their names in one folder. Each file that cannot be stored or removed is told on standard error, with the
-/// reason.
+/// Files by their names in one folder. For each file that cannot be stored or removed it prints the reason on standard
+/// error.
 #[derive(Drop)]
 pub(crate) struct Directory<'a, R: Runtime + AllocGlobal> {
     rt: &'a R,
@@ -39,7 +39,7 @@ impl<'a, R: Runtime + AllocGlobal> Directory<'a, R> {
         }
     }
 
-    /// What stands under the folder's name.
+    /// Returns the kind of thing under the folder's name.
     pub(crate) fn place(&self) -> Place {
         match fs::metadata(self.rt, self.path) {
             Ok(metadata) if metadata.is_dir() => Place::Folder,
@@ -49,7 +49,7 @@ impl<'a, R: Runtime + AllocGlobal> Directory<'a, R> {
         }
     }
 
-    /// The path of a name in the folder. Below an empty path there is nothing.
+    /// Returns the path of a name in the folder. An empty path has no files.
     fn path_of(&self, name: &str) -> io::Result<String> {
         if self.path.is_empty() {
             return Err(io::Error::from(ErrorKind::NotFound));
@@ -57,14 +57,14 @@ impl<'a, R: Runtime + AllocGlobal> Directory<'a, R> {
         Ok(format!(in self.rt.alloc(); "{}/{name}", self.path)?)
     }
 
-    /// The path that a file is written under before it takes its name.
+    /// Returns the path of a file before it takes its name.
     fn path_beside(&self, name: &str) -> io::Result<String> {
         let beside = format!(in self.rt.alloc(); ".{name}.new")?;
         self.path_of(beside.as_str())
     }
 
-    /// Puts a file in place in one step: who reads it finds the old bytes or the new ones, never a part of them.
-    /// After an error the old file stands.
+    /// Replaces a file in one step: a reader always sees a complete file, old or new. After an error the old file is
+    /// still there.
     fn write(&self, name: &str, bytes: &[u8]) -> io::Result<()> {
         let path = self.path_of(name)?;
         let beside = self.path_beside(name)?;
@@ -76,7 +76,7 @@ impl<'a, R: Runtime + AllocGlobal> Directory<'a, R> {
         outcome
     }
 
-    /// Makes a file under a path. What a crash may have left there is removed, and never written through.
+    /// Creates a file under a path. A file that a crash has left there is removed, and never written through.
     fn new_file(&self, path: &str) -> io::Result<R::File> {
         match File::create_new(self.rt, path) {
             Err(error) if error.kind() == ErrorKind::AlreadyExists => {
@@ -87,7 +87,7 @@ impl<'a, R: Runtime + AllocGlobal> Directory<'a, R> {
         }
     }
 
-    /// Writes a file that was made under a path, and gives it another one, in place of what is there.
+    /// Writes a new file, and renames it to another path, where it replaces the old one.
     fn fill(&self, mut file: R::File, bytes: &[u8], beside: &str, path: &str) -> io::Result<()> {
         file.write_all(bytes)?;
         drop(file);
@@ -106,7 +106,7 @@ impl<'a, R: Runtime + AllocGlobal> Directory<'a, R> {
         self.delete(path.as_str())
     }
 
-    /// Says on standard error why a file could not be stored or removed.
+    /// Prints on standard error why a file could not be stored or removed.
     fn tell(&self, name: &str, error: io::Error) {
         let _ = eprintln!(self.rt; "{name}: {error}");
     }

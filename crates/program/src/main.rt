@@ -14,7 +14,7 @@ use std::process::ExitCode;
 use std::rt::{Files, Runtime};
 use std::{env, fs, io};
 
-/// Why the program ends with another status than 0.
+/// The reason for an exit status other than 0.
 #[derive(Drop)]
 enum Failure {
     /// A stream failed, or memory ran out.
@@ -73,7 +73,7 @@ fn status_of(fault: RunFault) -> u8 {
     }
 }
 
-/// The words of the command line.
+/// Returns the words of the command line.
 fn words_of<R: Runtime + AllocGlobal>(rt: &R) -> Result<Vec<String>, Failure> {
     match env::args(rt) {
         Ok(words) => Ok(words.collect(rt.alloc())?),
@@ -82,7 +82,7 @@ fn words_of<R: Runtime + AllocGlobal>(rt: &R) -> Result<Vec<String>, Failure> {
     }
 }
 
-/// Says on standard error where no MIDI file can be stored. The run goes on.
+/// Prints a warning on standard error if no MIDI file can be stored. The run continues.
 fn warn<R: Runtime + AllocGlobal>(rt: &R, dir: &str, place: Place) {
     let _ = match place {
         Place::Folder => Ok(()),
@@ -102,14 +102,14 @@ fn warn<R: Runtime + AllocGlobal>(rt: &R, dir: &str, place: Place) {
     };
 }
 
-/// Says on standard error where the tune book is refused, and why. The run goes on with the empty text.
+/// Prints a warning on standard error if the tune book is refused. The run continues with an empty text.
 fn warn_of_book<R: Runtime + AllocGlobal>(rt: &R, path: &str, book: &[u8]) {
     if let Some(fault) = fault_of_book(book) {
         let _ = eprintln!(rt; "warning: the tune book '{path}' is refused: {fault}");
     }
 }
 
-/// The bytes of the tune book, if there is one. Where it cannot be read, or is refused, standard error says why.
+/// Returns the bytes of the tune book, if there is one. If it cannot be read or is refused, prints why on standard error.
 fn book_of<R: Runtime + Files + AllocGlobal>(
     rt: &R,
     path: Option<&str>,

@@ -6,19 +6,19 @@ ghost use Rattle.std.specs.Option.{option_copied, option_copied_mut};
 ghost use Rattle.abc_bars.specs.Defaults.{no_defaults};
 ghost use Rattle.abc_bars.specs.Entry.{defaults_of, opening_after};
 ghost use Rattle.abc_bars.specs.Item.{IsItem};
-ghost use Rattle.abc_bars.specs.LentTones.{lent_tones};
+ghost use Rattle.abc_bars.specs.TonesView.{viewed_tones};
 ghost use Rattle.abc_bars.specs.SameDefaults.{same_defaults};
 ghost use Rattle.abc_bars.specs.SameEntry.{bar_steps};
-ghost use Rattle.abc_bars.specs.Settings.{without_accidentals};
-ghost use Rattle.abc_bars.specs.Step.{stepped};
+ghost use Rattle.abc_bars.specs.VoiceState.{without_accidentals};
+ghost use Rattle.abc_bars.specs.Step.{entry_step};
 ghost use Rattle.abc_bars.specs.Voices.{voice_at};
 ghost use Rattle.abc_bars.specs.VoicesLent.{lends_voice};
 
 use abc_bars::{
     BarFold, BarLine, Body, Cell, Defaults, Entry, FaultCode, Fold, Grains, Header, Item, ItemText,
-    Items, ItemsBuilder, LentTones, LocalFault, Meter, Reach, Sequence, Settings, Shared,
-    ShortSequence, Token, Tone, Tones, TuneMeter, TuneProgram, TuneTempo, UnitLength, VoiceName,
-    Voices, Work,
+    Items, ItemsBuilder, LocalFault, Meter, Reach, Sequence, Shared, ShortSequence, Token, Tone,
+    Tones, TonesView, TuneMeter, TuneProgram, TuneTempo, UnitLength, VoiceName, VoiceState, Voices,
+    Work,
 };
 use std::alloc::{AllocError, Global};
 
@@ -97,8 +97,8 @@ pub fn body_in(entry: &Entry) -> Option<&Shared<Body>> {
 }
 
 /// Whether a state stays as it is over tokens.
-pub fn stays(entry: &Entry, tokens: &[Token], next: &Entry) -> bool
-    requires { next.now ≡ (stepped entry.now tokens.now).0 }
+pub fn entry_stays(entry: &Entry, tokens: &[Token], next: &Entry) -> bool
+    requires { next.now ≡ (entry_step entry.now tokens.now).0 }
 {
     entry.stays(tokens, next)
 }
@@ -126,14 +126,14 @@ pub fn voice_name(alloc: Global, bytes: &[u8]) -> Result<VoiceName, AllocError>
 }
 
 /// Ends the accidentals of a bar.
-pub fn end_accidentals(settings: &mut Settings)
-    ensures value { settings.new ≡ without_accidentals settings.old }
+pub fn end_accidentals(state: &mut VoiceState)
+    ensures value { state.new ≡ without_accidentals state.old }
 {
-    settings.clear_accidentals();
+    state.clear_accidentals();
 }
 
 /// Returns the items and the faults of a cell.
-pub fn given_by(items: &Items) -> (&[Item], &[LocalFault])
+pub fn parts_of_items(items: &Items) -> (&[Item], &[LocalFault])
     ensures items { result.0.now ≡ items.now.items }
     ensures range { All IsItem result.0.now }
 {
@@ -165,17 +165,17 @@ pub fn tones_of(alloc: Global, tones: ShortSequence<Tone>) -> Result<Tones, Allo
 }
 
 /// Borrows the tones.
-pub fn lent(tones: &Tones) -> LentTones<'_>
-    ensures value { lent_tones result ≡ tones.now }
+pub fn borrow_tones(tones: &Tones) -> TonesView<'_>
+    ensures value { viewed_tones result ≡ tones.now }
 {
-    tones.lent()
+    tones.view()
 }
 
 /// Returns the key of the tone, if it is one.
-pub fn key_of(lent: LentTones<'_>) -> Option<u8> {
+pub fn key_of(lent: TonesView<'_>) -> Option<u8> {
     match lent {
-        LentTones::One(tone) => tone.key,
-        LentTones::List(_) => None,
+        TonesView::One(tone) => tone.key,
+        TonesView::List(_) => None,
     }
 }
 

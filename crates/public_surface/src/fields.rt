@@ -60,7 +60,7 @@ pub fn voice_value(value: &[u8]) -> Result<Voice, FaultCode>
 }
 
 /// Returns how a signature alters a letter.
-pub fn altered_by(signature: &Signature, letter: Letter) -> i8
+pub fn alteration_of(signature: &Signature, letter: Letter) -> i8
     ensures value { result ≡ alteration signature.now letter }
 {
     alteration(signature, letter)

@@ -99,7 +99,10 @@ pub fn drop_chain<F: Fold>(patch: ChainPatch<F>) -> usize {
 }
 
 /// Returns the state in which a cell is entered, and what the cell gives.
-pub fn kept_at<F: Fold>(chain: &Chain<F>, i: usize) -> (Option<&F::State>, Option<&F::Items>)
+pub fn entry_and_items_at<F: Fold>(
+    chain: &Chain<F>,
+    i: usize,
+) -> (Option<&F::State>, Option<&F::Items>)
     ensures entry { option_copied result.0 ≡ slice_get chain.now.entries i }
     ensures items { option_copied result.1 ≡ slice_get chain.now.items i }
 {
@@ -107,7 +110,7 @@ pub fn kept_at<F: Fold>(chain: &Chain<F>, i: usize) -> (Option<&F::State>, Optio
 }
 
 /// Returns the same of a patch.
-pub fn prepared_at<F: Fold>(
+pub fn prepared_parts_at<F: Fold>(
     patch: &ChainPatch<F>,
     i: usize,
 ) -> (Option<&F::State>, Option<&F::Items>)

@@ -1,7 +1,7 @@
 //! Jobs for a directory, by `abc_publish`.
 
 ghost use Rattle.std.specs.Prelude.{◌≡◌, ◌↔◌, IfOk, IsTrue, Some};
-ghost use Rattle.abc_publish.specs.Publisher.{IsNextJob, IsSettled, ended, is_pending, maps_of, stored_as};
+ghost use Rattle.abc_publish.specs.Publisher.{IsNextJob, IsSettled, without_job, is_pending, maps_of, stored_as};
 ghost use Rattle.abc_publish.specs.Session.{book_in};
 ghost use Rattle.abc_publish.specs.declared.slot.Stored.TheVariants.{Unknown};
 
@@ -34,7 +34,7 @@ pub fn next_job<C: Compiler>(
 /// Ends a job that has stored or removed its file.
 pub fn end_done(publisher: &mut Publisher, job: Job)
     requires { (maps_of publisher.old).jobs job.number ≡ Some job.bytes }
-    ensures value { maps_of publisher.new ≡ ended (maps_of publisher.old) job.number (stored_as job.bytes) }
+    ensures value { maps_of publisher.new ≡ without_job (maps_of publisher.old) job.number (stored_as job.bytes) }
 {
     publisher.done(job);
 }
@@ -42,7 +42,7 @@ pub fn end_done(publisher: &mut Publisher, job: Job)
 /// Ends a job that has failed.
 pub fn end_failed(publisher: &mut Publisher, job: Job)
     requires { (maps_of publisher.old).jobs job.number ≡ Some job.bytes }
-    ensures value { maps_of publisher.new ≡ ended (maps_of publisher.old) job.number (Some Unknown) }
+    ensures value { maps_of publisher.new ≡ without_job (maps_of publisher.old) job.number (Some Unknown) }
 {
     publisher.failed(job);
 }

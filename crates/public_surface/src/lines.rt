@@ -56,7 +56,7 @@ pub fn drop_splice(patch: LinePatch) {
     patch.drop_patch();
 }
 
-/// Whether an edit is refused for its lines and not for want of memory.
+/// Whether an edit is refused for its lines and not because an allocation failed.
 pub fn is_of_lines(error: EditError) -> bool {
     match error {
         EditError::BadRange | EditError::BadLine | EditError::TooLarge => true,

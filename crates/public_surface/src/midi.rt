@@ -36,7 +36,7 @@ pub fn is_cut_off(fault: NumberFault) -> bool {
 }
 
 /// Orders events.
-pub fn ordered(events: Vec<Event>) -> Result<Vec<Event>, AllocError>
+pub fn order(events: Vec<Event>) -> Result<Vec<Event>, AllocError>
     ensures value { IfOk result (λ ordered. ordered.items ≡ in_order events.items) }
 {
     order_events(events)

@@ -29,7 +29,7 @@ pub fn played_sections(
 }
 
 /// Whether a mark repeats what is before it.
-pub fn repeats(mark: Mark) -> bool {
+pub fn is_repeat_bar(mark: Mark) -> bool {
     match mark {
         Mark::Bar {
             closes,

@@ -74,7 +74,7 @@ pub fn book_error(book: &[u8]) -> Option<EditError>
     fault_of_book(book)
 }
 
-/// Whether a run ended for want of memory.
+/// Whether a run ended because an allocation failed.
 pub fn is_of_memory(fault: RunFault) -> bool {
     match fault {
         RunFault::Read | RunFault::Write => false,

@@ -2,12 +2,13 @@
 
 ghost use Rattle.std.specs.Prelude.{◌≡◌, ◌^◌, ◌-◌, IfOk};
 ghost use Rattle.abc_voices.specs.Arrange.{arranged_of, items_in};
-ghost use Rattle.abc_voices.specs.Limits.{HIGHEST_KEY, IsWithinLimits, LONGEST_TITLE, MOST_CHANGES, MOST_CHORD_NOTES, MOST_NOTES, MOST_PROGRAMS, MOST_VOICES};
+ghost use Rattle.abc_voices.specs.Limits.{HIGHEST_KEY, IsWithinLimits, LONGEST_TITLE, MOST_CHANGES, MOST_CHORD_NOTES};
+ghost use Rattle.abc_voices.specs.Limits.{MOST_NOTES, MOST_PROGRAMS, MOST_VOICES};
 
 use abc_voices::{
     Arranged, BuildFault, Change, ChangeKind, Grains, HIGHEST_KEY, Items, LONGEST_TITLE,
     MOST_CHANGES, MOST_CHORD_NOTES, MOST_NOTES, MOST_PROGRAMS, MOST_VOICES, ProgramChange, Score,
-    Sequence, Sounding, arrange, score_limits,
+    Sequence, Sounding, arrange,
 };
 use std::alloc::Global;
 
@@ -25,14 +26,14 @@ pub const MOST: [usize; 6] = [
 pub const TOP_KEY: u8 = HIGHEST_KEY;
 
 /// Lays out a tune.
-pub fn laid_out(alloc: Global, items: &[Items]) -> Result<Arranged, BuildFault>
+pub fn lay_out(alloc: Global, items: &[Items]) -> Result<Arranged, BuildFault>
     ensures value { IfOk result (λ laid. laid ≡ arranged_of (items_in items.now)) }
     ensures limits { IfOk result (λ laid. IsWithinLimits laid.score) }
 {
     arrange(alloc, items)
 }
 
-/// The limits are numbers.
+/// The limits have these values.
 pub fn limits()
     ensures title { LONGEST_TITLE ≡ 2 ^ 16 - 1 }
     ensures changes { MOST_CHANGES ≡ 1000003 }
@@ -41,9 +42,7 @@ pub fn limits()
     ensures programs { MOST_PROGRAMS ≡ 1000001 }
     ensures tones { MOST_CHORD_NOTES ≡ 16 }
     ensures key { HIGHEST_KEY ≡ 127 }
-{
-    score_limits();
-}
+{}
 
 /// Returns when a score ends.
 pub fn end_of(score: &Score) -> Grains {

@@ -11,7 +11,7 @@ ghost use Rattle.abc_scan.specs.Work.{raised};
 
 use abc_scan::{
     Accidental, Cell, Field, Letter, LineClass, Sequence, Shared, Token, TokenKind, Work, cells,
-    class_of, part_read, scan,
+    class_of, scan,
 };
 use std::alloc::{AllocError, Global};
 
@@ -84,5 +84,5 @@ pub fn semitones_of(accidental: Accidental) -> i8
 pub fn return_dropped()
     ensures value { DropsOneReturn }
 {
-    part_read();
+    abc_scan::laws::part_read();
 }

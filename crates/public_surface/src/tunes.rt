@@ -16,7 +16,7 @@ use abc_tune::{
 use std::alloc::{AllocError, Global};
 
 /// Builds a tune of ABC.
-pub fn built_tune(alloc: Global, items: &[Items], work: &mut Work) -> Result<Built, AllocError>
+pub fn build_tune(alloc: Global, items: &[Items], work: &mut Work) -> Result<Built, AllocError>
     ensures bytes { IfOk result (λ built. built.bytes ≡ bytes_of items.now) }
     ensures faults { IfOk result (λ built. built.faults ≡ build_faults_of items.now) }
     ensures counted { work.new ≡ record work.old { built = raised work.old.built 1 } }
@@ -42,7 +42,7 @@ pub fn faults_of(built: &Built) -> &[FaultCode] {
 }
 
 /// Returns the cells of a line of ABC.
-pub fn abc_cells(alloc: Global, line: &[u8], work: &mut Work) -> Result<Vec<Cell>, AllocError> {
+pub fn cells_of_abc(alloc: Global, line: &[u8], work: &mut Work) -> Result<Vec<Cell>, AllocError> {
     Abc.cells(alloc, line, work)
 }
 
@@ -74,7 +74,8 @@ pub fn line_cells<C: Compiler>(
     work: &mut C::Work,
 ) -> Result<Vec<C::Cell>, AllocError>
     ensures value { IfOk result (λ cells. cells.items ≡ (C.rules compiler.now).cells line.now) }
-    ensures counted { C.Work.counts work.new ≡ record (C.Work.counts work.old) { scanned = raised (C.Work.counts work.old).scanned 1 } }
+    ensures counted { C.Work.counts work.new
+        ≡ record (C.Work.counts work.old) { scanned = raised (C.Work.counts work.old).scanned 1 } }
 {
     compiler.cells(alloc, line, work)
 }
@@ -87,7 +88,7 @@ pub fn line_class<C: Compiler>(compiler: &C, line: &[u8]) -> LineClass
 }
 
 /// Builds a tune.
-pub fn compiled_tune<C: Compiler>(
+pub fn compile_tune<C: Compiler>(
     alloc: Global,
     compiler: &C,
     items: &[C::Items],
@@ -120,7 +121,7 @@ pub fn tune_opening<C: Compiler>(alloc: Global, compiler: &C, after: Option<&C::
 }
 
 /// Returns what a cell gives to the book: its number, its title and its faults.
-pub fn given_to_book<'a, C: Compiler>(
+pub fn parts_for_book<'a, C: Compiler>(
     compiler: &C,
     items: &'a C::Items,
 ) -> (Option<u32>, Option<&'a [u8]>, &'a [(u32, FaultCode)])
@@ -147,7 +148,7 @@ pub fn empty_memo<C: Compiler>(alloc: Global) -> Result<TuneMemo<C>, AllocError>
 }
 
 /// Builds a tune, or recalls it.
-pub fn recalled_or_built<C: Compiler>(
+pub fn recall_or_build<C: Compiler>(
     memo: &mut TuneMemo<C>,
     compiler: &C,
     key: TuneKey<C::Defaults>,
@@ -158,12 +159,12 @@ pub fn recalled_or_built<C: Compiler>(
     requires remembers { Remembers (C.steps compiler.now) (C.rules compiler.now) memo.old }
     ensures bytes { IfOk result (λ built. built.bytes ≡ (C.rules compiler.now).bytes items.now) }
     ensures remembers { Remembers (C.steps compiler.now) (C.rules compiler.now) memo.new }
-    ensures refused { OnErr result (memo.new ≡ promoted (⟦<TuneKey<C::Defaults> as PartialEq>⟧.eq key) memo.old) }
+    ensures unchanged { OnErr result (memo.new ≡ promoted (⟦<TuneKey<C::Defaults> as PartialEq>⟧.eq key) memo.old) }
 {
     memo.built(compiler, key, items, work)
 }
 
-/// Puts a line to the bytes by which a tune is known.
+/// Appends a line to the bytes of a key.
 pub fn put_key_line(bytes: &mut Vec<u8>, class: LineClass, line: &[u8]) -> Result<(), AllocError>
     ensures ok { OnOk result (bytes.new.items ≡ bytes.old.items ++ line_bytes class line.now) }
 {

@@ -8,16 +8,16 @@ use Rattle.std.proofs.lemmas.List.Elements.{All-nil, All-cons, All-head, All-tai
 use Rattle.abc_time.specs.declared.grains.Grains.{Grains}
 use Rattle.abc_time.specs.Grains.{tick_at, tick_at-le}
 use Rattle.smf_bytes.specs.declared.event.Event.{Event}
-use Rattle.abc_score.specs.declared.score.Change.{Change}
-use Rattle.abc_score.specs.declared.score.ChangeKind.{ChangeKind}
-use Rattle.abc_score.specs.declared.score.ChangeKind.TheVariants.{Tempo, Meter, Key}
-use Rattle.abc_score.specs.declared.score.ProgramChange.{ProgramChange}
-use Rattle.abc_score.specs.declared.score.Sounding.{Sounding}
+use Rattle.abc_voices_score.specs.declared.score.Change.{Change}
+use Rattle.abc_voices_score.specs.declared.score.ChangeKind.{ChangeKind}
+use Rattle.abc_voices_score.specs.declared.score.ChangeKind.TheVariants.{Tempo, Meter, Key}
+use Rattle.abc_voices_score.specs.declared.score.ProgramChange.{ProgramChange}
+use Rattle.abc_voices_score.specs.declared.score.Sounding.{Sounding}
 use Rattle.smf_bytes.specs.Number.{leading_bytes, number_text}
 use Rattle.smf_bytes.specs.Order.{insert_event, in_order}
 use Rattle.smf_bytes.specs.Event.{meta_event, title_events, change_bytes, change_event, note_events, note_off, note_on, program_event, end_event}
-use Rattle.abc_score.specs.Limits.{IsChangeWithin, IsProgramWithin, IsSoundingWithin}
-use Rattle.smf_bytes.specs.Track.{timed, track_body, conductor_events, voice_events}
+use Rattle.abc_voices_score.specs.Limits.{IsChangeWithin, IsProgramWithin, IsSoundingWithin}
+use Rattle.smf_bytes.specs.Track.{timed_events, track_body, conductor_events, voice_events}
 use Rattle.smf_bytes.proofs.Ordered.{less, past, here}
 
 leading_length : (groups n : ℕ) → length (leading_bytes groups n) ≤ groups
@@ -46,12 +46,12 @@ room-append : (xs ys : List Event) → room (xs ++ ys) ≡ room xs + room ys
 room-append [] ys = omega arith
 room-append (x ∷ xs) ys = omega (arith, room-append xs ys)
 
-timed_length : (before : ℕ) (events : List Event) → length (timed before events) ≤ room events
+timed_length : (before : ℕ) (events : List Event) → length (timed_events before events) ≤ room events
 timed_length before [] = omega arith
 timed_length before (event ∷ events) =
     omega (
       arith,
-      length-append (number_text (event.tick - before) ++ event.bytes) (timed event.tick events),
+      length-append (number_text (event.tick - before) ++ event.bytes) (timed_events event.tick events),
       length-append (number_text (event.tick - before)) event.bytes,
       number_length (event.tick - before),
       timed_length event.tick events,
@@ -119,7 +119,8 @@ programs_room channel [] = omega arith
 programs_room channel (change ∷ programs) = omega (arith, programs_room channel programs)
 
 -- a voice's track length fits 32 bits
-pub voice_length : (end channel : ℕ) (programs : List ProgramChange) (notes : List Sounding) → length programs ≤ 1000001 → length notes ≤ 16000000 → length (track_body end (voice_events channel programs notes)) < 2 ^ 32
+pub voice_length : (end channel : ℕ) (programs : List ProgramChange) (notes : List Sounding) → length programs ≤ 1000001
+    → length notes ≤ 16000000 → length (track_body end (voice_events channel programs notes)) < 2 ^ 32
 voice_length end channel programs notes rare few =
     omega (
       arith,

@@ -7,7 +7,7 @@ use Rattle.std.proofs.lemmas.Bool.Decides.{nat_tests}
 use Rattle.std.proofs.lemmas.Bool.{cases_eq, cases_lt}
 use Rattle.std.proofs.lemmas.List.{append_cancel_left, append-nil}
 use Rattle.std.specs.List.{All}
-use Rattle.smf_bytes.specs.Number.{number_text, reading, StartsWithNumber, IsPadded, IsTooLong, IsTruncated}
+use Rattle.smf_bytes.specs.Number.{number_text, read_result, StartsWithNumber, IsPadded, IsTooLong, IsTruncated}
 
 text_of_1 : (n : ℕ) → n / 128 ≡ 0 → number_text n ≡ n % 128 ∷ []
 unfolding number_text
@@ -25,32 +25,40 @@ text_of_4 : (n : ℕ) → (n / 128 / 128 / 128 ≡ 0 → ⊥) → number_text n 
 unfolding number_text
 text_of_4 n g = grind (arith, nat_tests)
 
-read_1 : (n : ℕ) (rest : List ℕ) → n < 128 → reading (n ∷ rest) ≡ Ok (n, 1)
-unfolding reading
+read_1 : (n : ℕ) (rest : List ℕ) → n < 128 → read_result (n ∷ rest) ≡ Ok (n, 1)
+unfolding read_result
 read_1 n rest h = grind (arith, nat_tests)
 
-read_2 : (a b : ℕ) (rest : List ℕ) → 128 < a → b < 128 → reading (a ∷ b ∷ rest) ≡ Ok (a % 128 * 128 + b, 2)
-unfolding reading
+read_2 : (a b : ℕ) (rest : List ℕ) → 128 < a → b < 128 → read_result (a ∷ b ∷ rest) ≡ Ok (a % 128 * 128 + b, 2)
+unfolding read_result
 read_2 a b rest g h = grind (arith, nat_tests)
 
-read_3 : (a b c : ℕ) (rest : List ℕ) → 128 < a → 128 ≤ b → c < 128 → reading (a ∷ b ∷ c ∷ rest) ≡ Ok ((a % 128 * 128 + b % 128) * 128 + c, 3)
-unfolding reading
+read_3 : (a b c : ℕ) (rest : List ℕ) → 128 < a → 128 ≤ b → c < 128 → read_result (a ∷ b ∷ c ∷ rest) ≡ Ok ((a % 128 * 128 + b % 128) * 128 + c, 3)
+unfolding read_result
 read_3 a b c rest f g h = grind (arith, nat_tests)
 
-read_4 : (a b c d : ℕ) (rest : List ℕ) → 128 < a → 128 ≤ b → 128 ≤ c → d < 128 → reading (a ∷ b ∷ c ∷ d ∷ rest) ≡ Ok (((a % 128 * 128 + b % 128) * 128 + c % 128) * 128 + d, 4)
-unfolding reading
+read_4 : (a b c d : ℕ) (rest : List ℕ) → 128 < a → 128 ≤ b → 128 ≤ c → d < 128 → read_result (a ∷ b ∷ c ∷ d ∷ rest) ≡ Ok (((a % 128 * 128 + b % 128) * 128 + c % 128) * 128 + d, 4)
+unfolding read_result
 read_4 a b c d rest e f g h = grind (arith, nat_tests)
 
 -- the number is read from its text, whatever follows
-pub reading-text : (n : ℕ) (rest : List ℕ) → n < 2 ^ 28 → reading (number_text n ++ rest) ≡ Ok (n, length (number_text n))
+pub reading-text : (n : ℕ) (rest : List ℕ) → n < 2 ^ 28 → read_result (number_text n ++ rest) ≡ Ok (n, length (number_text n))
 reading-text n rest h =
     elim (cases_eq (n / 128) 0) [
       | inl one ↦ rw (text_of_1 n one, read_1 (n % 128) rest (omega arith)) (ap (λ k. Ok (k, 1)) (omega arith))
       | inr more ↦ elim (cases_eq (n / 128 / 128) 0) [
         | inl two ↦ rw (text_of_2 n more two, read_2 (128 + n / 128 % 128) (n % 128) rest (omega arith) (omega arith)) (ap (λ k. Ok (k, 2)) (omega arith))
         | inr more' ↦ elim (cases_eq (n / 128 / 128 / 128) 0) [
-          | inl three ↦ rw (text_of_3 n more' three, read_3 (128 + n / 128 / 128 % 128) (128 + n / 128 % 128) (n % 128) rest (omega arith) (omega arith) (omega arith)) (ap (λ k. Ok (k, 3)) (omega arith))
-          | inr four ↦ rw (text_of_4 n four, read_4 (128 + n / 128 / 128 / 128 % 128) (128 + n / 128 / 128 % 128) (128 + n / 128 % 128) (n % 128) rest (omega arith) (omega arith) (omega arith) (omega arith)) (ap (λ k. Ok (k, 4)) (omega arith))
+          | inl three ↦ rw (
+            text_of_3 n more' three,
+            read_3 (128 + n / 128 / 128 % 128) (128 + n / 128 % 128) (n % 128) rest
+                (omega arith) (omega arith) (omega arith),
+          ) (ap (λ k. Ok (k, 3)) (omega arith))
+          | inr four ↦ rw (
+            text_of_4 n four,
+            read_4 (128 + n / 128 / 128 / 128 % 128) (128 + n / 128 / 128 % 128)
+                (128 + n / 128 % 128) (n % 128) rest (omega arith) (omega arith) (omega arith) (omega arith),
+          ) (ap (λ k. Ok (k, 4)) (omega arith))
         ]
       ]
     ]
@@ -59,7 +67,7 @@ same_number : (m n : ℕ) (xs ys : List ℕ) → m < 2 ^ 28 → n < 2 ^ 28 → n
 same_number m n xs ys g h e =
     let left = reading-text m xs g in
     let right = reading-text n ys h in
-    let alike : reading (number_text m ++ xs) ≡ reading (number_text n ++ ys) = ap reading e in
+    let alike : read_result (number_text m ++ xs) ≡ read_result (number_text n ++ ys) = ap read_result e in
     let pair : (m, length (number_text m)) ≡ (n, length (number_text n)) = cc in
     ap (λ (p : ℕ × ℕ). p.0) pair
 
@@ -78,27 +86,27 @@ Means bytes (Err Padded) = IsPadded bytes
 Means bytes (Err TooLong) = IsTooLong bytes
 Means bytes (Err Truncated) = IsTruncated bytes
 
-means_by : (bytes : List ℕ) (r : Result (ℕ × ℕ) NumberFault) → reading bytes ≡ r → Means bytes r → Means bytes (reading bytes)
+means_by : (bytes : List ℕ) (r : Result (ℕ × ℕ) NumberFault) → read_result bytes ≡ r → Means bytes r → Means bytes (read_result bytes)
 means_by bytes r e m = subst (Means bytes) (sym e) m
 
-is_padded : (a : ℕ) (rest : List ℕ) → a ≡ 128 → reading (a ∷ rest) ≡ Err Padded
-unfolding reading
+is_padded : (a : ℕ) (rest : List ℕ) → a ≡ 128 → read_result (a ∷ rest) ≡ Err Padded
+unfolding read_result
 is_padded a rest h = grind (arith, nat_tests)
 
-cut_1 : (a : ℕ) → 128 < a → reading (a ∷ []) ≡ Err Truncated
-unfolding reading
+cut_1 : (a : ℕ) → 128 < a → read_result (a ∷ []) ≡ Err Truncated
+unfolding read_result
 cut_1 a g = grind (arith, nat_tests)
 
-cut_2 : (a b : ℕ) → 128 < a → 128 ≤ b → reading (a ∷ b ∷ []) ≡ Err Truncated
-unfolding reading
+cut_2 : (a b : ℕ) → 128 < a → 128 ≤ b → read_result (a ∷ b ∷ []) ≡ Err Truncated
+unfolding read_result
 cut_2 a b f g = grind (arith, nat_tests)
 
-cut_3 : (a b c : ℕ) → 128 < a → 128 ≤ b → 128 ≤ c → reading (a ∷ b ∷ c ∷ []) ≡ Err Truncated
-unfolding reading
+cut_3 : (a b c : ℕ) → 128 < a → 128 ≤ b → 128 ≤ c → read_result (a ∷ b ∷ c ∷ []) ≡ Err Truncated
+unfolding read_result
 cut_3 a b c e f g = grind (arith, nat_tests)
 
-long_4 : (a b c d : ℕ) (rest : List ℕ) → 128 < a → 128 ≤ b → 128 ≤ c → 128 ≤ d → reading (a ∷ b ∷ c ∷ d ∷ rest) ≡ Err TooLong
-unfolding reading
+long_4 : (a b c d : ℕ) (rest : List ℕ) → 128 < a → 128 ≤ b → 128 ≤ c → 128 ≤ d → read_result (a ∷ b ∷ c ∷ d ∷ rest) ≡ Err TooLong
+unfolding read_result
 long_4 a b c d rest e f g h = grind (arith, nat_tests)
 
 unpadded : (a : ℕ) (rest : List ℕ) → 128 < a → ¬ IsPadded (a ∷ rest)
@@ -132,7 +140,8 @@ number_3 a b c rest e f g h i =
     let second : 128 + n / 128 % 128 ≡ b = omega arith in
     record { in_range = omega arith; rest = rest; spelled = rw (text, first, second, low); counted = rw text }
 
-number_4 : (a b c d : ℕ) (rest : List ℕ) → 128 < a → a < 256 → 128 ≤ b → b < 256 → 128 ≤ c → c < 256 → d < 128 → StartsWithNumber (a ∷ b ∷ c ∷ d ∷ rest) (((a % 128 * 128 + b % 128) * 128 + c % 128) * 128 + d) 4
+number_4 : (a b c d : ℕ) (rest : List ℕ) → 128 < a → a < 256 → 128 ≤ b → b < 256 → 128 ≤ c → c < 256 → d < 128
+    → StartsWithNumber (a ∷ b ∷ c ∷ d ∷ rest) (((a % 128 * 128 + b % 128) * 128 + c % 128) * 128 + d) 4
 number_4 a b c d rest e f g h i j k =
     let n = ((a % 128 * 128 + b % 128) * 128 + c % 128) * 128 + d in
     let high : n / 128 / 128 / 128 ≡ a % 128 = omega arith in
@@ -150,7 +159,7 @@ high_3 a b c e f g =
     let high = λ (byte : ℕ). 128 ≤ byte in
     All-cons high a (b ∷ c ∷ []) e (All-cons high b (c ∷ []) f (All-cons high c [] g (All-nil high)))
 
-sound_4 : (a b c : ℕ) (rest : List ℕ) → ((i : ℕ) → get_or (a ∷ b ∷ c ∷ rest) i 0 < 256) → 128 < a → 128 ≤ b → 128 ≤ c → Means (a ∷ b ∷ c ∷ rest) (reading (a ∷ b ∷ c ∷ rest))
+sound_4 : (a b c : ℕ) (rest : List ℕ) → ((i : ℕ) → get_or (a ∷ b ∷ c ∷ rest) i 0 < 256) → 128 < a → 128 ≤ b → 128 ≤ c → Means (a ∷ b ∷ c ∷ rest) (read_result (a ∷ b ∷ c ∷ rest))
 sound_4 a b c [] h e f g =
     means_by (a ∷ b ∷ c ∷ []) (Err Truncated) (cut_3 a b c e f g)
     (record { not_padded = unpadded a (b ∷ c ∷ []) e; short = omega arith; top_bits = high_3 a b c (omega arith) f g })
@@ -162,10 +171,14 @@ sound_4 a b c (d ∷ rest) h e f g =
           (record { not_padded = unpadded a (b ∷ c ∷ d ∷ rest) e; four = omega arith; top_bits = All-cons (λ byte. 128 ≤ byte) a (b ∷ c ∷ d ∷ []) (omega arith) (high_3 b c d f g high) })
     ]
 
-sound_3 : (a b : ℕ) (rest : List ℕ) → ((i : ℕ) → get_or (a ∷ b ∷ rest) i 0 < 256) → 128 < a → 128 ≤ b → Means (a ∷ b ∷ rest) (reading (a ∷ b ∷ rest))
+sound_3 : (a b : ℕ) (rest : List ℕ) → ((i : ℕ) → get_or (a ∷ b ∷ rest) i 0 < 256) → 128 < a → 128 ≤ b → Means (a ∷ b ∷ rest) (read_result (a ∷ b ∷ rest))
 sound_3 a b [] h e f =
     means_by (a ∷ b ∷ []) (Err Truncated) (cut_2 a b e f)
-    (record { not_padded = unpadded a (b ∷ []) e; short = omega arith; top_bits = All-cons (λ byte. 128 ≤ byte) a (b ∷ []) (omega arith) (All-cons (λ byte. 128 ≤ byte) b [] f (All-nil (λ byte. 128 ≤ byte))) })
+    (record {
+      not_padded = unpadded a (b ∷ []) e;
+      short = omega arith;
+      top_bits = All-cons (λ byte. 128 ≤ byte) a (b ∷ []) (omega arith) (All-cons (λ byte. 128 ≤ byte) b [] f (All-nil (λ byte. 128 ≤ byte)));
+    })
 sound_3 a b (c ∷ rest) h e f =
     elim (cases_lt c 128) [
       | inl low ↦ means_by (a ∷ b ∷ c ∷ rest) (Ok ((a % 128 * 128 + b % 128) * 128 + c, 3)) (read_3 a b c rest e f low)
@@ -173,7 +186,7 @@ sound_3 a b (c ∷ rest) h e f =
       | inr high ↦ sound_4 a b c rest h e f high
     ]
 
-sound_2 : (a : ℕ) (rest : List ℕ) → ((i : ℕ) → get_or (a ∷ rest) i 0 < 256) → 128 < a → Means (a ∷ rest) (reading (a ∷ rest))
+sound_2 : (a : ℕ) (rest : List ℕ) → ((i : ℕ) → get_or (a ∷ rest) i 0 < 256) → 128 < a → Means (a ∷ rest) (read_result (a ∷ rest))
 sound_2 a [] h e =
     means_by (a ∷ []) (Err Truncated) (cut_1 a e)
     (record { not_padded = unpadded a [] e; short = omega arith; top_bits = All-cons (λ byte. 128 ≤ byte) a [] (omega arith) (All-nil (λ byte. 128 ≤ byte)) })
@@ -183,7 +196,7 @@ sound_2 a (b ∷ rest) h e =
       | inr high ↦ sound_3 a b rest h e high
     ]
 
-sound_1 : (a : ℕ) (rest : List ℕ) → ((i : ℕ) → get_or (a ∷ rest) i 0 < 256) → (a ≡ 128 → ⊥) → Means (a ∷ rest) (reading (a ∷ rest))
+sound_1 : (a : ℕ) (rest : List ℕ) → ((i : ℕ) → get_or (a ∷ rest) i 0 < 256) → (a ≡ 128 → ⊥) → Means (a ∷ rest) (read_result (a ∷ rest))
 sound_1 a rest h ne =
     elim (cases_lt a 128) [
       | inl low ↦ means_by (a ∷ rest) (Ok (a, 1)) (read_1 a rest low) (number_1 a rest low)
@@ -191,8 +204,8 @@ sound_1 a rest h ne =
     ]
 
 -- what reading answers is so, for bytes
-pub sound : (bytes : List ℕ) → ((i : ℕ) → get_or bytes i 0 < 256) → Means bytes (reading bytes)
-unfolding reading
+pub sound : (bytes : List ℕ) → ((i : ℕ) → get_or bytes i 0 < 256) → Means bytes (read_result bytes)
+unfolding read_result
 sound [] h =
     means_by [] (Err Truncated) refl (record { not_padded = λ e. cc; short = omega arith; top_bits = All-nil (λ byte. 128 ≤ byte) })
 sound (a ∷ rest) h =
@@ -202,18 +215,18 @@ sound (a ∷ rest) h =
     ]
 
 -- the answers that the text, or a fault of the bytes, settles
-pub complete : (bytes : List ℕ) (n used : ℕ) → StartsWithNumber bytes n used → reading bytes ≡ Ok (n, used)
+pub complete : (bytes : List ℕ) (n used : ℕ) → StartsWithNumber bytes n used → read_result bytes ≡ Ok (n, used)
 complete bytes n used h =
-    ap reading h.spelled ∙ reading-text n h.rest h.in_range ∙ ap (λ k. Ok (n, k)) (sym h.counted)
+    ap read_result h.spelled ∙ reading-text n h.rest h.in_range ∙ ap (λ k. Ok (n, k)) (sym h.counted)
 
-pub padded : (bytes : List ℕ) → IsPadded bytes → reading bytes ≡ Err Padded
+pub padded : (bytes : List ℕ) → IsPadded bytes → read_result bytes ≡ Err Padded
 padded [] h = cc
 padded (a ∷ rest) h = is_padded a rest cc
 
 past_128 : (a : ℕ) (rest : List ℕ) → ¬ IsPadded (a ∷ rest) → 128 ≤ a → 128 < a
 past_128 a rest n h = elim (cases_eq a 128) [ inl e ↦ absurd (n (ap Some e)) | inr ne ↦ omega arith ]
 
-pub too_long : (bytes : List ℕ) → IsTooLong bytes → reading bytes ≡ Err TooLong
+pub too_long : (bytes : List ℕ) → IsTooLong bytes → read_result bytes ≡ Err TooLong
 too_long [] h = absurd (omega (arith, h.four))
 too_long (a ∷ []) h = absurd (omega (arith, h.four))
 too_long (a ∷ b ∷ []) h = absurd (omega (arith, h.four))
@@ -221,13 +234,13 @@ too_long (a ∷ b ∷ c ∷ []) h = absurd (omega (arith, h.four))
 too_long (a ∷ b ∷ c ∷ d ∷ rest) h =
     long_4 a b c d rest (past_128 a (b ∷ c ∷ d ∷ rest) h.not_padded (h.top_bits 0 0 (omega arith))) (h.top_bits 1 0 (omega arith)) (h.top_bits 2 0 (omega arith)) (h.top_bits 3 0 (omega arith))
 
-pub truncated : (bytes : List ℕ) → IsTruncated bytes → reading bytes ≡ Err Truncated
-unfolding reading
+pub truncated : (bytes : List ℕ) → IsTruncated bytes → read_result bytes ≡ Err Truncated
+unfolding read_result
 truncated [] h = refl
 truncated (a ∷ []) h = cut_1 a (past_128 a [] h.not_padded (h.top_bits 0 0 (omega arith)))
 truncated (a ∷ b ∷ []) h = cut_2 a b (past_128 a (b ∷ []) h.not_padded (h.top_bits 0 0 (omega arith))) (h.top_bits 1 0 (omega arith))
 truncated (a ∷ b ∷ c ∷ []) h = cut_3 a b c (past_128 a (b ∷ c ∷ []) h.not_padded (h.top_bits 0 0 (omega arith))) (h.top_bits 1 0 (omega arith)) (h.top_bits 2 0 (omega arith))
 truncated (a ∷ b ∷ c ∷ d ∷ rest) h = absurd (omega (arith, h.short))
 
-pub meant : (bytes : List ℕ) (r : Result (ℕ × ℕ) NumberFault) → ((i : ℕ) → get_or bytes i 0 < 256) → r ≡ reading bytes → Means bytes r
+pub meant : (bytes : List ℕ) (r : Result (ℕ × ℕ) NumberFault) → ((i : ℕ) → get_or bytes i 0 < 256) → r ≡ read_result bytes → Means bytes r
 meant bytes r h e = subst (Means bytes) (sym e) (sound bytes h)

@@ -180,7 +180,10 @@ next k = omega arith
 pub rises_from : (xs : List Event) → IsSorted event_cmp xs → Rises xs
 rises_from [] h = tt
 rises_from (x ∷ []) h = tt
-rises_from (x ∷ y ∷ xs) h = (h 0 x (omega arith) (omega arith), rises_from (y ∷ xs) (λ k d g i. subst (λ (j : ℕ). less (get_or (x ∷ y ∷ xs) j d) (get_or (y ∷ xs) k d) ≡ false) (next k) (h (suc k) d (omega arith) (omega arith))))
+rises_from (x ∷ y ∷ xs) h = (
+  h 0 x (omega arith) (omega arith),
+  rises_from (y ∷ xs) (λ k d g i. subst (λ (j : ℕ). less (get_or (x ∷ y ∷ xs) j d) (get_or (y ∷ xs) k d) ≡ false) (next k) (h (suc k) d (omega arith) (omega arith))),
+)
 
 sorted_from : (xs : List Event) → Rises xs → IsSorted event_cmp xs
 sorted_from [] h k d g i = absurd (omega arith)

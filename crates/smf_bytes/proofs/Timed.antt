@@ -14,7 +14,7 @@ use Rattle.smf_bytes.specs.declared.event.Event.{Event}
 use Rattle.smf_bytes.specs.Number.{number_text}
 use Rattle.smf_bytes.specs.Order.{event_cmp}
 use Rattle.smf_bytes.specs.Event.{end_event}
-use Rattle.smf_bytes.specs.Track.{timed}
+use Rattle.smf_bytes.specs.Track.{timed_events}
 use Rattle.smf_bytes.proofs.Ordered.{Rises, less, rises_from}
 
 -- from a tick on no event is earlier than the one before it, and none is later than the end
@@ -49,7 +49,7 @@ follows_sorted end events ordered a p s =
     follows_all end ordered (rises_from ordered s) (All-permutation (λ event. event.tick ≤ end) events ordered p a)
 
 -- the end of the track, written out
-pub closed : (body whole : List ℕ) (before end : ℕ) → body ++ timed before (end_event end ∷ []) ≡ whole → (body ++ number_text (end - before)) ++ (255 ∷ 47 ∷ 0 ∷ []) ≡ whole
+pub closed : (body whole : List ℕ) (before end : ℕ) → body ++ timed_events before (end_event end ∷ []) ≡ whole → (body ++ number_text (end - before)) ++ (255 ∷ 47 ∷ 0 ∷ []) ≡ whole
 unfolding number_text
 closed body whole before end h =
     append_assoc body (number_text (end - before)) (255 ∷ 47 ∷ 0 ∷ [])

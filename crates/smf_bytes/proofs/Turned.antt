@@ -9,21 +9,21 @@ use Rattle.std.proofs.lemmas.List.Elements.{All-head, All-tail}
 use Rattle.std.proofs.lemmas.List.Sorted.{All-permutation, IsPermutation-append_comm, IsPermutation-append_left, IsPermutation-append_right, IsPermutation-map, IsPermutation-trans}
 use Rattle.abc_time.specs.declared.grains.Grains.{Grains}
 use Rattle.abc_time.specs.Grains.{tick_at}
-use Rattle.abc_score.specs.Limits.{IsSoundingWithin}
-use Rattle.abc_score.specs.declared.score.ProgramChange.{ProgramChange}
-use Rattle.abc_score.specs.declared.score.Sounding.{Sounding}
+use Rattle.abc_voices_score.specs.Limits.{IsSoundingWithin}
+use Rattle.abc_voices_score.specs.declared.score.ProgramChange.{ProgramChange}
+use Rattle.abc_voices_score.specs.declared.score.Sounding.{Sounding}
 use Rattle.smf_bytes.specs.declared.event.Event.{Event}
 use Rattle.smf_bytes.specs.declared.voice_event.VoiceEvent.{VoiceEvent}
 use Rattle.smf_bytes.specs.declared.voice_event.VoiceEventKind.TheVariants.{NoteOff, NoteOn}
 use Rattle.smf_bytes.specs.Voice.{all_ends, all_of, change_of, ends_of, event_at}
 use Rattle.smf_bytes.specs.Event.{end_event, note_events, note_off, note_on, program_event}
-use Rattle.smf_bytes.specs.Track.{timed, track, track_body, voice_events}
+use Rattle.smf_bytes.specs.Track.{timed_events, track, track_body, voice_events}
 use Rattle.smf_bytes.proofs.Ordered.{in_order_permutation}
 
 ends_push : (notes : List Sounding) (note : Sounding) → all_ends (notes ++ note ∷ []) ≡ all_ends notes ++ ends_of note
 ends_push notes note = flat_map-append ends_of notes (note ∷ []) ∙ ap (λ l. all_ends notes ++ l) (append-nil (ends_of note))
 
--- the last note's events go behind the events so far
+-- the last note's events go after the events so far
 pub one_back : (all events events' : List VoiceEvent) (left left' : List Sounding) (note : Sounding) → left ≡ left' ++ note ∷ [] → IsPermutation (events ++ ends_of note) events'
     → IsPermutation all (events ++ all_ends left) → IsPermutation all (events' ++ all_ends left')
 one_back all events events' left left' note e f p =
@@ -38,10 +38,12 @@ one_back all events events' left left' note e f p =
     (IsPermutation-append_left others (events ++ own) events' f)
 
 own_events : (channel : ℕ) (note : Sounding) → map (event_at channel) (ends_of note) ≡ note_events channel note
-own_events channel note = elim (tick_at note.on.0 == tick_at note.off.0) as (λ b. map (event_at channel) (cond b [] (begins note ∷ ends note ∷ [])) ≡ cond b [] (note_on channel note.key note.velocity (tick_at note.on.0) ∷ note_off channel note.key (tick_at note.off.0) ∷ [])) [
-  | true ↦ refl
-  | false ↦ refl
-]
+own_events channel note = elim (tick_at note.on.0 == tick_at note.off.0) as
+    (λ b. map (event_at channel) (cond b [] (begins note ∷ ends note ∷ []))
+    ≡ cond b [] (note_on channel note.key note.velocity (tick_at note.on.0) ∷ note_off channel note.key (tick_at note.off.0) ∷ [])) [
+      | true ↦ refl
+      | false ↦ refl
+    ]
   where
     begins : Sounding → VoiceEvent
     begins note = record { tick = tick_at note.on.0; kind = NoteOn; key = note.key; value = note.velocity }
@@ -75,14 +77,15 @@ in_events channel programs notes events p =
 -- events in another order make the same track
 pub same_body : (end : ℕ) (xs ys : List Event) → IsPermutation xs ys → track_body end xs ≡ track_body end ys
 unfolding track_body
-same_body end xs ys p = ap (λ l. timed 0 (l ++ end_event end ∷ [])) (sym (in_order_permutation xs ys p))
+same_body end xs ys p = ap (λ l. timed_events 0 (l ++ end_event end ∷ [])) (sym (in_order_permutation xs ys p))
 
 pub same_track : (end : ℕ) (xs ys : List Event) → IsPermutation xs ys → track end xs ≡ track end ys
 unfolding track
 same_track end xs ys p = ap (λ body. codes "MTrk" ++ big_bytes 4 (length body) ++ body) (same_body end xs ys p)
 
 -- what holds of notes holds of the last of them, and of the others
-pub last_within : (end : Grains) (left left' : List Sounding) (note : Sounding) → left ≡ left' ++ note ∷ [] → All (IsSoundingWithin end) left → IsSoundingWithin end note × All (IsSoundingWithin end) left'
+pub last_within : (end : Grains) (left left' : List Sounding) (note : Sounding) → left ≡ left' ++ note ∷ []
+    → All (IsSoundingWithin end) left → IsSoundingWithin end note × All (IsSoundingWithin end) left'
 last_within end left left' note e within =
     let P = IsSoundingWithin end in
     let turned : All P (note ∷ left') = All-permutation P (left' ++ note ∷ []) (note ∷ left') (IsPermutation-append_comm left' (note ∷ [])) (subst (All P) e within) in

@@ -20,7 +20,7 @@ use Rattle.smf_bytes.proofs.Ordered.{sorted_is_in_order}
 abbrev voice_cmp : VoiceEvent → VoiceEvent → Ordering
 voice_cmp = ghosts.cmp
 
--- behind their keys the bytes of two notes say their velocities
+-- after their keys the bytes of two notes say their velocities
 by_key : (status a b v w : ℕ) → ordering_then (nat_cmp a b) (slice_cmp nat_cmp (status ∷ a ∷ v ∷ []) (status ∷ b ∷ w ∷ [])) ≡ ordering_then (nat_cmp a b) (nat_cmp v w)
 by_key status a b v w =
     ap (λ o. ordering_then (nat_cmp a b) (ordering_then o (ordering_then (nat_cmp a b) (ordering_then (nat_cmp v w) Equal)))) (tied_itself nat_cmp_total status)

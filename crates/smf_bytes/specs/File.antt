@@ -2,15 +2,15 @@
 use Rattle.std.specs.Prelude.{ℕ, ◌+◌, List, [], ◌∷◌, ◌++◌, length, codes}
 use Rattle.byteorder.specs.Endian.{big_bytes}
 use Rattle.abc_time.specs.Grains.{tick_at}
-use Rattle.abc_score.specs.declared.score.ProgramChange.{ProgramChange}
-use Rattle.abc_score.specs.declared.score.Score.{Score}
-use Rattle.abc_score.specs.declared.score.Sounding.{Sounding}
+use Rattle.abc_voices_score.specs.declared.score.ProgramChange.{ProgramChange}
+use Rattle.abc_voices_score.specs.declared.score.Score.{Score}
+use Rattle.abc_voices_score.specs.declared.score.Sounding.{Sounding}
 use Rattle.smf_bytes.specs.Track.{chunk, track, conductor_events, voice_events, channel_of}
 
 -- The header, a chunk of the type MThd: format 1, the count of tracks, 480 ticks to a quarter note
--- (SMF 1.0; that each file is of format 1, with that division, is our own).
-unfoldable pub header : ℕ → List ℕ
-header tracks = chunk (codes "MThd") (big_bytes 2 1 ++ big_bytes 2 tracks ++ big_bytes 2 480)
+-- (SMF 1.0; that each file is of format 1, with that division, is not in ABC 2.1).
+unfoldable pub header_chunk : ℕ → List ℕ
+header_chunk tracks = chunk (codes "MThd") (big_bytes 2 1 ++ big_bytes 2 tracks ++ big_bytes 2 480)
 
 -- A track for each voice, from the voice of this place on, with the programs of the same place: there are as many
 -- lists of them.
@@ -23,6 +23,6 @@ voice_tracks end place _ _ = []
 -- tracks end with the tune.
 unfoldable pub file_bytes : Score → List ℕ
 file_bytes score =
-    header (length score.voices + 1)
+    header_chunk (length score.voices + 1)
     ++ track (tick_at score.end.0) (conductor_events score.title score.conductor)
     ++ voice_tracks (tick_at score.end.0) 0 score.programs score.voices

@@ -3,7 +3,7 @@ pub mod File
 pub mod Number
 pub mod Order
 pub mod Track
+pub mod TrackEvents
 pub mod Voice
-pub mod Written
 -- The definitions of the crates below that public clauses cite: a caller needs only this crate.
-pub use Rattle.abc_score.specs.Limits
+pub use Rattle.abc_voices_score.specs.Limits

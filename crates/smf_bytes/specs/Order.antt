@@ -6,7 +6,7 @@ use Rattle.std.specs.Cmp.Lexicographic.{slice_cmp}
 use Rattle.smf_bytes.specs.declared.event.Event.{Event}
 
 -- Events compare by tick, then class, then key, then bytes, byte by byte. The order at one tick is
--- our own.
+-- not in ABC 2.1.
 abbrev pub event_cmp : Event → Event → Ordering
 event_cmp a b =
     ordering_then (nat_cmp a.tick b.tick)

@@ -2,9 +2,9 @@
 use Rattle.std.specs.Prelude.{ℕ, ◌+◌, ◌-◌, nat_lt, if◌then◌else◌, List, [], ◌∷◌, ◌++◌, length, flat_map, map, codes}
 use Rattle.byteorder.specs.Endian.{big_bytes}
 use Rattle.smf_bytes.specs.declared.event.Event.{Event}
-use Rattle.abc_score.specs.declared.score.Change.{Change}
-use Rattle.abc_score.specs.declared.score.ProgramChange.{ProgramChange}
-use Rattle.abc_score.specs.declared.score.Sounding.{Sounding}
+use Rattle.abc_voices_score.specs.declared.score.Change.{Change}
+use Rattle.abc_voices_score.specs.declared.score.ProgramChange.{ProgramChange}
+use Rattle.abc_voices_score.specs.declared.score.Sounding.{Sounding}
 use Rattle.smf_bytes.specs.Number.{number_text}
 use Rattle.smf_bytes.specs.Order.{in_order}
 use Rattle.smf_bytes.specs.Event.{title_events, change_event, note_events, program_event, end_event}
@@ -14,13 +14,13 @@ abbrev pub chunk : List ℕ → List ℕ → List ℕ
 chunk type body = type ++ big_bytes 4 (length body) ++ body
 
 -- Each event after its delta time, the ticks since the one before it as a quantity (SMF 1.0).
-abbrev pub timed : ℕ → List Event → List ℕ
-timed before [] = []
-timed before (event ∷ events) = number_text (event.tick - before) ++ event.bytes ++ timed event.tick events
+abbrev pub timed_events : ℕ → List Event → List ℕ
+timed_events before [] = []
+timed_events before (event ∷ events) = number_text (event.tick - before) ++ event.bytes ++ timed_events event.tick events
 
 -- The events in their order, and at last the end of the track.
 unfoldable pub track_body : ℕ → List Event → List ℕ
-track_body end events = timed 0 (in_order events ++ end_event end ∷ [])
+track_body end events = timed_events 0 (in_order events ++ end_event end ∷ [])
 
 -- A track is a chunk of the type MTrk (SMF 1.0).
 unfoldable pub track : ℕ → List Event → List ℕ

@@ -1,8 +1,8 @@
 -- The events of a voice before they are written.
 use Rattle.std.specs.Prelude.{ℕ, ◌+◌, ◌==◌, if◌then◌else◌, List, [], ◌∷◌, ◌++◌, flat_map, map}
 use Rattle.abc_time.specs.Grains.{tick_at}
-use Rattle.abc_score.specs.declared.score.ProgramChange.{ProgramChange as VoiceProgram}
-use Rattle.abc_score.specs.declared.score.Sounding.{Sounding}
+use Rattle.abc_voices_score.specs.declared.score.ProgramChange.{ProgramChange as VoiceProgram}
+use Rattle.abc_voices_score.specs.declared.score.Sounding.{Sounding}
 use Rattle.smf_bytes.specs.declared.event.Event.{Event}
 use Rattle.smf_bytes.specs.declared.voice_event.VoiceEvent.{VoiceEvent}
 use Rattle.smf_bytes.specs.declared.voice_event.VoiceEventKind.{VoiceEventKind}
@@ -14,7 +14,7 @@ bytes_of NoteOff channel key value = (128 + channel) ∷ key ∷ value ∷ []
 bytes_of ProgramChange channel key value = (192 + channel) ∷ value ∷ []
 bytes_of NoteOn channel key value = (144 + channel) ∷ key ∷ value ∷ []
 
--- The place of each kind among the events of one tick. Our own.
+-- The place of each kind among the events of one tick. Not in ABC 2.1.
 abbrev pub class_in : VoiceEventKind → ℕ
 class_in NoteOff = 1
 class_in ProgramChange = 2
@@ -23,16 +23,21 @@ class_in NoteOn = 3
 -- The event on a channel.
 abbrev pub event_at : ℕ → VoiceEvent → Event
 event_at channel event =
-    record { tick = event.tick; class = class_in event.kind; key = event.key; bytes = bytes_of event.kind channel event.key event.value }
+    record {
+      tick = event.tick;
+      class = class_in event.kind;
+      key = event.key;
+      bytes = bytes_of event.kind channel event.key event.value;
+    }
 
--- A note begins and ends, with the release velocity 64, unless both fall on one tick: then it is not written. Our own.
+-- A note begins and ends, with the release velocity 64, unless both fall on one tick: then it is not written. Not in ABC 2.1.
 abbrev pub ends_of : Sounding → List VoiceEvent
 ends_of note =
     if tick_at note.on.0 == tick_at note.off.0 then [] else
     record { tick = tick_at note.on.0; kind = NoteOn; key = note.key; value = note.velocity }
     ∷ record { tick = tick_at note.off.0; kind = NoteOff; key = note.key; value = 64 } ∷ []
 
--- A change of program, at the tick of its moment. Our own.
+-- A change of program, at the tick of its moment. Not in ABC 2.1.
 abbrev pub change_of : VoiceProgram → VoiceEvent
 change_of change = record { tick = tick_at change.at.0; kind = ProgramChange; key = 0; value = change.number }
 

@@ -6,8 +6,7 @@ use crate::event_bytes::EventBytes;
 use crate::number::put_number;
 use std::alloc::{AllocError, Global};
 
-/// An event of a track. Events compare as they stand in a track: by tick, then class, then key, then
-/// bytes.
+/// An event of a track. Events are ordered by tick, then class, then key, then bytes.
 #[derive(Debug, PartialEq, Eq, PartialOrd, Ord, Drop)]
 pub struct Event {
     /// The tick at which it comes, from the start of the track.
@@ -17,12 +16,12 @@ pub struct Event {
     pub class: u8,
     /// The key of a note, else 0.
     pub key: u8,
-    /// What the track holds of it after its delta time.
+    /// Its bytes in the track, after its delta time.
     pub bytes: EventBytes,
 }
 
-/// The bytes of a meta event of this type.
-pub(crate) fn meta(alloc: Global, kind: u8, content: &[u8]) -> Result<EventBytes, AllocError>
+/// Returns the bytes of a meta event of this type.
+pub(crate) fn meta_event(alloc: Global, kind: u8, content: &[u8]) -> Result<EventBytes, AllocError>
     requires { length content.now < 2 ^ 28 }
     ensures { IfOk result (λ bytes. bytes ≡ meta_event kind content.now) }
 {

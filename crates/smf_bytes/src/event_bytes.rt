@@ -1,11 +1,9 @@
-//! The bytes of an event, few of which need memory of their own.
-ghost use Rattle.std.specs.Prelude.{◌≡◌, ◌≤◌, ℕ, length, Some, IsOk, IfOk, nat_eq, refl};
+//! The bytes of an event, in place if they are few.
+ghost use Rattle.std.specs.Prelude.{◌≡◌, ◌≤◌, length, Some, IsOk, IfOk, nat_eq, refl};
 ghost use Rattle.std.specs.Cmp.{partial_equiv_from_equiv};
 ghost use Rattle.std.specs.Cmp.Lexicographic.{pointwise, slice_cmp, nat_list_eq_equiv, nat_list_cmp_total, texts_po, texts_ties};
 ghost use Rattle.std.specs.Ordering.{nat_cmp};
-ghost use Rattle.abc_score.specs.declared.score.ChangeKind.{ChangeKind};
 ghost use Rattle.smf_bytes.specs.declared.event_bytes.TheConstants.{ROOM_IN_PLACE};
-ghost use Rattle.smf_bytes.specs.Event.{change_bytes, note_off, note_on, program_change};
 
 use smallvec::SmallVec;
 use std::alloc::{AllocError, Global};
@@ -13,10 +11,10 @@ use std::cmp::Ordering;
 use std::fmt;
 use std::marker::Model;
 
-/// How many bytes an event has room for in place: all events but titles have no more.
+/// The number of bytes that an event holds in place: all events but titles have no more.
 pub const ROOM_IN_PLACE: usize = 8;
 
-/// What a track holds of an event after its delta time. Contracts see the bytes, wherever they stand.
+/// The bytes of an event in a track, after its delta time. Contracts see the bytes, in place or not.
 #[derive(Drop)]
 pub struct EventBytes {
     bytes: SmallVec<u8, ROOM_IN_PLACE>,
@@ -31,7 +29,7 @@ impl Model for EventBytes {
 }
 
 impl EventBytes {
-    /// A copy of these bytes, which asks for memory only where there is no room for them in place.
+    /// Returns a copy of these bytes, which allocates only if they do not fit in place.
     pub fn from_slice(alloc: Global, bytes: &[u8]) -> Result<Self, AllocError>
         ensures ok { IfOk result (λ copy. copy ≡ bytes.now) }
         ensures succeeds { length bytes.now ≤ ROOM_IN_PLACE → IsOk result }
@@ -41,7 +39,7 @@ impl EventBytes {
         })
     }
 
-    /// The bytes in order.
+    /// Returns the bytes in order.
     #[inline]
     pub fn as_slice(&self) -> &[u8]
         ensures { result.now ≡ self.now }
@@ -93,11 +91,3 @@ impl fmt::Debug for EventBytes {
         self.bytes.fmt(f)
     }
 }
-
-/// All events but titles have room in place.
-pub fn room_in_place()
-    ensures changes { (what : ChangeKind) → length (change_bytes what) ≤ ROOM_IN_PLACE }
-    ensures note_offs { (channel key tick : ℕ) → length (note_off channel key tick).bytes ≤ ROOM_IN_PLACE }
-    ensures programs { (channel number tick : ℕ) → length (program_change channel number tick).bytes ≤ ROOM_IN_PLACE }
-    ensures note_ons { (channel key velocity tick : ℕ) → length (note_on channel key velocity tick).bytes ≤ ROOM_IN_PLACE }
-{}

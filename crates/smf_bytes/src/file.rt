@@ -1,25 +1,25 @@
 //! The file of a score.
 ghost use Rattle.std.specs.Prelude.{◌≡◌, ◌≤◌, ◌<◌, ◌+◌, ◌++◌, IfOk, OnOk};
 ghost use Rattle.abc_time.specs.Grains.{grains_of_the_latest_end, tick_at};
-ghost use Rattle.abc_items.specs.declared.item.TheConstants.{MOST_VOICES};
-ghost use Rattle.smf_bytes.specs.File.{header, file_bytes};
-ghost use Rattle.abc_score.specs.Limits.{AreProgramsWithin, IsWithinLimits, IsVoiceWithin};
+ghost use Rattle.abc_bars_items.specs.declared.item.TheConstants.{MOST_VOICES};
+ghost use Rattle.smf_bytes.specs.File.{header_chunk, file_bytes};
+ghost use Rattle.abc_voices_score.specs.Limits.{AreProgramsWithin, IsWithinLimits, IsVoiceWithin};
 ghost use Rattle.smf_bytes.specs.Track.{track, voice_events, channel_of};
 
 use crate::chunk::{put_u16, put_u32};
-use crate::conductor::conductor;
+use crate::conductor::conductor_events;
 use crate::track::{TrackEvents, put_track};
-use crate::voice::{channel, voice};
-use abc_score::{ProgramChange, Score, Sounding};
+use crate::voice::{channel, events_of_voice};
 use abc_text::Sequence;
 use abc_time::{Grains, tick_of};
+use abc_voices_score::{ProgramChange, Score, Sounding};
 use std::alloc::{AllocError, Global};
 
-/// About so many bytes come before the notes of the first voice: the header and the first track.
+/// About how many bytes come before the notes of the first voice: the header and the first track.
 const USUAL_OPENING: usize = 128;
 
-/// The Standard MIDI File of a score, for one within its limits (`IsWithinLimits`): format 1, 480 ticks to a quarter
-/// note, first the title and the changes, then a track for each voice.
+/// Returns the Standard MIDI File of a score within its limits (`IsWithinLimits`): format 1, 480 ticks to a quarter note,
+/// first the title and the changes, then a track for each voice.
 pub fn file_of(alloc: Global, score: &Score) -> Result<Vec<u8>, AllocError>
     requires { IsWithinLimits score.now }
     ensures { IfOk result (λ file. file.items ≡ file_bytes score.now) }
@@ -27,7 +27,7 @@ pub fn file_of(alloc: Global, score: &Score) -> Result<Vec<u8>, AllocError>
     let end = tick_of(score.end);
     let mut file = Vec::with_capacity(alloc, USUAL_OPENING)?;
     put_header(&mut file, score.voices.len() + 1)?;
-    let changes = conductor(
+    let changes = conductor_events(
         alloc,
         score.end,
         score.title.as_slice(),
@@ -41,11 +41,11 @@ pub fn file_of(alloc: Global, score: &Score) -> Result<Vec<u8>, AllocError>
     Ok(file)
 }
 
-/// Appends the header of a file with so many tracks.
-#[tactic(auto, unfolding(crate::specs::File::header))]
+/// Appends the header of a file with this many tracks.
+#[tactic(auto, unfolding(crate::specs::File::header_chunk))]
 fn put_header(out: &mut Vec<u8>, tracks: usize) -> Result<(), AllocError>
     requires { tracks ≤ 16 }
-    ensures { OnOk result (out.new.items ≡ out.old.items ++ header tracks) }
+    ensures { OnOk result (out.new.items ≡ out.old.items ++ header_chunk tracks) }
 {
     out.extend_from_slice(b"MThd")?;
     put_u32(out, 6)?;
@@ -72,6 +72,6 @@ fn put_voice(
         ≡ out.old.items ++ track (tick_at end.0) (voice_events (channel_of place) programs.now notes.now)) }
 {
     let channel = channel(place);
-    let events = voice(alloc, end, programs.as_slice(), notes.as_slice())?;
+    let events = events_of_voice(alloc, end, programs.as_slice(), notes.as_slice())?;
     put_track(out, tick_of(end), TrackEvents::Voice { channel, events })
 }

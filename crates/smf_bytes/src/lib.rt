@@ -1,5 +1,5 @@
-//! Standard MIDI Files 1.0 as bytes: variable-length quantities, events in their order, tracks as
-//! chunks, and the file of a score.
+//! Standard MIDI Files 1.0 as bytes: variable-length quantities, events in their order, tracks as chunks, and the file of a
+//! score.
 #![tactic(auto)]
 
 mod chunk;
@@ -7,17 +7,18 @@ mod conductor;
 mod event;
 mod event_bytes;
 mod file;
+pub mod laws;
 mod number;
 mod order;
 mod track;
 mod voice;
 mod voice_event;
 
-pub use abc_score::{Change, ChangeKind, ProgramChange, Score, Sounding};
 pub use abc_text::Sequence;
 pub use abc_time::Grains;
+pub use abc_voices_score::{Change, ChangeKind, ProgramChange, Score, Sounding};
 pub use event::Event;
-pub use event_bytes::{EventBytes, ROOM_IN_PLACE, room_in_place};
+pub use event_bytes::{EventBytes, ROOM_IN_PLACE};
 pub use file::file_of;
-pub use number::{NumberFault, number_texts, put_number, read_number};
-pub use order::{one_order, order_events};
+pub use number::{NumberFault, put_number, read_number};
+pub use order::order_events;

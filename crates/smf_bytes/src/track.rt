@@ -3,11 +3,11 @@ ghost use Rattle.std.specs.Prelude.{◌≡◌, ◌≤◌, ◌<◌, ◌^◌, ◌-
 ghost use Rattle.smf_bytes.specs.Number.{number_text};
 ghost use Rattle.smf_bytes.specs.Voice.{bytes_of, event_at};
 ghost use Rattle.smf_bytes.specs.Track.{track_body, track};
-ghost use Rattle.smf_bytes.specs.Written.{HasChannel, events_in};
+ghost use Rattle.smf_bytes.specs.TrackEvents.{HasChannel, events_in};
 
 use crate::chunk::put_u32;
 use crate::event::Event;
-use crate::number::{leading, put_number};
+use crate::number::{leading_byte, put_number};
 use crate::order::order_events;
 use crate::voice_event::{VoiceEvent, VoiceEventKind, order_voice};
 use byteorder::{BigEndian, ByteOrder};
@@ -35,7 +35,7 @@ pub(crate) fn put_track(out: &mut Vec<u8>, end: u32, events: TrackEvents) -> Res
     ensures { OnOk result (out.new.items ≡ out.old.items ++ track end (events_in events)) }
 {
     out.extend_from_slice(b"MTrk")?;
-    // The length is known once the body stands: it is put in its place then.
+    // The length is known after the body, and then replaces the zero.
     let start = out.len();
     put_u32(out, 0)?;
     put_body(out, end, events)?;
@@ -109,14 +109,14 @@ fn put_voice_events(
     put_end(out, end - before)
 }
 
-/// Whether a note begins and one ends.
+/// Whether the first event begins a note and the second ends one.
 fn is_note(first: &VoiceEvent, second: &VoiceEvent) -> bool
     ensures { IsTrue result → (first.now.kind ≡ VoiceEventKind.NoteOn) × (second.now.kind ≡ VoiceEventKind.NoteOff) }
 {
     first.kind == VoiceEventKind::NoteOn && second.kind == VoiceEventKind::NoteOff
 }
 
-/// Appends an event of a voice, so many ticks behind the one before it.
+/// Appends an event of a voice, `delta` ticks after the one before it.
 fn put_voice_event(
     out: &mut Vec<u8>,
     delta: u32,
@@ -139,8 +139,8 @@ fn put_voice_event(
     put_note(out, delta, [status + channel, event.key, event.value])
 }
 
-/// Appends the bytes of a note that begins or ends, so many ticks behind the event before it. A delta time of one
-/// byte or two, as most are, goes in together with them.
+/// Appends the bytes of a note that begins or ends, `delta` ticks after the event before it. A delta time of one or two
+/// bytes, as most are, is appended in the same call.
 #[inline(always)]
 #[tactic(auto, unfolding(crate::specs::Number::number_text))]
 fn put_note(out: &mut Vec<u8>, delta: u32, bytes: [u8; 3]) -> Result<(), AllocError>
@@ -152,15 +152,15 @@ fn put_note(out: &mut Vec<u8>, delta: u32, bytes: [u8; 3]) -> Result<(), AllocEr
         out.extend_from_slice(&[delta as u8, status, key, velocity])
     } else if delta < 0x4000 {
         let last = (delta % 0x80) as u8;
-        out.extend_from_slice(&[leading(delta / 0x80), last, status, key, velocity])
+        out.extend_from_slice(&[leading_byte(delta / 0x80), last, status, key, velocity])
     } else {
         put_number(out, delta)?;
         out.extend_from_slice(&bytes)
     }
 }
 
-/// Appends the bytes of a note's beginning and end, each after its delta time. Most notes follow at once on the one
-/// before them, so that this time takes one byte, and are of a length that takes two: all goes in together then.
+/// Appends the bytes of a note's beginning and end, each after its delta time. Most notes follow at once on the one before
+/// them, which takes one byte, and have a length of two bytes: then one call appends all.
 #[tactic(auto, unfolding(crate::specs::Number::number_text))]
 fn put_both(
     out: &mut Vec<u8>,
@@ -177,7 +177,7 @@ fn put_both(
         put_note(out, rest, on)?;
         return put_note(out, length, off);
     }
-    let first = leading(length / 0x80);
+    let first = leading_byte(length / 0x80);
     let last = (length % 0x80) as u8;
     let [begins, key, velocity] = on;
     let [ends, same_key, release] = off;
@@ -186,7 +186,7 @@ fn put_both(
     ])
 }
 
-/// Appends the end of a track, so many ticks behind its last event.
+/// Appends the end of a track, `delta` ticks after its last event.
 fn put_end(out: &mut Vec<u8>, delta: u32) -> Result<(), AllocError>
     requires { delta < 2 ^ 28 }
     ensures { OnOk result (out.new.items ≡ (out.old.items ++ number_text delta) ++ 255 ∷ 47 ∷ 0 ∷ []) }

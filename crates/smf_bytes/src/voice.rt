@@ -1,20 +1,20 @@
 //! The events of a voice: its changes of program, its notes on and off.
 ghost use Rattle.std.specs.Prelude.{◌≡◌, ◌≤◌, ◌<◌, ◌++◌, [], ◌∷◌, length, map, All, IfOk, IsPermutation, OnOk};
 ghost use Rattle.abc_time.specs.Grains.{grains_of_the_latest_end};
-ghost use Rattle.abc_items.specs.declared.item.TheConstants.{MOST_VOICES};
-ghost use Rattle.abc_score.specs.Limits.{AreProgramsWithin, IsProgramWithin, IsSoundingWithin, IsVoiceWithin};
+ghost use Rattle.abc_bars_items.specs.declared.item.TheConstants.{MOST_VOICES};
+ghost use Rattle.abc_voices_score.specs.Limits.{AreProgramsWithin, IsProgramWithin, IsSoundingWithin, IsVoiceWithin};
 ghost use Rattle.smf_bytes.specs.Voice.{all_of, change_of, ends_of};
 ghost use Rattle.smf_bytes.specs.Track.{channel_of};
 
 use crate::voice_event::{VoiceEvent, VoiceEventKind};
-use abc_score::{ProgramChange, Sounding};
 use abc_time::{Grains, tick_of};
+use abc_voices_score::{ProgramChange, Sounding};
 use std::alloc::{AllocError, Global};
 
-/// How far an event is moved back at most: over the events of a chord with as many notes as one may have.
+/// The greatest number of events over which one is moved back: those of the largest chord.
 const FARTHEST_BACK: usize = 32;
 
-/// The channel of the voice at this place, from 0. The tenth is left out: it is for percussion.
+/// Returns the channel of the voice at this place, from 0. The tenth is left out: it is for percussion.
 pub(crate) fn channel(place: usize) -> u8
     requires { place < MOST_VOICES }
     ensures { result ≡ channel_of place }
@@ -26,13 +26,13 @@ pub(crate) fn channel(place: usize) -> u8
     }
 }
 
-/// The velocity with which each note ends. Our own.
+/// The velocity with which each note ends. Not in ABC 2.1.
 const RELEASE_VELOCITY: u8 = 64;
 
-/// The events of a voice, of a tune that ends at `end`, in some order. A play's notes are found from its last
-/// to its first: turned round, they give their events sorted but for notes that overlap far. Most voices change
-/// their program at their start alone, so programs go before the notes.
-pub(crate) fn voice(
+/// Returns the events of a voice, of a tune that ends at `end`, in some order. Notes come from the last to the first:
+/// reversed, they give their events sorted except for notes that overlap far. Programs go before the notes, since most
+/// voices set theirs at the start.
+pub(crate) fn events_of_voice(
     alloc: Global,
     end: Grains,
     programs: &[ProgramChange],
@@ -51,7 +51,7 @@ pub(crate) fn voice(
     Ok(events)
 }
 
-/// Puts the changes of program to the events.
+/// Appends the changes of program to the events.
 fn put_programs(
     events: &mut Vec<VoiceEvent>,
     end: Grains,
@@ -72,7 +72,7 @@ fn put_programs(
     Ok(())
 }
 
-/// Puts the on and the off of a note to the events, unless both fall on one tick.
+/// Adds the on and the off of a note to the events, unless both fall on one tick.
 fn push_note(events: &mut Vec<VoiceEvent>, end: Grains, note: &Sounding) -> Result<(), AllocError>
     requires end { end.0 ≤ grains_of_the_latest_end }
     requires note { IsSoundingWithin end note.now }
@@ -81,7 +81,7 @@ fn push_note(events: &mut Vec<VoiceEvent>, end: Grains, note: &Sounding) -> Resu
     let on = tick_of(note.on);
     let off = tick_of(note.off);
     if on != off {
-        put(
+        put_ends(
             events,
             VoiceEvent {
                 tick: on,
@@ -100,9 +100,9 @@ fn push_note(events: &mut Vec<VoiceEvent>, end: Grains, note: &Sounding) -> Resu
     Ok(())
 }
 
-/// Puts the on and the off of a note to other events. Unless the last of these is at its tick or before it, each is
-/// moved back to its place.
-fn put(events: &mut Vec<VoiceEvent>, on: VoiceEvent, off: VoiceEvent) -> Result<(), AllocError>
+/// Adds the on and the off of a note to other events. If the last of these is after the on, each is moved back to its
+/// place.
+fn put_ends(events: &mut Vec<VoiceEvent>, on: VoiceEvent, off: VoiceEvent) -> Result<(), AllocError>
     ensures { OnOk result (IsPermutation (events.old.items ++ on ∷ off ∷ []) events.new.items) }
 {
     let place = events.len();

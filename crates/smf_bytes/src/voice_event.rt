@@ -5,7 +5,7 @@ ghost use Rattle.smf_bytes.specs.Voice.{event_at};
 
 use std::alloc::AllocError;
 
-/// An event of a voice. Events compare as they stand in a track: by tick, then kind, then key, then value.
+/// An event of a voice. Events are ordered by tick, then kind, then key, then value.
 #[derive(Clone, Copy, PartialEq, Eq, PartialOrd, Ord)]
 pub(crate) struct VoiceEvent {
     /// The tick at which it comes, from the start of the track.
@@ -20,7 +20,7 @@ pub(crate) struct VoiceEvent {
 /// A voice has many events: each takes eight bytes.
 const _: () = prove!(size_of::<VoiceEvent>() == 8);
 
-/// What an event of a voice is. At one tick notes end first, then programs change, then notes begin.
+/// The kind of an event of a voice. At one tick notes end first, then programs change, then notes begin.
 #[derive(Clone, Copy, PartialEq, Eq, PartialOrd, Ord)]
 pub(crate) enum VoiceEventKind {
     NoteOff,
@@ -28,10 +28,11 @@ pub(crate) enum VoiceEventKind {
     NoteOn,
 }
 
-/// The events in the order of a track.
+/// Sorts events into the order of a track.
 pub(crate) fn order_voice(events: Vec<VoiceEvent>) -> Result<Vec<VoiceEvent>, AllocError>
     ensures permutation { IfOk result (λ ordered. IsPermutation events.items ordered.items) }
-    ensures exact { IfOk result (λ ordered. (channel : ℕ) → map (event_at channel) ordered.items ≡ in_order (map (event_at channel) events.items)) }
+    ensures exact { IfOk result (λ ordered. (channel : ℕ)
+        → map (event_at channel) ordered.items ≡ in_order (map (event_at channel) events.items)) }
 {
     let mut events = events;
     events.sort()?;

@@ -1,20 +1,20 @@
--- What is set in headers of the worked examples, and what holds where their bodies begin. Our own.
+-- Values in headers of the worked examples, and states where their bodies begin. Not in ABC 2.1.
 use Rattle.std.specs.Prelude.{ℕ, pos, negsuc, List, [], ◌∷◌, codes, Option}
-use Rattle.abc_cells.specs.declared.body.Current.TheVariants.{At}
-use Rattle.abc_cells.specs.declared.entry.Entry.{Entry}
-use Rattle.abc_cells.specs.declared.entry.Entry.TheVariants.{Body}
+use Rattle.abc_bars_body.specs.declared.body.Current.TheVariants.{At}
+use Rattle.abc_bars_body.specs.declared.entry.Entry.{Entry}
+use Rattle.abc_bars_body.specs.declared.entry.Entry.TheVariants.{Body}
 use Rattle.abc_fields.specs.Signature.{natural}
 use Rattle.abc_fields.specs.declared.meter.Meter.{Meter}
 use Rattle.abc_fields.specs.declared.meter.Meter.TheVariants.{Free}
 use Rattle.abc_fields.specs.declared.signature.Signature.{Signature}
 use Rattle.abc_fields.specs.declared.tempo.Tempo.{Tempo}
-use Rattle.abc_header.specs.declared.defaults.Defaults.{Defaults}
+use Rattle.abc_bars_header.specs.declared.defaults.Defaults.{Defaults}
 use Rattle.abc_scan.specs.declared.directive.Reach.{Reach}
 use Rattle.abc_scan.specs.declared.directive.Reach.TheVariants.{Pitch}
-use Rattle.abc_settings.specs.declared.settings.Settings.{Settings}
-use Rattle.abc_settings.specs.declared.voice_shift.VoiceShift.{VoiceShift}
+use Rattle.abc_bars_voice.specs.declared.voice_state.VoiceState.{VoiceState}
+use Rattle.abc_bars_voice.specs.declared.voice_shift.VoiceShift.{VoiceShift}
 use Rattle.abc_time.specs.declared.ratio.Ratio.{Ratio}
-use Rattle.text_examples.specs.Bars.{settings_in}
+use Rattle.text_examples.specs.Bars.{voice_state_in}
 use Rattle.text_examples.specs.Values.{ratio}
 
 -- The values that a file header sets.
@@ -28,19 +28,25 @@ in_g = record natural { f = pos 1 }
 abbrev pub in_f : Signature
 in_f = record natural { b = negsuc 0 }
 
--- What holds for a voice with this signature and shift behind a header that sets neither meter nor unit.
-abbrev pub keyed_so : Signature → VoiceShift → Settings
-keyed_so signature shift = record (settings_in Free (ratio 1 8) Pitch) { signature = signature; shift = shift }
+-- The state of a voice with this signature and shift after a header that sets neither meter nor unit.
+abbrev pub state_with_key : Signature → VoiceShift → VoiceState
+state_with_key signature shift = record (voice_state_in Free (ratio 1 8) Pitch) { signature = signature; shift = shift }
 
 -- The same without sharps and flats.
-abbrev pub begun : VoiceShift → Settings
-begun shift = keyed_so natural shift
+abbrev pub opening_state : VoiceShift → VoiceState
+opening_state shift = state_with_key natural shift
 
--- In a body behind a header that declares the voices `1` and `2`, by their shifts and by that of another voice.
+-- In a body after a header that declares the voices `1` and `2`, by their shifts and by that of another voice.
 abbrev pub two_voices : VoiceShift → VoiceShift → VoiceShift → Entry
 two_voices first second another =
-    Body (record { voices = (codes "1", begun first) ∷ (codes "2", begun second) ∷ []; current = At 0; another = begun another })
+    Body (record {
+      voices = (codes "1", opening_state first) ∷ (codes "2", opening_state second)
+          ∷ [];
+      current = At 0;
+      another = opening_state another;
+    })
 
 -- A header that says parts of the shifts of the voices `1` and `2`, and whose key says other parts.
 abbrev pub shifted_voices : List (List ℕ)
-shifted_voices = codes "X:1" ∷ codes "V:1 treble-8" ∷ codes "V:2 octave=1" ∷ codes "V:1 octave=2" ∷ codes "K:C treble+8 transpose=3" ∷ []
+shifted_voices =
+    codes "X:1" ∷ codes "V:1 treble-8" ∷ codes "V:2 octave=1" ∷ codes "V:1 octave=2" ∷ codes "K:C treble+8 transpose=3" ∷ []

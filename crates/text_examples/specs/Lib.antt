@@ -4,5 +4,5 @@ pub mod Blocks
 pub mod Counting
 pub mod Headers
 pub mod Repeats
-pub mod Settings
+pub mod VoiceStates
 pub mod Values

@@ -15,15 +15,15 @@ single = marks.Bar 0 0 false
 abbrev pub double : Mark
 double = marks.Bar 0 0 true
 
--- The repeat bar `|:` with so many colons.
+-- The repeat bar `|:` with this number of colons.
 abbrev pub opening : ℕ → Mark
 opening colons = marks.Bar 0 colons false
 
--- The repeat bar `:|` with so many colons.
+-- The repeat bar `:|` with this number of colons.
 abbrev pub closing : ℕ → Mark
 closing colons = marks.Bar colons 0 false
 
--- So many colons on both sides of nothing: `::` has one on each.
+-- This number of colons on both sides of nothing: `::` has one on each.
 abbrev pub between : ℕ → Mark
 between colons = marks.Bar colons colons true
 

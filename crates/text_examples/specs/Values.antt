@@ -1,4 +1,4 @@
--- Values as the worked examples write them: a tick is 484,323,840 grains. Our own.
+-- Values as the worked examples write them: a tick is 484,323,840 grains. Not in ABC 2.1.
 use Rattle.std.specs.Prelude.{ℕ, ℤ, ◌*◌, List, pos, Option, Some, None, Result, Ok, Err}
 use Rattle.abc_fields.specs.declared.fault.FaultCode.{FaultCode}
 use Rattle.abc_fields.specs.declared.key.Key.{Key}
@@ -8,8 +8,8 @@ use Rattle.abc_scan.specs.declared.length.WrittenLength.{WrittenLength}
 use Rattle.abc_scan.specs.declared.length.WrittenLength.TheVariants.{Factor}
 use Rattle.abc_text.specs.declared.letter.Letter.{Letter}
 use Rattle.abc_text.specs.declared.letter.Letter.TheVariants as letters
-use Rattle.abc_scan.specs.declared.parts.ChordPartKind.{ChordPartKind}
-use Rattle.abc_scan.specs.declared.parts.ChordPartKind.TheVariants as parts
+use Rattle.abc_scan.specs.declared.chord_part.ChordPartKind.{ChordPartKind}
+use Rattle.abc_scan.specs.declared.chord_part.ChordPartKind.TheVariants as parts
 use Rattle.abc_scan.specs.declared.spanned.Spanned.{Spanned}
 use Rattle.abc_scan.specs.declared.token.TokenKind.{TokenKind}
 use Rattle.abc_scan.specs.declared.token.TokenKind.TheVariants as kinds
@@ -52,7 +52,7 @@ part kind from to = record { kind = kind; from = from; to = to }
 abbrev pub c_part : ℕ → ℕ → Spanned ChordPartKind
 c_part from to = part (parts.Note (record { accidental = None; letter = letters.C; octave = pos 0; length = plain })) from to
 
--- A chord of these parts, with no length behind it, from one byte of a line to another.
+-- A chord of these parts, with no length after it, from one byte of a line to another.
 abbrev pub chord_token : List (Spanned ChordPartKind) → ℕ → ℕ → Spanned TokenKind
 chord_token inside from to = token (kinds.Chord (record { parts = inside; length = plain })) from to
 

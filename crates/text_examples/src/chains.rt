@@ -1,18 +1,18 @@
-//! A fold whose states are seldom equal, and often alike: what chains of it keep is taken up where as much is counted.
+//! A fold whose states are seldom equal, and often alike: its chains are resumed where the counts are equal.
 
 ghost use Rattle.text_examples.specs.Counting.{counting, counting_resumable};
 
 use abc_fold::{Fold, Work};
 use std::alloc::{AllocError, Global};
 
-/// What is counted, and how many cells there were, which nothing that is given shows.
+/// The count, and the number of cells, which no item shows.
 #[derive(Drop)]
 pub struct Counted {
     pub count: u8,
     pub mark: u64,
 }
 
-/// Counts numbers together, and begins anew at 0. Each gives what was counted before it.
+/// Adds numbers up, and begins anew at 0. The item of each is the count before it.
 #[derive(Drop)]
 pub struct Counting;
 

@@ -10,5 +10,5 @@ pub mod lengths;
 pub mod orders;
 pub mod repeats;
 pub mod scanning;
-pub mod settings;
 pub mod texts;
+pub mod voice_states;

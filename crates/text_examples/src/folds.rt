@@ -1,4 +1,4 @@
-//! A fold of our own, and steps of any fold through its bounds alone.
+//! A fold that is not of ABC, and steps of any fold through its bounds alone.
 
 ghost use Rattle.std.specs.Prelude.{◌≡◌, ℕ, ◌≤◌, [], ◌∷◌, IfOk, OnOk};
 ghost use Rattle.abc_fold.specs.Work.{after_steps, raised};
@@ -12,7 +12,7 @@ use std::marker::Model;
 /// Adds numbers up. A number gives the total before it, and itself.
 pub struct Adding;
 
-/// What the numbers so far add up to, the greatest `u64` where they are more.
+/// The sum of the numbers so far, at most the greatest `u64`.
 #[derive(Drop)]
 pub struct Total {
     sum: u64,
@@ -67,8 +67,8 @@ impl Fold for Adding {
     }
 }
 
-/// Two steps of any fold, one behind the other: what its definition gives, and two steps counted. Where memory is
-/// refused, no more than two.
+/// Takes two steps of any fold, one after the other: the results are those of its definition, and two steps are counted.
+/// If an allocation fails, at most two are counted.
 #[tactic(auto, using(abc_fold::proofs::Raised::raising))]
 pub fn two_steps<F: Fold>(
     fold: &F,
@@ -103,7 +103,7 @@ pub fn numbers_of<W: Counts>(work: &W) -> (u64, u64, u64)
     (work.scanned(), work.folded(), work.built())
 }
 
-// Two numbers are added to 3, through the bounds alone. Our own.
+// Two numbers are added to 3, through the bounds alone. Not in ABC 2.1.
 pub fn two_numbers_are_added(
     alloc: Global,
     work: &mut Work,

@@ -14,11 +14,11 @@ use Rattle.abc_scan.specs.declared.note.Note.{Note}
 use Rattle.abc_text.specs.declared.letter.Letter.{Letter}
 use Rattle.abc_text.specs.declared.letter.Letter.TheVariants.{C, D, E, F, G, A, B}
 use Rattle.abc_text.specs.Letter.{capital}
-use Rattle.abc_settings.specs.declared.accidentals.Accidentals.{Accidentals}
-use Rattle.abc_settings.specs.declared.accidentals.Accidentals.TheVariants.{Own, InOctaves, OnLetters}
-use Rattle.abc_settings.specs.declared.accidentals.LetterAccidentals.{LetterAccidentals}
-use Rattle.abc_settings.specs.Accidentals.{letters_in, no_accidentals, no_letters, on_letter, reach_of, with_letter, with_octave, written_on}
-use Rattle.abc_settings.specs.Alteration.{own_alteration, with_own, with_written}
+use Rattle.abc_bars_voice.specs.declared.accidentals.Accidentals.{Accidentals}
+use Rattle.abc_bars_voice.specs.declared.accidentals.Accidentals.TheVariants.{Own, InOctaves, OnLetters}
+use Rattle.abc_bars_voice.specs.declared.accidentals.LetterAccidentals.{LetterAccidentals}
+use Rattle.abc_bars_voice.specs.Accidentals.{letters_in, no_accidentals, no_letters, on_letter, reach_of, with_letter, with_octave, written_on}
+use Rattle.abc_bars_voice.specs.Alteration.{own_alteration, with_own, with_written}
 use Rattle.abc_bars.specs.LookBack.Voice.{accidentals_of, newest_written, put_before, reaches}
 
 -- How far accidentals reach stays.
@@ -90,7 +90,7 @@ letter-set letters B G by = refl
 letter-set letters B A by = refl
 letter-set letters B B by = refl
 
--- What is found behind one more entry of a map.
+-- What is found after one more entry of a map.
 twice : {X : Type 0} (b : Bool) (x y z : X) → cond b x z ≡ cond b x (cond b y z)
 twice true x y z = refl
 twice false x y z = refl

@@ -1,25 +1,26 @@
 -- The steps along cells are the look back.
 use Rattle.std.proofs.Common.{◌≡◌, List, [], ◌∷◌, Option, Some, None, refl, sym, subst, ap, ◌∙◌}
-use Rattle.abc_cells.specs.declared.entry.Entry.{Entry}
-use Rattle.abc_cells.specs.declared.entry.Entry.TheVariants as entries
-use Rattle.abc_header.specs.Defaults.{no_defaults}
-use Rattle.abc_cells.specs.Entry.{opening_after}
-use Rattle.abc_header.specs.HeaderLine.{HeaderLine}
-use Rattle.abc_cells.specs.SameEntry.{bar_steps}
-use Rattle.abc_cells.specs.Step.{line_in, stepped}
-use Rattle.abc_bars.specs.LookBack.Along.{CellTokens, IsLookBack, file_header_begins, given_along, items_along, lines_behind, place_after, state_after, states_along, tune_begins, views_along, with_line}
+use Rattle.abc_bars_body.specs.declared.entry.Entry.{Entry}
+use Rattle.abc_bars_body.specs.declared.entry.Entry.TheVariants as entries
+use Rattle.abc_bars_header.specs.Defaults.{no_defaults}
+use Rattle.abc_bars_body.specs.Entry.{opening_after}
+use Rattle.abc_bars_header.specs.HeaderLine.{HeaderLine}
+use Rattle.abc_bars_body.specs.SameEntry.{bar_steps}
+use Rattle.abc_bars_body.specs.Step.{line_in, entry_step}
+use Rattle.abc_bars.specs.LookBack.Along.{CellTokens, IsLookBack, file_header_beginning, results_along, items_along, lines_behind, place_after, state_after, states_along, tune_beginning, views_along}
+use Rattle.abc_bars.specs.LookBack.Along.{with_line}
 use Rattle.abc_bars.specs.LookBack.Place.{Place, InFileHeader, behind_file_header, place_behind, view}
 use Rattle.abc_bars.proofs.LookBack.Places.{stepped_back}
-use Rattle.abc_items.specs.Item.{Items}
+use Rattle.abc_bars_items.specs.Item.{Items}
 use Rattle.std.specs.Option.{option_map}
 
--- What holds behind a cell.
+-- The state after a cell.
 abbrev to : Entry → CellTokens → Entry
-to entry cell = (stepped entry cell).0
+to entry cell = (entry_step entry cell).0
 
 -- What a cell gives.
 abbrev giving : Entry → CellTokens → Items
-giving entry cell = (stepped entry cell).1
+giving entry cell = (entry_step entry cell).1
 
 to-view : (place : Place) (cell : CellTokens) → to (view place) cell ≡ view (place_behind place cell)
 to-view place cell = ap (λ (made : Entry × Items). made.0) (stepped_back place cell)
@@ -30,7 +31,7 @@ entered-along place (cell ∷ cells) =
     ap (λ (rest : List Entry). view place ∷ rest)
     (ap (λ (state : Entry). states_along to state cells) (to-view place cell) ∙ entered-along (place_behind place cell) cells)
 
-items-given : (place : Place) (cells : List CellTokens) → items_along to giving (view place) cells ≡ given_along place cells
+items-given : (place : Place) (cells : List CellTokens) → items_along to giving (view place) cells ≡ results_along place cells
 items-given place [] = refl
 items-given place (cell ∷ cells) = λ i.
     ap (λ (made : Entry × Items). made.1) (stepped_back place cell) i
@@ -45,8 +46,8 @@ behind-cells place (cell ∷ cells) =
 pub from_view : (place : Place) → IsLookBack bar_steps (view place) place
 from_view place = record { entered = entered-along place; given = items-given place; behind = behind-cells place }
 
--- The same cells give the same where the views are the same, and the same holds behind them.
-pub same_given : (here there : Place) (cells : List CellTokens) → view here ≡ view there → given_along here cells ≡ given_along there cells
+-- The same cells give the same where the views are the same, and the same holds after them.
+pub same_given : (here there : Place) (cells : List CellTokens) → view here ≡ view there → results_along here cells ≡ results_along there cells
 same_given here there cells same =
     sym (items-given here cells) ∙ ap (λ (entry : Entry). items_along to giving entry cells) same ∙ items-given there cells
 
@@ -54,7 +55,7 @@ pub same_behind : (here there : Place) (cells : List CellTokens) → view here �
 same_behind here there cells same =
     sym (behind-cells here cells) ∙ ap (λ (entry : Entry). state_after to entry cells) same ∙ behind-cells there cells
 
--- The place behind the cells of a file header: its lines stand before it.
+-- The place after the cells of a file header: its lines are before it.
 line-behind : (before : List HeaderLine) (line : Option HeaderLine) → behind_file_header before line ≡ InFileHeader (with_line line before)
 line-behind before None = refl
 line-behind before (Some line) = refl
@@ -67,16 +68,16 @@ lines-along before (cell ∷ cells) =
 
 -- What opens a tune is the view of the place where it begins.
 opened : (header : Option (List CellTokens))
-    → opening_after (option_map (state_after to (entries.FileHeader no_defaults)) header) ≡ view (tune_begins header)
+    → opening_after (option_map (state_after to (entries.FileHeader no_defaults)) header) ≡ view (tune_beginning header)
 opened None = refl
 opened (Some cells) =
     ap (λ (state : Entry). opening_after (Some state))
-    (behind-cells file_header_begins cells ∙ ap view (lines-along [] cells))
+    (behind-cells file_header_beginning cells ∙ ap view (lines-along [] cells))
 
-pub file_header_looked_back : IsLookBack bar_steps (entries.FileHeader no_defaults) file_header_begins
-file_header_looked_back = from_view file_header_begins
+pub file_header_looked_back : IsLookBack bar_steps (entries.FileHeader no_defaults) file_header_beginning
+file_header_looked_back = from_view file_header_beginning
 
 pub tune_looked_back : (header : Option (List CellTokens))
-    → IsLookBack bar_steps (opening_after (option_map (state_after to (entries.FileHeader no_defaults)) header)) (tune_begins header)
+    → IsLookBack bar_steps (opening_after (option_map (state_after to (entries.FileHeader no_defaults)) header)) (tune_beginning header)
 tune_looked_back header =
-    subst (λ (state : Entry). IsLookBack bar_steps state (tune_begins header)) (sym (opened header)) (from_view (tune_begins header))
+    subst (λ (state : Entry). IsLookBack bar_steps state (tune_beginning header)) (sym (opened header)) (from_view (tune_beginning header))

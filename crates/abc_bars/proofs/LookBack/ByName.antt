@@ -1,5 +1,6 @@
 -- The look back by places agrees with that by names.
-use Rattle.std.proofs.Common.{◌≡◌, ◌+◌, ℕ, zero, suc, ◌<◌, ◌==◌, nat_lt, nat_le, Bool, true, false, ◌||◌, cond, List, [], ◌∷◌, ◌++◌, length, Option, Some, None, position, bytes_eq, refl, sym, ap, ◌∙◌, subst, arith}
+use Rattle.std.proofs.Common.{◌≡◌, ◌+◌, ℕ, zero, suc, ◌<◌, ◌==◌, nat_lt, nat_le, Bool, true, false, ◌||◌, cond, List, [], ◌∷◌, ◌++◌, length, Option, Some, None, position, bytes_eq, refl, sym, ap, ◌∙◌}
+use Rattle.std.proofs.Common.{subst, arith}
 use Rattle.std.proofs.Math.Dec.{eqb-suc-suc, eqb-suc-zero, eqb-zero-suc}
 use Rattle.std.proofs.lemmas.Bool.{cond-true, cond-false}
 use Rattle.std.proofs.lemmas.Bool.Decides.{nat_tests}
@@ -8,13 +9,13 @@ use Rattle.std.specs.Cmp.Lexicographic.{nat_list_eq_equiv}
 use Rattle.std.specs.List.{AllByRecursion, IsDistinct, list_any, slice_get}
 use Rattle.std.specs.Option.{option_map}
 use Rattle.abc_fields.proofs.Readings.{named}
-use Rattle.abc_items.specs.declared.item.TheConstants.{MOST_VOICES}
-use Rattle.abc_settings.specs.declared.settings.Settings.{Settings}
+use Rattle.abc_bars_items.specs.declared.item.TheConstants.{MOST_VOICES}
+use Rattle.abc_bars_voice.specs.declared.voice_state.VoiceState.{VoiceState}
 use Rattle.abc_bars.specs.LookBack.ByName.{Owner, Named, Everyone, Current, Naming, is_owned_by, naming_behind}
 use Rattle.abc_bars.specs.LookBack.Header.{with_name}
 use Rattle.abc_bars.specs.LookBack.Held.{Roll}
 use Rattle.abc_bars.proofs.LookBack.ByPlace.{Each, Former, First, Hearing, Here, New, Nobody, first_or, is_current, roll_behind, voice_named, voice_named_by}
-use Rattle.abc_header.proofs.NamePlaces.{find_place, place_behind, place_here}
+use Rattle.abc_bars_header.proofs.NamePlaces.{find_place, place_behind, place_here}
 
 -- A name that is not among names is not that at a place.
 other-by : (name other : List ℕ) (names : List (List ℕ)) (at : ℕ) (b : Bool) → bytes_eq name other ≡ b
@@ -31,7 +32,7 @@ all-place P [] i x each at = absurd (cc)
 all-place P (y ∷ xs) zero x each at = let same : y ≡ x = cc in subst P same each.0
 all-place P (y ∷ xs) (suc i) x each at = all-place P xs i x each.1 at
 
--- Where no name stands twice, places and names are the same.
+-- If no name is there twice, places and names are the same.
 pub place-name : (names : List (List ℕ)) (at place : ℕ) (name current : List ℕ) → IsDistinct bytes_eq names
     → slice_get names at ≡ Some name → slice_get names place ≡ Some current → (at == place) ≡ bytes_eq name current
 place-name [] at place name current distinct here there = absurd (cc)
@@ -122,7 +123,7 @@ IsNamed names None name = (names ≡ []) × (name ≡ [])
 IsNamed names (Some place) name = slice_get names place ≡ Some name
 
 -- What is found by places is what is found by names.
-pub record Agrees (roll : Roll) (naming : Naming) (known : ℕ → Settings) (unnamed : Settings) (by : List ℕ → Settings) (another : Settings) : Type 0 where
+pub record Agrees (roll : Roll) (naming : Naming) (known : ℕ → VoiceState) (unnamed : VoiceState) (by : List ℕ → VoiceState) (another : VoiceState) : Type 0 where
   pub names : naming.names ≡ roll.names
   pub current : IsNamed roll.names roll.current naming.current
   pub voices : (at : ℕ) (name : List ℕ) → slice_get roll.names at ≡ Some name → known at ≡ by name
@@ -135,8 +136,8 @@ hearing_by roll (Named name) sounds acts = voice_named roll.names name
 hearing_by roll Everyone sounds acts = Each
 hearing_by roll Current sounds acts = cond sounds (first_or roll.current (cond acts Here Nobody)) (cond acts Here Nobody)
 
--- What holds for the voice at a place behind a token that changes so much.
-abbrev pub known_behind : Settings → Roll → Hearing → (Settings → Settings) → Settings → ℕ → Settings → Settings
+-- The state of the voice at a place after a token that changes so much.
+abbrev pub known_behind : VoiceState → Roll → Hearing → (VoiceState → VoiceState) → VoiceState → ℕ → VoiceState → VoiceState
 known_behind another roll Nobody change unnamed at known = known
 known_behind another roll Here change unnamed at known = cond (is_current roll.current at) (change known) known
 known_behind another roll First change unnamed at known = change unnamed
@@ -144,7 +145,7 @@ known_behind another roll Each change unnamed at known = change known
 known_behind another roll (Former place) change unnamed at known = cond (at == place) (change known) known
 known_behind another roll (New name) change unnamed at known = cond (at == length roll.names) (change another) known
 
-abbrev pub unnamed_after : Hearing → (Settings → Settings) → Settings → Settings
+abbrev pub unnamed_after : Hearing → (VoiceState → VoiceState) → VoiceState → VoiceState
 unnamed_after Nobody change unnamed = unnamed
 unnamed_after Here change unnamed = change unnamed
 unnamed_after First change unnamed = change unnamed
@@ -153,23 +154,24 @@ unnamed_after (Former place) change unnamed = unnamed
 unnamed_after (New name) change unnamed = unnamed
 
 -- What a token of this owner changes.
-abbrev pub Fits : (Settings → Settings) → Settings → Owner → Bool → Type 0
+abbrev pub Fits : (VoiceState → VoiceState) → VoiceState → Owner → Bool → Type 0
 Fits change another (Named name) acts = (bytes_eq name [] ≡ false) × (bytes_eq [] name ≡ false)
 Fits change another Everyone acts = change another ≡ another
 Fits change another Current true = Unit {0}
-Fits change another Current false = (settings : Settings) → change settings ≡ settings
+Fits change another Current false = (state : VoiceState) → change state ≡ state
 
-module _ (names : List (List ℕ)) (distinct : IsDistinct bytes_eq names) (known : ℕ → Settings) (unnamed : Settings) (by : List ℕ → Settings) (another : Settings) (change : Settings → Settings) where
+module _ (names : List (List ℕ)) (distinct : IsDistinct bytes_eq names) (known : ℕ → VoiceState) (unnamed : VoiceState) (by : List ℕ → VoiceState) (another : VoiceState) (change : VoiceState
+    → VoiceState) where
   abbrev Before : Option ℕ → List ℕ → Type 0
   Before current name = Agrees (record { names = names; current = current }) (record { names = names; current = name }) known unnamed by another
 
-  abbrev Behind : Option ℕ → List ℕ → Owner → Bool → Hearing → Type 0
-  Behind current name owner sounds hearing =
+  abbrev Preceding : Option ℕ → List ℕ → Owner → Bool → Hearing → Type 0
+  Preceding current name owner sounds hearing =
       Agrees (roll_behind (record { names = names; current = current }) hearing) (naming_behind (record { names = names; current = name }) owner sounds)
       (λ at. known_behind another (record { names = names; current = current }) hearing change unnamed at (known at))
       (unnamed_after hearing change unnamed) (λ n. cond (is_owned_by n name owner) (change (by n)) (by n)) another
 
-  everyone : (current : Option ℕ) (name : List ℕ) (sounds : Bool) → Before current name → change another ≡ another → Behind current name Everyone sounds Each
+  everyone : (current : Option ℕ) (name : List ℕ) (sounds : Bool) → Before current name → change another ≡ another → Preceding current name Everyone sounds Each
   everyone current name sounds before same = record {
     names = refl;
     current = before.current;
@@ -178,11 +180,11 @@ module _ (names : List (List ℕ)) (distinct : IsDistinct bytes_eq names) (known
     absent = λ n some apart room. ap change (before.absent n some apart room) ∙ same;
   }
 
-  idle : (b : Bool) (settings : Settings) → change settings ≡ settings → settings ≡ cond b (change settings) settings
-  idle true settings same = sym same
-  idle false settings same = refl
+  idle : (b : Bool) (state : VoiceState) → change state ≡ state → state ≡ cond b (change state) state
+  idle true state same = sym same
+  idle false state same = refl
 
-  -- Another name than that of the current voice, where it is not among the names.
+  -- Another name than that of the current voice, if it is not among the names.
   apart-current : (current : Option ℕ) (name n : List ℕ) → IsNamed names current name → bytes_eq n [] ≡ false → list_any (bytes_eq n) names ≡ false → bytes_eq n name ≡ false
   apart-current None name n is some apart = ap (bytes_eq n) is.1 ∙ some
   apart-current (Some place) name n is some apart = other n name names place apart is
@@ -206,7 +208,7 @@ module _ (names : List (List ℕ)) (distinct : IsDistinct bytes_eq names) (known
       cond-false _ _ _ (apart-current current name n before.current some apart) ∙ before.absent n some apart room
 
   here : (current : Option ℕ) (name : List ℕ) (acts : Bool) → Before current name → Fits change another Current acts
-      → Behind current name Current false (cond acts Here Nobody)
+      → Preceding current name Current false (cond acts Here Nobody)
   here current name true before fits = record {
     names = refl;
     current = before.current;
@@ -225,7 +227,7 @@ module _ (names : List (List ℕ)) (distinct : IsDistinct bytes_eq names) (known
   -- It mentions the voice, which is known.
   again : (place : ℕ) (name : List ℕ) (hearing : Hearing) → slice_get names place ≡ Some name
       → roll_behind (record { names = names; current = Some place }) hearing ≡ record { names = names; current = Some place }
-      → Behind (Some place) name Current false hearing → Behind (Some place) name Current true hearing
+      → Preceding (Some place) name Current false hearing → Preceding (Some place) name Current true hearing
   again place name hearing there same behind = record {
     names = kept names name (any_passes_from_place (bytes_eq name) names place name there (nat_list_eq_equiv.refl name)) ∙ sym (ap (λ (roll : Roll). roll.names) same);
     current = behind.current;
@@ -247,7 +249,7 @@ module _ (names : List (List ℕ)) (distinct : IsDistinct bytes_eq names) (known
       ∙ (λ i. cond (bytes_eq (none i) (sym before.current.1 i)) (change (by (none i))) (by (none i)))
   first-voices name before (suc at) n there = absurd (cc)
 
-  first : (name : List ℕ) → Before None name → Behind None name Current true First
+  first : (name : List ℕ) → Before None name → Preceding None name Current true First
   first name before = record {
     names = λ i. with_name (before.current.0 i) (before.current.1 i);
     current = ap Some (sym before.current.1);
@@ -259,14 +261,14 @@ module _ (names : List (List ℕ)) (distinct : IsDistinct bytes_eq names) (known
   }
 
   sounding : (current : Option ℕ) (name : List ℕ) (acts : Bool) → Before current name → Fits change another Current acts
-      → Behind current name Current true (first_or current (cond acts Here Nobody))
+      → Preceding current name Current true (first_or current (cond acts Here Nobody))
   sounding None name acts before fits = first name before
   sounding (Some place) name acts before fits =
       again place name (cond acts Here Nobody) before.current (same-roll place acts) (here (Some place) name acts before fits)
 
   -- A V: names a voice that is known.
   former : (current : Option ℕ) (name : List ℕ) (sounds : Bool) (owner : List ℕ) (place : ℕ) → Before current name → slice_get names place ≡ Some owner
-      → Behind current name (Named owner) sounds (Former place)
+      → Preceding current name (Named owner) sounds (Former place)
   former current name sounds owner place before there =
       let among : list_any (bytes_eq owner) names ≡ true = any_passes_from_place (bytes_eq owner) names place owner there (nat_list_eq_equiv.refl owner) in
       let same : with_name names owner ≡ names = kept names owner among in
@@ -281,7 +283,7 @@ module _ (names : List (List ℕ)) (distinct : IsDistinct bytes_eq names) (known
 
   -- A V: names one voice too many.
   nobody : (current : Option ℕ) (name : List ℕ) (sounds : Bool) (owner : List ℕ) → Before current name → bytes_eq [] owner ≡ false
-      → list_any (bytes_eq owner) names ≡ false → nat_lt (length names) MOST_VOICES ≡ false → Behind current name (Named owner) sounds Nobody
+      → list_any (bytes_eq owner) names ≡ false → nat_lt (length names) MOST_VOICES ≡ false → Preceding current name (Named owner) sounds Nobody
   nobody current name sounds owner before some apart none =
       let same : with_name names owner ≡ names = full names owner apart none in
       record {
@@ -309,7 +311,7 @@ module _ (names : List (List ℕ)) (distinct : IsDistinct bytes_eq names) (known
       voices at n within ∙ sym (cond-false _ _ _ (nat_list_eq_equiv.symm n owner ∙ other owner n names at apart within))
 
   newcomer : (current : Option ℕ) (name : List ℕ) (sounds : Bool) (owner : List ℕ) → Before current name → bytes_eq owner [] ≡ false
-      → list_any (bytes_eq owner) names ≡ false → nat_lt (length names) MOST_VOICES ≡ true → Behind current name (Named owner) sounds (New owner)
+      → list_any (bytes_eq owner) names ≡ false → nat_lt (length names) MOST_VOICES ≡ true → Preceding current name (Named owner) sounds (New owner)
   newcomer current name sounds owner before some apart room =
       let more : with_name names owner ≡ names ++ owner ∷ [] = new names owner apart room in
       let small : length names < MOST_VOICES = grind (arith, nat_tests) in
@@ -327,7 +329,7 @@ module _ (names : List (List ℕ)) (distinct : IsDistinct bytes_eq names) (known
 
   named-by : (current : Option ℕ) (name : List ℕ) (sounds : Bool) (owner : List ℕ) → Before current name
       → (bytes_eq owner [] ≡ false) × (bytes_eq [] owner ≡ false) → (place : Option ℕ) → position (bytes_eq owner) names ≡ place
-      → Behind current name (Named owner) sounds (voice_named_by names owner place)
+      → Preceding current name (Named owner) sounds (voice_named_by names owner place)
   named-by current name sounds owner before some (Some place) is =
       let found = finds (bytes_eq owner) names place is in
       former current name sounds owner place before (found.1 ∙ ap Some (named owner found.0 found.2))
@@ -336,13 +338,13 @@ module _ (names : List (List ℕ)) (distinct : IsDistinct bytes_eq names) (known
       either (nat_lt (length names) MOST_VOICES) refl apart
     where
       either : (b : Bool) → nat_lt (length names) MOST_VOICES ≡ b → list_any (bytes_eq owner) names ≡ false
-          → Behind current name (Named owner) sounds (cond b (New owner) Nobody)
+          → Preceding current name (Named owner) sounds (cond b (New owner) Nobody)
       either true room apart = newcomer current name sounds owner before some.0 apart room
       either false none apart = nobody current name sounds owner before some.1 apart none
 
-  -- Behind any token places and names agree.
+  -- After any token places and names agree.
   pub behind : (current : Option ℕ) (name : List ℕ) (owner : Owner) (sounds acts : Bool) → Before current name → Fits change another owner acts
-      → Behind current name owner sounds (hearing_by (record { names = names; current = current }) owner sounds acts)
+      → Preceding current name owner sounds (hearing_by (record { names = names; current = current }) owner sounds acts)
   behind current name (Named owner) sounds acts before fits = named-by current name sounds owner before fits (position (bytes_eq owner) names) refl
   behind current name Everyone sounds acts before fits = everyone current name sounds before fits
   behind current name Current true acts before fits = sounding current name acts before fits

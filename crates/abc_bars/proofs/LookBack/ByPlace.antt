@@ -1,6 +1,7 @@
--- What holds at a place of a tune's body, by looking back over what stands before it, newest first, where voices
+-- The state at a place of a tune's body, by looking back over what is before it, newest first, where voices
 -- go by their places in the order of their mention, as a body keeps them.
-use Rattle.std.specs.Prelude.{ℕ, suc, ◌==◌, nat_lt, Bool, true, false, if◌then◌else◌, List, [], ◌∷◌, ◌++◌, length, position, slice_range, bytes_eq, Option, Some, None, is_some, unwrap_or, Result, Ok, Err}
+use Rattle.std.specs.Prelude.{ℕ, suc, ◌==◌, nat_lt, Bool, true, false, if◌then◌else◌, List, [], ◌∷◌, ◌++◌, length, position, slice_range, bytes_eq, Option, Some, None, is_some, unwrap_or, Result, Ok}
+use Rattle.std.specs.Prelude.{Err}
 use Rattle.std.specs.Result.{result_ok}
 use Rattle.abc_fields.specs.declared.fault.FaultCode.{FaultCode}
 use Rattle.abc_fields.specs.declared.voice.Voice.{Voice}
@@ -9,18 +10,18 @@ use Rattle.abc_fields.specs.Unit.{unit_of}
 use Rattle.abc_fields.specs.Voice.{voice_of}
 use Rattle.abc_scan.specs.declared.token.TokenKind.{TokenKind}
 use Rattle.abc_scan.specs.declared.token.TokenKind.TheVariants as kinds
-use Rattle.abc_cells.specs.declared.body.Body.{Body}
-use Rattle.abc_items.specs.declared.item.TheConstants.{MOST_VOICES}
-use Rattle.abc_header.specs.declared.field_kind.FieldKind.{FieldKind}
-use Rattle.abc_header.specs.declared.field_kind.FieldKind.TheVariants as fields
-use Rattle.abc_settings.specs.declared.settings.Settings.{Settings}
-use Rattle.abc_cells.specs.BodyFields.{part_of}
-use Rattle.abc_music.specs.TokenRole.{has_note}
-use Rattle.abc_header.specs.FieldKind.{kind_of}
-use Rattle.abc_header.specs.Voices.{voice_at}
+use Rattle.abc_bars_body.specs.declared.body.Body.{Body}
+use Rattle.abc_bars_items.specs.declared.item.TheConstants.{MOST_VOICES}
+use Rattle.abc_bars_header.specs.declared.field_kind.FieldKind.{FieldKind}
+use Rattle.abc_bars_header.specs.declared.field_kind.FieldKind.TheVariants as fields
+use Rattle.abc_bars_voice.specs.declared.voice_state.VoiceState.{VoiceState}
+use Rattle.abc_bars_body.specs.BodyFields.{part_of}
+use Rattle.abc_bars_notes.specs.TokenRole.{has_note}
+use Rattle.abc_bars_header.specs.FieldKind.{kind_of}
+use Rattle.abc_bars_header.specs.Voices.{voice_at}
 use Rattle.abc_bars.specs.LookBack.Element.{Element}
 use Rattle.abc_bars.specs.LookBack.Held.{Roll, current_by, roll_of}
-use Rattle.abc_bars.specs.LookBack.Voice.{settings_at}
+use Rattle.abc_bars.specs.LookBack.Voice.{voice_state_at}
 
 -- Which voices a token belongs to.
 pub data Hearing : Type 0 where
@@ -37,7 +38,7 @@ pub data Hearing : Type 0 where
   -- To a new voice of this name, which becomes the current one.
   New : List ℕ → Hearing
 
--- A voice that is not yet mentioned is one too many behind fifteen. Our own.
+-- A voice that is not yet mentioned is one too many after fifteen. Not in ABC 2.1.
 abbrev pub new_or_nobody : List (List ℕ) → List ℕ → Hearing
 new_or_nobody names name = if nat_lt (length names) MOST_VOICES then New name else Nobody
 
@@ -66,7 +67,7 @@ each_if true = Each
 each_if false = Nobody
 
 -- Which voices a field belongs to: an accepted P: to each, an accepted V: to its own. ABC 2.1 section 7.1;
--- the parts are our own.
+-- the parts are not in ABC 2.1.
 abbrev pub field_hearing : List (List ℕ) → FieldKind → List ℕ → Hearing
 field_hearing names fields.Meter value = here_if (is_some (result_ok (meter_of value)))
 field_hearing names fields.UnitLength value = here_if (is_some (result_ok (unit_of value)))
@@ -103,7 +104,7 @@ hearing_of roll (kinds.Directive directive) = Nobody
 hearing_of roll kinds.Unclosed = Nobody
 hearing_of roll kinds.BadByte = Nobody
 
--- The voices behind a token.
+-- The voices after a token.
 abbrev pub roll_behind : Roll → Hearing → Roll
 roll_behind roll Nobody = roll
 roll_behind roll Here = roll
@@ -117,9 +118,9 @@ abbrev pub roll_at : Roll → List Element → Roll
 roll_at opening [] = opening
 roll_at opening (element ∷ before) = let roll = roll_at opening before in roll_behind roll (hearing_of roll element.kind)
 
--- What a voice opens with, and what stands before a place of what belongs to it, newest first.
+-- What a voice opens with, and what is before a place of what belongs to it, newest first.
 pub record Music : Type 0 where
-  pub opening : Settings
+  pub opening : VoiceState
   pub before : List Element
 
 -- The same, and one element more.
@@ -131,9 +132,9 @@ abbrev pub is_current : Option ℕ → ℕ → Bool
 is_current None at = false
 is_current (Some place) at = at == place
 
--- What belongs to the voice at a place of their order, behind a token, where so much did before it and so
+-- What belongs to the voice at a place of their order, after a token, where so much did before it and so
 -- much to the voice without a name.
-abbrev pub music_behind : Settings → Roll → Hearing → Element → Music → ℕ → Music → Music
+abbrev pub music_behind : VoiceState → Roll → Hearing → Element → Music → ℕ → Music → Music
 music_behind another roll Nobody element unnamed at music = music
 music_behind another roll Here element unnamed at music = if is_current roll.current at then with_heard element music else music
 music_behind another roll First element unnamed at music = with_heard element unnamed
@@ -164,19 +165,19 @@ music_at opening at (element ∷ before) =
     let roll = roll_at (roll_of opening) before in
     music_behind opening.another roll (hearing_of roll element.kind) element (unnamed_music opening before) at (music_at opening at before)
 
--- What holds for a voice.
-abbrev pub settings_in : Music → Settings
-settings_in music = settings_at music.opening music.before
+-- The state of a voice.
+abbrev pub voice_state_in : Music → VoiceState
+voice_state_in music = voice_state_at music.opening music.before
 
 -- The voices of these names, with what holds for each.
-abbrev pub voices_by : (ℕ → Settings) → List (List ℕ) → List (List ℕ × Settings)
+abbrev pub voices_by : (ℕ → VoiceState) → List (List ℕ) → List (List ℕ × VoiceState)
 voices_by known [] = []
 voices_by known (name ∷ names) = (name, known 0) ∷ voices_by (λ at. known (suc at)) names
 
--- What holds at a place.
+-- The state at a place.
 unfoldable pub placed_at : Body → List Element → Body
 placed_at opening before = record {
-  voices = voices_by (λ at. settings_in (music_at opening at before)) (roll_at (roll_of opening) before).names;
-  current = current_by (roll_at (roll_of opening) before).current (settings_in (unnamed_music opening before));
+  voices = voices_by (λ at. voice_state_in (music_at opening at before)) (roll_at (roll_of opening) before).names;
+  current = current_by (roll_at (roll_of opening) before).current (voice_state_in (unnamed_music opening before));
   another = opening.another;
 }

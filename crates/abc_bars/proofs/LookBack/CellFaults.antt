@@ -12,26 +12,27 @@ use Rattle.abc_scan.specs.declared.spanned.Spanned.{Spanned}
 use Rattle.abc_scan.specs.declared.token.TokenKind.{TokenKind}
 use Rattle.abc_scan.specs.declared.token.TokenKind.TheVariants as kinds
 use Rattle.abc_time.specs.declared.grains.Grains.{Grains}
-use Rattle.abc_items.specs.Column.{column_of}
-use Rattle.abc_items.specs.Program.{program_of}
-use Rattle.abc_settings.specs.Tuplet.{OpenTuplet, opened, tuplet_opened}
-use Rattle.abc_music.specs.declared.broken.Behind.{Behind}
-use Rattle.abc_music.specs.declared.broken.Behind.TheVariants.{Nothing}
-use Rattle.abc_music.specs.BarRest.{bar_rest_length, bar_rest_of, bars_of, or_one_bar}
-use Rattle.abc_music.specs.Broken.{behind_after, behind_from, factors_of, is_bad_mark}
-use Rattle.abc_music.specs.Sound.{fault_if}
-use Rattle.abc_music.specs.TimeTokens.{chord_played, note_played, rest_played}
-use Rattle.abc_music.specs.TokenRole.{has_note}
-use Rattle.abc_cells.specs.declared.body.Body.{Body}
-use Rattle.abc_cells.specs.declared.cell.Given.{Given}
-use Rattle.abc_cells.specs.Body.{here, mentioned}
-use Rattle.abc_cells.specs.BodyFields.{field_given}
-use Rattle.abc_cells.specs.Cell.{is_tie_token, may_be_tied, mentioned_by_chord, nothing_given, tie_ahead, with_directive, with_ending, with_fault, with_fault_if, with_item, with_kind, with_some_fault, with_token}
+use Rattle.abc_bars_items.specs.Column.{column_of}
+use Rattle.abc_bars_items.specs.Program.{program_of}
+use Rattle.abc_bars_voice.specs.Tuplet.{OpenTuplet, tuplet_after_mark, begin_tuplet}
+use Rattle.abc_bars_notes.specs.declared.broken.Preceding.{Preceding}
+use Rattle.abc_bars_notes.specs.declared.broken.Preceding.TheVariants.{Nothing}
+use Rattle.abc_bars_notes.specs.BarRest.{bar_rest_length, bar_rest_of, bars_of, or_one_bar}
+use Rattle.abc_bars_notes.specs.Broken.{preceding_after, preceding_from, factors_of, is_bad_mark}
+use Rattle.abc_bars_notes.specs.Sound.{fault_if}
+use Rattle.abc_bars_notes.specs.TimeTokens.{play_chord, play_note, play_rest}
+use Rattle.abc_bars_notes.specs.TokenRole.{has_note}
+use Rattle.abc_bars_body.specs.declared.body.Body.{Body}
+use Rattle.abc_bars_body.specs.declared.cell.CellResult.{CellResult}
+use Rattle.abc_bars_body.specs.Body.{here, after_mention}
+use Rattle.abc_bars_body.specs.BodyFields.{field_result}
+use Rattle.abc_bars_body.specs.Cell.{is_tie_token, may_be_tied, after_chord_mention, empty_cell_result, tie_ahead, with_directive, with_ending, with_fault, with_fault_if, with_item, with_kind}
+use Rattle.abc_bars_body.specs.Cell.{with_some_fault, with_token}
 use Rattle.abc_bars.specs.LookBack.CellFaults.{AreFaultsAfter, AreFaultsOfCells, CellStart, Faults, ending_faults, place_in}
 use Rattle.abc_bars.specs.LookBack.CellPlace.{CellPlace, before_place}
-use Rattle.abc_bars.specs.LookBack.Cells.{behind_tokens, looked_back}
+use Rattle.abc_bars.specs.LookBack.Cells.{behind_tokens, look_back}
 use Rattle.abc_bars.specs.LookBack.Element.{Element}
-use Rattle.abc_bars.specs.LookBack.Held.{held_at}
+use Rattle.abc_bars.specs.LookBack.Held.{body_at}
 use Rattle.abc_bars.specs.LookBack.Place.{opening_at}
 use Rattle.abc_bars.proofs.LookBack.CellPlace.{tie-next}
 use Rattle.abc_bars.proofs.LookBack.FieldFaults.{Told, no-fault}
@@ -46,17 +47,17 @@ directive_faults from (directives.Program written) = fault_if (is_none (program_
 directive_faults from (directives.Reach reach) = []
 
 -- The faults of a token, by what holds before it in the body and in its cell.
-abbrev pub token_faults : Body → Behind → Bool → ℕ → TokenKind → List (Spanned TokenKind) → Faults
-token_faults body behind after from (kinds.Note note) ahead = (note_played (here (mentioned body)) (factors_of behind ahead) (tie_ahead ahead) from note).faults
-token_faults body behind after from (kinds.Rest length) ahead = (rest_played (here (mentioned body)) (factors_of behind ahead) from length).faults
-token_faults body behind after from (kinds.BarRest bars) ahead = some_fault from (bar_rest_of (here (mentioned body)).meter bars).1
+abbrev pub token_faults : Body → Preceding → Bool → ℕ → TokenKind → List (Spanned TokenKind) → Faults
+token_faults body behind after from (kinds.Note note) ahead = (play_note (here (after_mention body)) (factors_of behind ahead) (tie_ahead ahead) from note).faults
+token_faults body behind after from (kinds.Rest length) ahead = (play_rest (here (after_mention body)) (factors_of behind ahead) from length).faults
+token_faults body behind after from (kinds.BarRest bars) ahead = some_fault from (bar_rest_of (here (after_mention body)).meter bars).1
 token_faults body behind after from (kinds.Chord chord) ahead =
-    (chord_played (here (mentioned_by_chord (has_note chord.parts) body)) (factors_of behind ahead) (tie_ahead ahead) from chord).faults
-token_faults body behind after from (kinds.InlineField field) ahead = (field_given body field.letter field.value from).faults
-token_faults body behind after from (kinds.Field field) ahead = (field_given body field.letter field.value from).faults
+    (play_chord (here (after_chord_mention (has_note chord.parts) body)) (factors_of behind ahead) (tie_ahead ahead) from chord).faults
+token_faults body behind after from (kinds.InlineField field) ahead = (field_result body field.letter field.value from).faults
+token_faults body behind after from (kinds.Field field) ahead = (field_result body field.letter field.value from).faults
 token_faults body behind after from (kinds.Bar bar) ahead = []
 token_faults body behind after from (kinds.Ending passes) ahead = ending_faults from passes
-token_faults body behind after from (kinds.Tuplet mark) ahead = some_fault from (tuplet_opened (here body).meter (here body).tuplet mark).1
+token_faults body behind after from (kinds.Tuplet mark) ahead = some_fault from (begin_tuplet (here body).meter (here body).tuplet mark).1
 token_faults body behind after from (kinds.Broken mark) ahead = fault_if (is_bad_mark behind ahead) (column_of from) BadBroken
 token_faults body behind after from kinds.Tie ahead = cond after [] ((column_of from, LooseTie) ∷ [])
 token_faults body behind after from kinds.Blank ahead = []
@@ -67,37 +68,37 @@ token_faults body behind after from kinds.Unclosed ahead = (column_of from, Uncl
 token_faults body behind after from kinds.BadByte ahead = (column_of from, BadByte) ∷ []
 
 -- A token adds its faults to those before it.
-some-adds : (given : Given) (from : ℕ) (o : Option FaultCode) → (with_some_fault given from o).items.faults ≡ given.items.faults ++ some_fault from o
+some-adds : (given : CellResult) (from : ℕ) (o : Option FaultCode) → (with_some_fault given from o).items.faults ≡ given.items.faults ++ some_fault from o
 some-adds given from None = sym (append-nil _)
 some-adds given from (Some code) = refl
 
-if-adds : (given : Given) (b : Bool) (from : ℕ) (code : FaultCode) → (with_fault_if given b from code).items.faults ≡ given.items.faults ++ fault_if b (column_of from) code
+if-adds : (given : CellResult) (b : Bool) (from : ℕ) (code : FaultCode) → (with_fault_if given b from code).items.faults ≡ given.items.faults ++ fault_if b (column_of from) code
 if-adds given true from code = refl
 if-adds given false from code = sym (append-nil _)
 
-ending-adds : (given : Given) (from : ℕ) (passes : Option ℕ) → (with_ending given from passes).items.faults ≡ given.items.faults ++ ending_faults from passes
+ending-adds : (given : CellResult) (from : ℕ) (passes : Option ℕ) → (with_ending given from passes).items.faults ≡ given.items.faults ++ ending_faults from passes
 ending-adds given from None = refl
 ending-adds given from (Some passes) = sym (append-nil _)
 
-tie-adds : (given : Given) (from : ℕ) (b : Bool) → (cond b given (with_fault given from LooseTie)).items.faults ≡ given.items.faults ++ cond b [] ((column_of from, LooseTie) ∷ [])
+tie-adds : (given : CellResult) (from : ℕ) (b : Bool) → (cond b given (with_fault given from LooseTie)).items.faults ≡ given.items.faults ++ cond b [] ((column_of from, LooseTie) ∷ [])
 tie-adds given from true = sym (append-nil _)
 tie-adds given from false = refl
 
-directive-adds : (given : Given) (from : ℕ) (directive : Directive) → (with_directive given from directive).items.faults ≡ given.items.faults ++ directive_faults from directive
+directive-adds : (given : CellResult) (from : ℕ) (directive : Directive) → (with_directive given from directive).items.faults ≡ given.items.faults ++ directive_faults from directive
 directive-adds given from (directives.Program written) = if-adds (with_item given _) (is_none (program_of written)) from BadProgram
 directive-adds given from (directives.Reach reach) = sym (append-nil _)
 
-adds : (given : Given) (from : ℕ) (kind : TokenKind) (ahead : List (Spanned TokenKind))
+adds : (given : CellResult) (from : ℕ) (kind : TokenKind) (ahead : List (Spanned TokenKind))
     → (with_kind given from kind ahead).items.faults ≡ given.items.faults ++ token_faults given.body given.behind given.after_note from kind ahead
 adds given from (kinds.Note note) ahead = refl
 adds given from (kinds.Rest length) ahead = refl
-adds given from (kinds.BarRest bars) ahead = some-adds _ from (bar_rest_of (here (mentioned given.body)).meter bars).1
+adds given from (kinds.BarRest bars) ahead = some-adds _ from (bar_rest_of (here (after_mention given.body)).meter bars).1
 adds given from (kinds.Chord chord) ahead = refl
 adds given from (kinds.InlineField field) ahead = refl
 adds given from (kinds.Field field) ahead = refl
 adds given from (kinds.Bar bar) ahead = sym (append-nil _)
 adds given from (kinds.Ending passes) ahead = ending-adds given from passes
-adds given from (kinds.Tuplet mark) ahead = some-adds _ from (tuplet_opened (here given.body).meter (here given.body).tuplet mark).1
+adds given from (kinds.Tuplet mark) ahead = some-adds _ from (begin_tuplet (here given.body).meter (here given.body).tuplet mark).1
 adds given from (kinds.Broken mark) ahead = if-adds given (is_bad_mark given.behind ahead) from BadBroken
 adds given from kinds.Tie ahead = tie-adds given from given.after_note
 adds given from kinds.Blank ahead = sym (append-nil _)
@@ -108,21 +109,21 @@ adds given from kinds.Unclosed ahead = refl
 adds given from kinds.BadByte ahead = refl
 
 -- The faults of the tokens of a cell, by what holds before them.
-rest_faults : Body → List Element → Behind → Bool → List (Spanned TokenKind) → Faults
+rest_faults : Body → List Element → Preceding → Bool → List (Spanned TokenKind) → Faults
 rest_faults opening before behind after [] = []
 rest_faults opening before behind after (token ∷ ahead) =
-    token_faults (held_at opening before) behind after token.from token.kind ahead
-    ++ rest_faults opening (record { kind = token.kind; tied = tie_ahead ahead } ∷ before) (behind_after behind token.kind) (may_be_tied token.kind) ahead
+    token_faults (body_at opening before) behind after token.from token.kind ahead
+    ++ rest_faults opening (record { kind = token.kind; tied = tie_ahead ahead } ∷ before) (preceding_after behind token.kind) (may_be_tied token.kind) ahead
 
-from-here : (opening : Body) (before : List Element) (given : Given) (cell : List (Spanned TokenKind))
-    → (looked_back opening before given cell).items.faults ≡ given.items.faults ++ rest_faults opening before given.behind given.after_note cell
+from-here : (opening : Body) (before : List Element) (given : CellResult) (cell : List (Spanned TokenKind))
+    → (look_back opening before given cell).items.faults ≡ given.items.faults ++ rest_faults opening before given.behind given.after_note cell
 unfolding rest_faults
 from-here opening before given [] = sym (append-nil _)
 from-here opening before given (token ∷ ahead) =
-    let start : Given = record given { body = held_at opening before } in
+    let start : CellResult = record given { body = body_at opening before } in
     let next : List Element = record { kind = token.kind; tied = tie_ahead ahead } ∷ before in
     from-here opening next (with_token start token ahead) ahead
-    ∙ ap (λ l. l ++ rest_faults opening next (behind_after given.behind token.kind) (may_be_tied token.kind) ahead) (adds start token.from token.kind ahead)
+    ∙ ap (λ l. l ++ rest_faults opening next (preceding_after given.behind token.kind) (may_be_tied token.kind) ahead) (adds start token.from token.kind ahead)
     ∙ append_assoc given.items.faults _ _
 
 -- What precedes the rest of a cell: these tokens of it, and what precedes the cell.
@@ -144,10 +145,10 @@ no-tie (first ∷ front) ahead token before e =
     ap (λ b. behind_front front (token ∷ ahead) (record { kind = first.kind; tied = b } ∷ before)) (tie-next front ahead token e)
     ∙ no-tie front ahead token (record { kind = first.kind; tied = tie_ahead front } ∷ before) e
 
-behind-more : (behind : Behind) (front : List (Spanned TokenKind)) (token : Spanned TokenKind)
-    → behind_from behind (front ++ token ∷ []) ≡ behind_after (behind_from behind front) token.kind
+behind-more : (behind : Preceding) (front : List (Spanned TokenKind)) (token : Spanned TokenKind)
+    → preceding_from behind (front ++ token ∷ []) ≡ preceding_after (preceding_from behind front) token.kind
 behind-more behind [] token = refl
-behind-more behind (first ∷ front) token = behind-more (behind_after behind first.kind) front token
+behind-more behind (first ∷ front) token = behind-more (preceding_after behind first.kind) front token
 
 -- The opening of the body of a place.
 abbrev pub opening : CellPlace → Body
@@ -157,20 +158,21 @@ opening place = opening_at place.values place.fields place.key
 abbrev pub EachHas : (FaultCode → Bool) → (CellPlace → TokenKind → Faults → Type 0) → Type 0
 EachHas told Has =
     (place : CellPlace) (kind : TokenKind) (now : List Element) (after : Bool) → (is_tie_token kind ≡ false → now ≡ before_place place)
-    → Has place kind (Told told (token_faults (held_at (opening place) now) (behind_from Nothing place.front) after place.from kind place.ahead))
+    → Has place kind (Told told (token_faults (body_at (opening place) now) (preceding_from Nothing place.front) after place.from kind place.ahead))
 
 module _ (told : FaultCode → Bool) (Has : CellPlace → TokenKind → Faults → Type 0) (each : EachHas told Has) (start : CellStart) where
   abbrev begin : Body
   begin = opening_at start.values start.fields start.key
 
   are : (front cell : List (Spanned TokenKind)) (after : Bool)
-      → AreFaultsAfter Has start front cell (Told told (rest_faults begin (behind_front front cell start.before) (behind_from Nothing front) after cell))
+      → AreFaultsAfter Has start front cell (Told told (rest_faults begin (behind_front front cell start.before) (preceding_from Nothing front) after cell))
   unfolding rest_faults
   are front [] after = refl
   are front (token ∷ ahead) after =
       let now : List Element = behind_front front (token ∷ ahead) start.before in
-      let own : Faults = token_faults (held_at begin now) (behind_from Nothing front) after token.from token.kind ahead in
-      let later : Faults = rest_faults begin (record { kind = token.kind; tied = tie_ahead ahead } ∷ now) (behind_after (behind_from Nothing front) token.kind) (may_be_tied token.kind) ahead in (
+      let own : Faults = token_faults (body_at begin now) (preceding_from Nothing front) after token.from token.kind ahead in
+      let later : Faults =
+      rest_faults begin (record { kind = token.kind; tied = tie_ahead ahead } ∷ now) (preceding_after (preceding_from Nothing front) token.kind) (may_be_tied token.kind) ahead in (
         Told told own,
         Told told later,
         filter-append (λ fault. told fault.1) own later,
@@ -180,9 +182,9 @@ module _ (told : FaultCode → Bool) (Has : CellPlace → TokenKind → Faults �
             (are (front ++ token ∷ []) ahead (may_be_tied token.kind)),
       )
 
-  faults_are : (cell : List (Spanned TokenKind)) → AreFaultsAfter Has start [] cell (Told told (looked_back begin start.before (nothing_given begin) cell).items.faults)
+  faults_are : (cell : List (Spanned TokenKind)) → AreFaultsAfter Has start [] cell (Told told (look_back begin start.before (empty_cell_result begin) cell).items.faults)
   faults_are cell =
-      subst (λ l. AreFaultsAfter Has start [] cell (Told told l)) (sym (from-here begin start.before (nothing_given begin) cell)) (are [] cell false)
+      subst (λ l. AreFaultsAfter Has start [] cell (Told told l)) (sym (from-here begin start.before (empty_cell_result begin) cell)) (are [] cell false)
 
 pub faults_of_cells : (told : FaultCode → Bool) (Has : CellPlace → TokenKind → Faults → Type 0) → EachHas told Has → AreFaultsOfCells told Has
 faults_of_cells told Has each start cell = faults_are told Has each start cell
@@ -208,7 +210,7 @@ module _ (told : FaultCode → Bool) where
   none-bars free fails from (Of num den) None = refl
   none-bars free fails from (Of num den) (Some n) = none-bars-by fails from num den (bars_of num den n)
 
-  pub none-tuplet : told BadTuplet ≡ false → told NestedTuplet ≡ false → (from : ℕ) (old new : Option OpenTuplet) → Told told (some_fault from (opened old new).1) ≡ []
+  pub none-tuplet : told BadTuplet ≡ false → told NestedTuplet ≡ false → (from : ℕ) (old new : Option OpenTuplet) → Told told (some_fault from (tuplet_after_mark old new).1) ≡ []
   none-tuplet bad nested from old None = no-fault told (column_of from) BadTuplet bad
   none-tuplet bad nested from None (Some new) = refl
   none-tuplet bad nested from (Some old) (Some new) = no-fault told (column_of from) NestedTuplet nested

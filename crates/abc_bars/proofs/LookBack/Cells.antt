@@ -1,15 +1,15 @@
--- What the cells of a body give, and what holds behind them.
+-- What the cells of a body give, and the state after them.
 use Rattle.std.proofs.Common.{◌≡◌, List, [], ◌∷◌, refl, sym, ap, ◌∙◌}
 use Rattle.abc_fields.specs.declared.key.Key.{Key}
 use Rattle.abc_scan.specs.declared.spanned.Spanned.{Spanned}
 use Rattle.abc_scan.specs.declared.token.TokenKind.{TokenKind}
-use Rattle.abc_header.specs.HeaderLine.{HeaderLine}
-use Rattle.abc_cells.specs.declared.body.Body.{Body}
-use Rattle.abc_cells.specs.declared.cell.Given.{Given}
-use Rattle.abc_header.specs.declared.defaults.Defaults.{Defaults}
-use Rattle.abc_cells.specs.Cell.{cell_given, given_from, nothing_given, tie_ahead, with_token}
-use Rattle.abc_bars.specs.LookBack.Held.{held_at}
-use Rattle.abc_bars.specs.LookBack.Cells.{behind_tokens, looked_back}
+use Rattle.abc_bars_header.specs.HeaderLine.{HeaderLine}
+use Rattle.abc_bars_body.specs.declared.body.Body.{Body}
+use Rattle.abc_bars_body.specs.declared.cell.CellResult.{CellResult}
+use Rattle.abc_bars_header.specs.declared.defaults.Defaults.{Defaults}
+use Rattle.abc_bars_body.specs.Cell.{cell_result, cell_result_from, empty_cell_result, tie_ahead, with_token}
+use Rattle.abc_bars.specs.LookBack.Held.{body_at}
+use Rattle.abc_bars.specs.LookBack.Cells.{behind_tokens, look_back}
 use Rattle.abc_bars.specs.LookBack.Element.{Element}
 use Rattle.abc_bars.specs.LookBack.Place.{opening_at}
 use Rattle.abc_bars.proofs.LookBack.Held.{body_behind_element}
@@ -19,36 +19,36 @@ module _ (values : Defaults) (fields : List HeaderLine) (key : Key) where
   abbrev opening : Body
   opening = opening_at values fields key
 
-  -- What looking back finds behind a token holds behind it.
-  token-behind : (before : List Element) (given : Given) (token : Spanned TokenKind) (ahead : List (Spanned TokenKind))
-      → held_at opening (record { kind = token.kind; tied = tie_ahead ahead } ∷ before)
-      ≡ (with_token (record given { body = held_at opening before }) token ahead).body
+  -- What looking back finds after a token holds after it.
+  token-behind : (before : List Element) (given : CellResult) (token : Spanned TokenKind) (ahead : List (Spanned TokenKind))
+      → body_at opening (record { kind = token.kind; tied = tie_ahead ahead } ∷ before)
+      ≡ (with_token (record given { body = body_at opening before }) token ahead).body
   token-behind before given token ahead =
       body_behind_element values fields key before (record { kind = token.kind; tied = tie_ahead ahead })
-      ∙ sym (token_leaves given (held_at opening before) token ahead)
+      ∙ sym (token_leaves given (body_at opening before) token ahead)
 
   -- The cell gives what it gives where what looking back finds holds at each of its tokens.
-  cells-behind : (before : List Element) (given : Given) (cell : List (Spanned TokenKind))
-      → given_from (record given { body = held_at opening before }) cell ≡ looked_back opening before given cell
+  cells-behind : (before : List Element) (given : CellResult) (cell : List (Spanned TokenKind))
+      → cell_result_from (record given { body = body_at opening before }) cell ≡ look_back opening before given cell
   cells-behind before given [] = refl
   cells-behind before given (token ∷ ahead) =
-      let next : Given = with_token (record given { body = held_at opening before }) token ahead in
-      ap (λ (body : Body). given_from (record next { body = body }) ahead) (sym (token-behind before given token ahead))
+      let next : CellResult = with_token (record given { body = body_at opening before }) token ahead in
+      ap (λ (body : Body). cell_result_from (record next { body = body }) ahead) (sym (token-behind before given token ahead))
       ∙ cells-behind (record { kind = token.kind; tied = tie_ahead ahead } ∷ before) next ahead
 
-  body-behind : (before : List Element) (given : Given) (cell : List (Spanned TokenKind))
-      → (looked_back opening before given cell).body ≡ held_at opening (behind_tokens cell before)
+  body-behind : (before : List Element) (given : CellResult) (cell : List (Spanned TokenKind))
+      → (look_back opening before given cell).body ≡ body_at opening (behind_tokens cell before)
   body-behind before given [] = refl
   body-behind before given (token ∷ ahead) =
-      body-behind (record { kind = token.kind; tied = tie_ahead ahead } ∷ before) (with_token (record given { body = held_at opening before }) token ahead) ahead
+      body-behind (record { kind = token.kind; tied = tie_ahead ahead } ∷ before) (with_token (record given { body = body_at opening before }) token ahead) ahead
 
-  -- What holds behind a cell is what looking back finds there.
+  -- The state after a cell is what looking back finds there.
   pub behind_cell : (before : List Element) (cell : List (Spanned TokenKind))
-      → (cell_given (held_at opening before) cell).body ≡ held_at opening (behind_tokens cell before)
+      → (cell_result (body_at opening before) cell).body ≡ body_at opening (behind_tokens cell before)
   behind_cell before cell =
-      ap (λ (given : Given). given.body) (cells-behind before (nothing_given opening) cell) ∙ body-behind before (nothing_given opening) cell
+      ap (λ (given : CellResult). given.body) (cells-behind before (empty_cell_result opening) cell) ∙ body-behind before (empty_cell_result opening) cell
 
-  -- A cell gives what its tokens give where looking back finds what holds at each.
+  -- A cell gives what its tokens give where looking back finds the state at each.
   pub given_by_cell : (before : List Element) (cell : List (Spanned TokenKind))
-      → (cell_given (held_at opening before) cell).items ≡ (looked_back opening before (nothing_given opening) cell).items
-  given_by_cell before cell = ap (λ (given : Given). given.items) (cells-behind before (nothing_given opening) cell)
+      → (cell_result (body_at opening before) cell).items ≡ (look_back opening before (empty_cell_result opening) cell).items
+  given_by_cell before cell = ap (λ (given : CellResult). given.items) (cells-behind before (empty_cell_result opening) cell)

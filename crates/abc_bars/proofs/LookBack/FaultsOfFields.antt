@@ -1,5 +1,6 @@
 -- The faults of fields are where the rules say.
-use Rattle.std.proofs.Common.{◌≡◌, ◌∙◌, ℕ, zero, suc, ◌+◌, ◌*◌, ◌/◌, ◌<◌, ◌≤◌, Bool, true, false, cond, ◌⊎◌, inl, inr, ⊎_elim, Option, Some, None, Result, Ok, Err, List, [], ◌∷◌, ◌++◌, length, bytes_eq, position, append-nil, refl, sym, ap, subst, arith}
+use Rattle.std.proofs.Common.{◌≡◌, ◌∙◌, ℕ, zero, suc, ◌+◌, ◌*◌, ◌/◌, ◌<◌, ◌≤◌, Bool, true, false, cond, ◌⊎◌, inl, inr, ⊎_elim, Option, Some, None, Result, Ok, Err, List, [], ◌∷◌, ◌++◌, length}
+use Rattle.std.proofs.Common.{bytes_eq, position, append-nil, refl, sym, ap, subst, arith}
 use Rattle.std.specs.Prelude.{◌↔◌, is_none, nat_lt, slice_get, slice_index_or, slice_range}
 use Rattle.std.specs.List.{Contains, list_any}
 use Rattle.std.specs.Map.{keys_of}
@@ -30,37 +31,37 @@ use Rattle.abc_fields.proofs.Tempos.{tempo_read}
 use Rattle.abc_fields.proofs.Units.{unit_read}
 use Rattle.abc_fields.proofs.Voices.{voice_read}
 use Rattle.abc_scan.specs.declared.chord.Chord.{Chord}
-use Rattle.abc_scan.specs.declared.parts.ChordPartKind.{ChordPartKind}
-use Rattle.abc_scan.specs.declared.parts.ChordPartKind.TheVariants as parts
+use Rattle.abc_scan.specs.declared.chord_part.ChordPartKind.{ChordPartKind}
+use Rattle.abc_scan.specs.declared.chord_part.ChordPartKind.TheVariants as parts
 use Rattle.abc_scan.specs.declared.spanned.Spanned.{Spanned}
 use Rattle.abc_scan.specs.declared.token.TokenKind.TheVariants as kinds
 use Rattle.abc_time.specs.declared.ratio.Ratio.{Ratio}
 use Rattle.abc_time.specs.Tempo.{IsQuarter, in_tempo_event, quarter_micros_of, quarter_of}
 use Rattle.abc_time.proofs.Tempos.{laws}
-use Rattle.abc_header.proofs.NamePlaces.{find_place}
-use Rattle.abc_header.specs.FieldKind.{kind_of}
-use Rattle.abc_header.specs.declared.field_kind.FieldKind.{FieldKind}
-use Rattle.abc_header.specs.declared.field_kind.FieldKind.TheVariants as fields
-use Rattle.abc_items.specs.Column.{column_of}
-use Rattle.abc_items.specs.declared.item.TheConstants.{MOST_CHORD_NOTES, MOST_VOICES}
-use Rattle.abc_settings.specs.declared.settings.Settings.{Settings}
-use Rattle.abc_settings.specs.TempoItem.{is_out, tempo_item}
-use Rattle.abc_settings.specs.Tuplet.{tuplet_by}
-use Rattle.abc_music.specs.declared.chords.Outside.{Outside}
-use Rattle.abc_music.specs.declared.sound.Around.{Around}
-use Rattle.abc_music.specs.declared.sound.Inside.{Inside}
-use Rattle.abc_music.specs.Chords.{around_part, inside_from, inside_of, tie_follows, with_dropped, with_fault as with_part_fault, with_kind as with_part_kind, with_part}
-use Rattle.abc_music.specs.Sound.{no_notes, with_note as with_sounding}
-use Rattle.abc_music.specs.TimeTokens.{chord_by, chord_played}
-use Rattle.abc_music.specs.TokenRole.{has_note}
-use Rattle.abc_cells.specs.declared.body.Body.{Body}
-use Rattle.abc_cells.specs.Body.{here, joined_by, made_current_at, mentioned}
-use Rattle.abc_cells.specs.BodyFields.{accepted, faulty, key_by, kind_given, meter_by, part_by, part_of, tempo_by, unit_by, voice_by, voice_made}
+use Rattle.abc_bars_header.proofs.NamePlaces.{find_place}
+use Rattle.abc_bars_header.specs.FieldKind.{kind_of}
+use Rattle.abc_bars_header.specs.declared.field_kind.FieldKind.{FieldKind}
+use Rattle.abc_bars_header.specs.declared.field_kind.FieldKind.TheVariants as fields
+use Rattle.abc_bars_items.specs.Column.{column_of}
+use Rattle.abc_bars_items.specs.declared.item.TheConstants.{MOST_CHORD_NOTES, MOST_VOICES}
+use Rattle.abc_bars_voice.specs.declared.voice_state.VoiceState.{VoiceState}
+use Rattle.abc_bars_voice.specs.TempoItem.{is_out_of_range, tempo_item}
+use Rattle.abc_bars_voice.specs.Tuplet.{tuplet_by}
+use Rattle.abc_bars_notes.specs.declared.chords.ChordContext.{ChordContext}
+use Rattle.abc_bars_notes.specs.declared.sound.NoteContext.{NoteContext}
+use Rattle.abc_bars_notes.specs.declared.sound.ChordBuilder.{ChordBuilder}
+use Rattle.abc_bars_notes.specs.Chords.{part_context, chord_builder_from, chord_builder_of, tie_follows, with_dropped, with_fault as with_part_fault, with_kind as with_part_kind, with_part}
+use Rattle.abc_bars_notes.specs.Sound.{no_notes, with_note as with_sounding}
+use Rattle.abc_bars_notes.specs.TimeTokens.{chord_by, play_chord}
+use Rattle.abc_bars_notes.specs.TokenRole.{has_note}
+use Rattle.abc_bars_body.specs.declared.body.Body.{Body}
+use Rattle.abc_bars_body.specs.Body.{here, after_join, with_current_at, after_mention}
+use Rattle.abc_bars_body.specs.BodyFields.{accept, accept_with_fault, key_by, kind_result, meter_by, part_by, part_of, tempo_by, unit_by, voice_by, voice_made}
 use Rattle.abc_bars.specs.LookBack.CellFaults.{AreFaultsOfCells, Faults, HasFieldFaults, IsFaultOfField, IsOneTooMany, IsOnlyFault, IsOutOfRange, NamesPart, is_of_field, names_there, unit_there}
 use Rattle.abc_bars.specs.LookBack.CellPlace.{CellPlace, before_place}
 use Rattle.abc_bars.specs.LookBack.Element.{Element}
-use Rattle.abc_bars.specs.LookBack.Held.{held_at, roll_of}
-use Rattle.abc_bars.specs.LookBack.Voice.{settings_at}
+use Rattle.abc_bars.specs.LookBack.Held.{body_at, roll_of}
+use Rattle.abc_bars.specs.LookBack.Voice.{voice_state_at}
 use Rattle.abc_bars.proofs.LookBack.CellFaults.{EachHas, faults_of_cells, none-bars, none-directive, none-ending, none-if, none-note, none-tie, none-tuplet, opening}
 use Rattle.abc_bars.proofs.LookBack.FieldFaults.{Told, more}
 use Rattle.abc_bars.proofs.LookBack.ByName.{finds}
@@ -116,12 +117,12 @@ some_is : (o : Option ℕ) → is_none o ≡ false → o ≡ None → ⊥
 some_is None e none = cc
 some_is (Some n) e none = cc
 
-out_told : (unit : Ratio) (tempo : Tempo) → is_out unit tempo ≡ true → IsOutOfRange unit tempo
+out_told : (unit : Ratio) (tempo : Tempo) → is_out_of_range unit tempo ≡ true → IsOutOfRange unit tempo
 out_told unit Unset e = cc
 out_told unit (Units n) e = (no_quarter unit n).0 (none_is (quarter_micros_of unit n) e)
 out_told unit (Beat beat n) e = (no_quarter beat n).0 (none_is (quarter_micros_of beat n) e)
 
-in_told : (unit : Ratio) (tempo : Tempo) → is_out unit tempo ≡ false → IsOutOfRange unit tempo → ⊥
+in_told : (unit : Ratio) (tempo : Tempo) → is_out_of_range unit tempo ≡ false → IsOutOfRange unit tempo → ⊥
 in_told unit Unset e out = out
 in_told unit (Units n) e out = some_is (quarter_micros_of unit n) e ((no_quarter unit n).1 out)
 in_told unit (Beat beat n) e out = some_is (quarter_micros_of beat n) e ((no_quarter beat n).1 out)
@@ -131,12 +132,13 @@ abbrev TempoFault : Ratio → List ℕ → FaultCode → Type 0
 TempoFault unit value code =
     ((code ≡ BadTempo) × ((tempo : Tempo) → ¬ IsTempo value tempo)) ⊎ ((code ≡ TempoRange) × ((tempo : Tempo) × IsTempo value tempo × IsOutOfRange unit tempo))
 
-tempo_by_range : (body : Body) (from : ℕ) (value : List ℕ) (tempo : Tempo) (out : Bool) → is_out (here body).unit tempo ≡ out → IsTempo value tempo
+tempo_by_range : (body : Body) (from : ℕ) (value : List ℕ) (tempo : Tempo) (out : Bool) → is_out_of_range (here body).unit tempo ≡ out → IsTempo value tempo
     → ((other : Tempo) → IsTempo value other → other ≡ tempo) → IsOnlyFault (TempoFault (here body).unit value) (column_of from) (Ours (tempo_by body from (Ok tempo)).faults)
 tempo_by_range body from value tempo true e says once = record {
   some = λ code h. ⊎_elim
       (λ bad. absurd (bad.1 tempo says))
-      (λ range. ap (λ b. Ours (cond b (faulty body from (tempo_item false (here body).unit tempo) TempoRange) (accepted body (tempo_item false (here body).unit tempo))).faults) e ∙ ap (λ c. (column_of from, c) ∷ []) (sym range.0))
+      (λ range. ap (λ b. Ours (cond b (accept_with_fault body from (tempo_item false (here body).unit tempo) TempoRange) (accept body (tempo_item false (here body).unit tempo))).faults) e
+      ∙ ap (λ c. (column_of from, c) ∷ []) (sym range.0))
       h;
   none = λ no. absurd (no TempoRange (inr (refl, (tempo, says, out_told (here body).unit tempo e))));
 }
@@ -145,13 +147,13 @@ tempo_by_range body from value tempo false e says once = record {
       (λ bad. absurd (bad.1 tempo says))
       (λ range. absurd (in_told (here body).unit tempo e (subst (IsOutOfRange (here body).unit) (once range.1.0 range.1.1) range.1.2)))
       h;
-  none = λ no. ap (λ b. Ours (cond b (faulty body from (tempo_item false (here body).unit tempo) TempoRange) (accepted body (tempo_item false (here body).unit tempo))).faults) e;
+  none = λ no. ap (λ b. Ours (cond b (accept_with_fault body from (tempo_item false (here body).unit tempo) TempoRange) (accept body (tempo_item false (here body).unit tempo))).faults) e;
 }
 
 of_tempo : (body : Body) (from : ℕ) (value : List ℕ) {InRange : Tempo → Type 0} (r : Result Tempo FaultCode) → Reads (IsTempo value) InRange BadTempo r
     → IsOnlyFault (TempoFault (here body).unit value) (column_of from) (Ours (tempo_by body from r).faults)
 of_tempo body from value (Ok tempo) reads =
-    tempo_by_range body from value tempo (is_out (here body).unit tempo) refl ((reads.ok tempo).0 refl) (λ other says. let e = (reads.ok other).1 says in cc)
+    tempo_by_range body from value tempo (is_out_of_range (here body).unit tempo) refl ((reads.ok tempo).0 refl) (λ other says. let e = (reads.ok other).1 says in cc)
 of_tempo body from value (Err fault) reads =
     let silent : (tempo : Tempo) → IsTempo value tempo → ⊥ = λ tempo says. let e = (reads.ok tempo).1 says in cc in
     let same : fault ≡ BadTempo = let e = reads.refused.1 silent in cc in
@@ -229,7 +231,7 @@ test_full body h = grind (arith, nat_tests)
 made_or_many : (body : Body) (from : ℕ) (value : List ℕ) (voice : Voice) → IsVoice value voice → ((other : Voice) → IsVoice value other → other ≡ voice)
     → (at : Option ℕ) → position (bytes_eq (slice_range value voice.from voice.to)) (keys_of body.voices) ≡ at
     → IsOnlyFault (VoiceFault (keys_of body.voices) value) (column_of from)
-    (Ours (voice_made body from (slice_range value voice.from voice.to) (made_current_at body (slice_range value voice.from voice.to) voice.shift at)).faults)
+    (Ours (voice_made body from (slice_range value voice.from voice.to) (with_current_at body (slice_range value voice.from voice.to) voice.shift at)).faults)
 made_or_many body from value voice says once (Some at) e = record {
   some = λ code h. ⊎_elim
       (λ bad. absurd (bad.1 voice says))
@@ -245,14 +247,27 @@ made_or_many body from value voice says once None e = ⊎_elim
           (λ bad. absurd (bad.1 voice says))
           (λ many. let full : 15 ≤ length (keys_of body.voices) = many.1.2.0 in let count = length_keys body.voices in absurd (omega arith))
           h;
-      none = λ no. ap (λ b. Ours (voice_made body from (slice_range value voice.from voice.to) (cond b (Some (joined_by body (slice_range value voice.from voice.to) voice.shift)) None)).faults) (test_room body room);
+      none = λ no. ap (λ b. Ours (voice_made body from (slice_range value voice.from voice.to)
+          (cond b (Some (after_join body (slice_range value voice.from voice.to) voice.shift)) None)).faults) (test_room body room);
     })
     (λ full. record {
       some = λ code h. ⊎_elim
           (λ bad. absurd (bad.1 voice says))
-          (λ many. ap (λ b. Ours (voice_made body from (slice_range value voice.from voice.to) (cond b (Some (joined_by body (slice_range value voice.from voice.to) voice.shift)) None)).faults) (test_full body full) ∙ ap (λ c. (column_of from, c) ∷ []) (sym many.0))
+          (λ many. ap (λ b. Ours (voice_made body from (slice_range value voice.from voice.to) (cond b (Some (after_join body (slice_range value voice.from voice.to) voice.shift)) None)).faults)
+          (test_full body full) ∙ ap (λ c. (column_of from, c) ∷ []) (sym many.0))
           h;
-      none = λ no. absurd (no TooManyVoices (inr (refl, (voice, says, (let count = length_keys body.voices in omega arith, name_apart (keys_of body.voices) (slice_range value voice.from voice.to) e)))));
+      none = λ no. absurd (no TooManyVoices (inr (
+        refl,
+        (
+          voice,
+          says,
+          (
+            let count = length_keys body.voices in omega arith,
+            name_apart (keys_of body.voices) (slice_range value voice.from voice.to)
+                e,
+          ),
+        ),
+      )));
     })
     (cases_lt (length body.voices) 15)
 
@@ -275,16 +290,16 @@ of_voice body from value (Err fault) reads =
 -- Of any field.
 module _ (place : CellPlace) (now : List Element) (is : now ≡ before_place place) where
   abbrev body : Body
-  body = held_at (opening place) now
+  body = body_at (opening place) now
 
   unit-there : (here body).unit ≡ unit_there place
-  unfolding settings_at
-  unit-there = ap (λ l. (here (held_at (opening place) l)).unit) is ∙ ap (λ (s : Settings). s.unit) (here_found place.values place.fields place.key (before_place place))
+  unfolding voice_state_at
+  unit-there = ap (λ l. (here (body_at (opening place) l)).unit) is ∙ ap (λ (s : VoiceState). s.unit) (here_found place.values place.fields place.key (before_place place))
 
   names-there : keys_of body.voices ≡ names_there place
-  names-there = ap (λ l. (roll_of (held_at (opening place) l)).names) is ∙ names_found place.values place.fields place.key (before_place place)
+  names-there = ap (λ l. (roll_of (body_at (opening place) l)).names) is ∙ names_found place.values place.fields place.key (before_place place)
 
-  of_kind : (kind : FieldKind) (value : List ℕ) → IsOnlyFault (IsFaultOfField place kind value) (column_of place.from) (Ours (kind_given body kind value place.from).faults)
+  of_kind : (kind : FieldKind) (value : List ℕ) → IsOnlyFault (IsFaultOfField place kind value) (column_of place.from) (Ours (kind_result body kind value place.from).faults)
   of_kind fields.Meter value =
       by_reader (IsMeter value) _ BadMeter (meter_of value) (meter_read value (meter_of value) refl) (column_of place.from) (λ r. (meter_by body place.from r).faults) (λ meter. refl) refl
   of_kind fields.UnitLength value =
@@ -303,44 +318,44 @@ module _ (place : CellPlace) (now : List Element) (is : now ≡ before_place pla
   of_kind fields.Other value = record { some = λ code h. absurd h; none = λ no. refl }
 
 -- A chord has none.
-beside : (inside : Inside) (others : Faults) → Ours inside.faults ≡ [] → Ours others ≡ [] → Ours (inside.faults ++ others) ≡ []
+beside : (inside : ChordBuilder) (others : Faults) → Ours inside.faults ≡ [] → Ours others ≡ [] → Ours (inside.faults ++ others) ≡ []
 beside inside others h k = more is_of_field inside.faults others [] k ∙ append-nil _ ∙ h
 
-module _ (settings : Settings) (broken : List Ratio) (outside : Outside) where
-  in-part : (around : Around) (kind : ChordPartKind) (inside : Inside) → Ours inside.faults ≡ [] → Ours (with_part_kind settings broken around kind inside).faults ≡ []
+module _ (state : VoiceState) (broken : List Ratio) (outside : ChordContext) where
+  in-part : (around : NoteContext) (kind : ChordPartKind) (inside : ChordBuilder) → Ours inside.faults ≡ [] → Ours (with_part_kind state broken around kind inside).faults ≡ []
   in-part around (parts.Note note) inside h =
-      either (nat_lt (length inside.tones) MOST_CHORD_NOTES) (with_sounding settings broken around note inside) (with_dropped around.column inside) (λ i. Ours i.faults ≡ [])
+      either (nat_lt (length inside.tones) MOST_CHORD_NOTES) (with_sounding state broken around note inside) (with_dropped around.column inside) (λ i. Ours i.faults ≡ [])
       (beside inside _ h (none-note is_of_field refl refl _ _ around.column))
       (either inside.big inside (record (with_part_fault around.column BigChord inside) { big = true }) (λ i. Ours i.faults ≡ []) h (beside inside _ h refl))
   in-part around parts.Tie inside h = either inside.after_note inside (with_part_fault around.column LooseTie inside) (λ i. Ours i.faults ≡ []) h (beside inside _ h refl)
   in-part around parts.NoEffect inside h = h
   in-part around parts.BadByte inside h = beside inside _ h refl
 
-  in-parts : (rest : List (Spanned ChordPartKind)) (inside : Inside) → Ours inside.faults ≡ [] → Ours (inside_from settings broken outside rest inside).faults ≡ []
+  in-parts : (rest : List (Spanned ChordPartKind)) (inside : ChordBuilder) → Ours inside.faults ≡ [] → Ours (chord_builder_from state broken outside rest inside).faults ≡ []
   in-parts [] inside h = h
   in-parts (part ∷ rest) inside h =
-      in-parts rest (with_part settings broken outside part (tie_follows rest) inside) (in-part (around_part outside part.from (tie_follows rest)) part.kind inside h)
+      in-parts rest (with_part state broken outside part (tie_follows rest) inside) (in-part (part_context outside part.from (tie_follows rest)) part.kind inside h)
 
-of-chord-by : (b : Bool) (settings : Settings) (from : ℕ) (inside : Inside) → Ours inside.faults ≡ [] → Ours (chord_by b settings from inside).faults ≡ []
-of-chord-by true settings from inside h = h
-of-chord-by false settings from inside h = h
+of-chord-by : (b : Bool) (state : VoiceState) (from : ℕ) (inside : ChordBuilder) → Ours inside.faults ≡ [] → Ours (chord_by b state from inside).faults ≡ []
+of-chord-by true state from inside h = h
+of-chord-by false state from inside h = h
 
-of-chord : (settings : Settings) (broken : List Ratio) (tied : Bool) (from : ℕ) (chord : Chord) → Ours (chord_played settings broken tied from chord).faults ≡ []
-of-chord settings broken tied from chord =
-    let outside : Outside = record { length = chord.length; tied = tied; from = from } in
-    of-chord-by (has_note chord.parts) settings from (inside_of settings broken outside chord.parts) (in-parts settings broken outside chord.parts (no_notes settings) refl)
+of-chord : (state : VoiceState) (broken : List Ratio) (tied : Bool) (from : ℕ) (chord : Chord) → Ours (play_chord state broken tied from chord).faults ≡ []
+of-chord state broken tied from chord =
+    let outside : ChordContext = record { length = chord.length; tied = tied; from = from } in
+    of-chord-by (has_note chord.parts) state from (chord_builder_of state broken outside chord.parts) (in-parts state broken outside chord.parts (no_notes state) refl)
 
 each : EachHas is_of_field HasFieldFaults
 each place (kinds.Note note) now after is = none-note is_of_field refl refl _ _ (column_of place.from)
 each place (kinds.Rest length) now after is = none-if is_of_field BadLength refl _ (column_of place.from)
-each place (kinds.BarRest bars) now after is = none-bars is_of_field refl refl place.from (here (mentioned (held_at (opening place) now))).meter bars
+each place (kinds.BarRest bars) now after is = none-bars is_of_field refl refl place.from (here (after_mention (body_at (opening place) now))).meter bars
 each place (kinds.Chord chord) now after is = of-chord _ _ _ place.from chord
 each place (kinds.InlineField field) now after is = of_kind place now (is refl) (kind_of field.letter) field.value
 each place (kinds.Field field) now after is = of_kind place now (is refl) (kind_of field.letter) field.value
 each place (kinds.Bar bar) now after is = refl
 each place (kinds.Ending passes) now after is = none-ending is_of_field refl place.from passes
 each place (kinds.Tuplet mark) now after is =
-    let body : Body = held_at (opening place) now in
+    let body : Body = body_at (opening place) now in
     none-tuplet is_of_field refl refl place.from (here body).tuplet (tuplet_by (here body).meter mark)
 each place (kinds.Broken mark) now after is = none-if is_of_field BadBroken refl _ (column_of place.from)
 each place kinds.Tie now after is = none-tie is_of_field refl place.from after

@@ -9,70 +9,72 @@ use Rattle.abc_fields.specs.declared.meter.Meter.TheVariants.{Free, Of}
 use Rattle.abc_scan.specs.declared.chord.Chord.{Chord}
 use Rattle.abc_scan.specs.declared.length.WrittenLength.{WrittenLength}
 use Rattle.abc_scan.specs.declared.note.Note.{Note}
-use Rattle.abc_scan.specs.declared.parts.ChordPartKind.{ChordPartKind}
-use Rattle.abc_scan.specs.declared.parts.ChordPartKind.TheVariants as parts
+use Rattle.abc_scan.specs.declared.chord_part.ChordPartKind.{ChordPartKind}
+use Rattle.abc_scan.specs.declared.chord_part.ChordPartKind.TheVariants as parts
 use Rattle.abc_scan.specs.declared.spanned.Spanned.{Spanned}
 use Rattle.abc_scan.specs.declared.token.TokenKind.{TokenKind}
 use Rattle.abc_scan.specs.declared.token.TokenKind.TheVariants as kinds
 use Rattle.abc_time.specs.declared.ratio.Ratio.{Ratio}
-use Rattle.abc_header.specs.FieldKind.{kind_of}
-use Rattle.abc_items.specs.Column.{column_of}
-use Rattle.abc_items.specs.declared.item.Item.{Item}
-use Rattle.abc_settings.specs.declared.settings.Settings.{Settings}
-use Rattle.abc_settings.specs.Tuplet.{tuplet_by}
-use Rattle.abc_music.specs.declared.broken.Behind.TheVariants.{Nothing}
-use Rattle.abc_music.specs.declared.chords.Outside.{Outside}
-use Rattle.abc_music.specs.declared.sound.Inside.{Inside}
-use Rattle.abc_music.specs.BarRest.{bar_rest_of}
-use Rattle.abc_music.specs.Broken.{behind_from, factors_of}
-use Rattle.abc_music.specs.ChordFaults.{AreFaultsOf}
-use Rattle.abc_music.specs.ChordNotes.{notes_of}
-use Rattle.abc_music.specs.Chords.{inside_from, inside_of, with_fault as with_part_fault}
-use Rattle.abc_music.specs.Lasting.{HasLengthFault, Lasts, RestsForBars, factors_at}
-use Rattle.abc_music.specs.Sound.{fault_if, key_in, length_in, no_notes}
-use Rattle.abc_music.specs.TimeTokens.{chord_by, chord_played, note_played, rest_played}
-use Rattle.abc_music.specs.TokenRole.{has_note, is_note_part}
-use Rattle.abc_music.proofs.ChordFaults.{bad_lengths_at_notes}
-use Rattle.abc_music.proofs.ChordNotes.{big_at_the_seventeenth}
-use Rattle.abc_music.proofs.Lasting.{bar_rests_last, notes_last, rests_last}
-use Rattle.abc_cells.specs.declared.body.Body.{Body}
-use Rattle.abc_cells.specs.Body.{here, mentioned}
-use Rattle.abc_cells.specs.Cell.{mentioned_by_chord, tie_ahead}
+use Rattle.abc_bars_header.specs.FieldKind.{kind_of}
+use Rattle.abc_bars_items.specs.Column.{column_of}
+use Rattle.abc_bars_items.specs.declared.item.Item.{Item}
+use Rattle.abc_bars_voice.specs.declared.voice_state.VoiceState.{VoiceState}
+use Rattle.abc_bars_voice.specs.Tuplet.{tuplet_by}
+use Rattle.abc_bars_notes.specs.declared.broken.Preceding.TheVariants.{Nothing}
+use Rattle.abc_bars_notes.specs.declared.chords.ChordContext.{ChordContext}
+use Rattle.abc_bars_notes.specs.declared.sound.ChordBuilder.{ChordBuilder}
+use Rattle.abc_bars_notes.specs.BarRest.{bar_rest_of}
+use Rattle.abc_bars_notes.specs.Broken.{preceding_from, factors_of}
+use Rattle.abc_bars_notes.specs.ChordFaults.{AreFaultsOf}
+use Rattle.abc_bars_notes.specs.ChordNotes.{notes_of}
+use Rattle.abc_bars_notes.specs.Chords.{chord_builder_from, chord_builder_of, with_fault as with_part_fault}
+use Rattle.abc_bars_notes.specs.Lasting.{HasLengthFault, Lasts, RestsForBars, factors_at}
+use Rattle.abc_bars_notes.specs.Sound.{fault_if, key_in, length_in, no_notes}
+use Rattle.abc_bars_notes.specs.TimeTokens.{chord_by, play_chord, play_note, play_rest}
+use Rattle.abc_bars_notes.specs.TokenRole.{has_note, is_note_part}
+use Rattle.abc_bars_notes.proofs.ChordFaults.{bad_lengths_at_notes}
+use Rattle.abc_bars_notes.proofs.ChordNotes.{big_at_the_seventeenth}
+use Rattle.abc_bars_notes.proofs.Lasting.{bar_rests_last, notes_last, rests_last}
+use Rattle.abc_bars_body.specs.declared.body.Body.{Body}
+use Rattle.abc_bars_body.specs.Body.{here, after_mention}
+use Rattle.abc_bars_body.specs.Cell.{after_chord_mention, tie_ahead}
 use Rattle.abc_bars.specs.LookBack.CellFaults.{AreFaultsOfCells, Faults, HasBigChord, HasLengthFaults, IsBarsFault, IsLengthFault, is_bad_length_code, is_big_chord}
-use Rattle.abc_bars.specs.LookBack.CellPlace.{CellPlace, before_place, cell_with, standing_at}
+use Rattle.abc_bars.specs.LookBack.CellPlace.{CellPlace, before_place, cell_with, voice_place_at}
 use Rattle.abc_bars.specs.LookBack.Element.{Element}
-use Rattle.abc_bars.specs.LookBack.Held.{held_at}
-use Rattle.abc_bars.specs.LookBack.Lengths.{held_there}
-use Rattle.abc_bars.specs.LookBack.Voice.{meter_at, settings_at}
+use Rattle.abc_bars.specs.LookBack.Held.{body_at}
+use Rattle.abc_bars.specs.LookBack.Lengths.{state_there}
+use Rattle.abc_bars.specs.LookBack.Voice.{meter_at, voice_state_at}
 use Rattle.abc_bars.proofs.LookBack.CellFaults.{EachHas, faults_of_cells, none-bars, none-directive, none-ending, none-if, none-note, none-tie, none-tuplet, opening, some_fault}
-use Rattle.abc_bars.proofs.LookBack.CellPlace.{drop-front, mentioned-in, take-front}
+use Rattle.abc_bars.proofs.LookBack.CellPlace.{drop-front, after_mention-in, take-front}
 use Rattle.abc_bars.proofs.LookBack.FieldFaults.{Told, more, of-field}
 use Rattle.abc_bars.proofs.LookBack.Held.{here_found}
 use Rattle.abc_bars.proofs.LookBack.Tied.{either}
 
 -- The factors of broken rhythm at a place, as they are read.
-factors-there : (place : CellPlace) (kind : TokenKind) → factors_of (behind_from Nothing place.front) place.ahead ≡ factors_at (cell_with place kind) (length place.front)
+factors-there : (place : CellPlace) (kind : TokenKind) → factors_of (preceding_from Nothing place.front) place.ahead ≡ factors_at (cell_with place kind) (length place.front)
 factors-there place kind =
     let token : Spanned TokenKind = record { kind = kind; from = place.from; to = place.to } in
-    λ i. factors_of (behind_from Nothing (sym (take-front place.front (token ∷ place.ahead)) i)) (sym (drop-front place.front place.ahead token) i)
+    λ i. factors_of (preceding_from Nothing (sym (take-front place.front (token ∷ place.ahead)) i)) (sym (drop-front place.front place.ahead token) i)
 
 -- BigChord.
 each-big : EachHas is_big_chord HasBigChord
 each-big place (kinds.Note note) now after is = none-note is_big_chord refl refl _ _ (column_of place.from)
 each-big place (kinds.Rest length) now after is = none-if is_big_chord BadLength refl _ (column_of place.from)
-each-big place (kinds.BarRest bars) now after is = none-bars is_big_chord refl refl place.from (here (mentioned (held_at (opening place) now))).meter bars
+each-big place (kinds.BarRest bars) now after is = none-bars is_big_chord refl refl place.from (here (after_mention (body_at (opening place) now))).meter bars
 each-big place (kinds.Chord chord) now after is =
-    let settings : Settings = here (mentioned_by_chord (has_note chord.parts) (held_at (opening place) now)) in
-    ap (λ (factors : List Ratio). Told is_big_chord (chord_played settings factors (tie_ahead place.ahead) place.from chord).faults) (factors-there place (kinds.Chord chord))
-    ∙ big_at_the_seventeenth settings (cell_with place (kinds.Chord chord)) (length place.front) place.from chord (tie_ahead place.ahead)
+    let state : VoiceState = here (after_chord_mention (has_note chord.parts) (body_at (opening place) now)) in
+    ap (λ (factors : List Ratio). Told is_big_chord (play_chord state factors (tie_ahead place.ahead) place.from chord).faults) (factors-there place (kinds.Chord chord))
+    ∙ big_at_the_seventeenth state (cell_with place (kinds.Chord chord)) (length place.front) place.from chord (tie_ahead place.ahead)
 each-big place (kinds.InlineField field) now after is =
-    of-field is_big_chord (record { meter = refl; unit = refl; tempo = refl; range = refl; key = refl; part = refl; voice = refl; many = refl }) (held_at (opening place) now) place.from (kind_of field.letter) field.value
+    of-field is_big_chord (record { meter = refl; unit = refl; tempo = refl; range = refl; key = refl; part = refl; voice = refl; many = refl }) (body_at (opening place) now) place.from (kind_of
+    field.letter) field.value
 each-big place (kinds.Field field) now after is =
-    of-field is_big_chord (record { meter = refl; unit = refl; tempo = refl; range = refl; key = refl; part = refl; voice = refl; many = refl }) (held_at (opening place) now) place.from (kind_of field.letter) field.value
+    of-field is_big_chord (record { meter = refl; unit = refl; tempo = refl; range = refl; key = refl; part = refl; voice = refl; many = refl }) (body_at (opening place) now) place.from (kind_of
+    field.letter) field.value
 each-big place (kinds.Bar bar) now after is = refl
 each-big place (kinds.Ending passes) now after is = none-ending is_big_chord refl place.from passes
 each-big place (kinds.Tuplet mark) now after is =
-    let body : Body = held_at (opening place) now in
+    let body : Body = body_at (opening place) now in
     none-tuplet is_big_chord refl refl place.from (here body).tuplet (tuplet_by (here body).meter mark)
 each-big place (kinds.Broken mark) now after is = none-if is_big_chord BadBroken refl _ (column_of place.from)
 each-big place kinds.Tie now after is = none-tie is_big_chord refl place.from after
@@ -134,15 +136,15 @@ bars-fault from (Of num den) (Some n) = λ range.
     }
 
 -- A chord without notes has none.
-module _ (settings : Settings) (broken : List Ratio) (outside : Outside) where
+module _ (state : VoiceState) (broken : List Ratio) (outside : ChordContext) where
   plain-part : (kind : ChordPartKind) (from to : ℕ) (rest : List (Spanned ChordPartKind)) → is_note_part kind ≡ false
-      → ((inside : Inside) → Ours (inside_from settings broken outside rest inside).faults ≡ Ours inside.faults) → (inside : Inside)
-      → Ours (inside_from settings broken outside (record { kind = kind; from = from; to = to } ∷ rest) inside).faults ≡ Ours inside.faults
+      → ((inside : ChordBuilder) → Ours (chord_builder_from state broken outside rest inside).faults ≡ Ours inside.faults) → (inside : ChordBuilder)
+      → Ours (chord_builder_from state broken outside (record { kind = kind; from = from; to = to } ∷ rest) inside).faults ≡ Ours inside.faults
   plain-part (parts.Note note) from to rest plain ih inside = cc
   plain-part parts.Tie from to rest plain ih inside =
       let column : ℕ = column_of (outside.from + from) in
       either inside.after_note inside (with_part_fault column LooseTie inside)
-      (λ i. Ours (inside_from settings broken outside rest (record i { after_note = false })).faults ≡ Ours inside.faults)
+      (λ i. Ours (chord_builder_from state broken outside rest (record i { after_note = false })).faults ≡ Ours inside.faults)
       (ih (record inside { after_note = false }))
       (ih (record (with_part_fault column LooseTie inside) { after_note = false }) ∙ more is_bad_length_code inside.faults ((column, LooseTie) ∷ []) [] refl ∙ append-nil _)
   plain-part parts.NoEffect from to rest plain ih inside = ih (record inside { after_note = false })
@@ -156,87 +158,88 @@ module _ (settings : Settings) (broken : List Ratio) (outside : Outside) where
   plain-by true part rest e none = cc
   plain-by false part rest e none = (e, none)
 
-  plain-parts : (rest : List (Spanned ChordPartKind)) → filter (λ p. is_note_part p.kind) rest ≡ [] → (inside : Inside)
-      → Ours (inside_from settings broken outside rest inside).faults ≡ Ours inside.faults
+  plain-parts : (rest : List (Spanned ChordPartKind)) → filter (λ p. is_note_part p.kind) rest ≡ [] → (inside : ChordBuilder)
+      → Ours (chord_builder_from state broken outside rest inside).faults ≡ Ours inside.faults
   plain-parts [] none inside = refl
   plain-parts (part ∷ rest) none inside =
       let plain = plain-by (is_note_part part.kind) part rest refl none in
       plain-part part.kind part.from part.to rest plain.0 (plain-parts rest plain.1) inside
 
-plain-chord-by : (b : Bool) (settings : Settings) (from : ℕ) (inside : Inside) → Ours (chord_by b settings from inside).faults ≡ Ours inside.faults
-plain-chord-by true settings from inside = refl
-plain-chord-by false settings from inside = refl
+plain-chord-by : (b : Bool) (state : VoiceState) (from : ℕ) (inside : ChordBuilder) → Ours (chord_by b state from inside).faults ≡ Ours inside.faults
+plain-chord-by true state from inside = refl
+plain-chord-by false state from inside = refl
 
-plain-chord : (settings : Settings) (broken : List Ratio) (tied : Bool) (from : ℕ) (chord : Chord) → notes_of chord ≡ []
-    → Ours (chord_played settings broken tied from chord).faults ≡ []
-plain-chord settings broken tied from chord none =
-    let outside : Outside = record { length = chord.length; tied = tied; from = from } in
-    plain-chord-by (has_note chord.parts) settings from (inside_of settings broken outside chord.parts)
-    ∙ plain-parts settings broken outside chord.parts none (no_notes settings)
+plain-chord : (state : VoiceState) (broken : List Ratio) (tied : Bool) (from : ℕ) (chord : Chord) → notes_of chord ≡ []
+    → Ours (play_chord state broken tied from chord).faults ≡ []
+plain-chord state broken tied from chord none =
+    let outside : ChordContext = record { length = chord.length; tied = tied; from = from } in
+    plain-chord-by (has_note chord.parts) state from (chord_builder_of state broken outside chord.parts)
+    ∙ plain-parts state broken outside chord.parts none (no_notes state)
 
--- What holds for the current voice at a place.
+-- The state of the current voice at a place.
 module _ (place : CellPlace) (now : List Element) (is : now ≡ before_place place) where
   abbrev body : Body
-  body = held_at (opening place) now
+  body = body_at (opening place) now
 
-  here-there : here body ≡ held_there place
-  here-there = ap (λ l. here (held_at (opening place) l)) is ∙ here_found place.values place.fields place.key (before_place place)
+  here-there : here body ≡ state_there place
+  here-there = ap (λ l. here (body_at (opening place) l)) is ∙ here_found place.values place.fields place.key (before_place place)
 
-  here-mentioned : here (mentioned body) ≡ held_there place
-  here-mentioned = mentioned-in body body.current ∙ here-there
+  here-mentioned : here (after_mention body) ≡ state_there place
+  here-mentioned = after_mention-in body body.current ∙ here-there
 
-  here-by-chord : (b : Bool) → here (mentioned_by_chord b body) ≡ held_there place
-  here-by-chord true = here-mentioned
+  here-by-chord : (b : Bool) → here (after_chord_mention b body) ≡ state_there place
+  here-by-chord true = here-after_mention
   here-by-chord false = here-there
 
   note-there : (note : Note) → HasLengthFaults place (kinds.Note note)
-      (Ours (note_played (here (mentioned body)) (factors_of (behind_from Nothing place.front) place.ahead) (tie_ahead place.ahead) place.from note).faults)
+      (Ours (play_note (here (after_mention body)) (factors_of (preceding_from Nothing place.front) place.ahead) (tie_ahead place.ahead) place.from note).faults)
   note-there note at =
-      let settings : Settings = held_there place in
+      let state : VoiceState = state_there place in
       let cell : List (Spanned TokenKind) = cell_with place (kinds.Note note) in
       let factors : List Ratio = factors_at cell (length place.front) in
       let column : ℕ = column_of place.from in
-      let Lasting : ℕ → Type 0 = Lasts settings cell (length place.front) note.length None in
-      let lasts = notes_last settings cell (length place.front) place.from note (tie_ahead place.ahead) at in
-      let there : IsLengthFault Lasting column (Ours (note_played settings factors (tie_ahead place.ahead) place.from note).faults) =
-      length-fault (length_in settings factors note.length None).1 (is_none (key_in settings settings.accidentals note)) column Lasting lasts.5 in
-      subst (λ (f : List Ratio). IsLengthFault Lasting column (Ours (note_played (here (mentioned body)) f (tie_ahead place.ahead) place.from note).faults)) (sym (factors-there place (kinds.Note note)))
-      (subst (λ (s : Settings). IsLengthFault Lasting column (Ours (note_played s factors (tie_ahead place.ahead) place.from note).faults)) (sym here-mentioned) there)
+      let Lasting : ℕ → Type 0 = Lasts state cell (length place.front) note.length None in
+      let lasts = notes_last state cell (length place.front) place.from note (tie_ahead place.ahead) at in
+      let there : IsLengthFault Lasting column (Ours (play_note state factors (tie_ahead place.ahead) place.from note).faults) =
+      length-fault (length_in state factors note.length None).1 (is_none (key_in state state.accidentals note)) column Lasting lasts.5 in
+      subst (λ (f : List Ratio). IsLengthFault Lasting column (Ours (play_note (here (after_mention body)) f (tie_ahead place.ahead) place.from note).faults)) (sym
+      (factors-there place (kinds.Note note)))
+      (subst (λ (s : VoiceState). IsLengthFault Lasting column (Ours (play_note s factors (tie_ahead place.ahead) place.from note).faults)) (sym here-after_mention) there)
 
   rest-there : (written : WrittenLength) → HasLengthFaults place (kinds.Rest written)
-      (Ours (rest_played (here (mentioned body)) (factors_of (behind_from Nothing place.front) place.ahead) place.from written).faults)
+      (Ours (play_rest (here (after_mention body)) (factors_of (preceding_from Nothing place.front) place.ahead) place.from written).faults)
   rest-there written at =
-      let settings : Settings = held_there place in
+      let state : VoiceState = state_there place in
       let cell : List (Spanned TokenKind) = cell_with place (kinds.Rest written) in
       let factors : List Ratio = factors_at cell (length place.front) in
       let column : ℕ = column_of place.from in
-      let Lasting : ℕ → Type 0 = Lasts settings cell (length place.front) written None in
-      let lasts = rests_last settings cell (length place.front) place.from written at in
-      let there : IsLengthFault Lasting column (Ours (rest_played settings factors place.from written).faults) =
-      rest-fault (length_in settings factors written None).1 column Lasting lasts.3 in
-      subst (λ (f : List Ratio). IsLengthFault Lasting column (Ours (rest_played (here (mentioned body)) f place.from written).faults)) (sym (factors-there place (kinds.Rest written)))
-      (subst (λ (s : Settings). IsLengthFault Lasting column (Ours (rest_played s factors place.from written).faults)) (sym here-mentioned) there)
+      let Lasting : ℕ → Type 0 = Lasts state cell (length place.front) written None in
+      let lasts = rests_last state cell (length place.front) place.from written at in
+      let there : IsLengthFault Lasting column (Ours (play_rest state factors place.from written).faults) =
+      rest-fault (length_in state factors written None).1 column Lasting lasts.3 in
+      subst (λ (f : List Ratio). IsLengthFault Lasting column (Ours (play_rest (here (after_mention body)) f place.from written).faults)) (sym (factors-there place (kinds.Rest written)))
+      (subst (λ (s : VoiceState). IsLengthFault Lasting column (Ours (play_rest s factors place.from written).faults)) (sym here-after_mention) there)
 
-  meter-there : (here (mentioned body)).meter ≡ meter_at (standing_at place).opening.meter (standing_at place).before
-  unfolding settings_at
-  meter-there = ap (λ (s : Settings). s.meter) here-mentioned
+  meter-there : (here (after_mention body)).meter ≡ meter_at (voice_place_at place).opening.meter (voice_place_at place).before
+  unfolding voice_state_at
+  meter-there = ap (λ (s : VoiceState). s.meter) here-after_mention
 
-  bars-there : (bars : Option ℕ) → HasLengthFaults place (kinds.BarRest bars) (Ours (some_fault place.from (bar_rest_of (here (mentioned body)).meter bars).1))
+  bars-there : (bars : Option ℕ) → HasLengthFaults place (kinds.BarRest bars) (Ours (some_fault place.from (bar_rest_of (here (after_mention body)).meter bars).1))
   bars-there bars =
-      let meter : Meter = meter_at (standing_at place).opening.meter (standing_at place).before in
+      let meter : Meter = meter_at (voice_place_at place).opening.meter (voice_place_at place).before in
       subst (λ (m : Meter). IsBarsFault meter bars (column_of place.from) (Ours (some_fault place.from (bar_rest_of m bars).1))) (sym meter-there) (bars-fault place.from meter bars)
 
   chord-there : (chord : Chord) → HasLengthFaults place (kinds.Chord chord)
-      (Ours (chord_played (here (mentioned_by_chord (has_note chord.parts) body)) (factors_of (behind_from Nothing place.front) place.ahead) (tie_ahead place.ahead) place.from chord).faults)
+      (Ours (play_chord (here (after_chord_mention (has_note chord.parts) body)) (factors_of (preceding_from Nothing place.front) place.ahead) (tie_ahead place.ahead) place.from chord).faults)
   chord-there chord = record {
     none = plain-chord _ _ (tie_ahead place.ahead) place.from chord;
     some = λ at.
-        let settings : Settings = held_there place in
+        let state : VoiceState = state_there place in
         let cell : List (Spanned TokenKind) = cell_with place (kinds.Chord chord) in
-        let Are : Faults → Type 0 = λ l. AreFaultsOf (λ note. Lasts settings cell (length place.front) note.length (Some chord.length)) place.from (take 16 (notes_of chord)) l in
+        let Are : Faults → Type 0 = λ l. AreFaultsOf (λ note. Lasts state cell (length place.front) note.length (Some chord.length)) place.from (take 16 (notes_of chord)) l in
         subst Are
-        (λ i. Ours (chord_played (sym (here-by-chord (has_note chord.parts)) i) (sym (factors-there place (kinds.Chord chord)) i) (tie_ahead place.ahead) place.from chord).faults)
-        (bad_lengths_at_notes settings cell (length place.front) place.from chord (tie_ahead place.ahead) at);
+        (λ i. Ours (play_chord (sym (here-by-chord (has_note chord.parts)) i) (sym (factors-there place (kinds.Chord chord)) i) (tie_ahead place.ahead) place.from chord).faults)
+        (bad_lengths_at_notes state cell (length place.front) place.from chord (tie_ahead place.ahead) at);
   }
 
 each-length : EachHas is_bad_length_code HasLengthFaults
@@ -245,13 +248,15 @@ each-length place (kinds.Rest written) now after is = rest-there place now (is r
 each-length place (kinds.BarRest bars) now after is = bars-there place now (is refl) bars
 each-length place (kinds.Chord chord) now after is = chord-there place now (is refl) chord
 each-length place (kinds.InlineField field) now after is =
-    of-field is_bad_length_code (record { meter = refl; unit = refl; tempo = refl; range = refl; key = refl; part = refl; voice = refl; many = refl }) (held_at (opening place) now) place.from (kind_of field.letter) field.value
+    of-field is_bad_length_code (record { meter = refl; unit = refl; tempo = refl; range = refl; key = refl; part = refl; voice = refl; many = refl }) (body_at (opening place) now) place.from (kind_of
+    field.letter) field.value
 each-length place (kinds.Field field) now after is =
-    of-field is_bad_length_code (record { meter = refl; unit = refl; tempo = refl; range = refl; key = refl; part = refl; voice = refl; many = refl }) (held_at (opening place) now) place.from (kind_of field.letter) field.value
+    of-field is_bad_length_code (record { meter = refl; unit = refl; tempo = refl; range = refl; key = refl; part = refl; voice = refl; many = refl }) (body_at (opening place) now) place.from (kind_of
+    field.letter) field.value
 each-length place (kinds.Bar bar) now after is = refl
 each-length place (kinds.Ending passes) now after is = none-ending is_bad_length_code refl place.from passes
 each-length place (kinds.Tuplet mark) now after is =
-    let body : Body = held_at (opening place) now in
+    let body : Body = body_at (opening place) now in
     none-tuplet is_bad_length_code refl refl place.from (here body).tuplet (tuplet_by (here body).meter mark)
 each-length place (kinds.Broken mark) now after is = none-if is_bad_length_code BadBroken refl _ (column_of place.from)
 each-length place kinds.Tie now after is = none-tie is_bad_length_code refl place.from after

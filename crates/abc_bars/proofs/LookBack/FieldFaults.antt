@@ -15,13 +15,13 @@ use Rattle.abc_fields.specs.Tempo.{tempo_in, tempo_of}
 use Rattle.abc_fields.specs.Unit.{unit_in}
 use Rattle.abc_fields.specs.Voice.{voice_in, voice_of}
 use Rattle.abc_time.specs.declared.ratio.Ratio.{Ratio}
-use Rattle.abc_cells.specs.declared.body.Body.{Body}
-use Rattle.abc_header.specs.declared.field_kind.FieldKind.{FieldKind}
-use Rattle.abc_header.specs.declared.field_kind.FieldKind.TheVariants as fields
-use Rattle.abc_items.specs.declared.item.Item.{Item}
-use Rattle.abc_settings.specs.TempoItem.{is_out}
-use Rattle.abc_cells.specs.Body.{here, made_current}
-use Rattle.abc_cells.specs.BodyFields.{accepted, faulty, kind_given, meter_by, key_by, part_by, part_of, tempo_by, unit_by, voice_by, voice_made}
+use Rattle.abc_bars_body.specs.declared.body.Body.{Body}
+use Rattle.abc_bars_header.specs.declared.field_kind.FieldKind.{FieldKind}
+use Rattle.abc_bars_header.specs.declared.field_kind.FieldKind.TheVariants as fields
+use Rattle.abc_bars_items.specs.declared.item.Item.{Item}
+use Rattle.abc_bars_voice.specs.TempoItem.{is_out_of_range}
+use Rattle.abc_bars_body.specs.Body.{here, with_current}
+use Rattle.abc_bars_body.specs.BodyFields.{accept, accept_with_fault, kind_result, meter_by, key_by, part_by, part_of, tempo_by, unit_by, voice_by, voice_made}
 
 -- The faults that pass a test of their code.
 abbrev pub Told : (FaultCode → Bool) → List (ℕ × FaultCode) → List (ℕ × FaultCode)
@@ -66,12 +66,12 @@ module _ (told : FaultCode → Bool) (none : IsOfNoField told) where
   of-part body place (Some letter) = refl
   of-part body place None = no-fault told _ BadPart none.part
 
-  of-out : (body : Body) (place : ℕ) (b : Bool) (item : Item) → Told told (cond b (faulty body place item TempoRange) (accepted body item)).faults ≡ []
+  of-out : (body : Body) (place : ℕ) (b : Bool) (item : Item) → Told told (cond b (accept_with_fault body place item TempoRange) (accept body item)).faults ≡ []
   of-out body place true item = no-fault told _ TempoRange none.range
   of-out body place false item = refl
 
   of-tempo : (body : Body) (place : ℕ) (o : Option Tempo) → Told told (tempo_by body place (ok_or o BadTempo)).faults ≡ []
-  of-tempo body place (Some tempo) = of-out body place (is_out (here body).unit tempo) _
+  of-tempo body place (Some tempo) = of-out body place (is_out_of_range (here body).unit tempo) _
   of-tempo body place None = no-fault told _ BadTempo none.tempo
 
   of-made : (body : Body) (place : ℕ) (name : List ℕ) (made : Option Body) → Told told (voice_made body place name made).faults ≡ []
@@ -81,11 +81,11 @@ module _ (told : FaultCode → Bool) (none : IsOfNoField told) where
   of-voice : (body : Body) (place : ℕ) (value : List ℕ) (o : Option Voice) → Told told (voice_by body place value (ok_or o BadVoice)).faults ≡ []
   of-voice body place value (Some voice) =
       let name : List ℕ = slice_range value voice.from voice.to in
-      of-made body place name (made_current body name voice.shift)
+      of-made body place name (with_current body name voice.shift)
   of-voice body place value None = no-fault told _ BadVoice none.voice
 
   -- No field has one.
-  pub of-field : (body : Body) (place : ℕ) (kind : FieldKind) (value : List ℕ) → Told told (kind_given body kind value place).faults ≡ []
+  pub of-field : (body : Body) (place : ℕ) (kind : FieldKind) (value : List ℕ) → Told told (kind_result body kind value place).faults ≡ []
   unfolding tempo_of voice_of
   of-field body place fields.Meter value = of-meter body place (symbol_or_fraction value)
   of-field body place fields.UnitLength value = of-unit body place (unit_in value)

@@ -1,13 +1,20 @@
 -- What fields say is what their readers read.
-use Rattle.std.proofs.Common.{◌≡◌, ◌∙◌, ◌≤◌, ℕ, Bool, true, false, cond, List, [], ◌∷◌, Some, None, refl, ap}
+use Rattle.std.proofs.Common.{◌≡◌, ◌∙◌, ◌≤◌, ℕ, Bool, true, false, cond, List, [], ◌∷◌, Some, None, Ok, refl, sym, ap}
 use Rattle.std.proofs.lemmas.Bool.{and_from, and_parts, cond-true, le-leb, leb-true}
 use Rattle.std.specs.Char.{is_ascii_uppercase}
-use Rattle.std.specs.Prelude.{nat_le}
-use Rattle.abc_header.specs.declared.field_kind.FieldKind.TheVariants as fields
-use Rattle.abc_header.specs.FieldKind.{kind_of}
+use Rattle.std.specs.Prelude.{nat_le, slice_range}
+use Rattle.abc_fields.specs.declared.voice.Voice.{Voice}
+use Rattle.abc_fields.specs.Voice.{voice_of}
+use Rattle.abc_fields.proofs.Voices.{voice_read}
+use Rattle.abc_bars_header.specs.declared.field_kind.FieldKind.{FieldKind}
+use Rattle.abc_bars_header.specs.declared.field_kind.FieldKind.TheVariants as fields
+use Rattle.abc_bars_header.specs.FieldKind.{kind_of}
 use Rattle.abc_scan.specs.declared.field.Field.{Field}
-use Rattle.abc_cells.specs.BodyFields.{part_of}
-use Rattle.abc_bars.specs.LookBack.Fields.{BeginsPart}
+use Rattle.abc_scan.specs.declared.token.TokenKind.{TokenKind}
+use Rattle.abc_scan.specs.declared.token.TokenKind.TheVariants as kinds
+use Rattle.abc_bars_body.specs.BodyFields.{part_of}
+use Rattle.abc_bars.specs.LookBack.ByName.{Named, owner_of, owner_of_field, owner_of_voice}
+use Rattle.abc_bars.specs.LookBack.Fields.{BeginsPart, IsVoiceField, NamesVoice}
 
 -- A capital letter is known by its code.
 capital-is : (byte : ℕ) → 65 ≤ byte → byte ≤ 90 → is_ascii_uppercase byte ≡ true
@@ -32,3 +39,24 @@ begins-with field (byte ∷ rest) letter is spelled e = begins-by field byte res
 -- A P: that names a part is accepted.
 pub begins-part : (field : Field) (letter : ℕ) → kind_of field.letter ≡ fields.Parts → part_of field.value ≡ Some letter → BeginsPart field
 begins-part field letter is e = begins-with field field.value letter is refl e
+
+-- A V: is read as it is spelled.
+pub voice-accepted : (field : Field) (name : List ℕ) → (names : NamesVoice name field) → voice_of field.value ≡ Ok names.voice
+voice-accepted field name names = ((voice_read field.value (voice_of field.value) refl).ok names.voice).1 names.value
+
+pub names-voice : (field : Field) (voice : Voice) → kind_of field.letter ≡ fields.Voice → voice_of field.value ≡ Ok voice
+    → NamesVoice (slice_range field.value voice.from voice.to) field
+names-voice field voice letter read =
+    record { kind = letter; voice = voice; value = ((voice_read field.value (voice_of field.value) refl).ok voice).0 read; spelled = refl }
+
+-- An accepted V: is of the voice that it names.
+pub owner-named : (field : Field) (name : List ℕ) → NamesVoice name field → owner_of_field (kind_of field.letter) field.value ≡ Named name
+owner-named field name names =
+    ap (λ (kind : FieldKind). owner_of_field kind field.value) names.kind
+    ∙ ap (owner_of_voice field.value) (voice-accepted field name names)
+    ∙ ap Named (sym names.spelled)
+
+pub voice-owner : (kind : TokenKind) (name : List ℕ) → IsVoiceField name kind → owner_of kind ≡ Named name
+voice-owner (kinds.Field field) name is = owner-named field name is
+voice-owner (kinds.InlineField field) name is = owner-named field name is
+voice-owner _ name is = absurd is

@@ -21,37 +21,38 @@ use Rattle.abc_scan.specs.declared.spanned.Spanned.{Spanned}
 use Rattle.abc_scan.specs.declared.token.TokenKind.{TokenKind}
 use Rattle.abc_scan.specs.declared.token.TokenKind.TheVariants as kinds
 use Rattle.abc_time.specs.declared.ratio.Ratio.{Ratio}
-use Rattle.abc_header.specs.Defaults.{unit_in}
-use Rattle.abc_header.specs.FieldKind.{kind_of}
-use Rattle.abc_header.specs.Header.{and_program, declared, declared_given, directive_item, header_key_by, header_voice_by, items_with, line_own, line_program, order_by, own_given, reference_by}
-use Rattle.abc_header.specs.HeaderLine.{HeaderLine, FieldLine, DirectiveLine}
-use Rattle.abc_header.specs.Opening.{opening_meter, opening_tempo, opening_tempo_by}
-use Rattle.abc_header.specs.Reference.{reference_of}
-use Rattle.abc_header.specs.declared.defaults.Defaults.{Defaults}
-use Rattle.abc_header.specs.declared.field_kind.FieldKind.{FieldKind}
-use Rattle.abc_header.specs.declared.field_kind.FieldKind.TheVariants as fields
-use Rattle.abc_header.specs.declared.header.Header.{Header}
-use Rattle.abc_items.specs.Program.{program_of}
-use Rattle.abc_items.specs.declared.item.Item.{Item}
-use Rattle.abc_items.specs.declared.item.Item.TheVariants as items
-use Rattle.abc_settings.specs.declared.settings.Settings.{Settings}
-use Rattle.abc_settings.specs.TempoItem.{is_out, tempo_item}
-use Rattle.abc_settings.specs.Tuplet.{tuplet_opened}
-use Rattle.abc_music.specs.declared.sound.Inside.{Inside}
-use Rattle.abc_music.specs.BarRest.{bar_rest_of}
-use Rattle.abc_music.specs.Broken.{is_bad_mark}
-use Rattle.abc_music.specs.TimeTokens.{chord_by}
-use Rattle.abc_music.specs.TokenRole.{has_note}
-use Rattle.abc_cells.specs.declared.body.Body.{Body}
-use Rattle.abc_cells.specs.declared.cell.Given.{Given}
-use Rattle.abc_cells.specs.Body.{here, made_current, mentioned, with_here}
-use Rattle.abc_cells.specs.BodyFields.{accepted, faulty, kind_given, meter_by, key_by, part_by, part_of, tempo_by, unit_by, voice_by, voice_made}
-use Rattle.abc_cells.specs.Cell.{nothing_given, tie_ahead, with_directive, with_ending, with_item, with_kind, with_some_fault, with_token}
-use Rattle.abc_bars.specs.LookBack.Cells.{looked_back}
+use Rattle.abc_bars_header.specs.Defaults.{unit_in}
+use Rattle.abc_bars_header.specs.FieldKind.{kind_of}
+use Rattle.abc_bars_header.specs.Header.{append_program, declare, declare_result, directive_item, header_key_by, header_voice_by, items_with, own_line_result, line_program, order_by, own_result}
+use Rattle.abc_bars_header.specs.Header.{reference_by}
+use Rattle.abc_bars_header.specs.HeaderLine.{HeaderLine, FieldLine, DirectiveLine}
+use Rattle.abc_bars_header.specs.Opening.{opening_meter, opening_tempo, opening_tempo_by}
+use Rattle.abc_bars_header.specs.Reference.{reference_of}
+use Rattle.abc_bars_header.specs.declared.defaults.Defaults.{Defaults}
+use Rattle.abc_bars_header.specs.declared.field_kind.FieldKind.{FieldKind}
+use Rattle.abc_bars_header.specs.declared.field_kind.FieldKind.TheVariants as fields
+use Rattle.abc_bars_header.specs.declared.header.Header.{Header}
+use Rattle.abc_bars_items.specs.Program.{program_of}
+use Rattle.abc_bars_items.specs.declared.item.Item.{Item}
+use Rattle.abc_bars_items.specs.declared.item.Item.TheVariants as items
+use Rattle.abc_bars_voice.specs.declared.voice_state.VoiceState.{VoiceState}
+use Rattle.abc_bars_voice.specs.TempoItem.{is_out_of_range, tempo_item}
+use Rattle.abc_bars_voice.specs.Tuplet.{begin_tuplet}
+use Rattle.abc_bars_notes.specs.declared.sound.ChordBuilder.{ChordBuilder}
+use Rattle.abc_bars_notes.specs.BarRest.{bar_rest_of}
+use Rattle.abc_bars_notes.specs.Broken.{is_bad_mark}
+use Rattle.abc_bars_notes.specs.TimeTokens.{chord_by}
+use Rattle.abc_bars_notes.specs.TokenRole.{has_note}
+use Rattle.abc_bars_body.specs.declared.body.Body.{Body}
+use Rattle.abc_bars_body.specs.declared.cell.CellResult.{CellResult}
+use Rattle.abc_bars_body.specs.Body.{here, with_current, after_mention, with_here}
+use Rattle.abc_bars_body.specs.BodyFields.{accept, accept_with_fault, kind_result, meter_by, key_by, part_by, part_of, tempo_by, unit_by, voice_by, voice_made}
+use Rattle.abc_bars_body.specs.Cell.{empty_cell_result, tie_ahead, with_directive, with_ending, with_item, with_kind, with_some_fault, with_token}
+use Rattle.abc_bars.specs.LookBack.Cells.{look_back}
 use Rattle.abc_bars.specs.LookBack.Element.{Element}
 use Rattle.abc_bars.specs.LookBack.Flags.{BodiesSaySo, HeadersSaySo, is_of_body, is_of_header}
 use Rattle.abc_bars.specs.LookBack.Header.{header_at}
-use Rattle.abc_bars.specs.LookBack.Held.{held_at}
+use Rattle.abc_bars.specs.LookBack.Held.{body_at}
 use Rattle.abc_bars.specs.LookBack.Place.{opening_at}
 use Rattle.abc_bars.proofs.LookBack.CellPlace.{fault-if-items, tie-items}
 
@@ -59,7 +60,7 @@ use Rattle.abc_bars.proofs.LookBack.CellPlace.{fault-if-items, tie-items}
 abbrev Opening : List Item → List Item
 Opening given = filter is_of_header given
 
--- Items that do not, behind others.
+-- Items that do not, after others.
 more : (tune others : List Item) → Opening tune ≡ [] → Opening others ≡ [] → Opening (tune ++ others) ≡ []
 more tune others h k = filter-append is_of_header tune others ∙ ap (λ l. Opening tune ++ l) k ∙ append-nil _ ∙ h
 
@@ -76,12 +77,12 @@ of-unit body place (Ok unit) = refl
 of-unit body place (Err fault) = refl
 
 of-out : (body : Body) (place : ℕ) (tempo : Tempo) (out : Bool)
-    → Opening (cond out (faulty body place (tempo_item false (here body).unit tempo) TempoRange) (accepted body (tempo_item false (here body).unit tempo))).items ≡ []
+    → Opening (cond out (accept_with_fault body place (tempo_item false (here body).unit tempo) TempoRange) (accept body (tempo_item false (here body).unit tempo))).items ≡ []
 of-out body place tempo true = refl
 of-out body place tempo false = refl
 
 of-tempo : (body : Body) (place : ℕ) (tempo : Result Tempo FaultCode) → Opening (tempo_by body place tempo).items ≡ []
-of-tempo body place (Ok tempo) = of-out body place tempo (is_out (here body).unit tempo)
+of-tempo body place (Ok tempo) = of-out body place tempo (is_out_of_range (here body).unit tempo)
 of-tempo body place (Err fault) = refl
 
 of-key : (body : Body) (place : ℕ) (key : Result Key FaultCode) → Opening (key_by body place key).items ≡ []
@@ -95,10 +96,10 @@ of-made body place name None = refl
 of-voice : (body : Body) (place : ℕ) (value : List ℕ) (voice : Result Voice FaultCode) → Opening (voice_by body place value voice).items ≡ []
 of-voice body place value (Ok voice) =
     let name : List ℕ = slice_range value voice.from voice.to in
-    of-made body place name (made_current body name voice.shift)
+    of-made body place name (with_current body name voice.shift)
 of-voice body place value (Err fault) = refl
 
-of-field : (body : Body) (kind : FieldKind) (value : List ℕ) (place : ℕ) → Opening (kind_given body kind value place).items ≡ []
+of-field : (body : Body) (kind : FieldKind) (value : List ℕ) (place : ℕ) → Opening (kind_result body kind value place).items ≡ []
 of-field body fields.Parts value place = of-part body place (part_of value)
 of-field body fields.Meter value place = of-meter body place (meter_of value)
 of-field body fields.UnitLength value place = of-unit body place (unit_of value)
@@ -109,30 +110,30 @@ of-field body fields.Reference value place = refl
 of-field body fields.Title value place = refl
 of-field body fields.Other value place = refl
 
-some-fault : (given : Given) (place : ℕ) (code : Option FaultCode) → Opening given.items.items ≡ [] → Opening (with_some_fault given place code).items.items ≡ []
+some-fault : (given : CellResult) (place : ℕ) (code : Option FaultCode) → Opening given.items.items ≡ [] → Opening (with_some_fault given place code).items.items ≡ []
 some-fault given place None h = h
 some-fault given place (Some code) h = h
 
-of-chord : (b : Bool) (settings : Settings) (place : ℕ) (inside : Inside) → Opening (chord_by b settings place inside).items ≡ []
-of-chord true settings place inside = refl
-of-chord false settings place inside = refl
+of-chord : (b : Bool) (state : VoiceState) (place : ℕ) (inside : ChordBuilder) → Opening (chord_by b state place inside).items ≡ []
+of-chord true state place inside = refl
+of-chord false state place inside = refl
 
-of-ending : (given : Given) (place : ℕ) (passes : Option ℕ) → Opening given.items.items ≡ [] → Opening (with_ending given place passes).items.items ≡ []
+of-ending : (given : CellResult) (place : ℕ) (passes : Option ℕ) → Opening given.items.items ≡ [] → Opening (with_ending given place passes).items.items ≡ []
 of-ending given place None h = h
 of-ending given place (Some passes) h = more given.items.items (items.Ending passes ∷ []) h refl
 
-of-directive : (given : Given) (place : ℕ) (directive : Directive) → Opening given.items.items ≡ [] → Opening (with_directive given place directive).items.items ≡ []
+of-directive : (given : CellResult) (place : ℕ) (directive : Directive) → Opening given.items.items ≡ [] → Opening (with_directive given place directive).items.items ≡ []
 of-directive given place (directives.Program written) h =
     ap Opening (fault-if-items _ (is_none (program_of written)) place BadProgram)
     ∙ more given.items.items (items.Program false (program_of written) ∷ []) h refl
 of-directive given place (directives.Reach reach) h = h
 
 -- Nothing that a token of a body gives says that a header gives it.
-of-kind : (given : Given) (place : ℕ) (kind : TokenKind) (ahead : List (Spanned TokenKind)) → Opening given.items.items ≡ [] → Opening (with_kind given place kind ahead).items.items ≡ []
+of-kind : (given : CellResult) (place : ℕ) (kind : TokenKind) (ahead : List (Spanned TokenKind)) → Opening given.items.items ≡ [] → Opening (with_kind given place kind ahead).items.items ≡ []
 of-kind given place (kinds.Note note) ahead h = more given.items.items _ h refl
 of-kind given place (kinds.Rest long) ahead h = more given.items.items _ h refl
 of-kind given place (kinds.BarRest bars) ahead h =
-    let body : Body = mentioned given.body in
+    let body : Body = after_mention given.body in
     let rest = bar_rest_of (here body).meter bars in
     some-fault (with_item (record given { body = body }) rest.0) place rest.1 (more given.items.items (rest.0 ∷ []) h refl)
 of-kind given place (kinds.Chord chord) ahead h = more given.items.items _ h (of-chord (has_note chord.parts) _ place _)
@@ -141,7 +142,7 @@ of-kind given place (kinds.Field field) ahead h = more given.items.items _ h (of
 of-kind given place (kinds.Bar bar) ahead h = more given.items.items (items.Bar bar ∷ []) h refl
 of-kind given place (kinds.Ending passes) ahead h = of-ending given place passes h
 of-kind given place (kinds.Tuplet mark) ahead h =
-    let opened = tuplet_opened (here given.body).meter (here given.body).tuplet mark in
+    let opened = begin_tuplet (here given.body).meter (here given.body).tuplet mark in
     some-fault (record given { body = with_here given.body (record (here given.body) { tuplet = opened.0 }) }) place opened.1 h
 of-kind given place (kinds.Broken mark) ahead h = ap Opening (fault-if-items given (is_bad_mark given.behind ahead) place BadBroken) ∙ h
 of-kind given place kinds.Tie ahead h = ap Opening (tie-items given given.after_note place LooseTie) ∙ h
@@ -152,15 +153,15 @@ of-kind given place (kinds.Directive directive) ahead h = of-directive given pla
 of-kind given place kinds.Unclosed ahead h = h
 of-kind given place kinds.BadByte ahead h = h
 
-from-here : (opening : Body) (before : List Element) (given : Given) (cell : List (Spanned TokenKind)) → Opening given.items.items ≡ []
-    → Opening (looked_back opening before given cell).items.items ≡ []
+from-here : (opening : Body) (before : List Element) (given : CellResult) (cell : List (Spanned TokenKind)) → Opening given.items.items ≡ []
+    → Opening (look_back opening before given cell).items.items ≡ []
 from-here opening before given [] h = h
 from-here opening before given (token ∷ ahead) h =
-    let start : Given = record given { body = held_at opening before } in
+    let start : CellResult = record given { body = body_at opening before } in
     from-here opening (record { kind = token.kind; tied = tie_ahead ahead } ∷ before) (with_token start token ahead) ahead (of-kind start token.from token.kind ahead h)
 
 pub bodies_say_so : BodiesSaySo
-bodies_say_so values fields key before cell = from-here (opening_at values fields key) before (nothing_given (opening_at values fields key)) cell refl
+bodies_say_so values fields key before cell = from-here (opening_at values fields key) before (empty_cell_result (opening_at values fields key)) cell refl
 
 -- the items that say that a body gives them
 abbrev Later : List Item → List Item
@@ -177,7 +178,7 @@ with-item : (item : Option Item) (defaults : Defaults) → Later (option_to_list
 with-item None defaults h = opening-tempo (unit_in defaults) defaults.tempo defaults
 with-item (Some item) defaults h = no-later (item ∷ []) (opening_tempo defaults ∷ opening_meter defaults ∷ []) h (opening-tempo (unit_in defaults) defaults.tempo defaults)
 
-with-program : (given : List Item) (program : Option ℕ) → Later given ≡ [] → Later (and_program given program) ≡ []
+with-program : (given : List Item) (program : Option ℕ) → Later given ≡ [] → Later (append_program given program) ≡ []
 with-program given None h = h
 with-program given (Some program) h = no-later given (items.Program true (Some program) ∷ []) h refl
 
@@ -190,22 +191,22 @@ of-order header value (Ok reading) = refl
 of-order header value (Err fault) = refl
 
 of-declared : (header : Header) (name : List ℕ) (voices : List (List ℕ × Shift)) (fault : Option FaultCode)
-    → Later (option_to_list (declared_given header name (voices, fault)).item) ≡ []
-of-declared header name voices None = refl
-of-declared header name voices (Some fault) = refl
+    → Later (option_to_list (declare_result header name (voices, fault)).item) ≡ []
+of-declare header name voices None = refl
+of-declare header name voices (Some fault) = refl
 
 of-header-voice : (header : Header) (value : List ℕ) (voice : Result Voice FaultCode) → Later (option_to_list (header_voice_by header value voice).item) ≡ []
 of-header-voice header value (Ok voice) =
     let name : List ℕ = slice_range value voice.from voice.to in
-    let made = declared header.voices name voice.shift in
-    of-declared header name made.0 made.1
+    let made = declare header.voices name voice.shift in
+    of-declare header name made.0 made.1
 of-header-voice header value (Err fault) = refl
 
 of-header-key : (header : Header) (key : Result Key FaultCode) → Later (option_to_list (header_key_by header key).item) ≡ []
 of-header-key header (Ok key) = refl
 of-header-key header (Err fault) = refl
 
-of-own : (header : Header) (kind : FieldKind) (value : List ℕ) → Later (option_to_list (own_given header kind value).item) ≡ []
+of-own : (header : Header) (kind : FieldKind) (value : List ℕ) → Later (option_to_list (own_result header kind value).item) ≡ []
 of-own header fields.Reference value = of-reference header (reference_of value)
 of-own header fields.Title value = refl
 of-own header fields.Meter value = refl
@@ -220,13 +221,13 @@ of-header-directive : (directive : Directive) → Later (option_to_list (directi
 of-header-directive (directives.Program written) = refl
 of-header-directive (directives.Reach reach) = refl
 
-of-line : (header : Header) (line : HeaderLine) → Later (option_to_list (line_own header line).item) ≡ []
+of-line : (header : Header) (line : HeaderLine) → Later (option_to_list (own_line_result header line).item) ≡ []
 of-line header (FieldLine field) = of-own header (kind_of field.letter) field.value
 of-line header (DirectiveLine directive) = of-header-directive directive
 
 pub headers_say_so : HeadersSaySo
 headers_say_so values before cell line =
     let header : Header = header_at values before in
-    let own = line_own header line in
+    let own = own_line_result header line in
     with-program (items_with own.item own.header.defaults) (line_program line header.defaults)
     (with-item own.item own.header.defaults (of-line header line))

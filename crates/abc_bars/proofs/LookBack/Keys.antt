@@ -9,37 +9,38 @@ use Rattle.abc_fields.specs.Signature.{alteration as signature_alteration}
 use Rattle.abc_scan.specs.declared.chord.Chord.{Chord}
 use Rattle.abc_scan.specs.declared.directive.Reach.{Reach}
 use Rattle.abc_scan.specs.declared.note.Note.{Note}
-use Rattle.abc_scan.specs.declared.parts.ChordPartKind.{ChordPartKind}
-use Rattle.abc_scan.specs.declared.parts.ChordPartKind.TheVariants as parts
+use Rattle.abc_scan.specs.declared.chord_part.ChordPartKind.{ChordPartKind}
+use Rattle.abc_scan.specs.declared.chord_part.ChordPartKind.TheVariants as parts
 use Rattle.abc_scan.specs.declared.spanned.Spanned.{Spanned}
 use Rattle.abc_scan.specs.declared.token.TokenKind.TheVariants as kinds
 use Rattle.abc_time.specs.declared.ratio.Ratio.{Ratio}
-use Rattle.abc_cells.specs.declared.body.Body.{Body}
-use Rattle.abc_settings.specs.declared.accidentals.Accidentals.{Accidentals}
-use Rattle.abc_music.specs.declared.chords.Outside.{Outside}
-use Rattle.abc_items.specs.declared.item.TheConstants.{MOST_CHORD_NOTES}
-use Rattle.abc_settings.specs.declared.settings.Settings.{Settings}
-use Rattle.abc_music.specs.declared.sound.Inside.{Inside}
-use Rattle.abc_settings.specs.declared.tied.TiedNote.{TiedNote}
-use Rattle.abc_settings.specs.Accidentals.{reach_of, written_on}
-use Rattle.abc_settings.specs.Alteration.{alteration_of, with_own}
-use Rattle.abc_music.specs.Broken.{factors_of, is_time_token}
-use Rattle.abc_music.specs.Chords.{around_part, inside_from, inside_of, tie_follows, with_dropped, with_fault as with_part_fault}
-use Rattle.abc_items.specs.Column.{column_of}
-use Rattle.abc_music.specs.NoteKeys.{IsAltered, IsSame}
-use Rattle.abc_music.specs.Pitch.{midi_key, pitch_of}
-use Rattle.abc_music.specs.Sound.{no_notes, with_note as with_sounding}
-use Rattle.abc_music.specs.TimeTokens.{first_length}
-use Rattle.abc_music.specs.TokenRole.{has_note}
-use Rattle.abc_music.proofs.NoteKeys.{altered_by}
-use Rattle.abc_cells.specs.Body.{here}
-use Rattle.abc_cells.specs.Cell.{mentioned_by_chord, tie_ahead}
-use Rattle.abc_bars.specs.LookBack.CellPlace.{Standing, standing_at}
+use Rattle.abc_bars_body.specs.declared.body.Body.{Body}
+use Rattle.abc_bars_voice.specs.declared.accidentals.Accidentals.{Accidentals}
+use Rattle.abc_bars_notes.specs.declared.chords.ChordContext.{ChordContext}
+use Rattle.abc_bars_items.specs.declared.item.TheConstants.{MOST_CHORD_NOTES}
+use Rattle.abc_bars_voice.specs.declared.voice_state.VoiceState.{VoiceState}
+use Rattle.abc_bars_notes.specs.declared.sound.ChordBuilder.{ChordBuilder}
+use Rattle.abc_bars_voice.specs.declared.tied.TiedNote.{TiedNote}
+use Rattle.abc_bars_voice.specs.Accidentals.{reach_of, written_on}
+use Rattle.abc_bars_voice.specs.Alteration.{alteration_of, with_own}
+use Rattle.abc_bars_notes.specs.Broken.{factors_of, is_time_token}
+use Rattle.abc_bars_notes.specs.Chords.{part_context, chord_builder_from, chord_builder_of, tie_follows, with_dropped, with_fault as with_part_fault}
+use Rattle.abc_bars_items.specs.Column.{column_of}
+use Rattle.abc_bars_notes.specs.NoteKeys.{IsAltered, IsSame}
+use Rattle.abc_bars_notes.specs.Pitch.{midi_key, pitch_of}
+use Rattle.abc_bars_notes.specs.Sound.{no_notes, with_note as with_sounding}
+use Rattle.abc_bars_notes.specs.TimeTokens.{first_length}
+use Rattle.abc_bars_notes.specs.TokenRole.{has_note}
+use Rattle.abc_bars_notes.proofs.NoteKeys.{altered_by}
+use Rattle.abc_bars_body.specs.Body.{here}
+use Rattle.abc_bars_body.specs.Cell.{after_chord_mention, tie_ahead}
+use Rattle.abc_bars.specs.LookBack.CellPlace.{VoicePlace, voice_place_at}
 use Rattle.abc_bars.specs.LookBack.Element.{Element}
 use Rattle.abc_bars.specs.LookBack.Keys.{AreWrittenAlike, ChordsHaveKeys, IsAlteredAt, IsLastAmong, IsNoneAmong, NotesHaveKeys, SoundsKeys, heard_of, key_at, keys_from}
 use Rattle.abc_bars.specs.LookBack.Since.{notes_of_tokens}
 use Rattle.abc_bars.specs.LookBack.Ties.{IsTimeBefore, altered_note, tied_notes}
-use Rattle.abc_bars.specs.LookBack.Voice.{accidentals_at, accidentals_of, alteration_at, counted_notes, newest_written, notes_among, notes_of_bar, settings_at, shift_at, signature_at, tied_at, written_by}
+use Rattle.abc_bars.specs.LookBack.Voice.{accidentals_at, accidentals_of, alteration_at, counted_notes, newest_written, notes_among, notes_of_bar, voice_state_at, shift_at, signature_at, tied_at}
+use Rattle.abc_bars.specs.LookBack.Voice.{written_by}
 use Rattle.abc_bars.proofs.LookBack.Accidentals.{newest_heard}
 use Rattle.abc_bars.proofs.LookBack.CellPlace.{between, body-at, chord-items, here-in-chord, here-is}
 use Rattle.abc_bars.proofs.LookBack.Since.{Heard, heard-since}
@@ -65,9 +66,10 @@ none-among reach note (first ∷ notes) none =
 abbrev Apart : Note → TiedNote → Type 0
 Apart note tied = ¬ IsSame note tied
 
-apart-by : (opening : Settings) (note : Note) (element : Element) (before : List Element) (time : Bool) → is_time_token element.kind ≡ time
+apart-by : (opening : VoiceState) (note : Note) (element : Element) (before : List Element) (time : Bool) → is_time_token element.kind ≡ time
     → ((token : Element) (further : List Element) → IsTimeBefore (element ∷ before) token further → All (λ other. ¬ AreWrittenAlike note other.1) (tied_notes token.kind token.tied))
-    → (((token : Element) (further : List Element) → IsTimeBefore before token further → All (λ other. ¬ AreWrittenAlike note other.1) (tied_notes token.kind token.tied)) → All (Apart note) (tied_at opening before))
+    → (((token : Element) (further : List Element) → IsTimeBefore before token further → All (λ other. ¬ AreWrittenAlike note other.1) (tied_notes token.kind token.tied))
+    → All (Apart note) (tied_at opening before))
     → All (Apart note) (tied_at opening (element ∷ before))
 apart-by opening note element before true is h rest =
     All-same (Apart note) (tied_at opening (element ∷ before)) (map (altered_note opening before) (tied_notes element.kind element.tied)) (left-by opening before element.kind element.tied is)
@@ -82,13 +84,13 @@ apart-by opening note element before false is h rest =
       none = All-cons Passed element t.nearer is t.none;
     })))
 
-all-apart : (opening : Settings) (note : Note) (before : List Element)
+all-apart : (opening : VoiceState) (note : Note) (before : List Element)
     → ((token : Element) (further : List Element) → IsTimeBefore before token further → All (λ other. ¬ AreWrittenAlike note other.1) (tied_notes token.kind token.tied))
     → All (Apart note) (tied_at opening before)
 all-apart opening note [] h = All-nil (Apart note)
 all-apart opening note (element ∷ before) h = apart-by opening note element before (is_time_token element.kind) refl h (all-apart opening note before)
 
-module _ (opening : Settings) (before : List Element) (earlier : List Note) (note : Note) where
+module _ (opening : VoiceState) (before : List Element) (earlier : List Note) (note : Note) where
   abbrev reach : Reach
   reach = reach_of opening.accidentals
 
@@ -106,10 +108,10 @@ module _ (opening : Settings) (before : List Element) (earlier : List Note) (not
   same-heard : heard ≡ others
   same-heard = ap (λ l. earlier ++ l) (sym since.notes)
 
-  found : IsAltered (settings_at opening before) (accidentals_of reach others) note (alteration_of (settings_at opening before) (accidentals_of reach others) note)
-  found = altered_by (settings_at opening before) (accidentals_of reach others) note
+  found : IsAltered (voice_state_at opening before) (accidentals_of reach others) note (alteration_of (voice_state_at opening before) (accidentals_of reach others) note)
+  found = altered_by (voice_state_at opening before) (accidentals_of reach others) note
 
-  is-altered : alteration_of (settings_at opening before) (accidentals_of reach others) note ≡ alteration_at opening (tied_at opening before) before earlier note
+  is-altered : alteration_of (voice_state_at opening before) (accidentals_of reach others) note ≡ alteration_at opening (tied_at opening before) before earlier note
   is-altered = alteration-at opening before (accidentals_of reach others) earlier note refl
 
   written-last : (by : ℤ) → IsLastAmong reach note others by → written_on (accidentals_of reach others) note ≡ Some by
@@ -123,12 +125,12 @@ module _ (opening : Settings) (before : List Element) (earlier : List Note) (not
   none-heard : IsNoneAmong reach note heard → IsNoneAmong reach note others
   none-heard none = subst (λ (notes : List Note). IsNoneAmong reach note notes) same-heard none
 
-  tied-is : (settings_at opening before).tied ≡ tied_at opening before
-  unfolding settings_at
+  tied-is : (voice_state_at opening before).tied ≡ tied_at opening before
+  unfolding voice_state_at
   tied-is = refl
 
-  signature-is : (settings_at opening before).signature ≡ signature_at opening.signature before
-  unfolding settings_at
+  signature-is : (voice_state_at opening before).signature ≡ signature_at opening.signature before
+  unfolding voice_state_at
   signature-is = refl
 
   pub by-rule : IsAlteredAt (record { opening = opening; before = before }) earlier note
@@ -145,41 +147,42 @@ module _ (opening : Settings) (before : List Element) (earlier : List Note) (not
         alike (All-map (Apart note) (altered_note opening further) back apart);
     signature = λ e none h.
         sym is-altered
-        ∙ found.signature e (not-written (none-heard none)) (All-same (Apart note) (settings_at opening before).tied (tied_at opening before) tied-is (all-apart opening note before h))
+        ∙ found.signature e (not-written (none-heard none)) (All-same (Apart note) (voice_state_at opening before).tied (tied_at opening before) tied-is (all-apart opening note before h))
         ∙ ap (λ s. signature_alteration s note.letter) signature-is;
   }
 
-pub altered_by_rule : (at : Standing) (earlier : List Note) (note : Note) → IsAlteredAt at earlier note
+pub altered_by_rule : (at : VoicePlace) (earlier : List Note) (note : Note) → IsAlteredAt at earlier note
 altered_by_rule at earlier note = by-rule at.opening at.before earlier note
 
-same-shift : (opening : Settings) (before : List Element) → (settings_at opening before).shift ≡ shift_at opening.shift before
-unfolding settings_at
+same-shift : (opening : VoiceState) (before : List Element) → (voice_state_at opening before).shift ≡ shift_at opening.shift before
+unfolding voice_state_at
 same-shift opening before = refl
 
-module _ (opening : Settings) (before : List Element) (broken : List Ratio) (outside : Outside) where
-  abbrev here_at : Standing
+module _ (opening : VoiceState) (before : List Element) (broken : List Ratio) (outside : ChordContext) where
+  abbrev here_at : VoicePlace
   here_at = record { opening = opening; before = before }
 
   pub key-is : (accidentals : Accidentals) (earlier : List Note) (note : Note) → AreBehind opening before accidentals earlier
-      → midi_key (pitch_of (settings_at opening before).shift note (alteration_of (settings_at opening before) accidentals note)) ≡ key_at here_at earlier note
+      → midi_key (pitch_of (voice_state_at opening before).shift note (alteration_of (voice_state_at opening before) accidentals note)) ≡ key_at here_at earlier note
   key-is accidentals earlier note h = λ i. midi_key (pitch_of (same-shift opening before i) note (alteration-at opening before accidentals earlier note h i))
 
   -- The tones of some parts of a chord, where so many more of its notes count.
-  abbrev Sounds : List (Spanned ChordPartKind) → ℕ → Inside → Inside → List Note → Type 0
+  abbrev Sounds : List (Spanned ChordPartKind) → ℕ → ChordBuilder → ChordBuilder → List Note → Type 0
   Sounds rest room start inside earlier =
-      map heard_of (inside_from (settings_at opening before) broken outside rest start).tones
+      map heard_of (chord_builder_from (voice_state_at opening before) broken outside rest start).tones
       ≡ map heard_of inside.tones ++ keys_from here_at outside.tied earlier (take room (notes_among rest))
 
   step : (kind : ChordPartKind) (from to : ℕ) (rest : List (Spanned ChordPartKind))
-      → ((room : ℕ) (inside : Inside) (earlier : List Note) → length inside.tones + room ≡ MOST_CHORD_NOTES → AreBehind opening before inside.accidentals earlier → Sounds rest room inside inside earlier)
-      → (room : ℕ) (inside : Inside) (earlier : List Note)
+      → ((room : ℕ) (inside : ChordBuilder) (earlier : List Note) → length inside.tones + room ≡ MOST_CHORD_NOTES → AreBehind opening before inside.accidentals earlier
+      → Sounds rest room inside inside earlier)
+      → (room : ℕ) (inside : ChordBuilder) (earlier : List Note)
       → length inside.tones + room ≡ MOST_CHORD_NOTES → AreBehind opening before inside.accidentals earlier
       → Sounds (record { kind = kind; from = from; to = to } ∷ rest) room inside inside earlier
   step (parts.Note note) from to rest ih zero inside earlier size h =
       let column : ℕ = column_of (outside.from + from) in
-      let settings : Settings = settings_at opening before in
-      let full : Inside = with_sounding settings broken (around_part outside from (tie_follows rest)) note inside in
-      let P : Inside → Type 0 = λ i. Sounds rest 0 (record i { after_note = true }) inside earlier in
+      let state : VoiceState = voice_state_at opening before in
+      let full : ChordBuilder = with_sounding state broken (part_context outside from (tie_follows rest)) note inside in
+      let P : ChordBuilder → Type 0 = λ i. Sounds rest 0 (record i { after_note = true }) inside earlier in
       let Q : Bool → Type 0 = λ b. P (cond b full (with_dropped column inside)) in
       subst Q (sym (no-room (length inside.tones) size))
       (either inside.big inside (record (with_part_fault column BigChord inside) { big = true }) P
@@ -187,12 +190,12 @@ module _ (opening : Settings) (before : List Element) (broken : List Ratio) (out
       (ih 0 (record (with_part_fault column BigChord inside) { big = true; after_note = true }) earlier size h))
   step (parts.Note note) from to rest ih (suc room) inside earlier size h =
       let column : ℕ = column_of (outside.from + from) in
-      let settings : Settings = settings_at opening before in
+      let state : VoiceState = voice_state_at opening before in
       let tied : Bool = outside.tied || tie_follows rest in
-      let full : Inside = with_sounding settings broken (around_part outside from (tie_follows rest)) note inside in
+      let full : ChordBuilder = with_sounding state broken (part_context outside from (tie_follows rest)) note inside in
       let later : List (Option ℕ × Bool) = keys_from here_at outside.tied (note ∷ earlier) (take room (notes_among rest)) in
       let Q : Bool → Type 0 = λ b.
-      map heard_of (inside_from settings broken outside rest (record (cond b full (with_dropped column inside)) { after_note = true })).tones
+      map heard_of (chord_builder_from state broken outside rest (record (cond b full (with_dropped column inside)) { after_note = true })).tones
       ≡ map heard_of inside.tones ++ ((key_at here_at earlier note, tied) ∷ later) in
       let r : Sounds rest room (record full { after_note = true }) full (note ∷ earlier) =
       ih room (record full { after_note = true }) (note ∷ earlier) (one-more inside.tones _ room size)
@@ -204,7 +207,7 @@ module _ (opening : Settings) (before : List Element) (broken : List Ratio) (out
       ∙ ap (λ k. map heard_of inside.tones ++ ((k, tied) ∷ later)) (key-is inside.accidentals earlier note h))
   step parts.Tie from to rest ih room inside earlier size h =
       let column : ℕ = column_of (outside.from + from) in
-      let P : Inside → Type 0 = λ i. Sounds rest room (record i { after_note = false }) inside earlier in
+      let P : ChordBuilder → Type 0 = λ i. Sounds rest room (record i { after_note = false }) inside earlier in
       either inside.after_note inside (with_part_fault column LooseTie inside) P
       (ih room (record inside { after_note = false }) earlier size h)
       (ih room (record (with_part_fault column LooseTie inside) { after_note = false }) earlier size h)
@@ -212,32 +215,35 @@ module _ (opening : Settings) (before : List Element) (broken : List Ratio) (out
   step parts.BadByte from to rest ih room inside earlier size h =
       ih room (record (with_part_fault (column_of (outside.from + from)) BadByte inside) { after_note = false }) earlier size h
 
-  sounds : (rest : List (Spanned ChordPartKind)) (room : ℕ) (inside : Inside) (earlier : List Note)
+  sounds : (rest : List (Spanned ChordPartKind)) (room : ℕ) (inside : ChordBuilder) (earlier : List Note)
       → length inside.tones + room ≡ MOST_CHORD_NOTES → AreBehind opening before inside.accidentals earlier → Sounds rest room inside inside earlier
   sounds [] zero inside earlier size h = sym (append-nil (map heard_of inside.tones))
   sounds [] (suc room) inside earlier size h = sym (append-nil (map heard_of inside.tones))
   sounds (part ∷ rest) room inside earlier size h = step part.kind part.from part.to rest (sounds rest) room inside earlier size h
 
 -- The tones of a chord.
-chord-sounds : (at : Standing) (broken : List Ratio) (outside : Outside) (chord : Chord)
-    → map heard_of (inside_of (settings_at at.opening at.before) broken outside chord.parts).tones ≡ keys_from at outside.tied [] (counted_notes chord)
-unfolding settings_at counted_notes
+chord-sounds : (at : VoicePlace) (broken : List Ratio) (outside : ChordContext) (chord : Chord)
+    → map heard_of (chord_builder_of (voice_state_at at.opening at.before) broken outside chord.parts).tones ≡ keys_from at outside.tied [] (counted_notes chord)
+unfolding voice_state_at counted_notes
 chord-sounds at broken outside chord =
-    sounds at.opening at.before broken outside chord.parts MOST_CHORD_NOTES (no_notes (settings_at at.opening at.before)) [] refl (behind-none at.opening at.before)
+    sounds at.opening at.before broken outside chord.parts MOST_CHORD_NOTES (no_notes (voice_state_at at.opening at.before)) [] refl (behind-none at.opening at.before)
 
-same-accidentals : (opening : Settings) (before : List Element) → (settings_at opening before).accidentals ≡ accidentals_at (reach_of opening.accidentals) before
-unfolding settings_at
+same-accidentals : (opening : VoiceState) (before : List Element) → (voice_state_at opening before).accidentals ≡ accidentals_at (reach_of opening.accidentals) before
+unfolding voice_state_at
 same-accidentals opening before = refl
 
-pub note-key : (at : Standing) (note : Note)
-    → midi_key (pitch_of (settings_at at.opening at.before).shift note (alteration_of (settings_at at.opening at.before) (settings_at at.opening at.before).accidentals note)) ≡ key_at at [] note
+pub note-key : (at : VoicePlace) (note : Note)
+    → midi_key (pitch_of (voice_state_at at.opening at.before).shift note (alteration_of (voice_state_at at.opening at.before) (voice_state_at at.opening at.before).accidentals note))
+    ≡ key_at at [] note
 note-key at note =
-    ap (λ accidentals. midi_key (pitch_of (settings_at at.opening at.before).shift note (alteration_of (settings_at at.opening at.before) accidentals note))) (same-accidentals at.opening at.before)
-    ∙ (λ i. midi_key (pitch_of (same-shift at.opening at.before i) note (alteration-at at.opening at.before (accidentals_at (reach_of at.opening.accidentals) at.before) [] note (behind-none at.opening at.before) i)))
+    ap (λ accidentals. midi_key (pitch_of (voice_state_at at.opening at.before).shift note (alteration_of (voice_state_at at.opening at.before) accidentals note))) (same-accidentals at.opening
+    at.before)
+    ∙ (λ i. midi_key (pitch_of (same-shift at.opening at.before i) note
+    (alteration-at at.opening at.before (accidentals_at (reach_of at.opening.accidentals) at.before) [] note (behind-none at.opening at.before) i)))
 
 pub notes_have_keys : NotesHaveKeys
 notes_have_keys place note =
-    let at : Standing = standing_at place in
+    let at : VoicePlace = voice_place_at place in
     between place (kinds.Note note) refl (SoundsKeys ((key_at at [] note, tie_ahead place.ahead) ∷ []))
     (λ start factors. (
       _,
@@ -246,27 +252,27 @@ notes_have_keys place note =
         _,
         _,
         refl,
-        ap (λ (s : Settings). (midi_key (pitch_of s.shift note (alteration_of s s.accidentals note)), tie_ahead place.ahead) ∷ []) (here-is place)
+        ap (λ (s : VoiceState). (midi_key (pitch_of s.shift note (alteration_of s s.accidentals note)), tie_ahead place.ahead) ∷ []) (here-is place)
             ∙ ap (λ k. (k, tie_ahead place.ahead) ∷ []) (note-key at note),
       ),
     ))
 
 pub chords_have_keys : ChordsHaveKeys
 chords_have_keys place chord some =
-    let at : Standing = standing_at place in
-    let outside : Outside = record { length = chord.length; tied = tie_ahead place.ahead; from = place.from } in
+    let at : VoicePlace = voice_place_at place in
+    let outside : ChordContext = record { length = chord.length; tied = tie_ahead place.ahead; from = place.from } in
     between place (kinds.Chord chord) refl (SoundsKeys (keys_from at (tie_ahead place.ahead) [] (counted_notes chord)))
     (λ start factors.
     let broken : List Ratio = factors_of start.behind place.ahead in
-    let body : Body = mentioned_by_chord (has_note chord.parts) (body-at place) in
-    let inside : Inside = inside_of (here body) broken outside chord.parts in (
+    let body : Body = after_chord_mention (has_note chord.parts) (body-at place) in
+    let inside : ChordBuilder = chord_builder_of (here body) broken outside chord.parts in (
       _,
       ap (λ l. start.items.items ++ l) (chord-items (has_note chord.parts) (here body) place.from inside some),
       (
         inside.tones,
         first_length inside.tones,
         refl,
-        ap (λ (s : Settings). map heard_of (inside_of s broken outside chord.parts).tones) (here-in-chord place (has_note chord.parts) some)
+        ap (λ (s : VoiceState). map heard_of (chord_builder_of s broken outside chord.parts).tones) (here-in-chord place (has_note chord.parts) some)
             ∙ chord-sounds at broken outside chord,
       ),
     ))

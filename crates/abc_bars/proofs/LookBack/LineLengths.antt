@@ -28,36 +28,36 @@ use Rattle.abc_scan.specs.declared.token.TokenKind.{TokenKind}
 use Rattle.abc_scan.specs.declared.token.TokenKind.TheVariants as kinds
 use Rattle.abc_scan.specs.Cell.{cells_of, ends_cell, put_first}
 use Rattle.abc_scan.specs.Class.{class_of}
-use Rattle.abc_scan.specs.Cutting.{alone_at}
+use Rattle.abc_scan.specs.Cutting.{unmatched_at}
 use Rattle.abc_scan.specs.Directive.{directive_of}
 use Rattle.abc_scan.specs.Line.{cutting_of, directive_token, tokens_in, tokens_of}
 use Rattle.abc_scan.specs.Text.{without_comment}
-use Rattle.abc_scan.specs.Token.{Spells, alone_of, line_kinds, opens}
+use Rattle.abc_scan.specs.Token.{Spells, unmatched_byte, line_kinds, opens}
 use Rattle.abc_scan.proofs.Cuttings.{cut-all}
-use Rattle.abc_scan.proofs.Laws.{cuts_each}
+use Rattle.abc_scan.proofs.TokenLaws.{cuts_each}
 use Rattle.abc_text.specs.LineEnd.{without_return}
-use Rattle.abc_header.specs.declared.defaults.Defaults.{Defaults}
-use Rattle.abc_header.specs.declared.field_kind.FieldKind.{FieldKind}
-use Rattle.abc_header.specs.declared.field_kind.FieldKind.TheVariants as fields
-use Rattle.abc_header.specs.FieldKind.{kind_of}
-use Rattle.abc_header.specs.HeaderLine.{HeaderLine, FieldLine, DirectiveLine}
-use Rattle.abc_music.specs.Acting.{IsMarkAt, IsTimeAt}
-use Rattle.abc_music.specs.Broken.{is_time_token}
-use Rattle.abc_music.specs.Lasting.{IsPlace}
-use Rattle.abc_settings.specs.declared.settings.Settings.{Settings}
-use Rattle.abc_settings.specs.Unit.{IsUnitPart, unit_by}
-use Rattle.abc_settings.proofs.WholeParts.{eighth, read_part, sixteenth}
-use Rattle.abc_bars.specs.LookBack.Along.{CellTokens, lines_behind, values_set}
+use Rattle.abc_bars_header.specs.declared.defaults.Defaults.{Defaults}
+use Rattle.abc_bars_header.specs.declared.field_kind.FieldKind.{FieldKind}
+use Rattle.abc_bars_header.specs.declared.field_kind.FieldKind.TheVariants as fields
+use Rattle.abc_bars_header.specs.FieldKind.{kind_of}
+use Rattle.abc_bars_header.specs.HeaderLine.{HeaderLine, FieldLine, DirectiveLine}
+use Rattle.abc_bars_notes.specs.Acting.{IsMarkAt, IsTimeAt}
+use Rattle.abc_bars_notes.specs.Broken.{is_time_token}
+use Rattle.abc_bars_notes.specs.Lasting.{IsPlace}
+use Rattle.abc_bars_voice.specs.declared.voice_state.VoiceState.{VoiceState}
+use Rattle.abc_bars_voice.specs.Unit.{IsUnitPart, unit_by}
+use Rattle.abc_bars_voice.proofs.WholeParts.{eighth, read_part, sixteenth}
+use Rattle.abc_bars.specs.LookBack.Along.{CellTokens, lines_behind, values_of_header}
 use Rattle.abc_bars.specs.LookBack.ByName.{naming_at, opening_of}
-use Rattle.abc_bars.specs.LookBack.CellPlace.{CellPlace, before_place, cell_with, standing_at}
+use Rattle.abc_bars.specs.LookBack.CellPlace.{CellPlace, before_place, cell_with, voice_place_at}
 use Rattle.abc_bars.specs.LookBack.Defaults.{defaults_at, last_set, said_by_line, unit_said}
 use Rattle.abc_bars.specs.LookBack.Element.{Element, field_of}
 use Rattle.abc_bars.specs.LookBack.Header.{declared_names, declared_shift}
-use Rattle.abc_bars.specs.LookBack.Lengths.{held_there}
+use Rattle.abc_bars.specs.LookBack.Lengths.{state_there}
 use Rattle.abc_bars.specs.LookBack.LineLengths.{ChordsOfLinesLast, IsInLine, NotesOfLinesLast, RestsOfLinesLast}
 use Rattle.abc_bars.specs.LookBack.Openings.{VoiceOpens}
 use Rattle.abc_bars.specs.LookBack.Place.{opening_at}
-use Rattle.abc_bars.specs.LookBack.Voice.{last_said, said_by_field, said_in, settings_at, unit_at}
+use Rattle.abc_bars.specs.LookBack.Voice.{last_said, said_by_field, said_in, voice_state_at, unit_at}
 use Rattle.abc_bars.proofs.LookBack.Lengths.{chords_last_there, notes_last_there, rests_last_there}
 use Rattle.abc_bars.proofs.LookBack.Openings.{declared_voices_open, other_voices_open}
 use Rattle.abc_bars.proofs.LookBack.TupletPlaces.{open_there}
@@ -74,10 +74,10 @@ spelled-few : (after_bar : Bool) (text : List ℕ) (kind : TokenKind) → Spells
 spelled-few after_bar text (kinds.Broken mark) is = is.few
 spelled-few after_bar text _ is = tt
 
-byte-few : (b : ℕ) → HasFewMarks (alone_of b)
+byte-few : (b : ℕ) → HasFewMarks (unmatched_byte b)
 byte-few b = cond_both (opens b) kinds.Unclosed kinds.BadByte HasFewMarks (λ _. tt) (λ _. tt)
 
-alone-few : (text : List ℕ) → HasFewMarks (alone_at line_kinds text)
+alone-few : (text : List ℕ) → HasFewMarks (unmatched_at line_kinds text)
 alone-few [] = tt
 alone-few (b ∷ bs) = byte-few b
 
@@ -117,7 +117,7 @@ few-at [] few mark at is = absurd is
 few-at (token ∷ cell) few mark zero is = subst HasFewMarks is (All-head AreFew token cell few)
 few-at (token ∷ cell) few mark (suc at) is = few-at cell (All-tail AreFew token cell few) mark at is
 
--- A time token is at the place where it is put.
+-- A time token is at the place if it is put.
 time-at : (front ahead : CellTokens) (token : Spanned TokenKind) → is_time_token token.kind ≡ true → IsTimeAt (front ++ token ∷ ahead) (length front)
 time-at [] ahead token is = is
 time-at (first ∷ front) ahead token is = time-at front ahead token is
@@ -151,7 +151,7 @@ set-unit opening [] is = is
 set-unit opening (line ∷ before) is =
     or-unit (said_by_line unit_said line) (last_set (said_by_line unit_said) opening before) (line-unit line) (set-unit opening before is)
 
-values-unit : (header : Option (List CellTokens)) → IfSome (values_set header).unit IsUnitPart
+values-unit : (header : Option (List CellTokens)) → IfSome (values_of_header header).unit IsUnitPart
 values-unit None = tt
 values-unit (Some cells) = set-unit None (lines_behind cells []) tt
 
@@ -174,7 +174,7 @@ body-unit opening (element ∷ before) is =
 
 module _ (header : Option (List CellTokens)) (lines : List HeaderLine) (key : Key) (name : List ℕ) where
   abbrev values : Defaults
-  values = values_set header
+  values = values_of_header header
 
   -- What the voice of the name begins with.
   opens-by : (b : Bool) → list_any (bytes_eq name) (declared_names lines) ≡ b → (said : Shift) × VoiceOpens values lines key said name
@@ -190,28 +190,29 @@ module _ (header : Option (List CellTokens)) (lines : List HeaderLine) (key : Ke
 
   opening-unit : IsUnitPart (opening_of (opening_at values lines key) name).unit
   opening-unit =
-      let settings : Settings = opening_of (opening_at values lines key) name in
+      let state : VoiceState = opening_of (opening_at values lines key) name in
       let opens = opens-by (list_any (bytes_eq name) (declared_names lines)) refl in
       let set : Option Ratio = (defaults_at values lines).unit in
       subst IsUnitPart (sym opens.1.unit)
-      (else-unit set (unit_by settings.meter) (set-unit values.unit lines (values-unit header)) (meter-unit settings.meter))
+      (else-unit set (unit_by state.meter) (set-unit values.unit lines (values-unit header)) (meter-unit state.meter))
 
-unit-there : (opening : Settings) (before : List Element) → IsUnitPart opening.unit → IsUnitPart (settings_at opening before).unit
-unfolding settings_at unit_at
+unit-there : (opening : VoiceState) (before : List Element) → IsUnitPart opening.unit → IsUnitPart (voice_state_at opening before).unit
+unfolding voice_state_at unit_at
 unit-there opening before is = body-unit opening.unit before is
 
 -- A time token of a line is at a place of which the rule speaks.
 is-place : (place : CellPlace) (kind : TokenKind) → is_time_token kind ≡ true → IsInLine place kind
-    → IsPlace (held_there place) (cell_with place kind) (length place.front)
+    → IsPlace (state_there place) (cell_with place kind) (length place.front)
 is-place place kind time within =
     let name : List ℕ = (naming_at (opening_at place.values place.fields place.key) (before_place place)).current in
     record {
       time = time-at place.front place.ahead (record { kind = kind; from = place.from; to = place.to }) time;
-      marks = few-at (cell_with place kind) (All-contains (All AreFew) (cells_of (tokens_of within.line)) (cell_with place kind) (cells-few (tokens_of within.line) (line-few within.line)) within.cell);
-      unit = unit-there (standing_at place).opening (standing_at place).before
+      marks = few-at (cell_with place kind) (All-contains (All AreFew) (cells_of (tokens_of within.line)) (cell_with place kind) (cells-few (tokens_of within.line) (line-few within.line))
+          within.cell);
+      unit = unit-there (voice_place_at place).opening (voice_place_at place).before
           (subst (λ (v : Defaults). IsUnitPart (opening_of (opening_at v place.fields place.key) name).unit) (sym within.values)
           (opening-unit within.header place.fields place.key name));
-      tuplet = open_there (standing_at place).opening (standing_at place).before;
+      tuplet = open_there (voice_place_at place).opening (voice_place_at place).before;
     }
 
 pub notes_of_lines_last : NotesOfLinesLast

@@ -9,29 +9,31 @@ use Rattle.abc_fields.specs.declared.voice.Voice.{Voice}
 use Rattle.abc_fields.specs.Voice.{voice_of}
 use Rattle.abc_fields.proofs.Voices.{voice_read}
 use Rattle.abc_scan.specs.declared.field.Field.{Field}
-use Rattle.abc_scan.specs.declared.parts.ChordPartKind.{ChordPartKind}
+use Rattle.abc_scan.specs.declared.chord_part.ChordPartKind.{ChordPartKind}
 use Rattle.abc_scan.specs.declared.spanned.Spanned.{Spanned}
 use Rattle.abc_scan.specs.declared.token.TokenKind.{TokenKind}
 use Rattle.abc_scan.specs.declared.token.TokenKind.TheVariants as kinds
-use Rattle.abc_header.specs.FieldKind.{kind_of}
-use Rattle.abc_header.specs.declared.field_kind.FieldKind.{FieldKind}
-use Rattle.abc_header.specs.declared.field_kind.FieldKind.TheVariants as fields
-use Rattle.abc_items.specs.declared.item.TheConstants.{MOST_VOICES}
-use Rattle.abc_music.specs.TokenRole.{has_note, is_note_part}
-use Rattle.abc_cells.specs.BodyFields.{part_of}
+use Rattle.abc_bars_header.specs.FieldKind.{kind_of}
+use Rattle.abc_bars_header.specs.declared.field_kind.FieldKind.{FieldKind}
+use Rattle.abc_bars_header.specs.declared.field_kind.FieldKind.TheVariants as fields
+use Rattle.abc_bars_items.specs.declared.item.TheConstants.{MOST_VOICES}
+use Rattle.abc_bars_notes.specs.TokenRole.{has_note, is_note_part}
+use Rattle.abc_bars_body.specs.BodyFields.{part_of}
 use Rattle.abc_bars.specs.LookBack.AfterBody.{mentions}
 use Rattle.abc_bars.specs.LookBack.ByName.{Current, Named, Naming, names_behind, naming_at, owner_by, owner_of, owner_of_field, owner_of_part, owner_of_voice}
 use Rattle.abc_bars.specs.LookBack.Element.{field_of}
 use Rattle.abc_bars.specs.LookBack.Header.{with_name}
 use Rattle.abc_bars.specs.LookBack.Held.{roll_of}
-use Rattle.abc_bars.specs.LookBack.Mentions.{IsHeard, Mentions, NamesVoice, TokensMention, mentioned_at}
+use Rattle.abc_bars.specs.LookBack.Mentions.{IsHeard, Mentions, TokensMention, mentioned_at}
+use Rattle.abc_bars.specs.LookBack.Fields.{IsVoiceField, NamesVoice}
+use Rattle.abc_bars.proofs.LookBack.Fields.{names-voice, voice-owner}
 use Rattle.abc_bars.specs.LookBack.Place.{opening_at}
 use Rattle.abc_bars.proofs.LookBack.ByName.{IsNamed}
 use Rattle.abc_bars.proofs.LookBack.ByPlace.{roll_at}
 use Rattle.abc_bars.proofs.LookBack.FaultsOfFields.{apart, got, name_there}
 use Rattle.abc_bars.proofs.LookBack.Held.{names_found}
 use Rattle.abc_bars.proofs.LookBack.Named.{found}
-use Rattle.abc_header.proofs.NamePlaces.{find_place}
+use Rattle.abc_bars_header.proofs.NamePlaces.{find_place}
 
 -- One name more.
 among : (names : List (List ℕ)) (name : List ℕ) → list_any (bytes_eq name) names ≡ true → Contains names name
@@ -62,28 +64,22 @@ heard-again : (names : List (List ℕ)) (current : Option ℕ) (name : List ℕ)
 heard-again names None name is some = absurd (some is.0)
 heard-again names (Some at) name is some = more-again names name (inl (got names at name is))
 
--- A V: that is accepted is of the voice that it names.
-owner-named : (kind : TokenKind) (name : List ℕ) → NamesVoice kind name → owner_of kind ≡ Named name
-owner-named kind name h =
-    ap owner_by h.field_is
-    ∙ ap (λ k. owner_of_field k h.field.value) h.letter
-    ∙ ap (owner_of_voice h.field.value) (((voice_read h.field.value (voice_of h.field.value) refl).ok h.voice).1 h.value)
-    ∙ ap Named h.name_is
-
 -- What is heard is of the current voice, and mentions it.
 heard-chord : (inside : List (Spanned ChordPartKind)) → ¬ (filter (λ part. is_note_part part.kind) inside ≡ []) → has_note inside ≡ true
 heard-chord [] some = absurd (some refl)
-heard-chord (part ∷ inside) some = elim (is_note_part part.kind) as (λ b. ¬ (cond b (part ∷ filter (λ p. is_note_part p.kind) inside) (filter (λ p. is_note_part p.kind) inside) ≡ []) → (b || has_note inside) ≡ true) [
-  | true ↦ λ h. refl
-  | false ↦ λ h. heard-chord inside h
-] some
+heard-chord (part ∷ inside) some =
+    elim (is_note_part part.kind) as (λ b. ¬ (cond b (part ∷ filter (λ p. is_note_part p.kind) inside) (filter (λ p. is_note_part p.kind) inside) ≡ []) → (b || has_note inside) ≡ true) [
+      | true ↦ λ h. refl
+      | false ↦ λ h. heard-chord inside h
+    ] some
 
 silent-chord : (inside : List (Spanned ChordPartKind)) → ¬ (¬ (filter (λ part. is_note_part part.kind) inside ≡ [])) → has_note inside ≡ false
 silent-chord [] none = refl
-silent-chord (part ∷ inside) none = elim (is_note_part part.kind) as (λ b. ¬ (¬ (cond b (part ∷ filter (λ p. is_note_part p.kind) inside) (filter (λ p. is_note_part p.kind) inside) ≡ [])) → (b || has_note inside) ≡ false) [
-  | true ↦ λ h. absurd (h (λ e. cc))
-  | false ↦ λ h. silent-chord inside h
-] none
+silent-chord (part ∷ inside) none =
+    elim (is_note_part part.kind) as (λ b. ¬ (¬ (cond b (part ∷ filter (λ p. is_note_part p.kind) inside) (filter (λ p. is_note_part p.kind) inside) ≡ [])) → (b || has_note inside) ≡ false) [
+      | true ↦ λ h. absurd (h (λ e. cc))
+      | false ↦ λ h. silent-chord inside h
+    ] none
 
 heard-current : (kind : TokenKind) → IsHeard kind → (owner_of kind ≡ Current) × (mentions kind ≡ true)
 heard-current (kinds.Note note) h = (refl, refl)
@@ -125,24 +121,17 @@ field-keeps naming fields.Tempo value none = refl
 field-keeps naming fields.Key value none = refl
 field-keeps naming fields.Other value none = refl
 
-no-voice : (kind : TokenKind) (field : Field) → field_of kind ≡ Some field → ((name : List ℕ) → ¬ NamesVoice kind name)
+no-voice : (field : Field) → ((name : List ℕ) → ¬ NamesVoice name field)
     → (voice : Voice) → kind_of field.letter ≡ fields.Voice → voice_of field.value ≡ Ok voice → ⊥
-no-voice kind field is none voice letter read = none (slice_range field.value voice.from voice.to) (record {
-  field = field;
-  voice = voice;
-  field_is = is;
-  letter = letter;
-  value = ((voice_read field.value (voice_of field.value) refl).ok voice).0 read;
-  name_is = refl;
-})
+no-voice field none voice letter read = none (slice_range field.value voice.from voice.to) (names-voice field voice letter read)
 
-others-keep : (naming : Naming) (kind : TokenKind) → ((name : List ℕ) → ¬ NamesVoice kind name) → ¬ IsHeard kind → names_behind naming (owner_of kind) (mentions kind) ≡ naming.names
+others-keep : (naming : Naming) (kind : TokenKind) → ((name : List ℕ) → ¬ IsVoiceField name kind) → ¬ IsHeard kind → names_behind naming (owner_of kind) (mentions kind) ≡ naming.names
 others-keep naming (kinds.Note note) none silent = absurd (silent tt)
 others-keep naming (kinds.Rest length) none silent = absurd (silent tt)
 others-keep naming (kinds.BarRest bars) none silent = absurd (silent tt)
 others-keep naming (kinds.Chord chord) none silent = ap (names_behind naming Current) (silent-chord chord.parts silent)
-others-keep naming (kinds.InlineField field) none silent = field-keeps naming (kind_of field.letter) field.value (no-voice (kinds.InlineField field) field refl none)
-others-keep naming (kinds.Field field) none silent = field-keeps naming (kind_of field.letter) field.value (no-voice (kinds.Field field) field refl none)
+others-keep naming (kinds.InlineField field) none silent = field-keeps naming (kind_of field.letter) field.value (no-voice field none)
+others-keep naming (kinds.Field field) none silent = field-keeps naming (kind_of field.letter) field.value (no-voice field none)
 others-keep naming (kinds.Bar bar) none silent = refl
 others-keep naming (kinds.Ending passes) none silent = refl
 others-keep naming (kinds.Tuplet mark) none silent = refl
@@ -155,12 +144,12 @@ others-keep naming (kinds.Directive directive) none silent = refl
 others-keep naming kinds.Unclosed none silent = refl
 others-keep naming kinds.BadByte none silent = refl
 
--- So it is for the names behind one token.
+-- So it is for the names after one token.
 steps : (naming : Naming) (current : Option ℕ) (kind : TokenKind) → IsNamed naming.names current naming.current
     → Mentions naming.names kind (names_behind naming (owner_of kind) (mentions kind))
 steps naming current kind is = record {
-  named_new = λ name h apart room. ap (λ o. names_behind naming o (mentions kind)) (owner-named kind name h) ∙ more-new naming.names name apart room;
-  named_again = λ name h again. ap (λ o. names_behind naming o (mentions kind)) (owner-named kind name h) ∙ more-again naming.names name again;
+  named_new = λ name h apart room. ap (λ o. names_behind naming o (mentions kind)) (voice-owner kind name h) ∙ more-new naming.names name apart room;
+  named_again = λ name h again. ap (λ o. names_behind naming o (mentions kind)) (voice-owner kind name h) ∙ more-again naming.names name again;
   unnamed = λ heard none. let of = heard-current kind heard in (λ i. names_behind naming (of.0 i) (of.1 i)) ∙ heard-first naming.names current naming.current is none;
   heard = λ heard some. let of = heard-current kind heard in (λ i. names_behind naming (of.0 i) (of.1 i)) ∙ heard-again naming.names current naming.current is some;
   other = others-keep naming kind;

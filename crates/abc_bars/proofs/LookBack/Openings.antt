@@ -8,15 +8,15 @@ use Rattle.std.specs.Option.{option_and_then}
 use Rattle.abc_fields.specs.declared.key.Key.{Key}
 use Rattle.abc_fields.specs.declared.shift.Shift.{Shift}
 use Rattle.abc_fields.specs.Shift.{no_shift}
-use Rattle.abc_header.specs.declared.defaults.Defaults.{Defaults}
-use Rattle.abc_header.specs.declared.header.Header.{Header}
-use Rattle.abc_header.specs.HeaderLine.{HeaderLine}
-use Rattle.abc_header.specs.Voices.{voice_at}
-use Rattle.abc_header.proofs.NamePlaces.{find_place}
-use Rattle.abc_settings.specs.declared.settings.Settings.{Settings}
-use Rattle.abc_cells.specs.declared.body.Body.{Body}
-use Rattle.abc_cells.specs.BodyOpening.{opening_settings, opening_voice}
-use Rattle.abc_cells.proofs.BodyOpenings.{opening_names}
+use Rattle.abc_bars_header.specs.declared.defaults.Defaults.{Defaults}
+use Rattle.abc_bars_header.specs.declared.header.Header.{Header}
+use Rattle.abc_bars_header.specs.HeaderLine.{HeaderLine}
+use Rattle.abc_bars_header.specs.Voices.{voice_at}
+use Rattle.abc_bars_header.proofs.NamePlaces.{find_place}
+use Rattle.abc_bars_voice.specs.declared.voice_state.VoiceState.{VoiceState}
+use Rattle.abc_bars_body.specs.declared.body.Body.{Body}
+use Rattle.abc_bars_body.specs.BodyOpening.{opening_voice_state, opening_voice}
+use Rattle.abc_bars_body.proofs.BodyOpenings.{opening_names}
 use Rattle.abc_bars.specs.LookBack.ByName.{opening_of}
 use Rattle.abc_bars.specs.LookBack.Defaults.{defaults_at}
 use Rattle.abc_bars.specs.LookBack.Header.{declared_names, declared_shift, header_at}
@@ -27,7 +27,7 @@ use Rattle.abc_bars.proofs.LookBack.Accidentals.{reach_kept}
 use Rattle.abc_bars.proofs.LookBack.ByName.{finds}
 use Rattle.abc_bars.proofs.LookBack.Named.{no-place-by}
 
-opens : (set : Defaults) (key : Key) (said : Shift) → OpensWith set key said (opening_settings set key said)
+opens : (set : Defaults) (key : Key) (said : Shift) → OpensWith set key said (opening_voice_state set key said)
 opens set key said = record {
   meter = refl;
   unit = refl;
@@ -40,10 +40,10 @@ opens set key said = record {
 
 -- What the voice at a place among those that are declared begins with.
 voice-there : (header : Header) (key : Key) (said : List ℕ → Shift) (names : List (List ℕ)) (at : ℕ) (name : List ℕ) → slice_get names at ≡ Some name
-    → voice_at (map (opening_voice header key) (map (λ other. (other, said other)) names)) at ≡ Some (opening_settings header.defaults key (said name))
+    → voice_at (map (opening_voice header key) (map (λ other. (other, said other)) names)) at ≡ Some (opening_voice_state header.defaults key (said name))
 voice-there header key said [] at name there = absurd (cc)
 voice-there header key said (first ∷ names) zero name there =
-    let same : first ≡ name = cc in ap (λ n. Some (opening_settings header.defaults key (said n))) same
+    let same : first ≡ name = cc in ap (λ n. Some (opening_voice_state header.defaults key (said n))) same
 voice-there header key said (first ∷ names) (suc at) name there = voice-there header key said names at name there
 
 module _ (values : Defaults) (fields : List HeaderLine) (key : Key) (name : List ℕ) where
@@ -62,11 +62,11 @@ module _ (values : Defaults) (fields : List HeaderLine) (key : Key) (name : List
       let place = find_place (bytes_eq name) (declared_names fields) (list_any-from_Contains nat_list_eq_equiv name (declared_names fields) there) in
       let found = finds (bytes_eq name) (declared_names fields) place.0 place.1 in
       let same : found.0 ≡ name = sym ((bytes_eq-Decides name found.0).0 found.2) in
-      let held : opening_of opening name ≡ opening_settings (defaults_at values fields) key (declared_shift fields name) =
+      let held : opening_of opening name ≡ opening_voice_state (defaults_at values fields) key (declared_shift fields name) =
       by-place (Some place.0) place.1
-      ∙ ap (λ (o : Option Settings). unwrap_or o opening.another)
+      ∙ ap (λ (o : Option VoiceState). unwrap_or o opening.another)
       (voice-there (header_at values fields) key (declared_shift fields) (declared_names fields) place.0 found.0 found.1)
-      ∙ ap (λ (n : List ℕ). opening_settings (defaults_at values fields) key (declared_shift fields n)) same in
+      ∙ ap (λ (n : List ℕ). opening_voice_state (defaults_at values fields) key (declared_shift fields n)) same in
       subst (OpensWith (defaults_at values fields) key (declared_shift fields name)) (sym held)
       (opens (defaults_at values fields) key (declared_shift fields name))
 

@@ -1,5 +1,6 @@
 -- The current voice is one of those that are mentioned, and a body begins with what looking back finds there.
-use Rattle.std.proofs.Common.{◌≡◌, ℕ, ◌<◌, nat_lt, Bool, true, false, cond, List, [], ◌∷◌, length, map, Option, Some, None, unwrap_or, IfSome, position, bytes_eq, slice_range, Result, Ok, Err, is_some, refl, ap, arith, length-append}
+use Rattle.std.proofs.Common.{◌≡◌, ℕ, ◌<◌, nat_lt, Bool, true, false, cond, List, [], ◌∷◌, length, map, Option, Some, None, unwrap_or, IfSome, position, bytes_eq, slice_range, Result, Ok, Err}
+use Rattle.std.proofs.Common.{is_some, refl, ap, arith, length-append}
 use Rattle.std.proofs.lemmas.Bool.Decides.{nat_tests}
 use Rattle.std.specs.List.{list_any}
 use Rattle.std.specs.Map.{keys_of}
@@ -8,33 +9,34 @@ use Rattle.abc_fields.specs.declared.fault.FaultCode.{FaultCode}
 use Rattle.abc_fields.specs.declared.key.Key.{Key}
 use Rattle.abc_fields.specs.declared.shift.Shift.{Shift}
 use Rattle.abc_fields.specs.declared.voice.Voice.{Voice}
-use Rattle.abc_cells.specs.declared.body.Current.TheVariants.{Unnamed}
+use Rattle.abc_bars_body.specs.declared.body.Current.TheVariants.{Unnamed}
 use Rattle.abc_fields.specs.Shift.{no_shift}
 use Rattle.abc_fields.specs.Meter.{meter_of}
 use Rattle.abc_fields.specs.Unit.{unit_of}
 use Rattle.abc_fields.specs.Voice.{voice_of}
 use Rattle.abc_scan.specs.declared.token.TokenKind.{TokenKind}
 use Rattle.abc_scan.specs.declared.token.TokenKind.TheVariants as kinds
-use Rattle.abc_header.specs.declared.defaults.Defaults.{Defaults}
-use Rattle.abc_header.specs.declared.field_kind.FieldKind.{FieldKind}
-use Rattle.abc_header.specs.declared.field_kind.FieldKind.TheVariants as fields
-use Rattle.abc_header.specs.declared.header.Header.{Header}
-use Rattle.abc_settings.specs.declared.accidentals.Accidentals.{Accidentals}
-use Rattle.abc_settings.specs.declared.settings.Settings.{Settings}
-use Rattle.abc_settings.specs.Accidentals.{no_accidentals}
-use Rattle.abc_music.specs.TokenRole.{has_note}
-use Rattle.abc_items.specs.declared.item.TheConstants.{MOST_VOICES}
-use Rattle.abc_cells.specs.BodyFields.{part_of}
-use Rattle.abc_cells.specs.BodyOpening.{body_from, current_in, opening_another, opening_settings, opening_voice}
-use Rattle.abc_header.specs.FieldKind.{kind_of}
-use Rattle.abc_header.specs.Voices.{voice_at}
+use Rattle.abc_bars_header.specs.declared.defaults.Defaults.{Defaults}
+use Rattle.abc_bars_header.specs.declared.field_kind.FieldKind.{FieldKind}
+use Rattle.abc_bars_header.specs.declared.field_kind.FieldKind.TheVariants as fields
+use Rattle.abc_bars_header.specs.declared.header.Header.{Header}
+use Rattle.abc_bars_voice.specs.declared.accidentals.Accidentals.{Accidentals}
+use Rattle.abc_bars_voice.specs.declared.voice_state.VoiceState.{VoiceState}
+use Rattle.abc_bars_voice.specs.Accidentals.{no_accidentals}
+use Rattle.abc_bars_notes.specs.TokenRole.{has_note}
+use Rattle.abc_bars_items.specs.declared.item.TheConstants.{MOST_VOICES}
+use Rattle.abc_bars_body.specs.BodyFields.{part_of}
+use Rattle.abc_bars_body.specs.BodyOpening.{body_from, current_in, opening_another, opening_voice_state, opening_voice}
+use Rattle.abc_bars_header.specs.FieldKind.{kind_of}
+use Rattle.abc_bars_header.specs.Voices.{voice_at}
 use Rattle.abc_bars.specs.LookBack.Held.{IsPlaced, Roll, current_by, roll_of, place_of_current}
-use Rattle.abc_bars.proofs.LookBack.ByPlace.{Former, Hearing, Here, New, Nobody, Each, First, each_if, field_hearing, first_or, here_if, hearing_of, roll_at, roll_behind, voice_named_by, voice_said, voices_by, placed_at}
+use Rattle.abc_bars.proofs.LookBack.ByPlace.{Former, Hearing, Here, New, Nobody, Each, First, each_if, field_hearing, first_or, here_if, hearing_of, roll_at, roll_behind, voice_named_by, voice_said}
+use Rattle.abc_bars.proofs.LookBack.ByPlace.{voices_by, placed_at}
 use Rattle.abc_bars.specs.LookBack.Element.{Element}
-use Rattle.abc_bars.specs.LookBack.Voice.{accidentals_at, dynamic_at, meter_at, settings_at, shift_at, signature_at, tuplet_at, unit_at}
+use Rattle.abc_bars.specs.LookBack.Voice.{accidentals_at, dynamic_at, meter_at, voice_state_at, shift_at, signature_at, tuplet_at, unit_at}
 use Rattle.abc_bars.proofs.LookBack.Accidentals.{reach_kept}
 use Rattle.abc_bars.proofs.LookBack.Heard.{below-found}
-use Rattle.abc_header.proofs.NamePlaces.{find_place}
+use Rattle.abc_bars_header.proofs.NamePlaces.{find_place}
 
 -- A voice that is not among those that are mentioned, and is not one too many.
 pub record IsNew (names : List (List ℕ)) (name : List ℕ) : Type 0 where
@@ -133,27 +135,27 @@ placed-at opening placed [] = placed
 placed-at opening placed (element ∷ before) =
     placed-behind (roll_at opening before) (hearing_of (roll_at opening before) element.kind) (among (roll_at opening before) element.kind) (placed-at opening placed before)
 
--- What holds for a voice where a body begins is what looking back finds there.
-fresh-settings : (defaults : Defaults) (key : Key) (said : Shift) → settings_at (opening_settings defaults key said) [] ≡ opening_settings defaults key said
-unfolding settings_at meter_at unit_at signature_at shift_at accidentals_at tuplet_at dynamic_at
-fresh-settings defaults key said =
-    ap (λ (accidentals : Accidentals). record (opening_settings defaults key said) { accidentals = accidentals })
+-- The state of a voice where a body begins is what looking back finds there.
+fresh-state : (defaults : Defaults) (key : Key) (said : Shift) → voice_state_at (opening_voice_state defaults key said) [] ≡ opening_voice_state defaults key said
+unfolding voice_state_at meter_at unit_at signature_at shift_at accidentals_at tuplet_at dynamic_at
+fresh-state defaults key said =
+    ap (λ (accidentals : Accidentals). record (opening_voice_state defaults key said) { accidentals = accidentals })
     (ap no_accidentals (reach_kept defaults.reach []))
 
-fresh-voices : (header : Header) (key : Key) (another : Settings) (voices : List (List ℕ × Shift))
-    → voices_by (λ at. settings_at (unwrap_or (voice_at (map (opening_voice header key) voices) at) another) []) (keys_of (map (opening_voice header key) voices))
+fresh-voices : (header : Header) (key : Key) (another : VoiceState) (voices : List (List ℕ × Shift))
+    → voices_by (λ at. voice_state_at (unwrap_or (voice_at (map (opening_voice header key) voices) at) another) []) (keys_of (map (opening_voice header key) voices))
     ≡ map (opening_voice header key) voices
 fresh-voices header key another [] = refl
 fresh-voices header key another (voice ∷ voices) = λ i.
-    (voice.0, fresh-settings header.defaults key voice.1 i) ∷ fresh-voices header key another voices i
+    (voice.0, fresh-state header.defaults key voice.1 i) ∷ fresh-voices header key another voices i
 
-fresh-current : (voices : List (List ℕ × Shift)) (another : Settings) → settings_at another [] ≡ another
-    → current_by (place_of_current (current_in voices another)) (settings_at another []) ≡ current_in voices another
+fresh-current : (voices : List (List ℕ × Shift)) (another : VoiceState) → voice_state_at another [] ≡ another
+    → current_by (place_of_current (current_in voices another)) (voice_state_at another []) ≡ current_in voices another
 fresh-current [] another fresh = ap Unnamed fresh
 fresh-current (voice ∷ voices) another fresh = refl
 
-pub fresh-another : (header : Header) (key : Key) → settings_at (opening_another header key) [] ≡ opening_another header key
-fresh-another header key = fresh-settings header.defaults key no_shift
+pub fresh-another : (header : Header) (key : Key) → voice_state_at (opening_another header key) [] ≡ opening_another header key
+fresh-another header key = fresh-state header.defaults key no_shift
 
 -- Where a body begins, looking back finds what holds there.
 pub begins_placed : (header : Header) (key : Key) → placed_at (body_from header key) [] ≡ body_from header key
@@ -164,7 +166,7 @@ begins_placed header key = λ i. record {
   another = opening_another header key;
 }
 
-placed-current : (header : Header) (key : Key) (voices : List (List ℕ × Shift)) (another : Settings)
+placed-current : (header : Header) (key : Key) (voices : List (List ℕ × Shift)) (another : VoiceState)
     → IsPlaced (keys_of (map (opening_voice header key) voices)) (place_of_current (current_in voices another))
 placed-current header key [] another = refl
 placed-current header key (voice ∷ voices) another = omega arith

@@ -4,18 +4,18 @@ use Rattle.std.specs.Option.{option_or}
 use Rattle.abc_fields.specs.declared.key.Key.{Key}
 use Rattle.abc_fields.specs.Key.{empty_key}
 use Rattle.abc_scan.specs.declared.field.Field.{Field}
-use Rattle.abc_header.specs.declared.defaults.Defaults.{Defaults}
-use Rattle.abc_header.specs.declared.field_kind.FieldKind.{FieldKind}
-use Rattle.abc_header.specs.declared.field_kind.FieldKind.TheVariants as fields
-use Rattle.abc_header.specs.FieldKind.{kind_of}
-use Rattle.abc_header.specs.HeaderLine.{HeaderLine, FieldLine, DirectiveLine}
-use Rattle.abc_cells.specs.Step.{line_in}
-use Rattle.abc_bars.specs.LookBack.Along.{CellTokens, place_after, tune_begins, values_set}
+use Rattle.abc_bars_header.specs.declared.defaults.Defaults.{Defaults}
+use Rattle.abc_bars_header.specs.declared.field_kind.FieldKind.{FieldKind}
+use Rattle.abc_bars_header.specs.declared.field_kind.FieldKind.TheVariants as fields
+use Rattle.abc_bars_header.specs.FieldKind.{kind_of}
+use Rattle.abc_bars_header.specs.HeaderLine.{HeaderLine, FieldLine, DirectiveLine}
+use Rattle.abc_bars_body.specs.Step.{line_in}
+use Rattle.abc_bars.specs.LookBack.Along.{CellTokens, place_after, tune_beginning, values_of_header}
 use Rattle.abc_bars.specs.LookBack.Place.{Place, InFileHeader, InHeader, InBody, behind_field, behind_header, behind_header_line, place_behind}
 use Rattle.abc_bars.specs.LookBack.TunePlaces.{IsOfTune, key_among, key_said}
 
 module _ (values opening : Defaults) (before : List HeaderLine) (same : opening ≡ values) (keyless : key_among before ≡ None) where
-  -- No K: is among the fields behind one that is none.
+  -- No K: is among the fields after one that is none.
   still : (field : Field) (kind : FieldKind) → kind_of field.letter ≡ kind → key_said kind field.value ≡ None → key_among (FieldLine field ∷ before) ≡ None
   still field kind is none =
       ap (λ (kind : FieldKind). option_or (key_said kind field.value) (key_among before)) is
@@ -51,5 +51,5 @@ kept-after values place [] kept = kept
 kept-after values place (cell ∷ cells) kept = kept-after values (place_behind place cell) cells (kept-behind values place cell kept)
 
 -- What the cells of a tune lead to is a place of it.
-pub places_kept : (header : Option (List CellTokens)) (cells : List CellTokens) → IsOfTune (values_set header) (place_after (tune_begins header) cells)
-places_kept header cells = kept-after (values_set header) (tune_begins header) cells (refl, refl)
+pub places_kept : (header : Option (List CellTokens)) (cells : List CellTokens) → IsOfTune (values_of_header header) (place_after (tune_beginning header) cells)
+places_kept header cells = kept-after (values_of_header header) (tune_beginning header) cells (refl, refl)

@@ -1,20 +1,22 @@
 -- The tuplet that looking back finds is that of the last accepted mark, as long as fewer than r time tokens follow it.
 use Rattle.std.proofs.Common.{◌≡◌, ◌∙◌, ℕ, ◌+◌, ◌-◌, ◌<◌, ◌≤◌, ◌==◌, Bool, true, false, cond, List, [], ◌∷◌, length, Option, Some, None, unwrap_or, refl, sym, ap, subst, inl, inr, ⊎_elim, arith}
 use Rattle.std.specs.Prelude.{All, IfSome, ◌≢◌, ◌&&◌, ◌||◌, filter, nat_le, nat_lt}
-use Rattle.std.proofs.lemmas.Bool.{and_from, and_parts, cases_lt, cond-false, cond-true, cond_both, eq-eqb, eqb-true, false_from_ne_true, le-leb, le-ltb, leb-true, lt-ltb, ltb-true, ne_eqb, or_cases, or_from, or_left, or_right}
+use Rattle.std.proofs.lemmas.Bool.{and_from, and_parts, cases_lt, cond-false, cond-true, cond_both, eq-eqb, eqb-true, false_from_ne_true, le-leb, le-ltb, leb-true, lt-ltb, ltb-true, ne_eqb, or_cases}
+use Rattle.std.proofs.lemmas.Bool.{or_from, or_left, or_right}
 use Rattle.std.proofs.lemmas.List.Elements.{All-cons, All-nil}
 use Rattle.abc_fields.specs.declared.meter.Meter.{Meter}
 use Rattle.abc_fields.specs.declared.meter.Meter.TheVariants.{Free, Of}
 use Rattle.abc_scan.specs.declared.token.TokenKind.{TokenKind}
 use Rattle.abc_scan.specs.declared.token.TokenKind.TheVariants as kinds
 use Rattle.abc_scan.specs.declared.tuplet.Tuplet.{Tuplet}
-use Rattle.abc_music.specs.Broken.{is_time_token}
-use Rattle.abc_settings.specs.declared.settings.Settings.{Settings}
-use Rattle.abc_settings.specs.declared.tuplet.TheConstants.{LARGEST_TUPLET_NUMBER}
-use Rattle.abc_settings.specs.Tuplet.{IsOpen, IsTupletNumber, OpenTuplet, default_q, is_compound, is_tuplet_number}
+use Rattle.abc_bars_notes.specs.Broken.{is_time_token}
+use Rattle.abc_bars_voice.specs.declared.voice_state.VoiceState.{VoiceState}
+use Rattle.abc_bars_voice.specs.declared.tuplet.TheConstants.{LARGEST_TUPLET_NUMBER}
+use Rattle.abc_bars_voice.specs.Tuplet.{IsOpen, IsTupletNumber, OpenTuplet, default_q, is_compound, is_tuplet_number}
 use Rattle.abc_bars.specs.LookBack.Element.{Element}
-use Rattle.abc_bars.specs.LookBack.TupletPlaces.{IsAccepted, IsAcceptedMark, IsCompound, IsLastMark, IsSizeOf, IsTimeOf, IsTupletAt, IsUsualTime, TupletsByMarks, inside, is_time, no_mark, past, time_count}
-use Rattle.abc_bars.specs.LookBack.Voice.{left_after, meter_at, passing, settings_at, tuplet_at, tuplet_from, tuplet_or, tuplet_said}
+use Rattle.abc_bars.specs.LookBack.TupletPlaces.{IsAccepted, IsAcceptedMark, IsCompound, IsLastMark, IsSizeOf, IsTimeOf, IsTupletAt, IsUsualTime, TupletsByMarks, inside, is_time, no_mark, past}
+use Rattle.abc_bars.specs.LookBack.TupletPlaces.{time_count}
+use Rattle.abc_bars.specs.LookBack.Voice.{left_after, meter_at, passing, voice_state_at, tuplet_at, tuplet_from, tuplet_or, tuplet_said}
 
 -- Numbers that a tuplet may have.
 number-of : (n : ℕ) → is_tuplet_number n ≡ true → IsTupletNumber n
@@ -236,7 +238,7 @@ at-place opening before found (from_mark mark q r since last q_is r_is e) =
     (cases_lt count r)
 
 pub tuplets_by_marks : TupletsByMarks
-unfolding settings_at tuplet_at
+unfolding voice_state_at tuplet_at
 tuplets_by_marks opening before = at-place opening.meter before (tuplet_from opening.meter 0 before) (from-all opening.meter 0 before)
 
 -- A tuplet that is open has numbers that a tuplet may have.
@@ -254,6 +256,6 @@ open-from opening before found (from_none none e) = subst (λ (o : Option OpenTu
 open-from opening before found (from_mark mark q r since last q_is r_is e) =
     subst (λ (o : Option OpenTuplet). IfSome o IsOpen) (sym e) (left-open mark.p q r (time_count since + 0) last.accepted.p_is q_is r_is)
 
-pub open_there : (opening : Settings) (before : List Element) → IfSome (settings_at opening before).tuplet IsOpen
-unfolding settings_at tuplet_at
+pub open_there : (opening : VoiceState) (before : List Element) → IfSome (voice_state_at opening before).tuplet IsOpen
+unfolding voice_state_at tuplet_at
 open_there opening before = open-from opening.meter before (tuplet_from opening.meter 0 before) (from-all opening.meter 0 before)

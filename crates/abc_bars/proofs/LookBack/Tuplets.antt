@@ -3,26 +3,26 @@ use Rattle.std.proofs.Common.{◌≡◌, ◌≤◌, ◌&&◌, ℕ, suc, Bool, tr
 use Rattle.std.proofs.lemmas.Bool.Decides.{nat_tests}
 use Rattle.abc_fields.specs.declared.meter.Meter.{Meter}
 use Rattle.abc_scan.specs.declared.tuplet.Tuplet.{Tuplet}
-use Rattle.abc_music.specs.Broken.{is_time_token}
-use Rattle.abc_settings.specs.Tuplet.{OpenTuplet, tuplet_by, tuplet_opened, opened, is_tuplet_number, counted_down, default_q}
+use Rattle.abc_bars_notes.specs.Broken.{is_time_token}
+use Rattle.abc_bars_voice.specs.Tuplet.{OpenTuplet, tuplet_by, begin_tuplet, tuplet_after_mark, is_tuplet_number, count_down, default_q}
 use Rattle.abc_bars.specs.LookBack.Element.{Element}
 use Rattle.abc_bars.specs.LookBack.Voice.{meter_at, left_after, passing, tuplet_from, tuplet_or, tuplet_said}
 
 -- One more time token leaves one less of a tuplet.
-left-suc : (passed : ℕ) (tuplet : OpenTuplet) → left_after (suc passed) tuplet ≡ counted_down (left_after passed tuplet)
+left-suc : (passed : ℕ) (tuplet : OpenTuplet) → left_after (suc passed) tuplet ≡ count_down (left_after passed tuplet)
 left-suc passed tuplet = grind (arith, nat_tests)
 
 passing-suc : (b : Bool) (passed : ℕ) → passing b (suc passed) ≡ suc (passing b passed)
 passing-suc true passed = refl
 passing-suc false passed = refl
 
-or-suc : (t : Option OpenTuplet) (passed : ℕ) (later earlier : Option OpenTuplet) → later ≡ counted_down earlier
-    → tuplet_or t (suc passed) later ≡ counted_down (tuplet_or t passed earlier)
+or-suc : (t : Option OpenTuplet) (passed : ℕ) (later earlier : Option OpenTuplet) → later ≡ count_down earlier
+    → tuplet_or t (suc passed) later ≡ count_down (tuplet_or t passed earlier)
 or-suc (Some tuplet) passed later earlier h = left-suc passed tuplet
 or-suc None passed later earlier h = h
 
--- One more time token behind a place leaves one less of the tuplet that is open there.
-pub tuplet_from-suc : (opening : Meter) (passed : ℕ) (before : List Element) → tuplet_from opening (suc passed) before ≡ counted_down (tuplet_from opening passed before)
+-- One more time token after a place leaves one less of the tuplet that is open there.
+pub tuplet_from-suc : (opening : Meter) (passed : ℕ) (before : List Element) → tuplet_from opening (suc passed) before ≡ count_down (tuplet_from opening passed before)
 tuplet_from-suc opening passed [] = refl
 tuplet_from-suc opening passed (element ∷ before) =
     or-suc (tuplet_said (meter_at opening before) element.kind) passed _ _
@@ -37,18 +37,18 @@ number-least n h = grind (arith, nat_tests)
 left-zero : (tuplet : OpenTuplet) → 1 ≤ tuplet.left → left_after 0 tuplet ≡ Some tuplet
 left-zero tuplet some = grind (arith, nat_tests)
 
-opened-new : (old : Option OpenTuplet) (new : OpenTuplet) → (opened old (Some new)).0 ≡ Some new
-opened-new None new = refl
-opened-new (Some old) new = refl
+tuplet_after_mark-new : (old : Option OpenTuplet) (new : OpenTuplet) → (tuplet_after_mark old (Some new)).0 ≡ Some new
+tuplet_after_mark-new None new = refl
+tuplet_after_mark-new (Some old) new = refl
 
 mark-by : (b c : Bool) (tuplet : OpenTuplet) (old : Option OpenTuplet) → is_tuplet_number tuplet.left ≡ c
-    → tuplet_or (cond (b && c) (Some tuplet) None) 0 old ≡ (opened old (cond (b && c) (Some tuplet) None)).0
-mark-by true true tuplet old e = left-zero tuplet (number-least tuplet.left e) ∙ sym (opened-new old tuplet)
+    → tuplet_or (cond (b && c) (Some tuplet) None) 0 old ≡ (tuplet_after_mark old (cond (b && c) (Some tuplet) None)).0
+mark-by true true tuplet old e = left-zero tuplet (number-least tuplet.left e) ∙ sym (tuplet_after_mark-new old tuplet)
 mark-by true false tuplet old e = refl
 mark-by false c tuplet old e = refl
 
--- Behind a mark the tuplet is open that the mark leaves.
-pub at-mark : (meter : Meter) (mark : Tuplet) (old : Option OpenTuplet) → tuplet_or (tuplet_by meter mark) 0 old ≡ (tuplet_opened meter old mark).0
+-- After a mark the tuplet is open that the mark leaves.
+pub at-mark : (meter : Meter) (mark : Tuplet) (old : Option OpenTuplet) → tuplet_or (tuplet_by meter mark) 0 old ≡ (begin_tuplet meter old mark).0
 at-mark meter mark old =
     let q : ℕ = unwrap_or mark.q (default_q meter mark.p) in
     let r : ℕ = unwrap_or mark.r mark.p in

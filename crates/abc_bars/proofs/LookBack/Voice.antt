@@ -1,4 +1,4 @@
--- What holds for a voice behind one token more.
+-- The state of a voice after one token more.
 use Rattle.std.proofs.Common.{◌≡◌, ℕ, ℤ, Bool, true, false, cond, List, [], ◌∷◌, Option, Some, None, refl, sym, ap, ◌∙◌, ◌||◌, take, unwrap_or, is_some, Result, Ok, Err}
 use Rattle.std.specs.Result.{result_ok}
 use Rattle.abc_fields.specs.declared.fault.FaultCode.{FaultCode}
@@ -7,51 +7,66 @@ use Rattle.abc_fields.specs.declared.voice.Voice.{Voice}
 use Rattle.abc_fields.specs.Meter.{meter_of}
 use Rattle.abc_fields.specs.Unit.{unit_of}
 use Rattle.abc_fields.specs.Voice.{voice_of}
-use Rattle.abc_header.specs.declared.field_kind.FieldKind.{FieldKind}
-use Rattle.abc_header.specs.declared.field_kind.FieldKind.TheVariants as fields
-use Rattle.abc_cells.specs.BodyFields.{part_of}
-use Rattle.abc_header.specs.FieldKind.{kind_of}
-use Rattle.abc_music.specs.TokenRole.{has_note, is_note_part}
-use Rattle.abc_settings.specs.VoiceShift.{with_properties}
+use Rattle.abc_bars_header.specs.declared.field_kind.FieldKind.{FieldKind}
+use Rattle.abc_bars_header.specs.declared.field_kind.FieldKind.TheVariants as fields
+use Rattle.abc_bars_body.specs.BodyFields.{part_of}
+use Rattle.abc_bars_header.specs.FieldKind.{kind_of}
+use Rattle.abc_bars_notes.specs.TokenRole.{has_note, is_note_part}
+use Rattle.abc_bars_voice.specs.VoiceShift.{with_properties}
 use Rattle.abc_bars.specs.LookBack.After.{after, after_field, after_kind, in_meter, in_part, in_unit, in_voice}
 use Rattle.abc_bars.specs.LookBack.Defaults.{meter_said, unit_said}
 use Rattle.abc_scan.specs.declared.chord.Chord.{Chord}
 use Rattle.abc_scan.specs.declared.directive.Reach.{Reach}
 use Rattle.abc_scan.specs.declared.length.WrittenLength.{WrittenLength}
 use Rattle.abc_scan.specs.declared.note.Note.{Note}
-use Rattle.abc_scan.specs.declared.parts.ChordPartKind.{ChordPartKind}
-use Rattle.abc_scan.specs.declared.parts.ChordPartKind.TheVariants as parts
+use Rattle.abc_scan.specs.declared.chord_part.ChordPartKind.{ChordPartKind}
+use Rattle.abc_scan.specs.declared.chord_part.ChordPartKind.TheVariants as parts
 use Rattle.abc_scan.specs.declared.spanned.Spanned.{Spanned}
 use Rattle.abc_scan.specs.declared.tuplet.Tuplet.{Tuplet}
 use Rattle.abc_scan.specs.declared.token.TokenKind.{TokenKind}
 use Rattle.abc_scan.specs.declared.token.TokenKind.TheVariants as kinds
 use Rattle.abc_time.specs.declared.ratio.Ratio.{Ratio}
-use Rattle.abc_settings.specs.declared.accidentals.Accidentals.{Accidentals}
-use Rattle.abc_settings.specs.declared.settings.Settings.{Settings}
-use Rattle.abc_settings.specs.Accidentals.{no_accidentals, reach_of}
-use Rattle.abc_settings.specs.Alteration.{alteration_of}
-use Rattle.abc_music.specs.declared.chords.Outside.{Outside}
-use Rattle.abc_music.specs.declared.sound.Inside.{Inside}
-use Rattle.abc_items.specs.declared.item.TheConstants.{MOST_CHORD_NOTES}
-use Rattle.abc_settings.specs.Tuplet.{counted_down, tuplet_opened}
-use Rattle.abc_music.specs.Chords.{inside_of, tie_follows}
-use Rattle.abc_music.specs.TimeTokens.{chord_by, chord_played, note_played, rest_played}
+use Rattle.abc_bars_voice.specs.declared.accidentals.Accidentals.{Accidentals}
+use Rattle.abc_bars_voice.specs.declared.voice_state.VoiceState.{VoiceState}
+use Rattle.abc_bars_voice.specs.Accidentals.{no_accidentals, reach_of}
+use Rattle.abc_bars_voice.specs.Alteration.{alteration_of}
+use Rattle.abc_bars_notes.specs.declared.chords.ChordContext.{ChordContext}
+use Rattle.abc_bars_notes.specs.declared.sound.ChordBuilder.{ChordBuilder}
+use Rattle.abc_bars_items.specs.declared.item.TheConstants.{MOST_CHORD_NOTES}
+use Rattle.abc_bars_voice.specs.Tuplet.{count_down, begin_tuplet}
+use Rattle.abc_bars_notes.specs.Chords.{chord_builder_of, tie_follows}
+use Rattle.abc_bars_notes.specs.TimeTokens.{chord_by, play_chord, play_note, play_rest}
 use Rattle.abc_bars.specs.LookBack.Element.{Element}
-use Rattle.abc_bars.specs.LookBack.Voice.{accidentals_at, accidentals_of, as_tied, counted_notes, dynamic_at, ends_accidentals, meter_at, note_before, notes_among, notes_of_bar, passing, put_before, unless_ended, tied_among, tuplet_from, settings_at, shift_at, shift_in_voice, shift_said, signature_at, signature_said, tied_at, tied_said, tuplet_at, unit_at}
+use Rattle.abc_bars.specs.LookBack.Voice.{accidentals_at, accidentals_of, as_tied, counted_notes, dynamic_at, ends_accidentals, meter_at, note_before, notes_among, notes_of_bar, passing, put_before}
+use Rattle.abc_bars.specs.LookBack.Voice.{
+  unless_ended,
+  tied_among,
+  tuplet_from,
+  voice_state_at,
+  shift_at,
+  shift_in_voice,
+  merge_shift,
+  signature_at,
+  signature_said,
+  tied_at,
+  tied_said,
+  tuplet_at,
+  unit_at,
+}
 use Rattle.abc_bars.proofs.LookBack.Accidentals.{each_put, reach_kept}
 use Rattle.abc_bars.proofs.LookBack.Tied.{alteration-at, behind-none, chord-leaves}
 use Rattle.abc_bars.proofs.LookBack.Tuplets.{at-mark, tuplet_from-suc}
 
-tied-note : (opening : Settings) (before : List Element) (tied : Bool) (note : Note)
+tied-note : (opening : VoiceState) (before : List Element) (tied : Bool) (note : Note)
     → tied_said opening (tied_at opening before) before (kinds.Note note) tied
-    ≡ cond tied (as_tied note (alteration_of (settings_at opening before) (accidentals_at (reach_of opening.accidentals) before) note) ∷ []) []
+    ≡ cond tied (as_tied note (alteration_of (voice_state_at opening before) (accidentals_at (reach_of opening.accidentals) before) note) ∷ []) []
 tied-note opening before true note =
     ap (λ (by : ℤ). as_tied note by ∷ []) (sym (alteration-at opening before (accidentals_at (reach_of opening.accidentals) before) [] note (behind-none opening before)))
 tied-note opening before false note = refl
 
-pub after-note : (opening : Settings) (before : List Element) (broken : List Ratio) (tied : Bool) (from : ℕ) (note : Note)
-    → settings_at opening (record { kind = kinds.Note note; tied = tied } ∷ before) ≡ (note_played (settings_at opening before) broken tied from note).settings
-unfolding settings_at meter_at unit_at signature_at shift_at tuplet_at accidentals_at dynamic_at
+pub after-note : (opening : VoiceState) (before : List Element) (broken : List Ratio) (tied : Bool) (from : ℕ) (note : Note)
+    → voice_state_at opening (record { kind = kinds.Note note; tied = tied } ∷ before) ≡ (play_note (voice_state_at opening before) broken tied from note).state
+unfolding voice_state_at meter_at unit_at signature_at shift_at tuplet_at accidentals_at dynamic_at
 after-note opening before broken tied from note = λ i. record {
   meter = meter_at opening.meter before;
   unit = unit_at opening.unit before;
@@ -63,9 +78,9 @@ after-note opening before broken tied from note = λ i. record {
   dynamic = dynamic_at before;
 }
 
-pub after-rest : (opening : Settings) (before : List Element) (broken : List Ratio) (tied : Bool) (from : ℕ) (length : WrittenLength)
-    → settings_at opening (record { kind = kinds.Rest length; tied = tied } ∷ before) ≡ (rest_played (settings_at opening before) broken from length).settings
-unfolding settings_at meter_at unit_at signature_at shift_at tuplet_at accidentals_at dynamic_at
+pub after-rest : (opening : VoiceState) (before : List Element) (broken : List Ratio) (tied : Bool) (from : ℕ) (length : WrittenLength)
+    → voice_state_at opening (record { kind = kinds.Rest length; tied = tied } ∷ before) ≡ (play_rest (voice_state_at opening before) broken from length).state
+unfolding voice_state_at meter_at unit_at signature_at shift_at tuplet_at accidentals_at dynamic_at
 after-rest opening before broken tied from length = λ i. record {
   meter = meter_at opening.meter before;
   unit = unit_at opening.unit before;
@@ -93,18 +108,18 @@ counted-none : (chord : Chord) → has_note chord.parts ≡ false → counted_no
 unfolding counted_notes
 counted-none chord e = ap (take MOST_CHORD_NOTES) (no-notes chord.parts e)
 
-chord-by : (opening : Settings) (before : List Element) (broken : List Ratio) (tied : Bool) (from : ℕ) (chord : Chord) (b : Bool) → has_note chord.parts ≡ b
-    → settings_at opening (record { kind = kinds.Chord chord; tied = tied } ∷ before)
-    ≡ (chord_by b (settings_at opening before) from
-    (inside_of (settings_at opening before) broken (record { length = chord.length; tied = tied; from = from }) chord.parts)).settings
-unfolding settings_at meter_at unit_at signature_at shift_at tuplet_at accidentals_at dynamic_at
+chord-by : (opening : VoiceState) (before : List Element) (broken : List Ratio) (tied : Bool) (from : ℕ) (chord : Chord) (b : Bool) → has_note chord.parts ≡ b
+    → voice_state_at opening (record { kind = kinds.Chord chord; tied = tied } ∷ before)
+    ≡ (chord_by b (voice_state_at opening before) from
+    (chord_builder_of (voice_state_at opening before) broken (record { length = chord.length; tied = tied; from = from }) chord.parts)).state
+unfolding voice_state_at meter_at unit_at signature_at shift_at tuplet_at accidentals_at dynamic_at
 chord-by opening before broken tied from chord true e =
-    let outside : Outside = record { length = chord.length; tied = tied; from = from } in
-    let inside : Inside = inside_of (settings_at opening before) broken outside chord.parts in
+    let outside : ChordContext = record { length = chord.length; tied = tied; from = from } in
+    let inside : ChordBuilder = chord_builder_of (voice_state_at opening before) broken outside chord.parts in
     let reach : Reach = reach_of opening.accidentals in
     let accidentals : accidentals_at reach (record { kind = kinds.Chord chord; tied = tied } ∷ before) ≡ inside.accidentals =
     each_put reach (counted_notes chord) (notes_of_bar before) ∙ sym (chord-leaves opening before broken outside chord).0 in
-    let tuplet : tuplet_from opening.meter 0 (record { kind = kinds.Chord chord; tied = tied } ∷ before) ≡ counted_down (tuplet_from opening.meter 0 before) =
+    let tuplet : tuplet_from opening.meter 0 (record { kind = kinds.Chord chord; tied = tied } ∷ before) ≡ count_down (tuplet_from opening.meter 0 before) =
     ap (λ (b : Bool). tuplet_from opening.meter (passing b 0) before) e ∙ tuplet_from-suc opening.meter 0 before in
     let ties : tied_said opening (tied_at opening before) before (kinds.Chord chord) tied ≡ inside.tied =
     ap (λ (b : Bool). cond b (tied_among opening (tied_at opening before) before tied [] (counted_notes chord)) (tied_at opening before)) e
@@ -138,14 +153,14 @@ chord-by opening before broken tied from chord false e =
       dynamic = dynamic_at before;
     }
 
-pub after-chord : (opening : Settings) (before : List Element) (broken : List Ratio) (tied : Bool) (from : ℕ) (chord : Chord)
-    → settings_at opening (record { kind = kinds.Chord chord; tied = tied } ∷ before) ≡ (chord_played (settings_at opening before) broken tied from chord).settings
+pub after-chord : (opening : VoiceState) (before : List Element) (broken : List Ratio) (tied : Bool) (from : ℕ) (chord : Chord)
+    → voice_state_at opening (record { kind = kinds.Chord chord; tied = tied } ∷ before) ≡ (play_chord (voice_state_at opening before) broken tied from chord).state
 after-chord opening before broken tied from chord = chord-by opening before broken tied from chord (has_note chord.parts) refl
 
-pub after-tuplet : (opening : Settings) (before : List Element) (tied : Bool) (mark : Tuplet)
-    → settings_at opening (record { kind = kinds.Tuplet mark; tied = tied } ∷ before)
-    ≡ record (settings_at opening before) { tuplet = (tuplet_opened (settings_at opening before).meter (settings_at opening before).tuplet mark).0 }
-unfolding settings_at meter_at unit_at signature_at shift_at tuplet_at accidentals_at dynamic_at
+pub after-tuplet : (opening : VoiceState) (before : List Element) (tied : Bool) (mark : Tuplet)
+    → voice_state_at opening (record { kind = kinds.Tuplet mark; tied = tied } ∷ before)
+    ≡ record (voice_state_at opening before) { tuplet = (begin_tuplet (voice_state_at opening before).meter (voice_state_at opening before).tuplet mark).0 }
+unfolding voice_state_at meter_at unit_at signature_at shift_at tuplet_at accidentals_at dynamic_at
 after-tuplet opening before tied mark = λ i. record {
   meter = meter_at opening.meter before;
   unit = unit_at opening.unit before;
@@ -157,16 +172,16 @@ after-tuplet opening before tied mark = λ i. record {
   dynamic = dynamic_at before;
 }
 
--- What looking back says where a field stands last.
-abbrev field_last : Settings → List Element → FieldKind → List ℕ → Settings
+-- What looking back says if a field is last.
+abbrev field_last : VoiceState → List Element → FieldKind → List ℕ → VoiceState
 field_last opening before kind value = record {
   meter = unwrap_or (meter_said kind value) (meter_at opening.meter before);
   unit = unwrap_or (unit_said kind value) (unit_at opening.unit before);
   signature = unwrap_or (signature_said kind value) (signature_at opening.signature before);
   shift = record {
-    clef = unwrap_or (shift_said kind value).clef (shift_at opening.shift before).clef;
-    octave = unwrap_or (shift_said kind value).octave (shift_at opening.shift before).octave;
-    transpose = unwrap_or (shift_said kind value).transpose (shift_at opening.shift before).transpose;
+    clef = unwrap_or (merge_shift kind value).clef (shift_at opening.shift before).clef;
+    octave = unwrap_or (merge_shift kind value).octave (shift_at opening.shift before).octave;
+    transpose = unwrap_or (merge_shift kind value).transpose (shift_at opening.shift before).transpose;
   };
   accidentals = accidentals_of (reach_of opening.accidentals) (unless_ended (ends_accidentals kind value) (notes_of_bar before));
   tuplet = tuplet_at opening.meter before;
@@ -174,51 +189,51 @@ field_last opening before kind value = record {
   dynamic = dynamic_at before;
 }
 
--- Behind what ends the accidentals they reach as far.
-ended : (opening : Settings) (before : List Element)
-    → no_accidentals (reach_of opening.accidentals) ≡ no_accidentals (reach_of (settings_at opening before).accidentals)
-unfolding settings_at accidentals_at
+-- After what ends the accidentals they reach as far.
+ended : (opening : VoiceState) (before : List Element)
+    → no_accidentals (reach_of opening.accidentals) ≡ no_accidentals (reach_of (voice_state_at opening before).accidentals)
+unfolding voice_state_at accidentals_at
 ended opening before = ap no_accidentals (sym (reach_kept (reach_of opening.accidentals) (notes_of_bar before)))
 
-in-meter : (settings : Settings) (r : Result Meter FaultCode) → record settings { meter = unwrap_or (result_ok r) settings.meter } ≡ in_meter settings r
-in-meter settings (Ok meter) = refl
-in-meter settings (Err fault) = refl
+in-meter : (state : VoiceState) (r : Result Meter FaultCode) → record state { meter = unwrap_or (result_ok r) state.meter } ≡ in_meter state r
+in-meter state (Ok meter) = refl
+in-meter state (Err fault) = refl
 
-in-unit : (settings : Settings) (r : Result Ratio FaultCode) → record settings { unit = unwrap_or (result_ok r) settings.unit } ≡ in_unit settings r
-in-unit settings (Ok unit) = refl
-in-unit settings (Err fault) = refl
+in-unit : (state : VoiceState) (r : Result Ratio FaultCode) → record state { unit = unwrap_or (result_ok r) state.unit } ≡ in_unit state r
+in-unit state (Ok unit) = refl
+in-unit state (Err fault) = refl
 
-in-voice : (settings : Settings) (r : Result Voice FaultCode)
-    → record settings { shift = with_properties settings.shift (shift_in_voice (result_ok r)) } ≡ in_voice settings r
-in-voice settings (Ok voice) = refl
-in-voice settings (Err fault) = refl
+in-voice : (state : VoiceState) (r : Result Voice FaultCode)
+    → record state { shift = with_properties state.shift (shift_in_voice (result_ok r)) } ≡ in_voice state r
+in-voice state (Ok voice) = refl
+in-voice state (Err fault) = refl
 
-in-part : (opening : Settings) (before : List Element) (part : Option ℕ)
-    → record (settings_at opening before) { accidentals = accidentals_of (reach_of opening.accidentals) (unless_ended (is_some part) (notes_of_bar before)) }
-    ≡ in_part (settings_at opening before) part
-unfolding settings_at accidentals_at
+in-part : (opening : VoiceState) (before : List Element) (part : Option ℕ)
+    → record (voice_state_at opening before) { accidentals = accidentals_of (reach_of opening.accidentals) (unless_ended (is_some part) (notes_of_bar before)) }
+    ≡ in_part (voice_state_at opening before) part
+unfolding voice_state_at accidentals_at
 in-part opening before (Some letter) =
-    ap (λ (accidentals : Accidentals). record (settings_at opening before) { accidentals = accidentals }) (ended opening before)
+    ap (λ (accidentals : Accidentals). record (voice_state_at opening before) { accidentals = accidentals }) (ended opening before)
 in-part opening before None = refl
 
-at-field : (opening : Settings) (before : List Element) (kind : FieldKind) (value : List ℕ)
-    → field_last opening before kind value ≡ after_field (settings_at opening before) kind value
-unfolding settings_at accidentals_at
-at-field opening before fields.Meter value = in-meter (settings_at opening before) (meter_of value)
-at-field opening before fields.UnitLength value = in-unit (settings_at opening before) (unit_of value)
+at-field : (opening : VoiceState) (before : List Element) (kind : FieldKind) (value : List ℕ)
+    → field_last opening before kind value ≡ after_field (voice_state_at opening before) kind value
+unfolding voice_state_at accidentals_at
+at-field opening before fields.Meter value = in-meter (voice_state_at opening before) (meter_of value)
+at-field opening before fields.UnitLength value = in-unit (voice_state_at opening before) (unit_of value)
 at-field opening before fields.Key value =
-    ap (λ (accidentals : Accidentals). record (after_field (settings_at opening before) fields.Key value) { accidentals = accidentals }) (ended opening before)
+    ap (λ (accidentals : Accidentals). record (after_field (voice_state_at opening before) fields.Key value) { accidentals = accidentals }) (ended opening before)
 at-field opening before fields.Parts value = in-part opening before (part_of value)
-at-field opening before fields.Voice value = in-voice (settings_at opening before) (voice_of value)
+at-field opening before fields.Voice value = in-voice (voice_state_at opening before) (voice_of value)
 at-field opening before fields.Tempo value = refl
 at-field opening before fields.Reference value = refl
 at-field opening before fields.Title value = refl
 at-field opening before fields.Other value = refl
 
--- What holds behind a token of a kind, which a tie follows or not.
-by-kind : (opening : Settings) (before : List Element) (kind : TokenKind) (tied : Bool)
-    → settings_at opening (record { kind = kind; tied = tied } ∷ before) ≡ after_kind (settings_at opening before) kind tied
-unfolding settings_at meter_at unit_at signature_at shift_at tuplet_at accidentals_at dynamic_at
+-- The state after a token of a kind, which a tie follows or not.
+by-kind : (opening : VoiceState) (before : List Element) (kind : TokenKind) (tied : Bool)
+    → voice_state_at opening (record { kind = kind; tied = tied } ∷ before) ≡ after_kind (voice_state_at opening before) kind tied
+unfolding voice_state_at meter_at unit_at signature_at shift_at tuplet_at accidentals_at dynamic_at
 by-kind opening before (kinds.Note note) tied = after-note opening before [] tied 0 note
 by-kind opening before (kinds.Rest length) tied = after-rest opening before [] tied 0 length
 by-kind opening before (kinds.Chord chord) tied = after-chord opening before [] tied 0 chord
@@ -226,7 +241,7 @@ by-kind opening before (kinds.Tuplet mark) tied = after-tuplet opening before ti
 by-kind opening before (kinds.InlineField field) tied = at-field opening before (kind_of field.letter) field.value
 by-kind opening before (kinds.Field field) tied = at-field opening before (kind_of field.letter) field.value
 by-kind opening before (kinds.Bar bar) tied =
-    ap (λ (accidentals : Accidentals). record (settings_at opening before) { accidentals = accidentals }) (ended opening before)
+    ap (λ (accidentals : Accidentals). record (voice_state_at opening before) { accidentals = accidentals }) (ended opening before)
 by-kind opening before (kinds.BarRest bars) tied = refl
 by-kind opening before (kinds.Ending passes) tied = refl
 by-kind opening before (kinds.Broken mark) tied = refl
@@ -238,7 +253,7 @@ by-kind opening before (kinds.Directive directive) tied = refl
 by-kind opening before kinds.Unclosed tied = refl
 by-kind opening before kinds.BadByte tied = refl
 
--- What looking back finds behind one element more.
-pub settings_behind : (opening : Settings) (before : List Element) (element : Element)
-    → settings_at opening (element ∷ before) ≡ after (settings_at opening before) element
-settings_behind opening before element = by-kind opening before element.kind element.tied
+-- What looking back finds after one element more.
+pub voice_state_behind : (opening : VoiceState) (before : List Element) (element : Element)
+    → voice_state_at opening (element ∷ before) ≡ after (voice_state_at opening before) element
+voice_state_behind opening before element = by-kind opening before element.kind element.tied

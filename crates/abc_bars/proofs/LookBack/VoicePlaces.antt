@@ -1,5 +1,6 @@
 -- The voice of a place, the tokens of each voice, and what holds for it.
-use Rattle.std.proofs.Common.{◌≡◌, ◌∙◌, ℕ, ◌<◌, ◌≤◌, Bool, true, false, cond, List, [], ◌∷◌, ◌++◌, length, Option, Some, None, bytes_eq, slice_range, Result, Ok, Err, refl, sym, ap, subst, append-nil, inl, inr, ⊎_elim, arith}
+use Rattle.std.proofs.Common.{◌≡◌, ◌∙◌, ℕ, ◌<◌, ◌≤◌, Bool, true, false, cond, List, [], ◌∷◌, ◌++◌, length, Option, Some, None, bytes_eq, slice_range, Result, Ok, Err, refl, sym, ap, subst, append-nil}
+use Rattle.std.proofs.Common.{inl, inr, ⊎_elim, arith}
 use Rattle.std.specs.Prelude.{All, ◌⊎◌, ◌||◌, nat_le}
 use Rattle.std.specs.Cmp.Lexicographic.{nat_list_eq_equiv}
 use Rattle.std.specs.List.{Contains, list_any}
@@ -15,27 +16,29 @@ use Rattle.abc_fields.specs.declared.key.Key.{Key}
 use Rattle.abc_fields.specs.declared.shift.Shift.{Shift}
 use Rattle.abc_fields.specs.declared.voice.Voice.{Voice}
 use Rattle.abc_fields.specs.Voice.{voice_of}
-use Rattle.abc_header.specs.declared.defaults.Defaults.{Defaults}
-use Rattle.abc_header.specs.declared.field_kind.FieldKind.{FieldKind}
-use Rattle.abc_header.specs.declared.field_kind.FieldKind.TheVariants as fields
-use Rattle.abc_header.specs.FieldKind.{kind_of}
-use Rattle.abc_header.specs.HeaderLine.{HeaderLine, FieldLine, DirectiveLine}
+use Rattle.abc_bars_header.specs.declared.defaults.Defaults.{Defaults}
+use Rattle.abc_bars_header.specs.declared.field_kind.FieldKind.{FieldKind}
+use Rattle.abc_bars_header.specs.declared.field_kind.FieldKind.TheVariants as fields
+use Rattle.abc_bars_header.specs.FieldKind.{kind_of}
+use Rattle.abc_bars_header.specs.HeaderLine.{HeaderLine, FieldLine, DirectiveLine}
 use Rattle.abc_scan.specs.declared.field.Field.{Field}
 use Rattle.abc_scan.specs.declared.token.TokenKind.{TokenKind}
 use Rattle.abc_scan.specs.declared.token.TokenKind.TheVariants as kinds
-use Rattle.abc_items.specs.declared.item.TheConstants.{MOST_VOICES}
-use Rattle.abc_cells.specs.declared.body.Body.{Body}
-use Rattle.abc_cells.specs.BodyFields.{part_of}
-use Rattle.abc_cells.proofs.BodyOpenings.{opening_names}
+use Rattle.abc_bars_items.specs.declared.item.TheConstants.{MOST_VOICES}
+use Rattle.abc_bars_body.specs.declared.body.Body.{Body}
+use Rattle.abc_bars_body.specs.BodyFields.{part_of}
+use Rattle.abc_bars_body.proofs.BodyOpenings.{opening_names}
 use Rattle.abc_bars.specs.LookBack.AfterBody.{mentions}
-use Rattle.abc_bars.specs.LookBack.ByName.{Owner, Named, Everyone, Current, Naming, first_name, is_owned_by, naming_at, naming_behind, owner_of, owner_of_field, owner_of_part, owner_of_voice, tokens_of}
+use Rattle.abc_bars.specs.LookBack.ByName.{Owner, Named, Everyone, Current, Naming, first_name, is_owned_by, naming_at, naming_behind, owner_of, owner_of_field, owner_of_part, owner_of_voice}
+use Rattle.abc_bars.specs.LookBack.ByName.{tokens_of}
 use Rattle.abc_bars.specs.LookBack.Element.{Element}
-use Rattle.abc_bars.specs.LookBack.Fields.{BeginsPart, IsField, NamesVoice}
+use Rattle.abc_bars.specs.LookBack.Fields.{BeginsPart, IsField, IsVoiceField, NamesVoice}
 use Rattle.abc_bars.specs.LookBack.Header.{declared_names, header_at, named_in, voice_on, voice_said, with_name, with_named}
 use Rattle.abc_bars.specs.LookBack.Place.{opening_at}
-use Rattle.abc_bars.specs.LookBack.VoicePlaces.{AreDeclared, AreMentioned, AreTokensOf, DeclaresNone, DeclaresVoice, HasNoVoice, IsAfterLine, IsFirstDeclared, IsNoVoiceField, IsPlayed, IsTooMany, IsVoiceAt, IsVoiceField, IsWithMention, PlacesHoldOfVoices, VoicesAreMentioned, VoicesHoldOfTokens, of_field, of_first, of_last, of_none, of_part, of_place}
+use Rattle.abc_bars.specs.LookBack.VoicePlaces.{AreDeclared, AreMentioned, AreTokensOf, DeclaresNone, DeclaresVoice, HasNoVoice, IsAfterLine, IsFirstDeclared, IsNoVoiceField, IsPlayed, IsTooMany}
+use Rattle.abc_bars.specs.LookBack.VoicePlaces.{IsVoiceAt, IsWithMention, PlacesHoldOfVoices, VoicesAreMentioned, VoicesHoldOfTokens, of_field, of_first, of_last, of_none, of_part, of_place}
 use Rattle.abc_bars.proofs.DeclaredVoices.{declared_keys}
-use Rattle.abc_bars.proofs.LookBack.Fields.{begins-part, part-of}
+use Rattle.abc_bars.proofs.LookBack.Fields.{begins-part, names-voice, owner-named, part-of, voice-accepted, voice-owner}
 use Rattle.abc_bars.proofs.LookBack.Held.{here_found, names_found, voices_found}
 
 -- A V: as it is read and as it is said.
@@ -43,7 +46,7 @@ read-names : (field : Field) (r : Result Voice FaultCode) (said : List ℕ × Sh
     → option_map (named_in field.value) (result_ok r) ≡ Some said → NamesVoice said.0 field
 read-names field (Ok voice) said is read e =
     let same : named_in field.value voice ≡ said = cc in
-    record { kind = is; voice = voice; accepted = read; spelled = ap (λ (p : List ℕ × Shift). p.0) (sym same) }
+    subst (λ (n : List ℕ). NamesVoice n field) (ap (λ (p : List ℕ × Shift). p.0) same) (names-voice field voice is read)
 read-names field (Err fault) said is read e = absurd (cc)
 
 field-names : (field : Field) (kind : FieldKind) (said : List ℕ × Shift) → kind_of field.letter ≡ kind → voice_said kind field.value ≡ Some said
@@ -58,7 +61,7 @@ line-names (DirectiveLine directive) said e = absurd (cc)
 names-said : (field : Field) (name : List ℕ) → (names : NamesVoice name field) → voice_said (kind_of field.letter) field.value ≡ Some (name, names.voice.shift)
 names-said field name names =
     ap (λ (kind : FieldKind). voice_said kind field.value) names.kind
-    ∙ ap (λ (r : Result Voice FaultCode). option_map (named_in field.value) (result_ok r)) names.accepted
+    ∙ ap (λ (r : Result Voice FaultCode). option_map (named_in field.value) (result_ok r)) (voice-accepted field name names)
     ∙ ap (λ (n : List ℕ). Some (n, names.voice.shift)) (sym names.spelled)
 
 line-said : (line : HeaderLine) (name : List ℕ) → DeclaresVoice name line → (shift : Shift) × (voice_on line ≡ Some (name, shift))
@@ -154,17 +157,6 @@ begins [] = no_voice (All-nil DeclaresNone) refl
 begins (line ∷ before) = begins-by line before (voice_on line) refl (begins before)
 
 -- Whose a token is.
-owner-named : (field : Field) (name : List ℕ) → NamesVoice name field → owner_of_field (kind_of field.letter) field.value ≡ Named name
-owner-named field name names =
-    ap (λ (kind : FieldKind). owner_of_field kind field.value) names.kind
-    ∙ ap (owner_of_voice field.value) names.accepted
-    ∙ ap Named (sym names.spelled)
-
-voice-owner : (kind : TokenKind) (name : List ℕ) → IsVoiceField name kind → owner_of kind ≡ Named name
-voice-owner (kinds.Field field) name is = owner-named field name is
-voice-owner (kinds.InlineField field) name is = owner-named field name is
-voice-owner _ name is = absurd is
-
 part-owned : (field : Field) → BeginsPart field → owner_of_field (kind_of field.letter) field.value ≡ Everyone
 part-owned field part = ap (λ (kind : FieldKind). owner_of_field kind field.value) part.kind ∙ ap owner_of_part (part-of field part)
 
@@ -181,7 +173,7 @@ named-by : (field : Field) (r : Result Voice FaultCode) (name : List ℕ) → ki
     → owner_of_voice field.value r ≡ Named name → NamesVoice name field
 named-by field (Ok voice) name is read e =
     let same : slice_range field.value voice.from voice.to ≡ name = cc in
-    record { kind = is; voice = voice; accepted = read; spelled = sym same }
+    subst (λ (n : List ℕ). NamesVoice n field) same (names-voice field voice is read)
 named-by field (Err fault) name is read e = absurd (cc)
 
 named-field : (field : Field) (kind : FieldKind) (name : List ℕ) → kind_of field.letter ≡ kind → owner_of_field kind field.value ≡ Named name → NamesVoice name field

@@ -5,22 +5,22 @@ use Rattle.std.specs.Cmp.Lexicographic.{nat_list_eq_equiv}
 use Rattle.std.specs.List.{IsDistinct}
 use Rattle.std.specs.Map.{keys_of}
 use Rattle.abc_fields.specs.declared.key.Key.{Key}
-use Rattle.abc_header.specs.HeaderLine.{HeaderLine}
-use Rattle.abc_cells.specs.declared.body.Body.{Body}
-use Rattle.abc_header.specs.declared.defaults.Defaults.{Defaults}
-use Rattle.abc_settings.specs.declared.settings.Settings.{Settings}
-use Rattle.abc_items.specs.declared.item.TheConstants.{MOST_VOICES}
+use Rattle.abc_bars_header.specs.HeaderLine.{HeaderLine}
+use Rattle.abc_bars_body.specs.declared.body.Body.{Body}
+use Rattle.abc_bars_header.specs.declared.defaults.Defaults.{Defaults}
+use Rattle.abc_bars_voice.specs.declared.voice_state.VoiceState.{VoiceState}
+use Rattle.abc_bars_items.specs.declared.item.TheConstants.{MOST_VOICES}
 use Rattle.abc_bars.specs.LookBack.Element.{Element}
 use Rattle.abc_bars.specs.LookBack.Header.{header_at}
 use Rattle.abc_bars.specs.LookBack.Held.{IsPlaced, Roll, current_by, place_of_current, roll_of}
-use Rattle.abc_bars.proofs.LookBack.ByPlace.{Each, Former, First, Hearing, Here, New, Nobody, hearing_of, music_at, roll_at, roll_behind, settings_in, unnamed_music, placed_at}
+use Rattle.abc_bars.proofs.LookBack.ByPlace.{Each, Former, First, Hearing, Here, New, Nobody, hearing_of, music_at, roll_at, roll_behind, voice_state_in, unnamed_music, placed_at}
 use Rattle.abc_bars.specs.LookBack.Place.{opening_at}
-use Rattle.abc_cells.proofs.BodyOpenings.{opening_names}
+use Rattle.abc_bars_body.proofs.BodyOpenings.{opening_names}
 use Rattle.abc_bars.proofs.DeclaredVoices.{declared_keys, distinct_names, few_names}
 use Rattle.abc_bars.proofs.LookBack.Known.{keys-by}
 use Rattle.abc_bars.proofs.LookBack.Placed.{IsAmong, among, placed-at, placed-opening}
 
-current-of : (current : Option ℕ) (unnamed : Settings) → place_of_current (current_by current unnamed) ≡ current
+current-of : (current : Option ℕ) (unnamed : VoiceState) → place_of_current (current_by current unnamed) ≡ current
 current-of None unnamed = refl
 current-of (Some place) unnamed = refl
 
@@ -28,15 +28,15 @@ current-of (Some place) unnamed = refl
 pub roll-held : (opening : Body) (before : List Element) → roll_of (placed_at opening before) ≡ roll_at (roll_of opening) before
 unfolding placed_at
 roll-held opening before = λ i. record {
-  names = keys-by (λ at. settings_in (music_at opening at before)) (roll_at (roll_of opening) before).names i;
-  current = current-of (roll_at (roll_of opening) before).current (settings_in (unnamed_music opening before)) i;
+  names = keys-by (λ at. voice_state_in (music_at opening at before)) (roll_at (roll_of opening) before).names i;
+  current = current-of (roll_at (roll_of opening) before).current (voice_state_in (unnamed_music opening before)) i;
 }
 
 no-name : IsDistinct bytes_eq []
 unfolding IsDistinct
 no-name = tt
 
--- No voice is mentioned twice behind a token.
+-- No voice is mentioned twice after a token.
 distinct-behind : (roll : Roll) (hearing : Hearing) → IsAmong roll.names hearing → IsDistinct bytes_eq roll.names → IsDistinct bytes_eq (roll_behind roll hearing).names
 distinct-behind roll Nobody h distinct = distinct
 distinct-behind roll Here h distinct = distinct
@@ -51,7 +51,7 @@ distinct-at opening distinct (element ∷ before) =
     let roll = roll_at opening before in
     distinct-behind roll (hearing_of roll element.kind) (among roll element.kind) (distinct-at opening distinct before)
 
--- There are at most fifteen behind a token.
+-- There are at most fifteen after a token.
 few-behind : (roll : Roll) (hearing : Hearing) → IsAmong roll.names hearing → length roll.names ≤ MOST_VOICES → length (roll_behind roll hearing).names ≤ MOST_VOICES
 few-behind roll Nobody h few = few
 few-behind roll Here h few = few

@@ -1,4 +1,4 @@
--- What holds for a voice behind one element more.
+-- The state of a voice after one element more.
 use Rattle.std.specs.Prelude.{ℕ, Bool, List, [], Option, Some, None, Result, Ok, Err}
 use Rattle.abc_fields.specs.declared.fault.FaultCode.{FaultCode}
 use Rattle.abc_fields.specs.declared.meter.Meter.{Meter}
@@ -10,70 +10,70 @@ use Rattle.abc_fields.specs.Voice.{voice_of}
 use Rattle.abc_scan.specs.declared.token.TokenKind.{TokenKind}
 use Rattle.abc_scan.specs.declared.token.TokenKind.TheVariants as kinds
 use Rattle.abc_time.specs.declared.ratio.Ratio.{Ratio}
-use Rattle.abc_header.specs.declared.field_kind.FieldKind.{FieldKind}
-use Rattle.abc_header.specs.declared.field_kind.FieldKind.TheVariants as fields
-use Rattle.abc_settings.specs.declared.settings.Settings.{Settings}
-use Rattle.abc_cells.specs.BodyFields.{in_key, part_of}
-use Rattle.abc_header.specs.FieldKind.{kind_of}
-use Rattle.abc_settings.specs.Settings.{without_accidentals}
-use Rattle.abc_music.specs.TimeTokens.{chord_played, note_played, rest_played}
-use Rattle.abc_settings.specs.Tuplet.{tuplet_opened}
-use Rattle.abc_settings.specs.VoiceShift.{with_properties}
+use Rattle.abc_bars_header.specs.declared.field_kind.FieldKind.{FieldKind}
+use Rattle.abc_bars_header.specs.declared.field_kind.FieldKind.TheVariants as fields
+use Rattle.abc_bars_voice.specs.declared.voice_state.VoiceState.{VoiceState}
+use Rattle.abc_bars_body.specs.BodyFields.{in_key, part_of}
+use Rattle.abc_bars_header.specs.FieldKind.{kind_of}
+use Rattle.abc_bars_voice.specs.VoiceState.{without_accidentals}
+use Rattle.abc_bars_notes.specs.TimeTokens.{play_chord, play_note, play_rest}
+use Rattle.abc_bars_voice.specs.Tuplet.{begin_tuplet}
+use Rattle.abc_bars_voice.specs.VoiceShift.{with_properties}
 use Rattle.abc_bars.specs.LookBack.Element.{Element}
 
--- Behind an M: that says this meter, or is refused.
-abbrev pub in_meter : Settings → Result Meter FaultCode → Settings
-in_meter settings (Ok meter) = record settings { meter = meter }
-in_meter settings (Err fault) = settings
+-- After an M: that says this meter, or is refused.
+abbrev pub in_meter : VoiceState → Result Meter FaultCode → VoiceState
+in_meter state (Ok meter) = record state { meter = meter }
+in_meter state (Err fault) = state
 
--- Behind an L: that says this unit note length, or is refused.
-abbrev pub in_unit : Settings → Result Ratio FaultCode → Settings
-in_unit settings (Ok unit) = record settings { unit = unit }
-in_unit settings (Err fault) = settings
+-- After an L: that says this unit note length, or is refused.
+abbrev pub in_unit : VoiceState → Result Ratio FaultCode → VoiceState
+in_unit state (Ok unit) = record state { unit = unit }
+in_unit state (Err fault) = state
 
--- Behind a P: that names this part, or none.
-abbrev pub in_part : Settings → Option ℕ → Settings
-in_part settings (Some letter) = without_accidentals settings
-in_part settings None = settings
+-- After a P: that names this part, or none.
+abbrev pub in_part : VoiceState → Option ℕ → VoiceState
+in_part state (Some letter) = without_accidentals state
+in_part state None = state
 
--- Behind a V: of the voice, with these properties, or that is refused.
-abbrev pub in_voice : Settings → Result Voice FaultCode → Settings
-in_voice settings (Ok voice) = record settings { shift = with_properties settings.shift voice.shift }
-in_voice settings (Err fault) = settings
+-- After a V: of the voice, with these properties, or that is refused.
+abbrev pub in_voice : VoiceState → Result Voice FaultCode → VoiceState
+in_voice state (Ok voice) = record state { shift = with_properties state.shift voice.shift }
+in_voice state (Err fault) = state
 
--- Behind a field of this kind with this value.
-abbrev pub after_field : Settings → FieldKind → List ℕ → Settings
-after_field settings fields.Meter value = in_meter settings (meter_of value)
-after_field settings fields.UnitLength value = in_unit settings (unit_of value)
-after_field settings fields.Key value = in_key settings (key_or_empty (key_of value))
-after_field settings fields.Parts value = in_part settings (part_of value)
-after_field settings fields.Voice value = in_voice settings (voice_of value)
-after_field settings fields.Tempo value = settings
-after_field settings fields.Reference value = settings
-after_field settings fields.Title value = settings
-after_field settings fields.Other value = settings
+-- After a field of this kind with this value.
+abbrev pub after_field : VoiceState → FieldKind → List ℕ → VoiceState
+after_field state fields.Meter value = in_meter state (meter_of value)
+after_field state fields.UnitLength value = in_unit state (unit_of value)
+after_field state fields.Key value = in_key state (key_or_empty (key_of value))
+after_field state fields.Parts value = in_part state (part_of value)
+after_field state fields.Voice value = in_voice state (voice_of value)
+after_field state fields.Tempo value = state
+after_field state fields.Reference value = state
+after_field state fields.Title value = state
+after_field state fields.Other value = state
 
--- Behind a token of this kind, which a tie directly follows or not. Its place and the factors of broken
+-- After a token of this kind, which a tie directly follows or not. Its place and the factors of broken
 -- rhythm change nothing of what it leaves.
-abbrev pub after_kind : Settings → TokenKind → Bool → Settings
-after_kind settings (kinds.Note note) tied = (note_played settings [] tied 0 note).settings
-after_kind settings (kinds.Rest length) tied = (rest_played settings [] 0 length).settings
-after_kind settings (kinds.Chord chord) tied = (chord_played settings [] tied 0 chord).settings
-after_kind settings (kinds.Tuplet mark) tied = record settings { tuplet = (tuplet_opened settings.meter settings.tuplet mark).0 }
-after_kind settings (kinds.Bar bar) tied = without_accidentals settings
-after_kind settings (kinds.InlineField field) tied = after_field settings (kind_of field.letter) field.value
-after_kind settings (kinds.Field field) tied = after_field settings (kind_of field.letter) field.value
-after_kind settings (kinds.BarRest bars) tied = settings
-after_kind settings (kinds.Ending passes) tied = settings
-after_kind settings (kinds.Broken mark) tied = settings
-after_kind settings kinds.Tie tied = settings
-after_kind settings kinds.Blank tied = settings
-after_kind settings kinds.NoEffect tied = settings
-after_kind settings (kinds.Dynamic dynamic) tied = record settings { dynamic = Some dynamic }
-after_kind settings (kinds.Directive directive) tied = settings
-after_kind settings kinds.Unclosed tied = settings
-after_kind settings kinds.BadByte tied = settings
+abbrev pub after_kind : VoiceState → TokenKind → Bool → VoiceState
+after_kind state (kinds.Note note) tied = (play_note state [] tied 0 note).state
+after_kind state (kinds.Rest length) tied = (play_rest state [] 0 length).state
+after_kind state (kinds.Chord chord) tied = (play_chord state [] tied 0 chord).state
+after_kind state (kinds.Tuplet mark) tied = record state { tuplet = (begin_tuplet state.meter state.tuplet mark).0 }
+after_kind state (kinds.Bar bar) tied = without_accidentals state
+after_kind state (kinds.InlineField field) tied = after_field state (kind_of field.letter) field.value
+after_kind state (kinds.Field field) tied = after_field state (kind_of field.letter) field.value
+after_kind state (kinds.BarRest bars) tied = state
+after_kind state (kinds.Ending passes) tied = state
+after_kind state (kinds.Broken mark) tied = state
+after_kind state kinds.Tie tied = state
+after_kind state kinds.Blank tied = state
+after_kind state kinds.NoEffect tied = state
+after_kind state (kinds.Dynamic dynamic) tied = record state { dynamic = Some dynamic }
+after_kind state (kinds.Directive directive) tied = state
+after_kind state kinds.Unclosed tied = state
+after_kind state kinds.BadByte tied = state
 
--- Behind one element more.
-abbrev pub after : Settings → Element → Settings
-after settings element = after_kind settings element.kind element.tied
+-- After one element more.
+abbrev pub after : VoiceState → Element → VoiceState
+after state element = after_kind state element.kind element.tied

@@ -3,18 +3,18 @@
 use Rattle.std.specs.Prelude.{◌≡◌, List, [], ◌∷◌, map, Option, Some, None}
 use Rattle.abc_scan.specs.declared.spanned.Spanned.{Spanned}
 use Rattle.abc_scan.specs.declared.token.TokenKind.{TokenKind}
-use Rattle.abc_header.specs.declared.defaults.Defaults.{Defaults}
+use Rattle.abc_bars_header.specs.declared.defaults.Defaults.{Defaults}
 use Rattle.std.specs.Option.{option_map}
-use Rattle.abc_cells.specs.Entry.{opening_after}
-use Rattle.abc_cells.specs.declared.entry.Entry.{Entry}
-use Rattle.abc_cells.specs.declared.entry.Entry.TheVariants as entries
-use Rattle.abc_header.specs.Defaults.{no_defaults}
-use Rattle.abc_header.specs.HeaderLine.{HeaderLine}
-use Rattle.abc_cells.specs.Step.{line_in}
+use Rattle.abc_bars_body.specs.Entry.{opening_after}
+use Rattle.abc_bars_body.specs.declared.entry.Entry.{Entry}
+use Rattle.abc_bars_body.specs.declared.entry.Entry.TheVariants as entries
+use Rattle.abc_bars_header.specs.Defaults.{no_defaults}
+use Rattle.abc_bars_header.specs.HeaderLine.{HeaderLine}
+use Rattle.abc_bars_body.specs.Step.{line_in}
 use Rattle.abc_bars.specs.LookBack.Defaults.{defaults_at}
-use Rattle.abc_bars.specs.LookBack.Place.{Place, InFileHeader, InHeader, given_at, place_behind, view}
+use Rattle.abc_bars.specs.LookBack.Place.{Place, InFileHeader, InHeader, result_at, place_behind, view}
 use Rattle.abc_fold.specs.Steps.{Steps}
-use Rattle.abc_items.specs.Item.{Items}
+use Rattle.abc_bars_items.specs.Item.{Items}
 
 -- The tokens of a cell.
 abbrev pub CellTokens : Type 0
@@ -25,25 +25,25 @@ abbrev pub with_line : Option HeaderLine → List HeaderLine → List HeaderLine
 with_line None before = before
 with_line (Some line) before = line ∷ before
 
--- The lines of a header among cells, newest first, before those that stand before them.
+-- The lines of a header among cells, newest first, before those that are before them.
 abbrev pub lines_behind : List CellTokens → List HeaderLine → List HeaderLine
 lines_behind [] before = before
 lines_behind (cell ∷ cells) before = lines_behind cells (with_line (line_in cell) before)
 
--- Where a file header begins: nothing stands before it.
-abbrev pub file_header_begins : Place
-file_header_begins = InFileHeader []
+-- Where a file header begins: nothing is before it.
+abbrev pub file_header_beginning : Place
+file_header_beginning = InFileHeader []
 
 -- The values that the cells of a file header set, if there is one.
-abbrev pub values_set : Option (List CellTokens) → Defaults
-values_set None = no_defaults
-values_set (Some cells) = defaults_at no_defaults (lines_behind cells [])
+abbrev pub values_of_header : Option (List CellTokens) → Defaults
+values_of_header None = no_defaults
+values_of_header (Some cells) = defaults_at no_defaults (lines_behind cells [])
 
 -- Where a tune begins, by the cells of the file header, if there is one.
-abbrev pub tune_begins : Option (List CellTokens) → Place
-tune_begins header = InHeader (values_set header) []
+abbrev pub tune_beginning : Option (List CellTokens) → Place
+tune_beginning header = InHeader (values_of_header header) []
 
--- The place behind cells.
+-- The place after cells.
 abbrev pub place_after : Place → List CellTokens → Place
 place_after place [] = place
 place_after place (cell ∷ cells) = place_after (place_behind place cell) cells
@@ -58,11 +58,11 @@ abbrev pub views_along : Place → List CellTokens → List Entry
 views_along place cells = map view (places_along place cells)
 
 -- What each cell gives at its place.
-abbrev pub given_along : Place → List CellTokens → List Items
-given_along place [] = []
-given_along place (cell ∷ cells) = given_at place cell ∷ given_along (place_behind place cell) cells
+abbrev pub results_along : Place → List CellTokens → List Items
+results_along place [] = []
+results_along place (cell ∷ cells) = result_at place cell ∷ results_along (place_behind place cell) cells
 
--- The state behind cells, by the steps of a fold.
+-- The state after cells, by the steps of a fold.
 abbrev pub state_after : {State Cell : Type 0} → (State → Cell → State) → State → List Cell → State
 state_after next state [] = state
 state_after next state (cell ∷ cells) = state_after next (next state cell) cells
@@ -76,15 +76,16 @@ states_along next state (cell ∷ cells) = state ∷ states_along next (next sta
 abbrev pub tune_state : Steps Entry CellTokens Items → Option (List CellTokens) → Entry
 tune_state steps header = opening_after (option_map (state_after steps.next (entries.FileHeader no_defaults)) header)
 
--- What each cell gives where it is entered.
-abbrev pub items_along : {State Cell Items : Type 0} → (State → Cell → State) → (State → Cell → Items) → State → List Cell → List Items
+-- What each cell gives if it is entered.
+abbrev pub items_along : {State Cell Items : Type 0} → (State → Cell → State) → (State → Cell → Items) → State → List Cell
+    → List Items
 items_along next gives state [] = []
 items_along next gives state (cell ∷ cells) = gives state cell ∷ items_along next gives (next state cell) cells
 
 -- From this state at this place on, the steps of a fold along any cells are the look back: each cell is
--- entered in the view of its place, gives what looking back gives there, its faults among it, and behind them
--- holds the view of the place behind them.
+-- entered in the view of its place, gives what looking back gives there, its faults among it, and after them
+-- holds the view of the place after them.
 pub record IsLookBack (steps : Steps Entry CellTokens Items) (state : Entry) (place : Place) : Type 0 where
   pub entered : (cells : List CellTokens) → states_along steps.next state cells ≡ views_along place cells
-  pub given : (cells : List CellTokens) → items_along steps.next steps.gives state cells ≡ given_along place cells
+  pub given : (cells : List CellTokens) → items_along steps.next steps.gives state cells ≡ results_along place cells
   pub behind : (cells : List CellTokens) → state_after steps.next state cells ≡ view (place_after place cells)

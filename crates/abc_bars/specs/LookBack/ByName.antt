@@ -1,8 +1,9 @@
--- What holds for a voice of a tune's body in two sentences, by names. The name of the voice at a place is that of
+-- The state of a voice of a tune's body in two sentences, by names. The name of the voice at a place is that of
 -- the last accepted V: before it, if that is not one voice too many; else that of the first voice that the header
--- declares, or none. The tokens of a voice are those that stand where it is the current one, each V: that names
--- it, and each accepted P:. ABC 2.1 section 7.1; that a P: is every voice's, and the limit, are our own.
-use Rattle.std.specs.Prelude.{ℕ, Bool, true, if◌then◌else◌, List, [], ◌∷◌, slice_range, bytes_eq, Option, Some, None, unwrap_or, Result, Ok, Err}
+-- declares, or none. The tokens of a voice are those that are if it is the current one, each V: that names
+-- it, and each accepted P:. ABC 2.1 section 7.1; that a P: is every voice's, and the limit, are not in ABC 2.1.
+use Rattle.std.specs.Prelude.{ℕ, Bool, true, if◌then◌else◌, List, [], ◌∷◌, slice_range, bytes_eq, Option, Some, None, unwrap_or}
+use Rattle.std.specs.Prelude.{Result, Ok, Err}
 use Rattle.std.specs.List.{list_any}
 use Rattle.std.specs.Map.{keys_of}
 use Rattle.std.specs.Option.{option_and_then}
@@ -11,17 +12,17 @@ use Rattle.abc_fields.specs.declared.voice.Voice.{Voice}
 use Rattle.abc_fields.specs.Voice.{voice_of}
 use Rattle.abc_scan.specs.declared.field.Field.{Field}
 use Rattle.abc_scan.specs.declared.token.TokenKind.{TokenKind}
-use Rattle.abc_cells.specs.declared.body.Body.{Body}
-use Rattle.abc_header.specs.declared.field_kind.FieldKind.{FieldKind}
-use Rattle.abc_header.specs.declared.field_kind.FieldKind.TheVariants as fields
-use Rattle.abc_settings.specs.declared.settings.Settings.{Settings}
-use Rattle.abc_cells.specs.BodyFields.{part_of}
-use Rattle.abc_header.specs.FieldKind.{kind_of}
-use Rattle.abc_header.specs.Voices.{place_of, voice_at}
+use Rattle.abc_bars_body.specs.declared.body.Body.{Body}
+use Rattle.abc_bars_header.specs.declared.field_kind.FieldKind.{FieldKind}
+use Rattle.abc_bars_header.specs.declared.field_kind.FieldKind.TheVariants as fields
+use Rattle.abc_bars_voice.specs.declared.voice_state.VoiceState.{VoiceState}
+use Rattle.abc_bars_body.specs.BodyFields.{part_of}
+use Rattle.abc_bars_header.specs.FieldKind.{kind_of}
+use Rattle.abc_bars_header.specs.Voices.{place_of, voice_at}
 use Rattle.abc_bars.specs.LookBack.AfterBody.{mentions}
 use Rattle.abc_bars.specs.LookBack.Element.{Element, field_of}
 use Rattle.abc_bars.specs.LookBack.Header.{with_name}
-use Rattle.abc_bars.specs.LookBack.Voice.{settings_at}
+use Rattle.abc_bars.specs.LookBack.Voice.{voice_state_at}
 
 -- Whose a token is.
 pub data Owner : Type 0 where
@@ -60,13 +61,13 @@ pub record Naming : Type 0 where
   pub names : List (List ℕ)
   pub current : List ℕ
 
--- The names behind a token, which mentions its voice or not.
+-- The names after a token, which mentions its voice or not.
 abbrev pub names_behind : Naming → Owner → Bool → List (List ℕ)
 names_behind naming (Named name) sounds = with_name naming.names name
 names_behind naming Everyone sounds = naming.names
 names_behind naming Current sounds = if sounds then with_name naming.names naming.current else naming.names
 
--- The name of the current voice behind a token, where these are mentioned behind it.
+-- The name of the current voice after a token, with these mentioned after it.
 abbrev pub current_behind : List (List ℕ) → Owner → List ℕ → List ℕ
 current_behind names (Named name) current = if list_any (bytes_eq name) names then name else current
 current_behind names Everyone current = current
@@ -104,10 +105,10 @@ tokens_of opening name (element ∷ before) =
     if is_owned_by name (naming_at opening before).current (owner_of element.kind) then element ∷ tokens_of opening name before
     else tokens_of opening name before
 
--- What holds for the voice of this name where the body begins.
-abbrev pub opening_of : Body → List ℕ → Settings
+-- The state of the voice of this name where the body begins.
+abbrev pub opening_of : Body → List ℕ → VoiceState
 opening_of opening name = unwrap_or (option_and_then (voice_at opening.voices) (place_of name opening.voices)) opening.another
 
--- What holds for the voice of this name at a place.
-abbrev pub settings_named : Body → List ℕ → List Element → Settings
-settings_named opening name before = settings_at (opening_of opening name) (tokens_of opening name before)
+-- The state of the voice of this name at a place.
+abbrev pub voice_state_named : Body → List ℕ → List Element → VoiceState
+voice_state_named opening name before = voice_state_at (opening_of opening name) (tokens_of opening name before)

@@ -1,9 +1,20 @@
--- The faults of fields, bytes and lengths in the cells of a body, token by token and in the words of the rules. ABC 2.1 sections 3.1,
--- 4.3, 4.5, 4.9, 4.17 and 7.1; the faults are not in ABC 2.1.
-use Rattle.std.specs.Prelude.{◌≡◌, ◌⊎◌, ◌==◌, ◌||◌, ℕ, ◌+◌, ◌<◌, ◌≤◌, Bool, List, [], ◌∷◌, ◌++◌, length, filter, take, slice_range, Option, Some, None, option_to_list}
+-- The faults of fields, bytes and lengths in the cells of a body, token by token and in the words of the rules. ABC 2.1 sections
+-- 3.1, 4.3, 4.5, 4.9, 4.17 and 7.1; the faults are not in ABC 2.1.
+use Rattle.std.specs.Prelude.{◌≡◌, ◌⊎◌, ◌==◌, ◌||◌, ℕ, ◌+◌, ◌<◌, ◌≤◌, Bool, List, [], ◌∷◌, ◌++◌, length, filter, take, slice_range}
+use Rattle.std.specs.Prelude.{Option, Some, None, option_to_list}
 use Rattle.std.specs.List.{Contains}
 use Rattle.abc_fields.specs.declared.fault.FaultCode.{FaultCode}
-use Rattle.abc_fields.specs.declared.fault.FaultCode.TheVariants.{BadByte, BadEnding, BadKey, BadLength, BadMeter, BadPart, BadProgram, BadTempo, BadUnit, BadVoice, BigChord, TempoRange, TooManyVoices, Unclosed}
+use Rattle.abc_fields.specs.declared.fault.FaultCode.TheVariants.{BadByte, BadEnding, BadKey, BadLength, BadMeter, BadPart}
+use Rattle.abc_fields.specs.declared.fault.FaultCode.TheVariants.{
+  BadProgram,
+  BadTempo,
+  BadUnit,
+  BadVoice,
+  BigChord,
+  TempoRange,
+  TooManyVoices,
+  Unclosed,
+}
 use Rattle.abc_fields.specs.declared.key.Key.{Key}
 use Rattle.abc_fields.specs.declared.meter.Meter.{Meter}
 use Rattle.abc_fields.specs.declared.meter.Meter.TheVariants.{Free, Of}
@@ -21,28 +32,28 @@ use Rattle.abc_scan.specs.declared.chord.Chord.{Chord}
 use Rattle.abc_scan.specs.declared.directive.Directive.{Directive}
 use Rattle.abc_scan.specs.declared.directive.Directive.TheVariants as directives
 use Rattle.abc_scan.specs.declared.field.Field.{Field}
-use Rattle.abc_scan.specs.declared.parts.ChordPartKind.{ChordPartKind}
-use Rattle.abc_scan.specs.declared.parts.ChordPartKind.TheVariants as parts
+use Rattle.abc_scan.specs.declared.chord_part.ChordPartKind.{ChordPartKind}
+use Rattle.abc_scan.specs.declared.chord_part.ChordPartKind.TheVariants as parts
 use Rattle.abc_scan.specs.declared.spanned.Spanned.{Spanned}
 use Rattle.abc_scan.specs.declared.token.TokenKind.{TokenKind}
 use Rattle.abc_scan.specs.declared.token.TokenKind.TheVariants as kinds
 use Rattle.abc_time.specs.declared.ratio.Ratio.{Ratio}
 use Rattle.abc_time.specs.Tempo.{IsQuarter}
-use Rattle.abc_header.specs.FieldKind.{kind_of}
-use Rattle.abc_header.specs.HeaderLine.{HeaderLine}
-use Rattle.abc_header.specs.declared.defaults.Defaults.{Defaults}
-use Rattle.abc_header.specs.declared.field_kind.FieldKind.{FieldKind}
-use Rattle.abc_header.specs.declared.field_kind.FieldKind.TheVariants as fields
-use Rattle.abc_items.specs.Column.{column_of}
-use Rattle.abc_music.specs.BarRest.{AreBars}
-use Rattle.abc_music.specs.ChordFaults.{AreFaultsOf}
-use Rattle.abc_music.specs.ChordNotes.{big_at, notes_of}
-use Rattle.abc_music.specs.Lasting.{IsPlace, Lasts}
+use Rattle.abc_bars_header.specs.FieldKind.{kind_of}
+use Rattle.abc_bars_header.specs.HeaderLine.{HeaderLine}
+use Rattle.abc_bars_header.specs.declared.defaults.Defaults.{Defaults}
+use Rattle.abc_bars_header.specs.declared.field_kind.FieldKind.{FieldKind}
+use Rattle.abc_bars_header.specs.declared.field_kind.FieldKind.TheVariants as fields
+use Rattle.abc_bars_items.specs.Column.{column_of}
+use Rattle.abc_bars_notes.specs.BarRest.{AreBars}
+use Rattle.abc_bars_notes.specs.ChordFaults.{AreFaultsOf}
+use Rattle.abc_bars_notes.specs.ChordNotes.{big_at, notes_of}
+use Rattle.abc_bars_notes.specs.Lasting.{IsPlace, Lasts}
 use Rattle.abc_bars.specs.LookBack.ByName.{naming_at}
-use Rattle.abc_bars.specs.LookBack.CellPlace.{CellPlace, before_place, cell_with, standing_at}
+use Rattle.abc_bars.specs.LookBack.CellPlace.{CellPlace, before_place, cell_with, voice_place_at}
 use Rattle.abc_bars.specs.LookBack.Element.{Element, field_of}
-use Rattle.abc_bars.specs.LookBack.Lengths.{held_there}
-use Rattle.abc_bars.specs.LookBack.Place.{given_in_body, opening_at}
+use Rattle.abc_bars.specs.LookBack.Lengths.{state_there}
+use Rattle.abc_bars.specs.LookBack.Place.{result_in_body, opening_at}
 use Rattle.abc_bars.specs.LookBack.Voice.{meter_at, unit_at}
 
 -- Faults, each with its column.
@@ -71,7 +82,8 @@ place_in start front token ahead = record {
 
 -- The faults of the tokens of a cell after these: for each token those that it has at its place, in the order of the tokens, and no
 -- others.
-abbrev pub AreFaultsAfter : (CellPlace → TokenKind → Faults → Type 0) → CellStart → List (Spanned TokenKind) → List (Spanned TokenKind) → Faults → Type 0
+abbrev pub AreFaultsAfter : (CellPlace → TokenKind → Faults → Type 0) → CellStart → List (Spanned TokenKind)
+    → List (Spanned TokenKind) → Faults → Type 0
 AreFaultsAfter Has start front [] faults = faults ≡ []
 AreFaultsAfter Has start front (token ∷ ahead) faults =
     (own : Faults) × (others : Faults) × (faults ≡ own ++ others)
@@ -83,13 +95,14 @@ abbrev pub AreFaultsOfCells : (FaultCode → Bool) → (CellPlace → TokenKind 
 AreFaultsOfCells passes Has =
     (start : CellStart) (cell : List (Spanned TokenKind))
     → AreFaultsAfter Has start [] cell
-    (filter (λ fault. passes fault.1) (given_in_body start.values start.fields start.key start.before cell).faults)
+    (filter (λ fault. passes fault.1) (result_in_body start.values start.fields start.key start.before cell).faults)
 
 -- BadByte, Unclosed, BadEnding and BadProgram.
 abbrev pub is_of_spelling : FaultCode → Bool
 is_of_spelling code =
     let number = number_of code in
-    (number == number_of BadByte) || (number == number_of Unclosed) || (number == number_of BadEnding) || (number == number_of BadProgram)
+    (number == number_of BadByte) || (number == number_of Unclosed) || (number == number_of BadEnding)
+    || (number == number_of BadProgram)
 
 -- BadByte of a byte inside a chord that begins no part of one.
 abbrev pub byte_fault : ℕ → ChordPartKind → Faults
@@ -149,22 +162,23 @@ IsBarsFault (Of num den) (Some bars) column own = HasMeterRange num den → IsLe
 -- Of a chord: of each of its first sixteen notes, as long as the chord's length, the tuplet and broken rhythm make it.
 pub record IsChordFault (place : CellPlace) (chord : Chord) (own : Faults) : Type 0 where
   pub none : notes_of chord ≡ [] → own ≡ []
-  pub some : IsPlace (held_there place) (cell_with place (kinds.Chord chord)) (length place.front)
-      → AreFaultsOf (λ note. Lasts (held_there place) (cell_with place (kinds.Chord chord)) (length place.front) note.length (Some chord.length))
+  pub some : IsPlace (state_there place) (cell_with place (kinds.Chord chord)) (length place.front)
+      → AreFaultsOf (λ note. Lasts (state_there place) (cell_with place (kinds.Chord chord)) (length place.front) note.length
+      (Some chord.length))
       place.from (take 16 (notes_of chord)) own
 
 -- What a token has of it, by the unit, the tuplet and the meter of its voice and by the marks that act on it in its cell.
 abbrev pub HasLengthFaults : CellPlace → TokenKind → Faults → Type 0
 HasLengthFaults place (kinds.Note note) own =
     let cell = cell_with place (kinds.Note note) in
-    IsPlace (held_there place) cell (length place.front)
-    → IsLengthFault (Lasts (held_there place) cell (length place.front) note.length None) (column_of place.from) own
+    IsPlace (state_there place) cell (length place.front)
+    → IsLengthFault (Lasts (state_there place) cell (length place.front) note.length None) (column_of place.from) own
 HasLengthFaults place (kinds.Rest written) own =
     let cell = cell_with place (kinds.Rest written) in
-    IsPlace (held_there place) cell (length place.front)
-    → IsLengthFault (Lasts (held_there place) cell (length place.front) written None) (column_of place.from) own
+    IsPlace (state_there place) cell (length place.front)
+    → IsLengthFault (Lasts (state_there place) cell (length place.front) written None) (column_of place.from) own
 HasLengthFaults place (kinds.BarRest bars) own =
-    IsBarsFault (meter_at (standing_at place).opening.meter (standing_at place).before) bars (column_of place.from) own
+    IsBarsFault (meter_at (voice_place_at place).opening.meter (voice_place_at place).before) bars (column_of place.from) own
 HasLengthFaults place (kinds.Chord chord) own = IsChordFault place chord own
 HasLengthFaults place _ own = own ≡ []
 
@@ -172,12 +186,14 @@ HasLengthFaults place _ own = own ≡ []
 abbrev pub is_of_field : FaultCode → Bool
 is_of_field code =
     let number = number_of code in
-    (number == number_of BadMeter) || (number == number_of BadUnit) || (number == number_of BadTempo) || (number == number_of TempoRange)
-    || (number == number_of BadKey) || (number == number_of BadPart) || (number == number_of BadVoice) || (number == number_of TooManyVoices)
+    (number == number_of BadMeter) || (number == number_of BadUnit) || (number == number_of BadTempo)
+    || (number == number_of TempoRange)
+    || (number == number_of BadKey) || (number == number_of BadPart) || (number == number_of BadVoice)
+    || (number == number_of TooManyVoices)
 
 -- The unit note length of the current voice at a place.
 abbrev pub unit_there : CellPlace → Ratio
-unit_there place = unit_at (standing_at place).opening.unit (standing_at place).before
+unit_there place = unit_at (voice_place_at place).opening.unit (voice_place_at place).before
 
 -- The names of the voices that are mentioned before a place.
 abbrev pub names_there : CellPlace → List (List ℕ)
@@ -209,7 +225,8 @@ IsFaultOfField place fields.Key value code = (code ≡ BadKey) × ((key : Key) �
 IsFaultOfField place fields.Parts value code = (code ≡ BadPart) × (¬ NamesPart value)
 IsFaultOfField place fields.Voice value code =
     ((code ≡ BadVoice) × ((voice : Voice) → ¬ IsVoice value voice))
-    ⊎ ((code ≡ TooManyVoices) × ((voice : Voice) × IsVoice value voice × IsOneTooMany (names_there place) (slice_range value voice.from voice.to)))
+    ⊎ ((code ≡ TooManyVoices) × ((voice : Voice) × IsVoice value voice
+    × IsOneTooMany (names_there place) (slice_range value voice.from voice.to)))
 IsFaultOfField place fields.Reference value code = ⊥
 IsFaultOfField place fields.Title value code = ⊥
 IsFaultOfField place fields.Other value code = ⊥
@@ -222,7 +239,8 @@ pub record IsOnlyFault (Is : FaultCode → Type 0) (column : ℕ) (own : Faults)
 -- The fault of a field at its place, if it has one.
 abbrev pub IsFaultOfOption : CellPlace → Option Field → Faults → Type 0
 IsFaultOfOption place None own = own ≡ []
-IsFaultOfOption place (Some field) own = IsOnlyFault (IsFaultOfField place (kind_of field.letter) field.value) (column_of place.from) own
+IsFaultOfOption place (Some field) own =
+    IsOnlyFault (IsFaultOfField place (kind_of field.letter) field.value) (column_of place.from) own
 
 -- What a token has of these, a field line or an inline field.
 abbrev pub HasFieldFaults : CellPlace → TokenKind → Faults → Type 0

@@ -2,24 +2,24 @@
 use Rattle.std.specs.Prelude.{List, [], ◌∷◌}
 use Rattle.abc_scan.specs.declared.spanned.Spanned.{Spanned}
 use Rattle.abc_scan.specs.declared.token.TokenKind.{TokenKind}
-use Rattle.abc_cells.specs.declared.body.Body.{Body}
-use Rattle.abc_cells.specs.declared.cell.Given.{Given}
-use Rattle.abc_cells.specs.Cell.{tie_ahead, with_token}
-use Rattle.abc_bars.specs.LookBack.Held.{held_at}
+use Rattle.abc_bars_body.specs.declared.body.Body.{Body}
+use Rattle.abc_bars_body.specs.declared.cell.CellResult.{CellResult}
+use Rattle.abc_bars_body.specs.Cell.{tie_ahead, with_token}
+use Rattle.abc_bars.specs.LookBack.Held.{body_at}
 use Rattle.abc_bars.specs.LookBack.Element.{Element}
 
 -- A token of a cell as an element, by what comes after it in the cell.
 abbrev pub element_of : Spanned TokenKind → List (Spanned TokenKind) → Element
 element_of token ahead = record { kind = token.kind; tied = tie_ahead ahead }
 
--- What stands before a place behind tokens of a cell.
+-- What is before a place after tokens of a cell.
 abbrev pub behind_tokens : List (Spanned TokenKind) → List Element → List Element
 behind_tokens [] before = before
 behind_tokens (token ∷ ahead) before = behind_tokens ahead (element_of token ahead ∷ before)
 
 -- What the tokens of a cell give, each where what looking back finds at its own place holds.
-abbrev pub looked_back : Body → List Element → Given → List (Spanned TokenKind) → Given
-looked_back opening before given [] = record given { body = held_at opening before }
-looked_back opening before given (token ∷ ahead) =
-    looked_back opening (element_of token ahead ∷ before)
-    (with_token (record given { body = held_at opening before }) token ahead) ahead
+abbrev pub look_back : Body → List Element → CellResult → List (Spanned TokenKind) → CellResult
+look_back opening before given [] = record given { body = body_at opening before }
+look_back opening before given (token ∷ ahead) =
+    look_back opening (element_of token ahead ∷ before)
+    (with_token (record given { body = body_at opening before }) token ahead) ahead

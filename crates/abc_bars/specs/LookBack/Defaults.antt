@@ -9,16 +9,16 @@ use Rattle.abc_fields.specs.declared.tempo.Tempo.TheVariants.{Unset, Units, Beat
 use Rattle.abc_fields.specs.Meter.{meter_of}
 use Rattle.abc_fields.specs.Tempo.{tempo_of}
 use Rattle.abc_fields.specs.Unit.{unit_of}
-use Rattle.abc_items.specs.Program.{program_of}
+use Rattle.abc_bars_items.specs.Program.{program_of}
 use Rattle.abc_scan.specs.declared.directive.Directive.{Directive}
 use Rattle.abc_scan.specs.declared.directive.Directive.TheVariants as directives
 use Rattle.abc_scan.specs.declared.directive.Reach.{Reach}
 use Rattle.abc_time.specs.declared.ratio.Ratio.{Ratio}
-use Rattle.abc_header.specs.FieldKind.{kind_of}
-use Rattle.abc_header.specs.HeaderLine.{HeaderLine, FieldLine, DirectiveLine}
-use Rattle.abc_header.specs.declared.defaults.Defaults.{Defaults}
-use Rattle.abc_header.specs.declared.field_kind.FieldKind.{FieldKind}
-use Rattle.abc_header.specs.declared.field_kind.FieldKind.TheVariants as kinds
+use Rattle.abc_bars_header.specs.FieldKind.{kind_of}
+use Rattle.abc_bars_header.specs.HeaderLine.{HeaderLine, FieldLine, DirectiveLine}
+use Rattle.abc_bars_header.specs.declared.defaults.Defaults.{Defaults}
+use Rattle.abc_bars_header.specs.declared.field_kind.FieldKind.{FieldKind}
+use Rattle.abc_bars_header.specs.declared.field_kind.FieldKind.TheVariants as kinds
 
 -- The meter that a field of this kind sets, if it does and is accepted.
 abbrev pub meter_said : FieldKind → List ℕ → Option Meter
@@ -44,7 +44,7 @@ unit_said kinds.Voice value = None
 unit_said kinds.Key value = None
 unit_said kinds.Other value = None
 
--- A Q: that is empty or a text alone counts as none. Our own.
+-- A Q: that is empty or a text alone counts as none. Not in ABC 2.1.
 abbrev pub if_set : Option Tempo → Option Tempo
 if_set None = None
 if_set (Some Unset) = None

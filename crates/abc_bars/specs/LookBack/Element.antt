@@ -1,4 +1,4 @@
--- What stands in a tune before a place.
+-- What is in a tune before a place.
 use Rattle.std.specs.Prelude.{Bool, Option, Some, None}
 use Rattle.abc_scan.specs.declared.field.Field.{Field}
 use Rattle.abc_scan.specs.declared.token.TokenKind.{TokenKind}

@@ -1,9 +1,9 @@
 -- What some fields say, on a line of their own or inside one. ABC 2.1 section 3.
-use Rattle.std.specs.Prelude.{◌≡◌, ◌≤◌, ℕ, List, ◌∷◌, slice_range, Ok}
+use Rattle.std.specs.Prelude.{◌≡◌, ◌≤◌, ℕ, List, ◌∷◌, slice_range}
 use Rattle.abc_fields.specs.declared.voice.Voice.{Voice}
-use Rattle.abc_fields.specs.Voice.{voice_of}
-use Rattle.abc_header.specs.declared.field_kind.FieldKind.TheVariants as fields
-use Rattle.abc_header.specs.FieldKind.{kind_of}
+use Rattle.abc_fields.specs.Spelling.Voice.{IsVoice}
+use Rattle.abc_bars_header.specs.declared.field_kind.FieldKind.TheVariants as fields
+use Rattle.abc_bars_header.specs.FieldKind.{kind_of}
 use Rattle.abc_scan.specs.declared.field.Field.{Field}
 use Rattle.abc_scan.specs.declared.token.TokenKind.{TokenKind}
 use Rattle.abc_scan.specs.declared.token.TokenKind.TheVariants as kinds
@@ -18,8 +18,12 @@ IsField Holds _ = ⊥
 pub record NamesVoice (name : List ℕ) (field : Field) : Type 0 where
   pub kind : kind_of field.letter ≡ fields.Voice
   pub voice : Voice
-  pub accepted : voice_of field.value ≡ Ok voice
+  pub value : IsVoice field.value voice
   pub spelled : name ≡ slice_range field.value voice.from voice.to
+
+-- A token is an accepted V: of the voice of this name.
+abbrev pub IsVoiceField : List ℕ → TokenKind → Type 0
+IsVoiceField name kind = IsField (NamesVoice name) kind
 
 -- A field is an accepted P: of a body: its value begins with a capital letter. ABC 2.1 section 3.1.9; that the rest is ignored
 -- is not in ABC 2.1.

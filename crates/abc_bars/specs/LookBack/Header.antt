@@ -1,22 +1,23 @@
--- What holds at a place of a tune's header, by the lines before it, the newest first. ABC 2.1 sections
+-- The state at a place of a tune's header, by the lines before it, the newest first. ABC 2.1 sections
 -- 3.1, 7.1 and 11.
-use Rattle.std.specs.Prelude.{ℕ, ℤ, ◌||◌, nat_le, if◌then◌else◌, List, [], ◌∷◌, ◌++◌, length, map, slice_range, bytes_eq, Option, Some, None}
+use Rattle.std.specs.Prelude.{ℕ, ℤ, ◌||◌, nat_le, if◌then◌else◌, List, [], ◌∷◌, ◌++◌, length, map, slice_range, bytes_eq, Option}
+use Rattle.std.specs.Prelude.{Some, None}
 use Rattle.std.specs.List.{list_any}
 use Rattle.std.specs.Option.{option_map, option_or}
 use Rattle.std.specs.Result.{result_ok}
 use Rattle.abc_fields.specs.declared.shift.Shift.{Shift}
 use Rattle.abc_fields.specs.declared.voice.Voice.{Voice}
 use Rattle.abc_fields.specs.Voice.{voice_of}
-use Rattle.abc_header.specs.HeaderLine.{HeaderLine}
+use Rattle.abc_bars_header.specs.HeaderLine.{HeaderLine}
 use Rattle.abc_bars.specs.LookBack.Defaults.{defaults_at, said_by_line}
-use Rattle.abc_items.specs.declared.item.TheConstants.{MOST_VOICES}
-use Rattle.abc_header.specs.declared.defaults.Defaults.{Defaults}
-use Rattle.abc_cells.specs.declared.entry.Entry.{Entry}
-use Rattle.abc_cells.specs.declared.entry.Entry.TheVariants as entries
-use Rattle.abc_header.specs.declared.field_kind.FieldKind.{FieldKind}
-use Rattle.abc_header.specs.declared.field_kind.FieldKind.TheVariants as kinds
-use Rattle.abc_header.specs.declared.header.Header.{Header}
-use Rattle.abc_header.specs.Defaults.{no_defaults}
+use Rattle.abc_bars_items.specs.declared.item.TheConstants.{MOST_VOICES}
+use Rattle.abc_bars_header.specs.declared.defaults.Defaults.{Defaults}
+use Rattle.abc_bars_body.specs.declared.entry.Entry.{Entry}
+use Rattle.abc_bars_body.specs.declared.entry.Entry.TheVariants as entries
+use Rattle.abc_bars_header.specs.declared.field_kind.FieldKind.{FieldKind}
+use Rattle.abc_bars_header.specs.declared.field_kind.FieldKind.TheVariants as kinds
+use Rattle.abc_bars_header.specs.declared.header.Header.{Header}
+use Rattle.abc_bars_header.specs.Defaults.{no_defaults}
 
 -- The name of an accepted voice, and the shift that is said for it.
 abbrev pub named_in : List ℕ → Voice → List ℕ × Shift
@@ -38,7 +39,7 @@ voice_said kinds.Other value = None
 abbrev pub voice_on : HeaderLine → Option (List ℕ × Shift)
 voice_on line = said_by_line voice_said line
 
--- The names with one more: not one that is among them, nor one too many. The limit is our own.
+-- The names with one more: not one that is among them, nor one too many. The limit is not in ABC 2.1.
 abbrev pub with_name : List (List ℕ) → List ℕ → List (List ℕ)
 with_name names name =
     if list_any (bytes_eq name) names || nat_le MOST_VOICES (length names) then names else names ++ name ∷ []
@@ -75,7 +76,7 @@ declared_shift before name = record {
 abbrev pub voices_at : List HeaderLine → List (List ℕ × Shift)
 voices_at before = map (λ name. (name, declared_shift before name)) (declared_names before)
 
--- What holds at a place of a tune's header, by the file header's values and the lines before it.
+-- The state at a place of a tune's header, by the file header's values and the lines before it.
 abbrev pub header_at : Defaults → List HeaderLine → Header
 header_at opening before = record { defaults = defaults_at opening before; voices = voices_at before }
 

@@ -1,12 +1,12 @@
--- What holds at a place of a tune's body: for each voice that is mentioned before it what its own tokens leave, by
--- names. Voices stand in the order of their mention.
+-- The state at a place of a tune's body: for each voice that is mentioned before it what its own tokens leave, by
+-- names. Voices are in the order of their mention.
 use Rattle.std.specs.Prelude.{ℕ, ◌≡◌, ◌<◌, List, [], length, map, position, bytes_eq, Option, Some, None}
 use Rattle.std.specs.Map.{keys_of}
-use Rattle.abc_cells.specs.declared.body.Body.{Body}
-use Rattle.abc_cells.specs.declared.body.Current.{Current}
-use Rattle.abc_cells.specs.declared.body.Current.TheVariants.{Unnamed, At}
-use Rattle.abc_settings.specs.declared.settings.Settings.{Settings}
-use Rattle.abc_bars.specs.LookBack.ByName.{Naming, naming_at, settings_named}
+use Rattle.abc_bars_body.specs.declared.body.Body.{Body}
+use Rattle.abc_bars_body.specs.declared.body.Current.{Current}
+use Rattle.abc_bars_body.specs.declared.body.Current.TheVariants.{Unnamed, At}
+use Rattle.abc_bars_voice.specs.declared.voice_state.VoiceState.{VoiceState}
+use Rattle.abc_bars.specs.LookBack.ByName.{Naming, naming_at, voice_state_named}
 use Rattle.abc_bars.specs.LookBack.Element.{Element}
 
 -- The voices at a place: their names in the order of their mention, and the place of the current one among
@@ -17,7 +17,7 @@ pub record Roll : Type 0 where
 
 -- The place of the voice that is the current one, if it is mentioned.
 abbrev pub place_of_current : Current → Option ℕ
-place_of_current (Unnamed settings) = None
+place_of_current (Unnamed state) = None
 place_of_current (At place) = Some place
 
 -- The voices of a body.
@@ -30,23 +30,23 @@ IsPlaced names None = names ≡ []
 IsPlaced names (Some place) = place < length names
 
 -- The current voice, which is this one or the one without a name.
-abbrev pub current_by : Option ℕ → Settings → Current
-current_by None settings = Unnamed settings
-current_by (Some place) settings = At place
+abbrev pub current_by : Option ℕ → VoiceState → Current
+current_by None state = Unnamed state
+current_by (Some place) state = At place
 
 -- What holds for each of the voices of these names.
-abbrev pub each_named : (List ℕ → Settings) → List (List ℕ) → List (List ℕ × Settings)
+abbrev pub each_named : (List ℕ → VoiceState) → List (List ℕ) → List (List ℕ × VoiceState)
 each_named known names = map (λ name. (name, known name)) names
 
--- What holds at a place where these names are mentioned: that of the current voice has its place among them, or there
+-- The state at a place with these mentioned names: that of the current voice has its place among them, or there
 -- are none.
-abbrev pub held_by : Naming → (List ℕ → Settings) → Settings → Body
-held_by naming known another = record {
+abbrev pub body_by : Naming → (List ℕ → VoiceState) → VoiceState → Body
+body_by naming known another = record {
   voices = each_named known naming.names;
   current = current_by (position (bytes_eq naming.current) naming.names) (known []);
   another = another;
 }
 
--- What holds at a place.
-unfoldable pub held_at : Body → List Element → Body
-held_at opening before = held_by (naming_at opening before) (λ name. settings_named opening name before) opening.another
+-- The state at a place.
+unfoldable pub body_at : Body → List Element → Body
+body_at opening before = body_by (naming_at opening before) (λ name. voice_state_named opening name before) opening.another

@@ -1,30 +1,17 @@
--- How the tokens of a body mention voices, one by one. ABC 2.1 section 7; when the voice without a name is mentioned, and that there are
--- fifteen voices, is not in ABC 2.1.
-use Rattle.std.specs.Prelude.{◌≡◌, ◌⊎◌, ◌<◌, ◌≤◌, ℕ, ⊤, List, [], ◌∷◌, ◌++◌, length, slice_range, Some}
+-- How the tokens of a body mention voices, one by one. ABC 2.1 section 7; when the voice without a name is mentioned, and that
+-- there are fifteen voices, is not in ABC 2.1.
+use Rattle.std.specs.Prelude.{◌≡◌, ◌⊎◌, ◌<◌, ◌≤◌, ℕ, ⊤, List, [], ◌∷◌, ◌++◌, length}
 use Rattle.std.specs.List.{Contains}
 use Rattle.abc_fields.specs.declared.key.Key.{Key}
-use Rattle.abc_fields.specs.declared.voice.Voice.{Voice}
-use Rattle.abc_fields.specs.Spelling.Voice.{IsVoice}
-use Rattle.abc_scan.specs.declared.field.Field.{Field}
 use Rattle.abc_scan.specs.declared.token.TokenKind.{TokenKind}
 use Rattle.abc_scan.specs.declared.token.TokenKind.TheVariants as kinds
-use Rattle.abc_header.specs.FieldKind.{kind_of}
-use Rattle.abc_header.specs.HeaderLine.{HeaderLine}
-use Rattle.abc_header.specs.declared.defaults.Defaults.{Defaults}
-use Rattle.abc_header.specs.declared.field_kind.FieldKind.TheVariants as fields
-use Rattle.abc_music.specs.ChordNotes.{notes_of}
-use Rattle.abc_bars.specs.LookBack.Element.{Element, field_of}
-use Rattle.abc_bars.specs.LookBack.Held.{held_at, roll_of}
+use Rattle.abc_bars_header.specs.HeaderLine.{HeaderLine}
+use Rattle.abc_bars_header.specs.declared.defaults.Defaults.{Defaults}
+use Rattle.abc_bars_notes.specs.ChordNotes.{notes_of}
+use Rattle.abc_bars.specs.LookBack.Element.{Element}
+use Rattle.abc_bars.specs.LookBack.Fields.{IsVoiceField}
+use Rattle.abc_bars.specs.LookBack.Held.{body_at, roll_of}
 use Rattle.abc_bars.specs.LookBack.Place.{opening_at}
-
--- A token is a V: that is accepted, of the voice of this name.
-pub record NamesVoice (kind : TokenKind) (name : List ℕ) : Type 0 where
-  pub field : Field
-  pub voice : Voice
-  pub field_is : field_of kind ≡ Some field
-  pub letter : kind_of field.letter ≡ fields.Voice
-  pub value : IsVoice field.value voice
-  pub name_is : slice_range field.value voice.from voice.to ≡ name
 
 -- A token is a note, a rest, a rest of bars, or a chord that has a note.
 abbrev pub IsHeard : TokenKind → Type 0
@@ -34,19 +21,19 @@ IsHeard (kinds.BarRest bars) = ⊤
 IsHeard (kinds.Chord chord) = ¬ (notes_of chord ≡ [])
 IsHeard _ = ⊥
 
--- The names of the voices that are mentioned before and after one token. An accepted V: adds the name of its voice at the end, if it
--- is a new one and there is room. What is heard before any voice is mentioned adds the voice without a name, so that this one comes
--- first. Nothing else adds one.
+-- The names of the voices that are mentioned before and after one token. An accepted V: adds the name of its voice at the end, if
+-- it is a new one and there is room. What is heard before any voice is mentioned adds the voice without a name, so that this one
+-- comes first. Nothing else adds one.
 pub record Mentions (old : List (List ℕ)) (kind : TokenKind) (new : List (List ℕ)) : Type 0 where
-  pub named_new : (name : List ℕ) → NamesVoice kind name → ¬ Contains old name → length old < 15 → new ≡ old ++ name ∷ []
-  pub named_again : (name : List ℕ) → NamesVoice kind name → Contains old name ⊎ (15 ≤ length old) → new ≡ old
+  pub named_new : (name : List ℕ) → IsVoiceField name kind → ¬ Contains old name → length old < 15 → new ≡ old ++ name ∷ []
+  pub named_again : (name : List ℕ) → IsVoiceField name kind → Contains old name ⊎ (15 ≤ length old) → new ≡ old
   pub unnamed : IsHeard kind → old ≡ [] → new ≡ [] ∷ []
   pub heard : IsHeard kind → ¬ (old ≡ []) → new ≡ old
-  pub other : ((name : List ℕ) → ¬ NamesVoice kind name) → ¬ IsHeard kind → new ≡ old
+  pub other : ((name : List ℕ) → ¬ IsVoiceField name kind) → ¬ IsHeard kind → new ≡ old
 
 -- The names of the voices that are mentioned at a place of a body.
 abbrev pub mentioned_at : Defaults → List HeaderLine → Key → List Element → List (List ℕ)
-mentioned_at values lines key before = (roll_of (held_at (opening_at values lines key) before)).names
+mentioned_at values lines key before = (roll_of (body_at (opening_at values lines key) before)).names
 
 -- Each token does so, at any place.
 abbrev pub TokensMention : Type 0

@@ -7,11 +7,11 @@ use Rattle.abc_fields.specs.declared.meter.Meter.TheVariants.{Free}
 use Rattle.abc_fields.specs.declared.shift.Shift.{Shift}
 use Rattle.abc_fields.specs.Shift.{no_shift}
 use Rattle.abc_fields.specs.Signature.{natural}
-use Rattle.abc_header.specs.declared.defaults.Defaults.{Defaults}
-use Rattle.abc_header.specs.HeaderLine.{HeaderLine}
-use Rattle.abc_settings.specs.declared.settings.Settings.{Settings}
-use Rattle.abc_settings.specs.Accidentals.{reach_of}
-use Rattle.abc_settings.specs.Unit.{unit_by}
+use Rattle.abc_bars_header.specs.declared.defaults.Defaults.{Defaults}
+use Rattle.abc_bars_header.specs.HeaderLine.{HeaderLine}
+use Rattle.abc_bars_voice.specs.declared.voice_state.VoiceState.{VoiceState}
+use Rattle.abc_bars_voice.specs.Accidentals.{reach_of}
+use Rattle.abc_bars_voice.specs.Unit.{unit_by}
 use Rattle.abc_bars.specs.LookBack.ByName.{opening_of}
 use Rattle.abc_bars.specs.LookBack.Defaults.{defaults_at}
 use Rattle.abc_bars.specs.LookBack.Header.{declared_names, declared_shift}
@@ -20,19 +20,20 @@ use Rattle.abc_bars.specs.LookBack.Place.{opening_at}
 -- What a voice begins with, by the values of the header, the key that ended it, and what was said of the voice's shift:
 -- the header's meter, or free meter; its unit note length, or that of the meter; the signature of the key, if it has one;
 -- as far as the header says an accidental reaches; and each part of the shift as the voice's own V: says, else as the
--- key says, else 0. That the V: goes before the key, and no signature without a tonic, is our own.
-pub record OpensWith (set : Defaults) (key : Key) (said : Shift) (settings : Settings) : Type 0 where
-  pub meter : settings.meter ≡ unwrap_or set.meter Free
-  pub unit : settings.unit ≡ unwrap_or set.unit (unit_by settings.meter)
-  pub signature : settings.signature ≡ unwrap_or key.signature natural
-  pub reach : reach_of settings.accidentals ≡ set.reach
-  pub clef : settings.shift.clef ≡ unwrap_or said.clef (unwrap_or key.shift.clef (pos 0))
-  pub octave : settings.shift.octave ≡ unwrap_or said.octave (unwrap_or key.shift.octave (pos 0))
-  pub transpose : settings.shift.transpose ≡ unwrap_or said.transpose (unwrap_or key.shift.transpose (pos 0))
+-- key says, else 0. That the V: goes before the key, and no signature without a tonic, is not in ABC 2.1.
+pub record OpensWith (set : Defaults) (key : Key) (said : Shift) (state : VoiceState) : Type 0 where
+  pub meter : state.meter ≡ unwrap_or set.meter Free
+  pub unit : state.unit ≡ unwrap_or set.unit (unit_by state.meter)
+  pub signature : state.signature ≡ unwrap_or key.signature natural
+  pub reach : reach_of state.accidentals ≡ set.reach
+  pub clef : state.shift.clef ≡ unwrap_or said.clef (unwrap_or key.shift.clef (pos 0))
+  pub octave : state.shift.octave ≡ unwrap_or said.octave (unwrap_or key.shift.octave (pos 0))
+  pub transpose : state.shift.transpose ≡ unwrap_or said.transpose (unwrap_or key.shift.transpose (pos 0))
 
--- A voice of this name begins with these values, behind these lines and this key.
+-- A voice of this name begins with these values, after these lines and this key.
 abbrev pub VoiceOpens : Defaults → List HeaderLine → Key → Shift → List ℕ → Type 0
-VoiceOpens values fields key said name = OpensWith (defaults_at values fields) key said (opening_of (opening_at values fields key) name)
+VoiceOpens values fields key said name =
+    OpensWith (defaults_at values fields) key said (opening_of (opening_at values fields key) name)
 
 -- A voice that the header declares begins with what its last V: says of its shift.
 abbrev pub DeclaredVoicesOpen : Type 0

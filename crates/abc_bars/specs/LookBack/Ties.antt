@@ -1,5 +1,6 @@
 -- Which ties of a cell are loose, and from which notes of a voice a tie leads on. ABC 2.1 section 4.11.
-use Rattle.std.specs.Prelude.{◌≡◌, ℕ, ◌+◌, Bool, true, false, ◌||◌, if◌then◌else◌, List, [], ◌∷◌, ◌++◌, map, filter, All, Option, Some, None}
+use Rattle.std.specs.Prelude.{◌≡◌, ℕ, ◌+◌, Bool, true, false, ◌||◌, if◌then◌else◌, List, [], ◌∷◌, ◌++◌, map, filter, All, Option}
+use Rattle.std.specs.Prelude.{Some, None}
 use Rattle.abc_fields.specs.declared.fault.FaultCode.{FaultCode}
 use Rattle.abc_fields.specs.declared.fault.FaultCode.TheVariants.{LooseTie}
 use Rattle.abc_scan.specs.declared.chord.Chord.{Chord}
@@ -7,16 +8,16 @@ use Rattle.abc_scan.specs.declared.note.Note.{Note}
 use Rattle.abc_scan.specs.declared.spanned.Spanned.{Spanned}
 use Rattle.abc_scan.specs.declared.token.TokenKind.{TokenKind}
 use Rattle.abc_scan.specs.declared.token.TokenKind.TheVariants as kinds
-use Rattle.abc_music.specs.Broken.{is_time_token}
-use Rattle.abc_items.specs.Column.{column_of}
-use Rattle.abc_music.specs.LooseTies.{is_loose, with_before}
-use Rattle.abc_cells.specs.Cell.{may_be_tied}
+use Rattle.abc_bars_notes.specs.Broken.{is_time_token}
+use Rattle.abc_bars_items.specs.Column.{column_of}
+use Rattle.abc_bars_notes.specs.LooseTies.{is_loose, with_before}
+use Rattle.abc_bars_body.specs.Cell.{may_be_tied}
 use Rattle.abc_bars.specs.LookBack.Element.{Element}
 use Rattle.abc_bars.specs.LookBack.Voice.{alteration_at, as_tied, counted_notes, tied_at}
-use Rattle.abc_settings.specs.declared.settings.Settings.{Settings}
-use Rattle.abc_settings.specs.declared.tied.TiedNote.{TiedNote}
+use Rattle.abc_bars_voice.specs.declared.voice_state.VoiceState.{VoiceState}
+use Rattle.abc_bars_voice.specs.declared.tied.TiedNote.{TiedNote}
 
--- Whether what stands directly before a token in its cell, if anything does, is a note or a chord.
+-- Whether what is directly before a token in its cell, if anything does, is a note or a chord.
 abbrev pub is_behind_note : Option TokenKind → Bool
 is_behind_note None = false
 is_behind_note (Some kind) = may_be_tied kind
@@ -25,9 +26,9 @@ is_behind_note (Some kind) = may_be_tied kind
 abbrev pub loose_inside : ℕ → Chord → List (ℕ × FaultCode)
 loose_inside from chord = map (λ pair. (column_of (from + pair.1.from), LooseTie)) (filter is_loose (with_before chord.parts))
 
--- The loose ties of a token at a place of its line, by what stands directly before it: a tie is loose where no note
--- or chord stands there, one without notes among them; a chord has those inside it. That nothing may stand between
--- is our own.
+-- The loose ties of a token at a place of its line, by what is directly before it: a tie is loose if no note
+-- or chord is there, one without notes among them; a chord has those inside it. That nothing may be between
+-- is not in ABC 2.1.
 abbrev pub loose_in : Option TokenKind → ℕ → TokenKind → List (ℕ × FaultCode)
 loose_in before from kinds.Tie = if is_behind_note before then [] else (column_of from, LooseTie) ∷ []
 loose_in before from (kinds.Chord chord) = loose_inside from chord
@@ -56,14 +57,14 @@ loose_from before (token ∷ ahead) = loose_in before token.from token.kind ++ l
 abbrev pub loose_ties : List (Spanned TokenKind) → List (ℕ × FaultCode)
 loose_ties cell = loose_from None cell
 
--- The last time token before a place of a voice, a note, a rest or a chord with a note, and what stands before it.
+-- The last time token before a place of a voice, a note, a rest or a chord with a note, and what is before it.
 pub record IsTimeBefore (before : List Element) (token : Element) (earlier : List Element) : Type 0 where
   pub nearer : List Element
   pub split : before ≡ nearer ++ token ∷ earlier
   pub time : is_time_token token.kind ≡ true
   pub none : All (λ other. is_time_token other.kind ≡ false) nearer
 
--- The notes of a chord from which a tie leads on, each with those of its notes that stand before it, newest first:
+-- The notes of a chord from which a tie leads on, each with those of its notes that are before it, newest first:
 -- a tie directly follows the note, or the chord.
 abbrev pub tied_in_chord : Bool → List Note → List (Note × Bool) → List (List Note × Note)
 tied_in_chord follows earlier [] = []
@@ -71,7 +72,7 @@ tied_in_chord follows earlier (note ∷ later) =
     if follows || note.1 then (earlier, note.0) ∷ tied_in_chord follows (note.0 ∷ earlier) later
     else tied_in_chord follows (note.0 ∷ earlier) later
 
--- The notes of a token from which a tie leads on, where one directly follows the token or not: of a chord those among
+-- The notes of a token from which a tie leads on, if one directly follows the token or not: of a chord those among
 -- its first sixteen, of a rest none.
 abbrev pub tied_notes : TokenKind → Bool → List (List Note × Note)
 tied_notes (kinds.Note note) follows = if follows then ([], note) ∷ [] else []
@@ -92,10 +93,10 @@ tied_notes (kinds.Field field) follows = []
 tied_notes kinds.Unclosed follows = []
 tied_notes kinds.BadByte follows = []
 
--- A note from which a tie leads on, as it was altered at its own place, of a voice that opened with these settings.
-abbrev pub altered_note : Settings → List Element → List Note × Note → TiedNote
+-- A note from which a tie leads on, as it was altered at its own place, of a voice that opened with this state.
+abbrev pub altered_note : VoiceState → List Element → List Note × Note → TiedNote
 altered_note opening before tied = as_tied tied.1 (alteration_at opening (tied_at opening before) before tied.0 tied.1)
 
 -- The notes from which a tie leads on at a token, each as it was altered at its own place.
-abbrev pub tied_after : Settings → List Element → Element → List TiedNote
+abbrev pub tied_after : VoiceState → List Element → Element → List TiedNote
 tied_after opening earlier token = map (altered_note opening earlier) (tied_notes token.kind token.tied)

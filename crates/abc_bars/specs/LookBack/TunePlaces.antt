@@ -1,13 +1,13 @@
--- What a place of a tune keeps of what stands before it.
+-- What a place of a tune keeps of what is before it.
 use Rattle.std.specs.Prelude.{◌≡◌, ℕ, List, [], ◌∷◌, Option, Some, None, unwrap_or}
 use Rattle.std.specs.Option.{option_or}
 use Rattle.abc_fields.specs.declared.key.Key.{Key}
 use Rattle.abc_fields.specs.Key.{empty_key, key_of, key_or_empty}
-use Rattle.abc_header.specs.HeaderLine.{HeaderLine}
+use Rattle.abc_bars_header.specs.HeaderLine.{HeaderLine}
 use Rattle.abc_bars.specs.LookBack.Defaults.{said_by_line}
-use Rattle.abc_header.specs.declared.defaults.Defaults.{Defaults}
-use Rattle.abc_header.specs.declared.field_kind.FieldKind.{FieldKind}
-use Rattle.abc_header.specs.declared.field_kind.FieldKind.TheVariants as fields
+use Rattle.abc_bars_header.specs.declared.defaults.Defaults.{Defaults}
+use Rattle.abc_bars_header.specs.declared.field_kind.FieldKind.{FieldKind}
+use Rattle.abc_bars_header.specs.declared.field_kind.FieldKind.TheVariants as fields
 use Rattle.abc_bars.specs.LookBack.Place.{Place, InFileHeader, InHeader, InBody}
 
 -- The key that a field of this kind says, if it is a K:.

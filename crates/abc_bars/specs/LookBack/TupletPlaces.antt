@@ -1,16 +1,17 @@
 -- The tuplet of a place of a voice, by the last accepted mark before it and the time tokens between. ABC 2.1 section 4.13; the
 -- bounds, q of p that is not from 2 to 9, and that bars do not end a tuplet are not in ABC 2.1.
-use Rattle.std.specs.Prelude.{◌≡◌, ◌≢◌, ◌<◌, ◌≤◌, ◌⊎◌, ℕ, ◌+◌, Bool, true, false, List, ◌∷◌, ◌++◌, length, filter, All, Option, Some, None}
+use Rattle.std.specs.Prelude.{◌≡◌, ◌≢◌, ◌<◌, ◌≤◌, ◌⊎◌, ℕ, ◌+◌, Bool, true, false, List, ◌∷◌, ◌++◌, length, filter, All, Option}
+use Rattle.std.specs.Prelude.{Some, None}
 use Rattle.abc_fields.specs.declared.meter.Meter.{Meter}
 use Rattle.abc_fields.specs.declared.meter.Meter.TheVariants.{Free, Of}
 use Rattle.abc_scan.specs.declared.token.TokenKind.{TokenKind}
 use Rattle.abc_scan.specs.declared.token.TokenKind.TheVariants as kinds
 use Rattle.abc_scan.specs.declared.tuplet.Tuplet.{Tuplet}
-use Rattle.abc_music.specs.TokenRole.{has_note}
-use Rattle.abc_settings.specs.declared.settings.Settings.{Settings}
-use Rattle.abc_settings.specs.Tuplet.{IsTupletNumber, OpenTuplet}
+use Rattle.abc_bars_notes.specs.TokenRole.{has_note}
+use Rattle.abc_bars_voice.specs.declared.voice_state.VoiceState.{VoiceState}
+use Rattle.abc_bars_voice.specs.Tuplet.{IsTupletNumber, OpenTuplet}
 use Rattle.abc_bars.specs.LookBack.Element.{Element}
-use Rattle.abc_bars.specs.LookBack.Voice.{meter_at, settings_at}
+use Rattle.abc_bars.specs.LookBack.Voice.{meter_at, voice_state_at}
 
 -- Whether a token is a time token: a note, a rest, or a chord with a note.
 abbrev pub is_time : TokenKind → Bool
@@ -66,7 +67,7 @@ pub record IsLastMark (opening : Meter) (before : List Element) (mark : Tuplet) 
   pub r_is : IsSizeOf mark.p mark.r r
   pub none : All (λ token. ¬ IsAcceptedMark token.kind) since
 
--- The next time token of a voice is in the tuplet of a mark, with so many left: fewer than r come between.
+-- The next time token of a voice is in the tuplet of a mark, with `left` left: fewer than r come between.
 pub record IsInTuplet (opening : Meter) (before : List Element) (tuplet : OpenTuplet) : Type 0 where
   pub mark : Tuplet
   pub r : ℕ
@@ -93,4 +94,5 @@ pub data IsTupletAt (opening : Meter) (before : List Element) (tuplet : Option O
 
 -- So it is at each place of a voice.
 abbrev pub TupletsByMarks : Type 0
-TupletsByMarks = (opening : Settings) (before : List Element) → IsTupletAt opening.meter before (settings_at opening before).tuplet
+TupletsByMarks =
+    (opening : VoiceState) (before : List Element) → IsTupletAt opening.meter before (voice_state_at opening before).tuplet

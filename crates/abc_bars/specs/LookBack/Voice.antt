@@ -1,6 +1,7 @@
--- What holds for a voice at a place of a tune, by looking back over the music and the fields of the voice
--- that stand before the place, newest first. `opening` is what held when the body began.
-use Rattle.std.specs.Prelude.{ℕ, suc, ◌-◌, ◌==◌, nat_lt, ℤ, Bool, true, false, ◌&&◌, ◌||◌, if◌then◌else◌, List, [], ◌∷◌, ◌++◌, take, Option, Some, None, unwrap_or, is_some}
+-- The state of a voice at a place of a tune, by looking back over the music and the fields of the voice
+-- that are before the place, newest first. `opening` is what held when the body began.
+use Rattle.std.specs.Prelude.{ℕ, suc, ◌-◌, ◌==◌, nat_lt, ℤ, Bool, true, false, ◌&&◌, ◌||◌, if◌then◌else◌, List, [], ◌∷◌, ◌++◌, take}
+use Rattle.std.specs.Prelude.{Option, Some, None, unwrap_or, is_some}
 use Rattle.std.specs.Option.{option_or}
 use Rattle.std.specs.Ordering.{int_eq}
 use Rattle.std.specs.Result.{result_ok}
@@ -15,8 +16,8 @@ use Rattle.abc_fields.specs.Voice.{voice_of}
 use Rattle.abc_scan.specs.declared.chord.Chord.{Chord}
 use Rattle.abc_scan.specs.declared.field.Field.{Field}
 use Rattle.abc_scan.specs.declared.note.Note.{Note}
-use Rattle.abc_scan.specs.declared.parts.ChordPartKind.{ChordPartKind}
-use Rattle.abc_scan.specs.declared.parts.ChordPartKind.TheVariants as parts
+use Rattle.abc_scan.specs.declared.chord_part.ChordPartKind.{ChordPartKind}
+use Rattle.abc_scan.specs.declared.chord_part.ChordPartKind.TheVariants as parts
 use Rattle.abc_scan.specs.declared.spanned.Spanned.{Spanned}
 use Rattle.abc_scan.specs.declared.token.TokenKind.{TokenKind}
 use Rattle.abc_scan.specs.declared.token.TokenKind.TheVariants as kinds
@@ -25,21 +26,21 @@ use Rattle.abc_scan.specs.declared.directive.Reach.TheVariants.{Not, Octave, Pit
 use Rattle.abc_scan.specs.declared.dynamic.Dynamic.{Dynamic}
 use Rattle.abc_text.specs.Letter.{capital}
 use Rattle.abc_time.specs.declared.ratio.Ratio.{Ratio}
-use Rattle.abc_settings.specs.declared.accidentals.Accidentals.{Accidentals}
-use Rattle.abc_header.specs.declared.field_kind.FieldKind.{FieldKind}
-use Rattle.abc_header.specs.declared.field_kind.FieldKind.TheVariants as fields
-use Rattle.abc_items.specs.declared.item.TheConstants.{MOST_CHORD_NOTES}
-use Rattle.abc_settings.specs.declared.settings.Settings.{Settings}
-use Rattle.abc_settings.specs.declared.tied.TiedNote.{TiedNote}
-use Rattle.abc_settings.specs.declared.voice_shift.VoiceShift.{VoiceShift}
-use Rattle.abc_settings.specs.Accidentals.{no_accidentals, reach_of}
-use Rattle.abc_settings.specs.Alteration.{own_alteration, tied_alteration, with_own}
-use Rattle.abc_cells.specs.BodyFields.{part_of}
-use Rattle.abc_music.specs.Broken.{is_time_token}
-use Rattle.abc_music.specs.Chords.{tie_follows}
-use Rattle.abc_header.specs.FieldKind.{kind_of}
-use Rattle.abc_music.specs.TokenRole.{has_note}
-use Rattle.abc_settings.specs.Tuplet.{OpenTuplet, tuplet_by}
+use Rattle.abc_bars_voice.specs.declared.accidentals.Accidentals.{Accidentals}
+use Rattle.abc_bars_header.specs.declared.field_kind.FieldKind.{FieldKind}
+use Rattle.abc_bars_header.specs.declared.field_kind.FieldKind.TheVariants as fields
+use Rattle.abc_bars_items.specs.declared.item.TheConstants.{MOST_CHORD_NOTES}
+use Rattle.abc_bars_voice.specs.declared.voice_state.VoiceState.{VoiceState}
+use Rattle.abc_bars_voice.specs.declared.tied.TiedNote.{TiedNote}
+use Rattle.abc_bars_voice.specs.declared.voice_shift.VoiceShift.{VoiceShift}
+use Rattle.abc_bars_voice.specs.Accidentals.{no_accidentals, reach_of}
+use Rattle.abc_bars_voice.specs.Alteration.{own_alteration, tied_alteration, with_own}
+use Rattle.abc_bars_body.specs.BodyFields.{part_of}
+use Rattle.abc_bars_notes.specs.Broken.{is_time_token}
+use Rattle.abc_bars_notes.specs.Chords.{tie_follows}
+use Rattle.abc_bars_header.specs.FieldKind.{kind_of}
+use Rattle.abc_bars_notes.specs.TokenRole.{has_note}
+use Rattle.abc_bars_voice.specs.Tuplet.{OpenTuplet, tuplet_by}
 use Rattle.abc_bars.specs.LookBack.Defaults.{meter_said, unit_said}
 use Rattle.abc_bars.specs.LookBack.Element.{Element, field_of}
 
@@ -65,8 +66,8 @@ meter_at opening before = last_said (said_by_field meter_said) opening before
 unfoldable pub unit_at : Ratio → List Element → Ratio
 unit_at opening before = last_said (said_by_field unit_said) opening before
 
--- The signature that a K: says: none where it sets properties alone, and an empty one where it is refused.
--- ABC 2.1 section 3.1.14; what a refused one says is our own.
+-- The signature that a K: says: none if it sets properties alone, and an empty one if it is refused.
+-- ABC 2.1 section 3.1.14; what a refused one says is not in ABC 2.1.
 abbrev pub signature_said : FieldKind → List ℕ → Option Signature
 signature_said fields.Key value = (key_or_empty (key_of value)).signature
 signature_said _ value = None
@@ -81,20 +82,20 @@ shift_in_voice (Some voice) = voice.shift
 shift_in_voice None = no_shift
 
 -- The parts of the shift that a K: or a V: says. ABC 2.1 sections 4.6 and 7.1.
-abbrev pub shift_said : FieldKind → List ℕ → Shift
-shift_said fields.Key value = (key_or_empty (key_of value)).shift
-shift_said fields.Voice value = shift_in_voice (result_ok (voice_of value))
-shift_said _ value = no_shift
+abbrev pub merge_shift : FieldKind → List ℕ → Shift
+merge_shift fields.Key value = (key_or_empty (key_of value)).shift
+merge_shift fields.Voice value = shift_in_voice (result_ok (voice_of value))
+merge_shift _ value = no_shift
 
 -- The shift at a place, each part by the last field that says it.
 unfoldable pub shift_at : VoiceShift → List Element → VoiceShift
 shift_at opening before = record {
-  clef = last_said (said_by_field (λ kind value. (shift_said kind value).clef)) opening.clef before;
-  octave = last_said (said_by_field (λ kind value. (shift_said kind value).octave)) opening.octave before;
-  transpose = last_said (said_by_field (λ kind value. (shift_said kind value).transpose)) opening.transpose before;
+  clef = last_said (said_by_field (λ kind value. (merge_shift kind value).clef)) opening.clef before;
+  octave = last_said (said_by_field (λ kind value. (merge_shift kind value).octave)) opening.octave before;
+  transpose = last_said (said_by_field (λ kind value. (merge_shift kind value).transpose)) opening.transpose before;
 }
 
--- A note of a chord put before those behind it, with whether it is tied.
+-- A note of a chord put before those after it, with whether it is tied.
 abbrev pub note_before : ChordPartKind → Bool → List (Note × Bool) → List (Note × Bool)
 note_before (parts.Note note) tied later = (note, tied) ∷ later
 note_before parts.Tie tied later = later
@@ -106,13 +107,13 @@ abbrev pub notes_among : List (Spanned ChordPartKind) → List (Note × Bool)
 notes_among [] = []
 notes_among (part ∷ rest) = note_before part.kind (tie_follows rest) (notes_among rest)
 
--- The notes of a chord that count, each with whether a tie directly follows it: the first sixteen. Our own.
+-- The notes of a chord that count, each with whether a tie directly follows it: the first sixteen. Not in ABC 2.1.
 unfoldable pub counted_notes : Chord → List (Note × Bool)
 counted_notes chord = take MOST_CHORD_NOTES (notes_among chord.parts)
 
 -- Whether the accidental of a note reaches another one: with `pitch` those of its letter in every octave, with `octave`
 -- those in its own octave, as they are written, and with `not` none. ABC 2.1 sections 4.2 and 11.3; what these words
--- mean is our own.
+-- mean is not in ABC 2.1.
 abbrev pub reaches : Reach → Note → Note → Bool
 reaches Not from to = false
 reaches Octave from to = (capital from.letter == capital to.letter) && int_eq to.octave from.octave
@@ -127,13 +128,13 @@ abbrev pub newest_written : Reach → Note → List Note → Option ℤ
 newest_written reach note [] = None
 newest_written reach note (other ∷ earlier) = option_or (written_by reach note other) (newest_written reach note earlier)
 
--- Notes in order, put before those that stand before them, newest first.
+-- Notes in order, put before those that are before them, newest first.
 abbrev pub put_before : List (Note × Bool) → List Note → List Note
 put_before [] before = before
 put_before (note ∷ later) before = put_before later (note.0 ∷ before)
 
--- Whether accidentals before a field no longer hold behind it: they end at every K:, and at every part
--- that is accepted. ABC 2.1 section 4.2; that a part ends them is our own.
+-- Whether accidentals before a field no longer hold after it: they end at every K:, and at every part
+-- that is accepted. ABC 2.1 section 4.2; that a part ends them is not in ABC 2.1.
 abbrev pub ends_accidentals : FieldKind → List ℕ → Bool
 ends_accidentals fields.Key value = true
 ends_accidentals fields.Parts value = is_some (part_of value)
@@ -150,7 +151,7 @@ abbrev pub unless_ended : Bool → List Note → List Note
 unless_ended true notes = []
 unless_ended false notes = notes
 
--- The notes whose accidentals can be heard behind a token, by those before it, newest first: a bar line ends them, a
+-- The notes whose accidentals can be heard after a token, by those before it, newest first: a bar line ends them, a
 -- chord adds its first sixteen. ABC 2.1 section 4.2.
 abbrev pub notes_behind : List Note → TokenKind → List Note
 notes_behind notes (kinds.Note note) = note ∷ notes
@@ -181,11 +182,11 @@ abbrev pub accidentals_of : Reach → List Note → Accidentals
 accidentals_of reach [] = no_accidentals reach
 accidentals_of reach (note ∷ earlier) = with_own (accidentals_of reach earlier) note
 
--- The accidentals that hold at a place, where they reach so far.
+-- The accidentals at a place, with this reach.
 unfoldable pub accidentals_at : Reach → List Element → Accidentals
 accidentals_at reach before = accidentals_of reach (notes_of_bar before)
 
--- The dynamic that a token is, if it is one. One inside a chord is none. ABC 2.1 section 4.14; the latter is our own.
+-- The dynamic that a token is, if it is one. One inside a chord is none. ABC 2.1 section 4.14; the latter is not in ABC 2.1.
 abbrev pub dynamic_said : TokenKind → Option (Option Dynamic)
 dynamic_said (kinds.Note note) = None
 dynamic_said (kinds.Rest length) = None
@@ -229,7 +230,7 @@ tuplet_said meter (kinds.Field field) = None
 tuplet_said meter kinds.Unclosed = None
 tuplet_said meter kinds.BadByte = None
 
--- What is left of a tuplet behind so many notes, chords and rests.
+-- What is left of a tuplet after this number of notes, chords and rests.
 abbrev pub left_after : ℕ → OpenTuplet → Option OpenTuplet
 left_after passed tuplet = if nat_lt passed tuplet.left then Some (record tuplet { left = tuplet.left - passed }) else None
 
@@ -238,27 +239,27 @@ abbrev pub tuplet_or : Option OpenTuplet → ℕ → Option OpenTuplet → Optio
 tuplet_or (Some tuplet) passed earlier = left_after passed tuplet
 tuplet_or None passed earlier = earlier
 
--- One more where a token is a time token.
+-- One more if a token is a time token.
 abbrev pub passing : Bool → ℕ → ℕ
 passing true passed = suc passed
 passing false passed = passed
 
--- What is left of the last tuplet, where so many time tokens stand behind these elements.
+-- What is left of the last tuplet, if this number of time tokens is after these elements.
 abbrev pub tuplet_from : Meter → ℕ → List Element → Option OpenTuplet
 tuplet_from opening passed [] = None
 tuplet_from opening passed (element ∷ before) =
     tuplet_or (tuplet_said (meter_at opening before) element.kind) passed
     (tuplet_from opening (passing (is_time_token element.kind) passed) before)
 
--- The tuplet that is open at a place: the last accepted mark's, where fewer time tokens stand behind the
+-- The tuplet that is open at a place: the last accepted mark's, where fewer time tokens are after the
 -- mark than it takes. ABC 2.1 section 4.13.
 unfoldable pub tuplet_at : Meter → List Element → Option OpenTuplet
 tuplet_at opening before = tuplet_from opening 0 before
 
--- By how many semitones a note is altered, where these notes of its chord stand before it, newest first: by
+-- By how many semitones a note is altered, with these notes of its chord before it, newest first: by
 -- its own accidental, else by the last one that reaches it, else as the note that is tied to it, else by the
--- signature. How far accidentals reach is settled where the body begins. ABC 2.1 section 4.2; the tied note's is our own.
-abbrev pub alteration_at : Settings → List TiedNote → List Element → List Note → Note → ℤ
+-- signature. How far accidentals reach is fixed where the body begins. ABC 2.1 section 4.2; the tied note's is not in ABC 2.1.
+abbrev pub alteration_at : VoiceState → List TiedNote → List Element → List Note → Note → ℤ
 alteration_at opening tied before earlier note =
     unwrap_or (own_alteration note)
     (unwrap_or (newest_written (reach_of opening.accidentals) note (earlier ++ notes_of_bar before))
@@ -269,15 +270,15 @@ alteration_at opening tied before earlier note =
 abbrev pub as_tied : Note → ℤ → TiedNote
 as_tied note by = record { letter = note.letter; octave = note.octave; alteration = by }
 
--- The tied notes of a chord: each before a tie of its own or, where a tie follows the chord, each.
-abbrev pub tied_among : Settings → List TiedNote → List Element → Bool → List Note → List (Note × Bool) → List TiedNote
+-- The tied notes of a chord: each before a tie of its own or, if a tie follows the chord, each.
+abbrev pub tied_among : VoiceState → List TiedNote → List Element → Bool → List Note → List (Note × Bool) → List TiedNote
 tied_among opening tied before outer earlier [] = []
 tied_among opening tied before outer earlier (note ∷ later) =
     let rest = tied_among opening tied before outer (note.0 ∷ earlier) later in
     if outer || note.1 then as_tied note.0 (alteration_at opening tied before earlier note.0) ∷ rest else rest
 
 -- The tied notes of a token that takes time, or else those before it. A chord without notes takes none.
-abbrev pub tied_said : Settings → List TiedNote → List Element → TokenKind → Bool → List TiedNote
+abbrev pub tied_said : VoiceState → List TiedNote → List Element → TokenKind → Bool → List TiedNote
 tied_said opening tied before (kinds.Note note) true = as_tied note (alteration_at opening tied before [] note) ∷ []
 tied_said opening tied before (kinds.Note note) false = []
 tied_said opening tied before (kinds.Rest length) follows = []
@@ -300,13 +301,13 @@ tied_said opening tied before kinds.BadByte follows = tied
 
 -- The tied notes of the last time token at a place, with their alterations, which are looked back for
 -- themselves. ABC 2.1 section 4.11.
-abbrev pub tied_at : Settings → List Element → List TiedNote
+abbrev pub tied_at : VoiceState → List Element → List TiedNote
 tied_at opening [] = []
 tied_at opening (element ∷ before) = tied_said opening (tied_at opening before) before element.kind element.tied
 
--- What holds for a voice at a place.
-unfoldable pub settings_at : Settings → List Element → Settings
-settings_at opening before = record {
+-- The state of a voice at a place.
+unfoldable pub voice_state_at : VoiceState → List Element → VoiceState
+voice_state_at opening before = record {
   meter = meter_at opening.meter before;
   unit = unit_at opening.unit before;
   signature = signature_at opening.signature before;

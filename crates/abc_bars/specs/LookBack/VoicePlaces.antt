@@ -5,19 +5,19 @@ use Rattle.std.specs.List.{Contains}
 use Rattle.abc_fields.specs.declared.key.Key.{Key}
 use Rattle.abc_scan.specs.declared.token.TokenKind.{TokenKind}
 use Rattle.abc_scan.specs.declared.token.TokenKind.TheVariants as kinds
-use Rattle.abc_items.specs.declared.item.TheConstants.{MOST_VOICES}
-use Rattle.abc_header.specs.declared.defaults.Defaults.{Defaults}
-use Rattle.abc_header.specs.HeaderLine.{HeaderLine, FieldLine, DirectiveLine}
-use Rattle.abc_header.specs.Voices.{voice_at}
-use Rattle.abc_music.specs.TokenRole.{has_note}
-use Rattle.abc_cells.specs.Body.{here}
+use Rattle.abc_bars_items.specs.declared.item.TheConstants.{MOST_VOICES}
+use Rattle.abc_bars_header.specs.declared.defaults.Defaults.{Defaults}
+use Rattle.abc_bars_header.specs.HeaderLine.{HeaderLine, FieldLine, DirectiveLine}
+use Rattle.abc_bars_header.specs.Voices.{voice_at}
+use Rattle.abc_bars_notes.specs.TokenRole.{has_note}
+use Rattle.abc_bars_body.specs.Body.{here}
 use Rattle.abc_bars.specs.LookBack.ByName.{opening_of}
-use Rattle.abc_bars.specs.LookBack.CellPlace.{standing}
+use Rattle.abc_bars.specs.LookBack.CellPlace.{voice_place_of}
 use Rattle.abc_bars.specs.LookBack.Element.{Element}
-use Rattle.abc_bars.specs.LookBack.Fields.{BeginsPart, IsField, NamesVoice}
-use Rattle.abc_bars.specs.LookBack.Held.{held_at, roll_of}
+use Rattle.abc_bars.specs.LookBack.Fields.{BeginsPart, IsField, IsVoiceField, NamesVoice}
+use Rattle.abc_bars.specs.LookBack.Held.{body_at, roll_of}
 use Rattle.abc_bars.specs.LookBack.Place.{opening_at}
-use Rattle.abc_bars.specs.LookBack.Voice.{settings_at}
+use Rattle.abc_bars.specs.LookBack.Voice.{voice_state_at}
 
 -- A line of a header is an accepted V: of the voice of this name.
 abbrev pub DeclaresVoice : List ℕ → HeaderLine → Type 0
@@ -27,10 +27,6 @@ DeclaresVoice name (DirectiveLine directive) = ⊥
 -- A line of a header is no accepted V:.
 abbrev pub DeclaresNone : HeaderLine → Type 0
 DeclaresNone line = (name : List ℕ) → ¬ DeclaresVoice name line
-
--- A token of a body is an accepted V: of the voice of this name.
-abbrev pub IsVoiceField : List ℕ → TokenKind → Type 0
-IsVoiceField name kind = IsField (NamesVoice name) kind
 
 -- A token of a body is no accepted V:.
 abbrev pub IsNoVoiceField : TokenKind → Type 0
@@ -67,7 +63,8 @@ AreDeclared (line ∷ before) names = (earlier : List (List ℕ)) × AreDeclared
 
 -- The names of the mentioned voices before a token of a body, and those after it. An accepted V: mentions its voice. A token that
 -- is played before any accepted V: mentions the unnamed one.
-pub record IsAfterToken (fields : List HeaderLine) (before : List Element) (kind : TokenKind) (names more : List (List ℕ)) : Type 0 where
+pub record IsAfterToken (fields : List HeaderLine) (before : List Element) (kind : TokenKind)
+    (names more : List (List ℕ)) : Type 0 where
   pub voice : (name : List ℕ) → IsVoiceField name kind → IsWithMention names name more
   pub unnamed : IsPlayed kind → HasNoVoice fields before → IsWithMention names [] more
   pub other : IsNoVoiceField kind → ¬ (IsPlayed kind × HasNoVoice fields before) → more ≡ names
@@ -136,33 +133,38 @@ IsTokenOfAnother fields before kind name =
 abbrev pub AreTokensOf : List HeaderLine → List ℕ → List Element → List Element → Type 0
 AreTokensOf fields name [] tokens = tokens ≡ []
 AreTokensOf fields name (token ∷ before) tokens =
-    ((others : List Element) × IsTokenOf fields before token.kind name × (tokens ≡ token ∷ others) × AreTokensOf fields name before others)
+    ((others : List Element) × IsTokenOf fields before token.kind name × (tokens ≡ token ∷ others)
+    × AreTokensOf fields name before others)
     ⊎ (IsTokenOfAnother fields before token.kind name × AreTokensOf fields name before tokens)
 
 -- The voices that a body keeps at a place are those that are mentioned before it.
 abbrev pub VoicesAreMentioned : Type 0
 VoicesAreMentioned =
     (values : Defaults) (fields : List HeaderLine) (key : Key) (before : List Element)
-    → AreMentioned fields before (roll_of (held_at (opening_at values fields key) before)).names
+    → AreMentioned fields before (roll_of (body_at (opening_at values fields key) before)).names
 
--- The settings of a place are what the tokens of its voice leave of what that voice opened with. The laws of tokens speak of
--- these tokens (`stands`).
+-- The state of the voice of a place is what the tokens of its voice leave of what that voice opened with. The laws of tokens speak
+-- of these tokens (`stands`).
 pub record HoldsOfVoice (values : Defaults) (fields : List HeaderLine) (key : Key) (before : List Element) : Type 0 where
   pub name : List ℕ
   pub tokens : List Element
   pub voice : IsVoiceAt fields before name
   pub tokens_are : AreTokensOf fields name before tokens
-  pub held : here (held_at (opening_at values fields key) before) ≡ settings_at (opening_of (opening_at values fields key) name) tokens
-  pub stands : standing values fields key before ≡ record { opening = opening_of (opening_at values fields key) name; before = tokens }
+  pub held : here (body_at (opening_at values fields key) before)
+      ≡ voice_state_at (opening_of (opening_at values fields key) name) tokens
+  pub stands : voice_place_of values fields key before
+      ≡ record { opening = opening_of (opening_at values fields key) name; before = tokens }
 
 -- So it is at each place of a body.
 abbrev pub PlacesHoldOfVoices : Type 0
-PlacesHoldOfVoices = (values : Defaults) (fields : List HeaderLine) (key : Key) (before : List Element) → HoldsOfVoice values fields key before
+PlacesHoldOfVoices =
+    (values : Defaults) (fields : List HeaderLine) (key : Key) (before : List Element) → HoldsOfVoice values fields key before
 
--- The settings of each mentioned voice are what its tokens leave of what it opened with.
+-- The state of each mentioned voice is what its tokens leave of what it opened with.
 abbrev pub VoicesHoldOfTokens : Type 0
 VoicesHoldOfTokens =
     (values : Defaults) (fields : List HeaderLine) (key : Key) (before : List Element) (at : ℕ) (name : List ℕ)
-    → slice_get (roll_of (held_at (opening_at values fields key) before)).names at ≡ Some name
+    → slice_get (roll_of (body_at (opening_at values fields key) before)).names at ≡ Some name
     → (tokens : List Element) × AreTokensOf fields name before tokens
-    × (voice_at (held_at (opening_at values fields key) before).voices at ≡ Some (settings_at (opening_of (opening_at values fields key) name) tokens))
+    × (voice_at (body_at (opening_at values fields key) before).voices at
+    ≡ Some (voice_state_at (opening_of (opening_at values fields key) name) tokens))

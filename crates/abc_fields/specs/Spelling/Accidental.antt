@@ -10,7 +10,7 @@ pub record IsChange (text : List ℕ) (change : Change) (rest : List ℕ) : Type
   pub spelling : text ≡ spelled change.accidental ++ (byte ∷ rest)
   pub letter : IsLetter byte change.letter
 
--- A text is such changes, one directly behind the other. Where they are one or more, it is a word of
+-- A text is such changes, one directly after the other. If they are one or more, it is a word of
 -- accidentals.
 abbrev pub AreChanges : List ℕ → List Change → Type 0
 AreChanges text [] = text ≡ []

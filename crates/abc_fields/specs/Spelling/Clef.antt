@@ -15,7 +15,7 @@ HasMark text n = (EndsIn text (codes "+8") × (n ≡ pos 12)) ⊎ (EndsIn text (
 abbrev pub HasNoMark : List ℕ → Type 0
 HasNoMark text = (n : ℤ) → ¬ HasMark text n
 
--- The value of a clef: its mark, or 0 where it has none. ABC 2.1 section 4.6.
+-- The value of a clef: its mark, or 0 if it has none. ABC 2.1 section 4.6.
 abbrev pub IsClef : List ℕ → ℤ → Type 0
 IsClef text n = HasMark text n ⊎ (HasNoMark text × (n ≡ pos 0))
 
@@ -27,7 +27,7 @@ clef_names = codes "treble" ∷ codes "bass" ∷ codes "alto" ∷ codes "tenor" 
 abbrev pub IsClefLine : List ℕ → Type 0
 IsClefLine line = (line ≡ []) ⊎ ((digit : ℕ) × (digit_zero + 1 ≤ digit) × (digit ≤ digit_zero + 5) × (line ≡ digit ∷ []))
 
--- A word is the name of a clef, perhaps with the line that it stands on.
+-- A word is the name of a clef, perhaps with the line of its staff.
 pub record IsClefName (word : List ℕ) : Type 0 where
   pub name : List ℕ
   pub line : List ℕ

@@ -17,12 +17,13 @@ use Rattle.abc_fields.specs.Key.{empty_key, unchanged_key}
 use Rattle.abc_text.specs.Byte.{equals_sign, caret, underscore}
 
 -- The key of a basis on the tonic whose major key has these sharps. That tonic and mode have at most
--- seven sharps or flats together is our own.
+-- seven sharps or flats together is not in ABC 2.1.
 abbrev pub IsKeyOn : ℤ → Basis → Key → Type 0
 IsKeyOn major Explicit key = key ≡ empty_key
 IsKeyOn major (Named mode) key =
     let sharps = major +ℤ added_sharps mode in
-    IsSharps sharps × (key ≡ record { signature = Some (signature_of sharps); sharps = sharps; minor = is_minor mode; shift = no_shift })
+    IsSharps sharps
+    × (key ≡ record { signature = Some (signature_of sharps); sharps = sharps; minor = is_minor mode; shift = no_shift })
 
 -- A value begins with no tonic.
 abbrev pub HasNoTonic : List ℕ → Type 0
@@ -32,14 +33,14 @@ HasNoTonic value = (sharps : ℤ) (rest : List ℕ) → ¬ IsTonic value sharps 
 abbrev pub BeginsAccidental : List ℕ → Type 0
 BeginsAccidental word = (b : ℕ) × (rest : List ℕ) × (word ≡ b ∷ rest) × ((b ≡ caret) ⊎ ((b ≡ underscore) ⊎ (b ≡ equals_sign)))
 
--- A word sets properties, where it stands first: it has a `=`, or the mark of an octave, or is the
--- name of a clef. Our own.
+-- A word sets properties, as the first word: it has a `=`, or the mark of an octave, or is the
+-- name of a clef. Not in ABC 2.1.
 abbrev pub SetsProperties : List ℕ → Type 0
 SetsProperties word = Contains word equals_sign ⊎ (((n : ℤ) × HasMark word n) ⊎ IsClefName word)
 
 -- What a value begins with, and the text whose words complete it: a tonic and what it is the basis of;
--- without a tonic, an empty signature where accidentals are listed, and none where properties stand
--- alone, both of which are our own.
+-- without a tonic, an empty signature if accidentals are listed, and none if properties are
+-- alone, both of which are not in ABC 2.1.
 pub data IsStart (value : List ℕ) (start : Key) (text : List ℕ) : Type 0 where
   tonal : (major : ℤ) (behind : List ℕ) (basis : Basis) → IsTonic value major behind → IsBasis behind basis text
       → IsKeyOn major basis start → IsStart value start text
@@ -51,7 +52,8 @@ pub data IsStart (value : List ℕ) (start : Key) (text : List ℕ) : Type 0 whe
 -- The accidentals among words complete a signature, if there is one.
 abbrev pub IsCompleted : Option Signature → List (List ℕ) → Option Signature → Type 0
 IsCompleted None words completed = completed ≡ None
-IsCompleted (Some signature) words completed = (changed : Signature) × AreListed signature words changed × (completed ≡ Some changed)
+IsCompleted (Some signature) words completed =
+    (changed : Signature) × AreListed signature words changed × (completed ≡ Some changed)
 
 -- What begins a value, completed by words.
 pub record IsSpelled (value : List ℕ) (key : Key) : Type 0 where

@@ -21,14 +21,14 @@ pub record IsInParentheses (text : List ℕ) (numbers : List ℕ) : Type 0 where
   pub summed : IsSum inner numbers
   pub several : 2 ≤ length numbers
 
--- What stands above the stroke: a number, or a sum with or without parentheses.
+-- The number above the stroke: a number, or a sum with or without parentheses.
 pub record IsAbove (text : List ℕ) (total : ℕ) : Type 0 where
   pub numbers : List ℕ
   pub total_is : total ≡ sum numbers
   pub spelling : IsSum text numbers ⊎ IsInParentheses text numbers
 
--- What stands above, 1 to 255, a stroke, and a number below, a power of two up to 64. The bounds are
--- our own.
+-- A number above, 1 to 255, a stroke, and a number below, a power of two up to 64. The bounds are
+-- not in ABC 2.1.
 pub record IsFraction (text : List ℕ) (num den : ℕ) : Type 0 where
   pub above : List ℕ
   pub below : List ℕ
@@ -43,7 +43,7 @@ pub record IsFraction (text : List ℕ) (num den : ℕ) : Type 0 where
 abbrev pub IsSymbol : List ℕ → ℕ → ℕ → Type 0
 IsSymbol text num den = ((text ≡ codes "C") × (num ≡ 4) × (den ≡ 4)) ⊎ ((text ≡ codes "C|") × (num ≡ 2) × (den ≡ 2))
 
--- The meter that a text says. It is free where the text is `none`, or empty, which is our own.
+-- The meter that a text says. It is free if the text is `none`, or empty, which is not in ABC 2.1.
 abbrev pub IsMeter : List ℕ → Meter → Type 0
 IsMeter text Free = (text ≡ []) ⊎ (text ≡ codes "none")
 IsMeter text (Of num den) = IsSymbol text num den ⊎ IsFraction text num den

@@ -6,14 +6,14 @@ use Rattle.abc_text.specs.Number.{IsNumber}
 use Rattle.abc_fields.specs.Parts.{order_bytes}
 use Rattle.abc_text.specs.Byte.{open_parenthesis, close_parenthesis}
 
--- How often an item is played: the number behind it, or once where there is none.
+-- How often an item is played: the number after it, or once if there is none.
 pub data IsCount : List ℕ → ℕ → Type 0 where
   once : IsCount [] 1
   times : {text : List ℕ} {n : ℕ} → IsNumber text n → 0 < n → IsCount text n
 
 -- An order inside this many groups, at most 32, and the letters of the parts that it plays: a letter
 -- and its count, a group, which is an order in parentheses, and its count, or one order and another
--- behind it.
+-- after it.
 pub data IsOrder : ℕ → List ℕ → List ℕ → Type 0 where
   part : {depth letter n : ℕ} {count : List ℕ} → is_ascii_uppercase letter ≡ true → IsCount count n
       → IsOrder depth (letter ∷ count) (replicate n letter)

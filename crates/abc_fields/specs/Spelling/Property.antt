@@ -7,22 +7,24 @@ use Rattle.abc_fields.specs.Property.{clef_name, octave_name, transpose_name}
 use Rattle.abc_fields.specs.Spelling.Clef.{HasMark, HasNoMark, IsClef}
 use Rattle.abc_text.specs.Byte.{quote, plus_sign, minus_sign}
 
--- A text between two quotes is what stands between them, every other text is itself. Our own.
+-- A text between two quotes is the part between them, every other text is itself. Not in ABC 2.1.
 abbrev pub IsUnquoted : List ℕ → List ℕ → Type 0
-IsUnquoted text value = (text ≡ quote ∷ (value ++ quote ∷ [])) ⊎ ((text ≡ value) × ((inner : List ℕ) → text ≢ quote ∷ (inner ++ quote ∷ [])))
+IsUnquoted text value =
+    (text ≡ quote ∷ (value ++ quote ∷ [])) ⊎ ((text ≡ value) × ((inner : List ℕ) → text ≢ quote ∷ (inner ++ quote ∷ [])))
 
 -- A number, and in front of it `+`, `-`, or nothing.
 pub record IsSignedNumber (text : List ℕ) (n : ℤ) : Type 0 where
   pub digits : List ℕ
   pub size : ℕ
   pub number : IsNumber digits size
-  pub sign : ((text ≡ digits) × (n ≡ pos size)) ⊎ (((text ≡ plus_sign ∷ digits) × (n ≡ pos size)) ⊎ ((text ≡ minus_sign ∷ digits) × (n ≡ neg_ℤ (pos size))))
+  pub sign : ((text ≡ digits) × (n ≡ pos size)) ⊎ (((text ≡ plus_sign ∷ digits) × (n ≡ pos size))
+      ⊎ ((text ≡ minus_sign ∷ digits) × (n ≡ neg_ℤ (pos size))))
 
 -- A word gives a value to the property of this name.
 pub record Gives (name word value : List ℕ) : Type 0 where
   pub text : List ℕ
   pub spelling : word ≡ name ++ text
-  pub unquoted : IsUnquoted text value
+  pub unquote : IsUnquoted text value
 
 -- A word begins with a name.
 abbrev pub BeginsWith : List ℕ → List ℕ → Type 0
@@ -32,8 +34,8 @@ BeginsWith name word = (text : List ℕ) × (word ≡ name ++ text)
 abbrev pub HasNoName : List ℕ → Type 0
 HasNoName word = (¬ BeginsWith clef_name word) × (¬ BeginsWith octave_name word) × (¬ BeginsWith transpose_name word)
 
--- What a word says. Without a name it is a clef where it has a mark; that all else has no effect is
--- our own.
+-- What a word says. Without a name it is a clef if it has a mark; that all else has no effect is
+-- not in ABC 2.1.
 abbrev pub IsProperty : List ℕ → Property → Type 0
 IsProperty word (Clef n) = ((value : List ℕ) × Gives clef_name word value × IsClef value n) ⊎ (HasNoName word × HasMark word n)
 IsProperty word (Octave n) = (value : List ℕ) × Gives octave_name word value × IsSignedNumber value n

@@ -28,7 +28,7 @@ transpose_in (Octave n) = None
 transpose_in (Transpose n) = Some n
 transpose_in Other = None
 
--- The last thing that is said of a part. Our own.
+-- The last thing that is said of a part. Not in ABC 2.1.
 abbrev pub last_said : (Property → Option ℤ) → List Property → Option ℤ
 last_said said [] = None
 last_said said (p ∷ ps) = option_or (last_said said ps) (said p)

@@ -9,7 +9,7 @@ use Rattle.abc_text.specs.Blank.{AreBlanks}
 use Rattle.abc_text.specs.Number.{IsNumber}
 use Rattle.abc_text.specs.Byte.{quote, slash, equals_sign}
 
--- A fraction of a whole note, as `3/8`, which is so many 512ths. The limits are our own.
+-- A fraction of a whole note, as `3/8`, counted in 512ths. The limits are not in ABC 2.1.
 pub record IsFraction (text : List ℕ) (part : ℕ) : Type 0 where
   pub above : List ℕ
   pub below : List ℕ
@@ -23,7 +23,7 @@ pub record IsFraction (text : List ℕ) (part : ℕ) : Type 0 where
   pub power_most : power ≤ 9
   pub value : part * 2 ^ power ≡ num * 512
 
--- One fraction, behind which blanks may stand.
+-- One fraction, which blanks may follow.
 pub record IsLastFraction (text : List ℕ) (sum : ℕ) : Type 0 where
   pub word : List ℕ
   pub gap : List ℕ
@@ -45,7 +45,7 @@ pub record IsFirstFraction (IsRest : List ℕ → ℕ → Type 0) (text : List �
   pub rest_is : IsRest rest rest_sum
   pub total : sum ≡ part + rest_sum
 
--- At least one and at most so many fractions, separated by blanks, which are added.
+-- At least one and at most `most` fractions, separated by blanks, which are added.
 abbrev pub IsSum : ℕ → List ℕ → ℕ → Type 0
 IsSum zero text sum = ⊥
 IsSum (suc most) text sum = IsLastFraction text sum ⊎ IsFirstFraction (IsSum most) text sum
@@ -55,7 +55,7 @@ abbrev pub IsLowest : Ratio → Type 0
 IsLowest r = (c : ℕ) → c ∣ r.num → c ∣ r.den → c ≡ 1
 
 -- The beat, `=` between blanks or none, and how many beats there are per minute. That a beat is at
--- most 16 fractions is our own.
+-- most 16 fractions is not in ABC 2.1.
 pub record IsBeats (text : List ℕ) (beat : Ratio) (n : ℕ) : Type 0 where
   pub front : List ℕ
   pub gap : List ℕ
@@ -69,7 +69,7 @@ pub record IsBeats (text : List ℕ) (beat : Ratio) (n : ℕ) : Type 0 where
   pub value : beat.num * 512 ≡ sum * beat.den
   pub lowest_is : IsLowest beat
 
--- A tempo without a text: beats, or how many unit notes there are per minute. The latter is our own.
+-- A tempo without a text: beats, or how many unit notes there are per minute. The latter is not in ABC 2.1.
 abbrev pub IsBareTempo : List ℕ → Tempo → Type 0
 IsBareTempo text Unset = ⊥
 IsBareTempo text (Units n) = IsNumber text n × (1 ≤ n)
@@ -101,8 +101,8 @@ pub record IsBeforeText (text : List ℕ) (m : Tempo) : Type 0 where
   pub gap_is : AreBlanks gap
   pub quoted_is : IsQuoted quoted
 
--- What a tempo field says: nothing where it is empty or a text alone, else a tempo, before or behind
--- which a text may stand. That an empty field is accepted is our own.
+-- What a tempo field says: nothing if it is empty or a text alone, else a tempo, before or after
+-- which a text may come. That an empty field is accepted is not in ABC 2.1.
 pub data IsTempo (text : List ℕ) (m : Tempo) : Type 0 where
   empty : text ≡ [] → m ≡ Unset → IsTempo text m
   text_alone : IsQuoted text → m ≡ Unset → IsTempo text m

@@ -44,9 +44,9 @@ pub record IsRun (text blanks run rest : List ℕ) : Type 0 where
   pub are_letters : AllPass is_ascii_alphabetic run
   pub no_more_letters : StopsAt is_ascii_alphabetic rest
 
--- What a signature is made from, by the text behind the tonic, and the text that follows: a run of
--- letters names a mode, or is `exp` behind blanks. Without either, major; then a run of letters stands
--- behind blanks, and belongs to what follows.
+-- The basis of a signature, by the text after the tonic, and the text that follows: a run of
+-- letters names a mode, or is `exp` after blanks. Without either, major; then a run of letters comes
+-- after blanks, and belongs to what follows.
 pub data IsBasis (text : List ℕ) (basis : Basis) (rest : List ℕ) : Type 0 where
   named : (blanks run : List ℕ) (mode : Mode) → IsRun text blanks run rest → IsMode run mode → basis ≡ Named mode
       → IsBasis text basis rest

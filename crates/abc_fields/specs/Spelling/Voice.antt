@@ -4,7 +4,7 @@ use Rattle.abc_fields.specs.declared.voice.Voice.{Voice}
 use Rattle.abc_text.specs.Word.{IsFirstWord, words_of}
 use Rattle.abc_fields.specs.Spelling.Shift.{IsShift}
 
--- A voice: its identifier is the first word, and the words behind that say its shift.
+-- A voice: its identifier is the first word, and the words after that say its shift.
 pub record IsVoice (text : List ℕ) (voice : Voice) : Type 0 where
   pub identifier : List ℕ
   pub behind : List ℕ

@@ -3,13 +3,13 @@ use Rattle.std.proofs.Common.{ℕ, ◌+◌, ◌*◌, ◌≤◌, false, List, [],
 use Rattle.std.specs.Prelude.{All, IfSome, remove, filter_map, slice_get}
 use Rattle.std.specs.List.{cons_option}
 use Rattle.std.proofs.lemmas.List.Elements.{All-head, All-tail}
-use Rattle.abc_items.specs.Item.{IsItem}
-use Rattle.abc_items.specs.declared.item.Item.{Item}
-use Rattle.abc_items.specs.declared.item.Item.TheVariants as items
-use Rattle.abc_items.specs.declared.item.Tone.{Tone}
-use Rattle.abc_score.specs.declared.score.Sounding.{Sounding}
+use Rattle.abc_bars_items.specs.Item.{IsItem}
+use Rattle.abc_bars_items.specs.declared.item.Item.{Item}
+use Rattle.abc_bars_items.specs.declared.item.Item.TheVariants as items
+use Rattle.abc_bars_items.specs.declared.item.Tone.{Tone}
+use Rattle.abc_voices_score.specs.declared.score.Sounding.{Sounding}
 use Rattle.abc_voices.specs.TiedNotes.{TokenNotes, Notes, own_note, lengthened, with_note, next_place, with_key, with_tones, before, notes_from}
-use Rattle.abc_sections.specs.Step.{length_of, tones_of}
+use Rattle.abc_voices_sections.specs.Step.{length_of, tones_of}
 
 -- how many notes of both kinds there are
 abbrev pub linked_notes : TokenNotes → ℕ
@@ -68,7 +68,7 @@ one_more : {A : Type 0} (x : Option A) (xs : List A) (n : ℕ) → length xs ≤
 one_more None xs n few = omega (arith, few)
 one_more (Some x) xs n few = omega (arith, few)
 
--- what stands at some places is no more than the places
+-- what is at some places is no more than the places
 pub picked_few : {A : Type 0} (xs : List A) (places : List ℕ) → length (filter_map (slice_get xs) places) ≤ length places
 picked_few xs [] = omega arith
 picked_few xs (place ∷ places) = one_more (slice_get xs place) (filter_map (slice_get xs) places) (length places) (picked_few xs places)

@@ -2,14 +2,14 @@
 use Rattle.std.proofs.Common.{◌≡◌, ℕ, ◌+◌, ◌≤◌, false, List, [], ◌∷◌, length, Option, Some, None, arith, refl, subst, zero, suc, take, drop}
 use Rattle.std.specs.Prelude.{All, IfSome, slice_index_or, remove}
 use Rattle.std.proofs.lemmas.List.Elements.{All-nil, All-head, All-tail, All-append, All-push, All-take, All-drop, All-weaker}
-use Rattle.abc_items.specs.Item.{IsItem, IsTone}
-use Rattle.abc_items.specs.Velocity.{IsVelocity}
-use Rattle.abc_items.specs.declared.item.Item.{Item}
-use Rattle.abc_items.specs.declared.item.Item.TheVariants as items
-use Rattle.abc_items.specs.declared.item.Tone.{Tone}
-use Rattle.abc_score.specs.declared.score.Sounding.{Sounding}
+use Rattle.abc_bars_items.specs.Item.{IsItem, IsTone}
+use Rattle.abc_bars_items.specs.Velocity.{IsVelocity}
+use Rattle.abc_bars_items.specs.declared.item.Item.{Item}
+use Rattle.abc_bars_items.specs.declared.item.Item.TheVariants as items
+use Rattle.abc_bars_items.specs.declared.item.Tone.{Tone}
+use Rattle.abc_voices_score.specs.declared.score.Sounding.{Sounding}
 use Rattle.abc_voices.specs.TiedNotes.{TokenNotes, Notes, own_note, lengthened, with_note, next_place, with_key, with_tones, before, notes_from}
-use Rattle.abc_sections.specs.Step.{length_of, tones_of}
+use Rattle.abc_voices_sections.specs.Step.{length_of, tones_of}
 
 -- a note that begins then or later, ends no sooner than it begins, and has a key and a velocity of MIDI
 pub record Fits (at : ℕ) (note : Sounding) : Type 0 where
@@ -24,7 +24,7 @@ earlier at k note fits = record { begins = omega (arith, fits.begins); forward =
 own_fits : (at : ℕ) (tone : Tone) (key : ℕ) → key ≤ 127 → IsTone tone → Fits at (own_note at tone key)
 own_fits at tone key within is = record { begins = omega arith; forward = omega arith; key = within; velocity = is.velocity }
 
--- the element of a list where there is one, else a spare one
+-- the element of a list if there is one, else a spare one
 at_place : {X : Type 0} (P : X → Type 0) (xs : List X) (place : ℕ) (spare : X) → All P xs → P spare → P (slice_index_or xs place spare)
 at_place P [] place spare all own = own
 at_place P (x ∷ xs) zero spare all own = All-head P x xs all
@@ -39,7 +39,7 @@ lengthened_fits at note next place begins own all =
 All-remove : {X : Type 0} (P : X → Type 0) (xs : List X) (place : ℕ) → All P xs → All P (remove xs place)
 All-remove P xs place all = All-append P (take place xs) (drop (suc place) xs) (All-take P place xs all) (All-drop P (suc place) xs all)
 
--- notes that begin at a time token, and those behind it
+-- notes that begin at a time token, and those after it
 pub record AreFitting (at : ℕ) (linked : TokenNotes) : Type 0 where
   pub begun : All (Fits at) linked.begun
   pub next : All (Fits at) linked.next
@@ -95,7 +95,7 @@ abbrev pub lasting : List Item → ℕ
 lasting [] = 0
 lasting (step ∷ steps) = length_of step + lasting steps
 
--- the notes of steps that are played from a moment on, in front of notes that begin behind them or later
+-- the notes of steps that are played from a moment on, before notes that begin after them or later
 pub notes_fit : (at : ℕ) (steps : List Item) (notes : Notes) → All IsItem steps
     → AllFit (at + lasting steps) notes → AllFit at (notes_from at steps notes)
 notes_fit at [] notes all fits = all_earlier at 0 notes fits

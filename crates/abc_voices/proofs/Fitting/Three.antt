@@ -4,18 +4,18 @@ use Rattle.std.specs.Prelude.{All, sum_by}
 use Rattle.std.specs.List.{cons_option, flat_map}
 use Rattle.std.proofs.lemmas.List.Elements.{All-nil, All-cons, All-head, All-drop, All-weaker}
 use Rattle.std.proofs.lemmas.List.Sums.{sum_by-cons}
-use Rattle.abc_items.specs.declared.item.Item.{Item}
-use Rattle.abc_items.specs.declared.item.Item.TheVariants as items
+use Rattle.abc_bars_items.specs.declared.item.Item.{Item}
+use Rattle.abc_bars_items.specs.declared.item.Item.TheVariants as items
 use Rattle.abc_fields.specs.declared.meter.Meter.{Meter}
 use Rattle.abc_time.specs.declared.grains.Grains.{Grains}
 use Rattle.abc_voices.specs.Arrange.{set_in, first_of}
-use Rattle.abc_sections.specs.PlayedSection.{play_in, size_in, longest}
+use Rattle.abc_voices_sections.specs.PlayedSection.{play_in, size_in, longest}
 use Rattle.abc_voices.specs.Change.{tempo_of, meter_of, key_of, at_moment, set_from}
-use Rattle.abc_sections.specs.EndingFields.{with_fields_in_endings}
-use Rattle.abc_sections.specs.Play.{places_of}
-use Rattle.abc_sections.specs.Section.{part}
-use Rattle.abc_sections.specs.Step.{length_of}
-use Rattle.abc_voices.specs.Track.{everyone, tracks, nameless_plays}
+use Rattle.abc_voices_sections.specs.EndingFields.{with_fields_in_endings}
+use Rattle.abc_voices_sections.specs.Play.{places_of}
+use Rattle.abc_voices_sections.specs.Section.{part}
+use Rattle.abc_voices_sections.specs.Step.{length_of}
+use Rattle.abc_voices.specs.Track.{voice_names, tracks, has_unnamed_track}
 use Rattle.abc_voices.proofs.Fitting.Count.{picked_few}
 use Rattle.abc_voices.proofs.Fitting.Kept.{either}
 use Rattle.abc_voices.proofs.Fitting.Voices.{IsHeard, size_of}
@@ -104,10 +104,10 @@ all_room (voice ∷ voices) =
     All-cons (HasRoom (voice ∷ voices)) voice voices (room_first voice voices)
     (All-weaker (HasRoom voices) (HasRoom (voice ∷ voices)) (room_more voice voices) voices (all_room voices))
 
-pub tracks_room : (tune : List Item) → All (HasRoom (everyone tune)) (tracks tune)
+pub tracks_room : (tune : List Item) → All (HasRoom (voice_names tune)) (tracks tune)
 tracks_room tune =
-    let P : List ℕ → Type 0 = HasRoom (everyone tune) in
-    either P (nameless_plays tune) (everyone tune) (drop 1 (everyone tune)) (all_room (everyone tune)) (All-drop P 1 (everyone tune) (all_room (everyone tune)))
+    let P : List ℕ → Type 0 = HasRoom (voice_names tune) in
+    either P (has_unnamed_track tune) (voice_names tune) (drop 1 (voice_names tune)) (all_room (voice_names tune)) (All-drop P 1 (voice_names tune) (all_room (voice_names tune)))
 
 -- with the meters and keys of the first of these, if there is one
 section_few : (at : ℕ) (section : List ℕ × List Item) (voices those : List (List ℕ)) → All (HasRoom voices) those
@@ -156,16 +156,16 @@ module _ {V : Type 0} (value_of : Item → Option V) where
 
   pub voice_sets_few : (voices : List (List ℕ)) (voice : List ℕ) → IsHeard voices voice → (at : ℕ) (sections : List (List ℕ × List Item))
       → length (set_in value_of voices (voice ∷ []) at sections) ≤ sum_by (size_of voices) sections
-  voice_sets_few voices voice heard at [] = omega arith
-  voice_sets_few voices voice heard at (section ∷ rest) =
+  voice_sets_few voices voice heard_notes at [] = omega arith
+  voice_sets_few voices voice heard_notes at (section ∷ rest) =
       let play : List Item = play_in section voice in
       let later : ℕ = at + longest voices section in
       omega (
         arith,
         own_few at play,
         picked_few (with_fields_in_endings (part voice section)) (places_of (with_fields_in_endings (part voice section))),
-        heard.plays section,
-        voice_sets_few voices voice heard later rest,
+        heard_notes.plays section,
+        voice_sets_few voices voice heard_notes later rest,
         sum_by-cons (size_of voices) section rest,
         length-append (set_from value_of at play) [],
         length-append (flat_map (λ one. set_from value_of at (play_in section one)) (voice ∷ [])) (set_in value_of voices (voice ∷ []) later rest),

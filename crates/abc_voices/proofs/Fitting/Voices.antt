@@ -4,17 +4,17 @@ use Rattle.std.specs.Prelude.{All, sum_by}
 use Rattle.std.specs.List.{flat_map}
 use Rattle.std.proofs.lemmas.List.Elements.{All-nil, All-cons, All-head, All-tail, All-drop, All-weaker}
 use Rattle.std.proofs.lemmas.List.Sums.{sum_by-cons}
-use Rattle.abc_items.specs.Item.{IsItem}
-use Rattle.abc_items.specs.declared.item.Item.{Item}
-use Rattle.abc_score.specs.declared.score.Sounding.{Sounding}
+use Rattle.abc_bars_items.specs.Item.{IsItem}
+use Rattle.abc_bars_items.specs.declared.item.Item.{Item}
+use Rattle.abc_voices_score.specs.declared.score.Sounding.{Sounding}
 use Rattle.abc_voices.specs.Arrange.{voice_notes, last_off}
-use Rattle.abc_sections.specs.PlayedSection.{play_in, size_in, length_in, longest}
+use Rattle.abc_voices_sections.specs.PlayedSection.{play_in, size_in, length_in, longest}
 use Rattle.abc_voices.specs.TiedNotes.{Notes}
-use Rattle.abc_sections.specs.EndingFields.{with_fields_in_endings}
-use Rattle.abc_sections.specs.Play.{places_of, duration}
-use Rattle.abc_sections.specs.Section.{part}
-use Rattle.abc_sections.specs.Step.{length_of}
-use Rattle.abc_voices.specs.Track.{everyone, tracks, nameless_plays}
+use Rattle.abc_voices_sections.specs.EndingFields.{with_fields_in_endings}
+use Rattle.abc_voices_sections.specs.Play.{places_of, duration}
+use Rattle.abc_voices_sections.specs.Section.{part}
+use Rattle.abc_voices_sections.specs.Step.{length_of}
+use Rattle.abc_voices.specs.Track.{voice_names, tracks, has_unnamed_track}
 use Rattle.abc_voices.proofs.Fitting.Count.{notes_of, notes_few, picked_few}
 use Rattle.abc_voices.proofs.Fitting.Kept.{either, play_kept}
 use Rattle.abc_voices.proofs.Fitting.Notes.{Fits, AllFit, all_earlier, lasting, notes_fit}
@@ -39,9 +39,9 @@ heard_first voice voices = record {
 }
 
 heard_more : (voice : List ℕ) (voices : List (List ℕ)) (other : List ℕ) → IsHeard voices other → IsHeard (voice ∷ voices) other
-heard_more voice voices other heard = record {
-  lasts = λ section. omega (arith, heard.lasts section);
-  plays = λ section. omega (arith, heard.plays section, sum_by-cons (size_in section) voice voices);
+heard_more voice voices other heard_notes = record {
+  lasts = λ section. omega (arith, heard_notes.lasts section);
+  plays = λ section. omega (arith, heard_notes.plays section, sum_by-cons (size_in section) voice voices);
 }
 
 pub all_heard : (voices : List (List ℕ)) → All (IsHeard voices) voices
@@ -51,10 +51,10 @@ all_heard (voice ∷ voices) =
     (All-weaker (IsHeard voices) (IsHeard (voice ∷ voices)) (heard_more voice voices) voices (all_heard voices))
 
 -- the voices that have a track are heard
-pub tracks_heard : (tune : List Item) → All (IsHeard (everyone tune)) (tracks tune)
+pub tracks_heard : (tune : List Item) → All (IsHeard (voice_names tune)) (tracks tune)
 tracks_heard tune =
-    let P : List ℕ → Type 0 = IsHeard (everyone tune) in
-    either P (nameless_plays tune) (everyone tune) (drop 1 (everyone tune)) (all_heard (everyone tune)) (All-drop P 1 (everyone tune) (all_heard (everyone tune)))
+    let P : List ℕ → Type 0 = IsHeard (voice_names tune) in
+    either P (has_unnamed_track tune) (voice_names tune) (drop 1 (voice_names tune)) (all_heard (voice_names tune)) (All-drop P 1 (voice_names tune) (all_heard (voice_names tune)))
 
 abbrev pub ItemsIn : List ℕ × List Item → Type 0
 ItemsIn section = All IsItem section.1
@@ -69,19 +69,19 @@ later_fit at k n notes within fits =
 -- the notes of a voice in sections that are played from a moment on
 pub voice_fits : (voices : List (List ℕ)) (voice : List ℕ) → IsHeard voices voice → (at : ℕ) (sections : List (List ℕ × List Item)) → All ItemsIn sections
     → AllFit at (voice_notes voices voice at sections)
-voice_fits voices voice heard at [] all = record { first = All-nil (Fits at); others = All-nil (Fits at) }
-voice_fits voices voice heard at (section ∷ rest) all =
+voice_fits voices voice heard_notes at [] all = record { first = All-nil (Fits at); others = All-nil (Fits at) }
+voice_fits voices voice heard_notes at (section ∷ rest) all =
     let play : List Item = play_in section voice in
     let behind : Notes = voice_notes voices voice (at + longest voices section) rest in
     notes_fit at play behind (play_kept IsItem section voice (All-head ItemsIn section rest all))
-    (later_fit at (lasting play) (longest voices section) behind (omega (arith, lasts play, heard.lasts section))
-    (voice_fits voices voice heard (at + longest voices section) rest (All-tail ItemsIn section rest all)))
+    (later_fit at (lasting play) (longest voices section) behind (omega (arith, lasts play, heard_notes.lasts section))
+    (voice_fits voices voice heard_notes (at + longest voices section) rest (All-tail ItemsIn section rest all)))
 
 -- how many there are
 pub voice_few : (voices : List (List ℕ)) (voice : List ℕ) → IsHeard voices voice → (at : ℕ) (sections : List (List ℕ × List Item)) → All ItemsIn sections
     → notes_of (voice_notes voices voice at sections) ≤ 16 * sum_by (size_of voices) sections
-voice_few voices voice heard at [] all = omega arith
-voice_few voices voice heard at (section ∷ rest) all =
+voice_few voices voice heard_notes at [] all = omega arith
+voice_few voices voice heard_notes at (section ∷ rest) all =
     let play : List Item = play_in section voice in
     let behind : Notes = voice_notes voices voice (at + longest voices section) rest in
     omega (
@@ -89,8 +89,8 @@ voice_few voices voice heard at (section ∷ rest) all =
       sum_by-cons (size_of voices) section rest,
       notes_few at play behind (play_kept IsItem section voice (All-head ItemsIn section rest all)),
       picked_few (with_fields_in_endings (part voice section)) (places_of (with_fields_in_endings (part voice section))),
-      heard.plays section,
-      voice_few voices voice heard (at + longest voices section) rest (All-tail ItemsIn section rest all),
+      heard_notes.plays section,
+      voice_few voices voice heard_notes (at + longest voices section) rest (All-tail ItemsIn section rest all),
     )
 
 -- the latest end of notes is no sooner than where it was looked for from
@@ -103,10 +103,10 @@ abbrev pub EndsBy : ℕ → Sounding → Type 0
 EndsBy end note = note.off.0 ≤ end
 
 -- all notes end by the latest end
-pub last_of_all : (at : ℕ) (notes : List Sounding) → All (EndsBy (last_off at notes)) notes
-last_of_all at [] = All-nil (EndsBy at)
-last_of_all at (note ∷ notes) =
-    All-cons (EndsBy (last_off at (note ∷ notes))) note notes (omega (arith, last_past (max at note.off.0) notes)) (last_of_all (max at note.off.0) notes)
+pub latest_end : (at : ℕ) (notes : List Sounding) → All (EndsBy (last_off at notes)) notes
+latest_end at [] = All-nil (EndsBy at)
+latest_end at (note ∷ notes) =
+    All-cons (EndsBy (last_off at (note ∷ notes))) note notes (omega (arith, last_past (max at note.off.0) notes)) (latest_end (max at note.off.0) notes)
 
 front : {X : Type 0} (P : X → Type 0) (xs ys : List X) → All P (xs ++ ys) → All P xs
 front P [] ys all = All-nil P

@@ -4,9 +4,9 @@ use Rattle.std.specs.Prelude.{All, IfSome, sum_by, slice_index_or}
 use Rattle.std.specs.List.{flat_map}
 use Rattle.std.proofs.lemmas.List.{length-map}
 use Rattle.std.proofs.lemmas.List.Elements.{All-nil, All-cons, All-head, All-tail, All-append, All-map, All-weaker}
-use Rattle.abc_items.specs.Item.{IsItem}
-use Rattle.abc_items.specs.declared.item.Item.{Item}
-use Rattle.abc_items.specs.declared.item.Item.TheVariants as items
+use Rattle.abc_bars_items.specs.Item.{IsItem}
+use Rattle.abc_bars_items.specs.declared.item.Item.{Item}
+use Rattle.abc_bars_items.specs.declared.item.Item.TheVariants as items
 use Rattle.abc_fields.specs.Meter.{IsMeterInRange}
 use Rattle.abc_fields.specs.Signature.{IsSharps}
 use Rattle.abc_fields.specs.declared.meter.Meter.{Meter}
@@ -15,26 +15,27 @@ use Rattle.abc_repeat.specs.declared.play.TheConstants.{MOST_PLACES}
 use Rattle.abc_time.specs.declared.grains.Grains.{Grains}
 use Rattle.abc_time.specs.Grains.{grains_of_the_latest_end}
 use Rattle.abc_time.specs.Tempo.{FitsInTempoEvent}
-use Rattle.abc_items.specs.declared.item.TheConstants.{MOST_VOICES}
-use Rattle.abc_items.specs.declared.program.TheConstants.{HIGHEST_PROGRAM}
-use Rattle.abc_score.specs.declared.limits.TheConstants.{LONGEST_TITLE, MOST_CHANGES, MOST_NOTES, MOST_PROGRAMS}
-use Rattle.abc_score.specs.declared.score.Change.{Change}
-use Rattle.abc_score.specs.declared.score.Sounding.{Sounding}
-use Rattle.abc_voices.specs.Arrange.{played_sections, voice_notes, all_notes, set_in, or_else, usual_tempo, first_of, total, voices_notes, end_of, changes_of, programs_in, programs_of, score_of, places_played}
-use Rattle.abc_sections.specs.PlayedSection.{longest}
-use Rattle.abc_voices.specs.Change.{tempo_of, meter_of, key_of, program_of, behind}
-use Rattle.abc_voices.specs.ScoreChanges.{tempo_change, meter_at, meter_change, key_change, program_change, changes_that_stand, programs_that_stand}
+use Rattle.abc_bars_items.specs.declared.item.TheConstants.{MOST_VOICES}
+use Rattle.abc_bars_items.specs.declared.program.TheConstants.{HIGHEST_PROGRAM}
+use Rattle.abc_voices_score.specs.declared.limits.TheConstants.{LONGEST_TITLE, MOST_CHANGES, MOST_NOTES, MOST_PROGRAMS}
+use Rattle.abc_voices_score.specs.declared.score.Change.{Change}
+use Rattle.abc_voices_score.specs.declared.score.Sounding.{Sounding}
+use Rattle.abc_voices.specs.Arrange.{played_sections, voice_notes, all_notes, set_in, or_else, usual_tempo, first_of, total, voices_notes, end_of}
+use Rattle.abc_voices.specs.Arrange.{changes_of, programs_in, programs_of, score_of, places_played}
+use Rattle.abc_voices_sections.specs.PlayedSection.{longest}
+use Rattle.abc_voices.specs.Change.{tempo_of, meter_of, key_of, program_of, after_opening}
+use Rattle.abc_voices.specs.ScoreChanges.{tempo_change, meter_at, meter_change, key_change, program_change, changes_in_force, programs_in_force}
 use Rattle.abc_voices.specs.TiedNotes.{Notes}
-use Rattle.abc_score.specs.Limits.{IsChangeWithin, IsSoundingWithin, IsVoiceWithin, IsProgramWithin, AreProgramsWithin, AreCountsWithin, IsWithinLimits}
-use Rattle.abc_voices.specs.Opening.{tempo_past, meter_past, key_past, program_past, past_all, title_of}
+use Rattle.abc_voices_score.specs.Limits.{IsChangeWithin, IsSoundingWithin, IsVoiceWithin, IsProgramWithin, AreProgramsWithin, AreCountsWithin, IsWithinLimits}
+use Rattle.abc_voices.specs.Opening.{tempo_after, meter_after, key_after, program_after, after_all, title_of}
 use Rattle.abc_voices.specs.Ticks.{last_of_each_tick}
-use Rattle.abc_voices.specs.Track.{everyone, tracks}
-use Rattle.abc_sections.proofs.Items.{of_map}
+use Rattle.abc_voices.specs.Track.{voice_names, tracks}
+use Rattle.abc_voices_sections.proofs.Items.{of_map}
 use Rattle.abc_voices.proofs.Fitting.Changes.{IsSetBy, settled_kept, settled_few, sections_set, past_kept}
 use Rattle.abc_voices.proofs.Fitting.Kept.{one_more, played_kept}
 use Rattle.abc_voices.proofs.Fitting.Notes.{Fits, AllFit}
 use Rattle.abc_voices.proofs.Fitting.Three.{tracks_room, sets_few, voice_sets_few}
-use Rattle.abc_voices.proofs.Fitting.Voices.{IsHeard, ItemsIn, tracks_heard, voice_fits, voice_few, last_past, last_of_all, EndsBy, each_list, all_heard}
+use Rattle.abc_voices.proofs.Fitting.Voices.{IsHeard, ItemsIn, tracks_heard, voice_fits, voice_few, last_past, latest_end, EndsBy, each_list, all_heard}
 
 both : {X : Type 0} (P Q R : X → Type 0) → ((x : X) → P x → Q x → R x) → (xs : List X) → All P xs → All Q xs → All R xs
 both P Q R f xs p q = λ k d within. f (slice_index_or xs k d) (p k d within) (q k d within)
@@ -78,19 +79,19 @@ program_is : (item : Item) → IsItem item → IfSome (program_of item) IsProgra
 program_is (items.Program opening number) is = is
 program_is _ is = tt
 
-tempo_past_is : (tempo : Option ℕ) (item : Item) → IfSome tempo FitsInTempoEvent → IsItem item → IfSome (tempo_past tempo item) FitsInTempoEvent
+tempo_past_is : (tempo : Option ℕ) (item : Item) → IfSome tempo FitsInTempoEvent → IsItem item → IfSome (tempo_after tempo item) FitsInTempoEvent
 tempo_past_is tempo (items.Tempo true micros out) was is = is
 tempo_past_is tempo _ was is = was
 
-meter_past_is : (meter : Option Meter) (item : Item) → IfSome meter IsMeterInRange → IsItem item → IfSome (meter_past meter item) IsMeterInRange
+meter_past_is : (meter : Option Meter) (item : Item) → IfSome meter IsMeterInRange → IsItem item → IfSome (meter_after meter item) IsMeterInRange
 meter_past_is meter (items.Meter true set) was is = is
 meter_past_is meter _ was is = was
 
-key_past_is : (key : Option (ℤ × Bool)) (item : Item) → IfSome key IsKey → IsItem item → IfSome (key_past key item) IsKey
+key_past_is : (key : Option (ℤ × Bool)) (item : Item) → IfSome key IsKey → IsItem item → IfSome (key_after key item) IsKey
 key_past_is key (items.Key true set) was is = is
 key_past_is key _ was is = was
 
-program_past_is : (program : Option ℕ) (item : Item) → IfSome program IsProgram → IsItem item → IfSome (program_past program item) IsProgram
+program_past_is : (program : Option ℕ) (item : Item) → IfSome program IsProgram → IsItem item → IfSome (program_after program item) IsProgram
 program_past_is program (items.Program true (Some number)) was is = is
 program_past_is program _ was is = was
 
@@ -123,12 +124,13 @@ meters_few ((at, meters.Of num den) ∷ sets) = omega (arith, meters_few sets)
 
 conductor_fits : (end : Grains) (tempos : List (Grains × ℕ)) (meters : List (Grains × Meter)) (keys : List (Grains × (ℤ × Bool)))
     → All (IsSetBy end.0 FitsInTempoEvent) tempos → All (IsSetBy end.0 IsMeterInRange) meters → All (IsSetBy end.0 IsKey) keys
-    → All (IsChangeWithin end) (changes_that_stand tempos meters keys)
+    → All (IsChangeWithin end) (changes_in_force tempos meters keys)
 conductor_fits end tempos meters keys t m k =
     let P : Change → Type 0 = IsChangeWithin end in
     All-append P (map tempo_change (last_of_each_tick tempos) ++ filter_map meter_change (last_of_each_tick meters)) (map key_change (last_of_each_tick keys))
     (All-append P (map tempo_change (last_of_each_tick tempos)) (filter_map meter_change (last_of_each_tick meters))
-    (All-map P tempo_change (last_of_each_tick tempos) (All-weaker (IsSetBy end.0 FitsInTempoEvent) (λ set. P (tempo_change set)) (tempo_fits end) (last_of_each_tick tempos) (settled_kept (IsSetBy end.0 FitsInTempoEvent) tempos t)))
+    (All-map P tempo_change (last_of_each_tick tempos) (All-weaker (IsSetBy end.0 FitsInTempoEvent) (λ set. P (tempo_change set))
+    (tempo_fits end) (last_of_each_tick tempos) (settled_kept (IsSetBy end.0 FitsInTempoEvent) tempos t)))
     (meters_fit end (last_of_each_tick meters) (settled_kept (IsSetBy end.0 IsMeterInRange) meters m)))
     (All-map P key_change (last_of_each_tick keys) (All-weaker (IsSetBy end.0 IsKey) (λ set. P (key_change set)) (key_fits end) (last_of_each_tick keys) (settled_kept (IsSetBy end.0 IsKey) keys k)))
 
@@ -143,9 +145,10 @@ meters_standing : (sets : List (Grains × Meter)) → length (filter_map meter_c
 meters_standing sets = omega (arith, meters_few (last_of_each_tick sets), settled_few sets)
 
 pub conductor_few : (tempos : List (Grains × ℕ)) (meters : List (Grains × Meter)) (keys : List (Grains × (ℤ × Bool)))
-    → length (changes_that_stand tempos meters keys) ≤ length tempos + length meters + length keys
+    → length (changes_in_force tempos meters keys) ≤ length tempos + length meters + length keys
 conductor_few tempos meters keys =
-    three_lists (map tempo_change (last_of_each_tick tempos)) (filter_map meter_change (last_of_each_tick meters)) (map key_change (last_of_each_tick keys)) (length tempos) (length meters) (length keys)
+    three_lists (map tempo_change (last_of_each_tick tempos)) (filter_map meter_change (last_of_each_tick meters))
+    (map key_change (last_of_each_tick keys)) (length tempos) (length meters) (length keys)
     (as_few tempo_change (last_of_each_tick tempos) (length tempos) (settled_few tempos)) (meters_standing meters)
     (as_few key_change (last_of_each_tick keys) (length keys) (settled_few keys))
 
@@ -154,19 +157,19 @@ program_fits : (end : Grains) (set : Grains × ℕ) → IsSetBy end.0 IsProgram 
 program_fits end (at, number) set = record { before_end = set.before; number = set.value }
 
 programs_fit : (end : Grains) (sets : List (Grains × ℕ)) → All (IsSetBy end.0 IsProgram) sets → length sets ≤ MOST_PROGRAMS
-    → AreProgramsWithin end (programs_that_stand sets)
+    → AreProgramsWithin end (programs_in_force sets)
 programs_fit end sets all few = record {
   count = as_few program_change (last_of_each_tick sets) MOST_PROGRAMS (omega (arith, settled_few sets, few));
   each = All-map (IsProgramWithin end) program_change (last_of_each_tick sets)
       (All-weaker (IsSetBy end.0 IsProgram) (λ set. IsProgramWithin end (program_change set)) (program_fits end) (last_of_each_tick sets) (settled_kept (IsSetBy end.0 IsProgram) sets all));
 }
 
--- behind the one with which a tune opens
-behind_kept : (end : ℕ) (opening : Option ℕ) (sets : List (Grains × ℕ)) → IfSome opening IsProgram → All (IsSetBy end IsProgram) sets → All (IsSetBy end IsProgram) (behind opening sets)
+-- after the one with which a tune opens
+behind_kept : (end : ℕ) (opening : Option ℕ) (sets : List (Grains × ℕ)) → IfSome opening IsProgram → All (IsSetBy end IsProgram) sets → All (IsSetBy end IsProgram) (after_opening opening sets)
 behind_kept end None sets is all = all
 behind_kept end (Some number) sets is all = All-cons (IsSetBy end IsProgram) (record { 0 = 0 }, number) sets (record { before = omega arith; value = is }) all
 
-behind_few : (opening : Option ℕ) (sets : List (Grains × ℕ)) → length (behind opening sets) ≤ length sets + 1
+behind_few : (opening : Option ℕ) (sets : List (Grains × ℕ)) → length (after_opening opening sets) ≤ length sets + 1
 behind_few None sets = omega arith
 behind_few (Some number) sets = omega arith
 
@@ -187,7 +190,7 @@ first_heard P (voice ∷ those) all = All-cons P voice [] (All-head P voice thos
 
 module _ (tune : List Item) (short : IsShort tune) where
   abbrev voices : List (List ℕ)
-  voices = everyone tune
+  voices = voice_names tune
 
   abbrev those : List (List ℕ)
   those = tracks tune
@@ -205,44 +208,44 @@ module _ (tune : List Item) (short : IsShort tune) where
   in_time = omega (arith, last_past (total tune) (flat_map (λ notes. notes) (voices_notes tune)))
 
   sets : {V : Type 0} (value_of : Item → Option V) (Q : V → Type 0) → ((item : Item) → IsItem item → IfSome (value_of item) Q)
-      → (heard : List (List ℕ)) → All (IsHeard voices) heard → All (IsSetBy end.0 Q) (set_in value_of voices heard 0 played)
-  sets value_of Q is heard all = sections_set value_of Q is end.0 0 voices heard played in_time all all_played
+      → (heard_notes : List (List ℕ)) → All (IsHeard voices) heard_notes → All (IsSetBy end.0 Q) (set_in value_of voices heard_notes 0 played)
+  sets value_of Q is heard_notes all = sections_set value_of Q is end.0 0 voices heard_notes played in_time all all_played
 
   abbrev tempos : List (Grains × ℕ)
-  tempos = (record { 0 = 0 }, or_else usual_tempo (past_all tempo_past None tune)) ∷ set_in tempo_of voices voices 0 played
+  tempos = (record { 0 = 0 }, or_else usual_tempo (after_all tempo_after None tune)) ∷ set_in tempo_of voices voices 0 played
 
   abbrev meter_sets : List (Grains × Meter)
-  meter_sets = (record { 0 = 0 }, or_else meters.Free (past_all meter_past None tune)) ∷ set_in meter_of voices (first_of those) 0 played
+  meter_sets = (record { 0 = 0 }, or_else meters.Free (after_all meter_after None tune)) ∷ set_in meter_of voices (first_of those) 0 played
 
   abbrev keys : List (Grains × (ℤ × Bool))
-  keys = (record { 0 = 0 }, or_else (pos 0, false) (past_all key_past None tune)) ∷ set_in key_of voices (first_of those) 0 played
+  keys = (record { 0 = 0 }, or_else (pos 0, false) (after_all key_after None tune)) ∷ set_in key_of voices (first_of those) 0 played
 
   first_ones : All (IsHeard voices) (first_of those)
   first_ones = first_heard (IsHeard voices) those (tracks_heard tune)
 
-  opening_tempo_is : FitsInTempoEvent (or_else usual_tempo (past_all tempo_past None tune))
-  opening_tempo_is = or_else_is FitsInTempoEvent usual_tempo (past_all tempo_past None tune) (record { least = omega arith; most = omega arith })
-      (past_kept tempo_past (λ tempo. IfSome tempo FitsInTempoEvent) tempo_past_is None tune tt short.each)
+  opening_tempo_is : FitsInTempoEvent (or_else usual_tempo (after_all tempo_after None tune))
+  opening_tempo_is = or_else_is FitsInTempoEvent usual_tempo (after_all tempo_after None tune) (record { least = omega arith; most = omega arith })
+      (past_kept tempo_after (λ tempo. IfSome tempo FitsInTempoEvent) tempo_past_is None tune tt short.each)
 
-  opening_meter_is : IsMeterInRange (or_else meters.Free (past_all meter_past None tune))
-  opening_meter_is = or_else_is IsMeterInRange meters.Free (past_all meter_past None tune) tt
-      (past_kept meter_past (λ meter. IfSome meter IsMeterInRange) meter_past_is None tune tt short.each)
+  opening_meter_is : IsMeterInRange (or_else meters.Free (after_all meter_after None tune))
+  opening_meter_is = or_else_is IsMeterInRange meters.Free (after_all meter_after None tune) tt
+      (past_kept meter_after (λ meter. IfSome meter IsMeterInRange) meter_past_is None tune tt short.each)
 
   no_sharps : IsKey (pos 0, false)
   no_sharps = record { 0 = grind arith; 1 = grind arith }
 
-  opening_key_is : IsKey (or_else (pos 0, false) (past_all key_past None tune))
-  opening_key_is = or_else_is IsKey (pos 0, false) (past_all key_past None tune) no_sharps
-      (past_kept key_past (λ key. IfSome key IsKey) key_past_is None tune tt short.each)
+  opening_key_is : IsKey (or_else (pos 0, false) (after_all key_after None tune))
+  opening_key_is = or_else_is IsKey (pos 0, false) (after_all key_after None tune) no_sharps
+      (past_kept key_after (λ key. IfSome key IsKey) key_past_is None tune tt short.each)
 
   changes_fit : All (IsChangeWithin end) (changes_of tune)
   changes_fit =
       conductor_fits end tempos meter_sets keys
-      (with_opening end.0 FitsInTempoEvent (or_else usual_tempo (past_all tempo_past None tune)) (set_in tempo_of voices voices 0 played)
+      (with_opening end.0 FitsInTempoEvent (or_else usual_tempo (after_all tempo_after None tune)) (set_in tempo_of voices voices 0 played)
       opening_tempo_is (sets tempo_of FitsInTempoEvent tempo_is voices (all_heard voices)))
-      (with_opening end.0 IsMeterInRange (or_else meters.Free (past_all meter_past None tune)) (set_in meter_of voices (first_of those) 0 played)
+      (with_opening end.0 IsMeterInRange (or_else meters.Free (after_all meter_after None tune)) (set_in meter_of voices (first_of those) 0 played)
       opening_meter_is (sets meter_of IsMeterInRange meter_is (first_of those) first_ones))
-      (with_opening end.0 IsKey (or_else (pos 0, false) (past_all key_past None tune)) (set_in key_of voices (first_of those) 0 played)
+      (with_opening end.0 IsKey (or_else (pos 0, false) (after_all key_after None tune)) (set_in key_of voices (first_of those) 0 played)
       opening_key_is (sets key_of IsKey key_is (first_of those) first_ones))
 
   few_changes : length (changes_of tune) ≤ MOST_CHANGES
@@ -262,14 +265,14 @@ module _ (tune : List Item) (short : IsShort tune) where
 
   voices_end : All (λ voice. Ends (notes_of_voice voice)) those
   voices_end = of_map Ends notes_of_voice those
-      (each_list (EndsBy end.0) (map notes_of_voice those) (last_of_all (total tune) (flat_map (λ notes. notes) (map notes_of_voice those))))
+      (each_list (EndsBy end.0) (map notes_of_voice those) (latest_end (total tune) (flat_map (λ notes. notes) (map notes_of_voice those))))
 
   voice_within : (voice : List ℕ) → IsHeard voices voice → Ends (notes_of_voice voice) → IsVoiceWithin end (notes_of_voice voice)
-  voice_within voice heard ends =
+  voice_within voice heard_notes ends =
       let notes : Notes = voice_notes voices voice 0 played in
-      let fits : AllFit 0 notes = voice_fits voices voice heard 0 played all_played in
+      let fits : AllFit 0 notes = voice_fits voices voice heard_notes 0 played all_played in
       notes_within end (all_notes notes) (All-append (Fits 0) notes.others notes.first fits.others fits.first) ends
-      (omega (arith, short.places, length-append notes.others notes.first, voice_few voices voice heard 0 played all_played))
+      (omega (arith, short.places, length-append notes.others notes.first, voice_few voices voice heard_notes 0 played all_played))
 
   voices_fit : All (IsVoiceWithin end) (voices_notes tune)
   voices_fit =
@@ -278,18 +281,18 @@ module _ (tune : List Item) (short : IsShort tune) where
       (tracks_heard tune) voices_end)
 
   abbrev opening : Option ℕ
-  opening = past_all program_past None tune
+  opening = after_all program_after None tune
 
   opening_is : IfSome opening IsProgram
-  opening_is = past_kept program_past (λ program. IfSome program IsProgram) program_past_is None tune tt short.each
+  opening_is = past_kept program_after (λ program. IfSome program IsProgram) program_past_is None tune tt short.each
 
   voice_programs : (voice : List ℕ) → IsHeard voices voice → AreProgramsWithin end (programs_in opening voices played voice)
-  voice_programs voice heard =
+  voice_programs voice heard_notes =
       let own : List (Grains × ℕ) = set_in program_of voices (voice ∷ []) 0 played in
-      programs_fit end (behind opening own)
+      programs_fit end (after_opening opening own)
       (behind_kept end.0 opening own opening_is
-      (sets program_of IsProgram program_is (voice ∷ []) (All-cons (IsHeard voices) voice [] heard (All-nil (IsHeard voices)))))
-      (omega (arith, short.places, behind_few opening own, voice_sets_few program_of voices voice heard 0 played))
+      (sets program_of IsProgram program_is (voice ∷ []) (All-cons (IsHeard voices) voice [] heard_notes (All-nil (IsHeard voices)))))
+      (omega (arith, short.places, behind_few opening own, voice_sets_few program_of voices voice heard_notes 0 played))
 
   all_programs_fit : All (AreProgramsWithin end) (programs_of tune)
   all_programs_fit =

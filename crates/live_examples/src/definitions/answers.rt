@@ -1,4 +1,4 @@
-//! The lines of a tune book that is handed in as a whole, and the lists that are answered. Our own.
+//! The lines of a tune book, and the lists of answers. Not in ABC 2.1.
 #![tactic(auto)]
 
 ghost use Rattle.std.specs.Prelude.{◌≡◌, [], ◌∷◌, ◌++◌, codes};
@@ -6,8 +6,8 @@ ghost use Rattle.abc2midi_live.specs.Answer.{fault_list, title_list};
 ghost use Rattle.abc2midi_live.specs.Transcript.{book_lines};
 ghost use Rattle.abc_fields.specs.declared.fault.FaultCode.TheVariants.{BadBroken, BadByte, MissingKey};
 
-/// The lines of a tune book. One mark of UTF-8 at its start is dropped; a last line without a line feed counts
-/// where it is not empty.
+/// The lines of a tune book. One mark of UTF-8 at its start is dropped; a last line without a line feed counts if it is
+/// not empty.
 #[tactic(auto, unfolding(abc2midi_live::specs::Transcript::book_lines, abc2midi_live::specs::Transcript::without_mark))]
 pub fn lines_of_books()
     ensures marked { book_lines (239 ∷ 187 ∷ 191 ∷ codes "a\nb\n") ≡ codes "a" ∷ codes "b" ∷ [] }
@@ -21,11 +21,12 @@ pub fn lines_of_books()
     ensures empty { book_lines [] ≡ [] }
 {}
 
-/// Lists of faults and of titles. A title that is not there is empty, and the space before it stands.
+/// Lists of faults and of titles. A missing title is empty, and the space before it stays.
 #[tactic(auto, unfolding(abc2midi_live::specs::Answer::fault_line, abc2midi_live::specs::Answer::fault_list, abc2midi_live::specs::Answer::title_line, abc2midi_live::specs::Answer::title_list))]
 pub fn lists()
     ensures fault { fault_list (record { line = 5; column = 2; code = BadBroken } ∷ []) ≡ codes "5:2 BadBroken\nend\n" }
-    ensures faults { fault_list (record { line = 1; column = 1; code = MissingKey } ∷ record { line = 12; column = 340; code = BadByte } ∷ [])
+    ensures faults { fault_list (record { line = 1; column = 1; code = MissingKey }
+        ∷ record { line = 12; column = 340; code = BadByte } ∷ [])
         ≡ codes "1:1 MissingKey\n12:340 BadByte\nend\n" }
     ensures titles { title_list (record { number = 5; text = codes "A plain tune" } ∷ record { number = 0; text = [] } ∷ [])
         ≡ codes "5 A plain tune\n0 \nend\n" }

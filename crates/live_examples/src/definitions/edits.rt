@@ -1,5 +1,5 @@
-//! Edits of a text, and the differences of two books. How a text is edited is our own.
-#![tactic(auto, unfolding(abc_lines::specs::Edits::edited, abc_lines::specs::Edits::replaced, abc_lines::specs::Text::spliced, abc_tunebook::specs::Files::removed, abc_tunebook::specs::Files::written))]
+//! Edits of a text, and the differences of two books. How a text is edited is not in ABC 2.1.
+#![tactic(auto, unfolding(abc_lines::specs::Edits::edited, abc_lines::specs::Edits::replaced, abc_lines::specs::Text::spliced, abc_tune_compiler::specs::Files::removed_numbers, abc_tune_compiler::specs::Files::written_numbers))]
 
 ghost use Rattle.std.specs.Prelude.{◌≡◌, ℕ, true, false, [], ◌∷◌, ◌++◌, length, codes, replicate};
 ghost use Rattle.std.specs.Global.{Vec};
@@ -9,7 +9,7 @@ ghost use Rattle.abc_lines.specs.Text.{Text, is_line};
 ghost use Rattle.abc_lines.specs.declared.edit_error.EditError.TheVariants.{BadLine, BadRange, TooLarge};
 ghost use Rattle.abc_live.specs.Edit.{line_at, splice_of};
 ghost use Rattle.abc_live.specs.declared.edit.Edit.TheVariants.{Delete, Insert, Replace};
-ghost use Rattle.abc_tunebook.specs.Files.{file_at, removed, written};
+ghost use Rattle.abc_tune_compiler.specs.Files.{file_at, removed_numbers, written_numbers};
 ghost use Rattle.live_examples.specs.Values.{four_lines};
 
 /// Lines are counted from 1.
@@ -20,8 +20,8 @@ pub fn line_numbers()
     ensures behind_the_last { line_at four_lines 5 ≡ None }
 {}
 
-/// What accepted changes make of four lines. An insertion may stand behind the last line, and each list of lines may
-/// be empty.
+/// What accepted changes make of four lines. An insertion may be after the last line, and each list of lines may be
+/// empty.
 pub fn accepted_changes()
     ensures at_first { edited four_lines (insertion 1 (codes "x" ∷ [])) ≡ Ok (codes "x" ∷ four_lines) }
     ensures before_the_third { edited four_lines (insertion 3 (codes "x" ∷ codes "y" ∷ []))
@@ -67,16 +67,17 @@ pub fn bad_lines()
 /// The numbers that two books differ in, rising: those with a file that is new or has other bytes, and those that
 /// have none any more.
 pub fn differences()
-    ensures new { written [] ((1, codes "a") ∷ []) ≡ 1 ∷ [] }
-    ensures other_bytes { written ((1, codes "a") ∷ []) ((1, codes "b") ∷ []) ≡ 1 ∷ [] }
-    ensures same_bytes { written ((1, codes "a") ∷ []) ((1, codes "a") ∷ []) ≡ [] }
-    ensures lost { removed ((1, codes "a") ∷ []) [] ≡ 1 ∷ [] }
-    ensures kept { removed ((1, codes "a") ∷ []) ((1, codes "b") ∷ []) ≡ [] }
-    ensures rising { written ((2, codes "a") ∷ (5, codes "a") ∷ []) ((0, codes "x") ∷ (2, codes "a") ∷ (3, codes "x") ∷ (5, codes "b") ∷ []) ≡ 0 ∷ 3 ∷ 5 ∷ [] }
-    ensures lost_rising { removed ((0, codes "x") ∷ (2, codes "a") ∷ (3, codes "x") ∷ []) ((2, codes "b") ∷ []) ≡ 0 ∷ 3 ∷ [] }
+    ensures new { written_numbers [] ((1, codes "a") ∷ []) ≡ 1 ∷ [] }
+    ensures other_bytes { written_numbers ((1, codes "a") ∷ []) ((1, codes "b") ∷ []) ≡ 1 ∷ [] }
+    ensures same_bytes { written_numbers ((1, codes "a") ∷ []) ((1, codes "a") ∷ []) ≡ [] }
+    ensures lost { removed_numbers ((1, codes "a") ∷ []) [] ≡ 1 ∷ [] }
+    ensures kept { removed_numbers ((1, codes "a") ∷ []) ((1, codes "b") ∷ []) ≡ [] }
+    ensures rising { written_numbers ((2, codes "a") ∷ (5, codes "a") ∷ [])
+        ((0, codes "x") ∷ (2, codes "a") ∷ (3, codes "x") ∷ (5, codes "b") ∷ []) ≡ 0 ∷ 3 ∷ 5 ∷ [] }
+    ensures lost_rising { removed_numbers ((0, codes "x") ∷ (2, codes "a") ∷ (3, codes "x") ∷ []) ((2, codes "b") ∷ []) ≡ 0 ∷ 3 ∷ [] }
 {}
 
-/// The file of a number: none where the book has none of that number.
+/// The file of a number: none if the book has none of that number.
 pub fn files_of_numbers()
     ensures first { file_at ((1, codes "a") ∷ (5, codes "b") ∷ []) 1 ≡ Some (codes "a") }
     ensures last { file_at ((1, codes "a") ∷ (5, codes "b") ∷ []) 5 ≡ Some (codes "b") }

@@ -1,14 +1,18 @@
-//! Lines of music where they are entered, by the definition of the fold over cells: `stepped` of `abc_cells`, and what it
-//! stands on in `abc_scan`, `abc_fields`, `abc_settings` and `abc_music`. Lengths are in ticks, of which a whole note has
-//! 1,920 and an eighth 240.
-#![tactic(auto, unfolding(abc_cells::specs::Step::stepped, abc_fields::specs::Accidental::changes_of, abc_fields::specs::Clef::mark_of, abc_fields::specs::Clef::names_clef, abc_fields::specs::Clef::without_line, abc_fields::specs::Key::completed, abc_fields::specs::Key::key_in, abc_fields::specs::Key::key_with, abc_fields::specs::Key::start_of, abc_fields::specs::Listed::with_accidentals, abc_fields::specs::Meter::fraction_of, abc_fields::specs::Meter::sum_of, abc_fields::specs::Meter::symbol_or_fraction, abc_fields::specs::Mode::mode_named, abc_fields::specs::Mode::mode_of, abc_fields::specs::Property::property_of, abc_fields::specs::Property::signed_number, abc_fields::specs::Property::unquoted, abc_fields::specs::Shift::shift_of, abc_fields::specs::Signature::signature_of, abc_fields::specs::Tempo::bare_tempo, abc_fields::specs::Tempo::behind_word, abc_fields::specs::Tempo::word_in_front, abc_fields::specs::Tempo::fraction_of, abc_fields::specs::Tempo::halved, abc_fields::specs::Tempo::part_of, abc_fields::specs::Tempo::positive_of, abc_fields::specs::Tempo::sum_of, abc_fields::specs::Tempo::tempo_around, abc_fields::specs::Tempo::tempo_in, abc_fields::specs::Tempo::tempo_of, abc_fields::specs::Tonic::basis_at, abc_fields::specs::Voice::voice_in, abc_fields::specs::Voice::voice_of, abc_music::specs::BarRest::bar_grains, abc_scan::specs::Bar::bar_at, abc_scan::specs::BarRest::bar_rest_at, abc_scan::specs::Broken::broken_at, abc_scan::specs::Chord::chord_at, abc_scan::specs::Chord::part_reading_at, abc_scan::specs::Chord::parts_of, abc_scan::specs::Delimited::delimited_at, abc_scan::specs::Directive::directive_of, abc_scan::specs::Dynamic::dynamic_of, abc_scan::specs::Ending::ending_at, abc_scan::specs::Ending::passes_at, abc_scan::specs::Ending::range_at, abc_scan::specs::Ending::ranges_at, abc_scan::specs::Frame::frame_at, abc_scan::specs::InlineField::inline_field_at, abc_scan::specs::Length::length_at, abc_scan::specs::Length::length_size, abc_scan::specs::Line::tokens_of, abc_scan::specs::NoEffect::extra_space_at, abc_scan::specs::Note::accidental_at, abc_scan::specs::Note::note_at, abc_scan::specs::Note::rest_at, abc_scan::specs::Number::number_at, abc_scan::specs::Start::bracket_start, abc_scan::specs::Start::byte_start, abc_scan::specs::Token::reading_at, abc_scan::specs::Tuplet::tuplet_at, abc_settings::specs::Accidentals::letters_in, abc_settings::specs::Accidentals::with_octave, abc_settings::specs::Unit::unit_grains, abc_text::specs::Accidental::accidental_of, abc_text::specs::Blank::trim_end, abc_text::specs::Blank::trim_start, abc_text::specs::Blank::trimmed, abc_text::specs::Cut::cut_at, abc_text::specs::Letter::letter_of, abc_text::specs::Number::number_of, abc_text::specs::Power::is_power_up_to, abc_text::specs::Word::first_word, abc_text::specs::Word::words_of, abc_time::specs::Grains::grains_of_a_whole_note, abc_time::specs::Grains::grains_of_the_longest_length, abc_time::specs::Length::length_of, abc_time::specs::Length::quotient_of, abc_time::specs::Tempo::quarter_of))]
+//! Lines of music, by the definition of the fold over cells: `entry_step` of `abc_bars_body`, and the definitions that it
+//! uses in `abc_scan`, `abc_fields`, `abc_bars_voice` and `abc_bars_notes`. Lengths are in ticks: a whole note has 1,920, an
+//! eighth 240.
+#![tactic(auto, unfolding(abc_bars_body::specs::Step::entry_step, abc_fields::specs::Accidental::changes_of, abc_fields::specs::Clef::mark_of, abc_fields::specs::Clef::names_clef, abc_fields::specs::Clef::without_line, abc_fields::specs::Key::complete_key, abc_fields::specs::Key::key_in, abc_fields::specs::Key::key_with, abc_fields::specs::Key::start_of, abc_fields::specs::Listed::with_accidentals, abc_fields::specs::Meter::fraction_of, abc_fields::specs::Meter::sum_of, abc_fields::specs::Meter::symbol_or_fraction, abc_fields::specs::Mode::mode_named, abc_fields::specs::Mode::mode_of, abc_fields::specs::Property::property_of, abc_fields::specs::Property::signed_number, abc_fields::specs::Property::unquote, abc_fields::specs::Shift::shift_of, abc_fields::specs::Signature::signature_of, abc_fields::specs::Tempo::bare_tempo, abc_fields::specs::Tempo::behind_word, abc_fields::specs::Tempo::word_in_front, abc_fields::specs::Tempo::fraction_of, abc_fields::specs::Tempo::halve, abc_fields::specs::Tempo::part_of, abc_fields::specs::Tempo::positive_number, abc_fields::specs::Tempo::sum_of, abc_fields::specs::Tempo::tempo_around, abc_fields::specs::Tempo::tempo_in, abc_fields::specs::Tempo::tempo_of, abc_fields::specs::Tonic::basis_at, abc_fields::specs::Voice::voice_in, abc_fields::specs::Voice::voice_of, abc_bars_notes::specs::BarRest::bar_grains, abc_scan::specs::Bar::bar_at, abc_scan::specs::BarRest::bar_rest_at, abc_scan::specs::Broken::broken_at, abc_scan::specs::Chord::chord_at, abc_scan::specs::Chord::part_reading_at, abc_scan::specs::Chord::parts_of, abc_scan::specs::Delimited::delimited_at, abc_scan::specs::Directive::directive_of, abc_scan::specs::Dynamic::dynamic_of, abc_scan::specs::Ending::ending_at, abc_scan::specs::Ending::passes_at, abc_scan::specs::Ending::range_at, abc_scan::specs::Ending::ranges_at, abc_scan::specs::Frame::frame_at, abc_scan::specs::InlineField::inline_field_at, abc_scan::specs::Length::length_at, abc_scan::specs::Length::length_size, abc_scan::specs::Line::tokens_of, abc_scan::specs::NoEffect::extra_space_at, abc_scan::specs::Note::accidental_at, abc_scan::specs::Note::note_at, abc_scan::specs::Note::rest_at, abc_scan::specs::Number::number_at, abc_scan::specs::Start::bracket_start, abc_scan::specs::Start::byte_start, abc_scan::specs::Token::reading_at, abc_scan::specs::Tuplet::tuplet_at, abc_bars_voice::specs::Accidentals::letters_in, abc_bars_voice::specs::Accidentals::with_octave, abc_bars_voice::specs::Unit::unit_grains, abc_text::specs::Accidental::accidental_of, abc_text::specs::Blank::trim_end, abc_text::specs::Blank::trim_start, abc_text::specs::Blank::trim_blanks, abc_text::specs::Cut::cut_at, abc_text::specs::Letter::letter_of, abc_text::specs::Number::number_of, abc_text::specs::Power::is_power_up_to, abc_text::specs::Word::first_word, abc_text::specs::Word::words_of, abc_time::specs::Grains::grains_of_a_whole_note, abc_time::specs::Grains::grains_of_the_longest_length, abc_time::specs::Length::length_of, abc_time::specs::Length::quotient_of, abc_time::specs::Tempo::quarter_of))]
 
 ghost use Rattle.std.specs.Prelude.{◌≡◌, pos, negsuc, true, false, [], ◌∷◌, codes, Some, None};
-ghost use Rattle.abc_fields.specs.declared.fault.FaultCode.TheVariants.{BadBroken, BadByte, BadEnding, BadKey, BadLength, BadMeter, BadPart, BadProgram, BadTempo, BadTuplet, BadUnit, BadVoice, BigChord, EmptyChord, FreeBarRest, KeyRange, LooseTie, NestedTuplet, TempoRange, Unclosed};
+ghost use Rattle.abc_fields.specs.declared.fault.FaultCode.TheVariants.{BadBroken, BadByte, BadEnding, BadKey, BadLength, BadMeter};
+ghost use Rattle.abc_fields.specs.declared.fault.FaultCode.TheVariants.{BadPart, BadProgram, BadTempo, BadTuplet, BadUnit};
+ghost use Rattle.abc_fields.specs.declared.fault.FaultCode.TheVariants.{BadVoice, BigChord, EmptyChord, FreeBarRest, KeyRange};
+ghost use Rattle.abc_fields.specs.declared.fault.FaultCode.TheVariants.{LooseTie, NestedTuplet, TempoRange, Unclosed};
 ghost use Rattle.abc_fields.specs.declared.meter.Meter.TheVariants.{Of};
-ghost use Rattle.abc_items.specs.declared.item.Item.TheVariants as items;
+ghost use Rattle.abc_bars_items.specs.declared.item.Item.TheVariants as items;
 ghost use Rattle.abc_scan.specs.declared.directive.Reach.TheVariants.{Not, Octave, Pitch};
-ghost use Rattle.text_examples.specs.Bars.{bar_rest, faults_by, in_common, in_compound, in_free, in_reach, items_by, keys, keys_by, lengths_by, sound, ticks, tone_lengths_by, velocities_by};
+ghost use Rattle.text_examples.specs.Bars.{bar_rest, faults_by, in_common, in_compound, in_free, in_reach, items_by, keys, keys_by};
+ghost use Rattle.text_examples.specs.Bars.{lengths_by, sound, ticks, tone_lengths_by, velocities_by};
 
 /// Keys of notes: letters, octaves, the accidentals of a bar. ABC 2.1 sections 4.1 and 4.2; that MIDI has the keys from 0
 /// to 127 SMF 1.0.
@@ -20,7 +24,7 @@ pub fn keys_of_notes()
     ensures highest { keys_by in_common (codes "g''''^g''''") ≡ Some 127 ∷ None ∷ [] }
 {}
 
-/// How far accidentals reach. ABC 2.1 sections 4.2 and 11.3; what the words mean is our own.
+/// How far accidentals reach. ABC 2.1 sections 4.2 and 11.3; what the words mean is not in ABC 2.1.
 pub fn reaches()
     ensures pitch { keys_by (in_reach Pitch) (codes "^FfF,|F") ≡ keys (66 ∷ 78 ∷ 54 ∷ 65 ∷ []) }
     ensures octave { keys_by (in_reach Octave) (codes "^FfF|F") ≡ keys (66 ∷ 77 ∷ 66 ∷ 65 ∷ []) }
@@ -29,7 +33,7 @@ pub fn reaches()
     ensures last { keys_by (in_reach Octave) (codes "^c_c=Cc") ≡ keys (73 ∷ 71 ∷ 60 ∷ 71 ∷ []) }
 {}
 
-/// What ends accidentals, and what does not. ABC 2.1 section 4.2; of keys and parts our own.
+/// What ends accidentals, and what does not. ABC 2.1 section 4.2; of keys and parts not in ABC 2.1.
 pub fn ends_of_accidentals()
     ensures key { keys_by in_common (codes "^F[K:C]F") ≡ keys (66 ∷ 65 ∷ []) }
     ensures part { keys_by in_common (codes "^F[P:A]F") ≡ keys (66 ∷ 65 ∷ []) }
@@ -41,7 +45,7 @@ pub fn ends_of_accidentals()
 {}
 
 /// What a tied note leaves to the next one: the alteration, on its letter in its octave, over bars, rests of bars and chords
-/// without notes. ABC 2.1 section 4.11; the octave and what is passed over is our own.
+/// without notes. ABC 2.1 section 4.11; the octave and what is passed over is not in ABC 2.1.
 pub fn tied_notes()
     ensures over_a_bar { keys_by in_common (codes "^F-|F|F") ≡ keys (66 ∷ 66 ∷ 65 ∷ []) }
     ensures octave { keys_by in_common (codes "^F-|f") ≡ keys (66 ∷ 77 ∷ []) }
@@ -51,7 +55,7 @@ pub fn tied_notes()
     ensures in_a_chord { keys_by in_common (codes "[^F-_A]|[FA]") ≡ keys (66 ∷ 68 ∷ 66 ∷ 69 ∷ []) }
 {}
 
-/// Lengths as written, and those that are refused, which are one unit. ABC 2.1 section 4.3; the bounds are our own.
+/// Lengths as written, and those that are refused, which are one unit. ABC 2.1 section 4.3; the bounds are not in ABC 2.1.
 pub fn lengths()
     ensures written { lengths_by in_common (codes "C3/2D/E//z2x") ≡ ticks (360 ∷ 120 ∷ 60 ∷ 480 ∷ 240 ∷ []) }
     ensures unit { lengths_by in_common (codes "[L:1/4]C[L:1/16]C2") ≡ ticks (480 ∷ 240 ∷ []) }
@@ -62,7 +66,7 @@ pub fn lengths()
     ensures rests_of_bars { items_by in_compound (codes "ZX2") ≡ bar_rest 1440 ∷ bar_rest 2880 ∷ [] }
 {}
 
-/// Lengths in tuplets. ABC 2.1 section 4.13; that only notes, chords and rests count is our own.
+/// Lengths in tuplets. ABC 2.1 section 4.13; that only notes, chords and rests count is not in ABC 2.1.
 pub fn lengths_in_tuplets()
     ensures three { lengths_by in_common (codes "(3CDEF") ≡ ticks (160 ∷ 160 ∷ 160 ∷ 240 ∷ []) }
     ensures over_a_bar { lengths_by in_common (codes "(3C[]D|zE") ≡ ticks (160 ∷ 160 ∷ 160 ∷ 240 ∷ []) }
@@ -74,7 +78,7 @@ pub fn lengths_in_tuplets()
     ensures another_voice { lengths_by in_common (codes "[V:1](3C[V:2]C[V:1]DEF") ≡ ticks (160 ∷ 240 ∷ 160 ∷ 160 ∷ 240 ∷ []) }
 {}
 
-/// Lengths in broken rhythm. ABC 2.1 section 4.4; over what a mark acts is our own.
+/// Lengths in broken rhythm. ABC 2.1 section 4.4; over what a mark acts is not in ABC 2.1.
 pub fn lengths_in_broken_rhythm()
     ensures one { lengths_by in_common (codes "C>DE") ≡ ticks (360 ∷ 120 ∷ 240 ∷ []) }
     ensures two { lengths_by in_common (codes "C>>D") ≡ ticks (420 ∷ 60 ∷ []) }
@@ -97,16 +101,17 @@ pub fn lengths_of_chords()
     ensures empty { items_by in_common (codes "[]") ≡ [] }
 {}
 
-/// The velocities of notes, for each voice by its own last dynamic. ABC 2.1 section 4.14; the rule is our own.
+/// The velocities of notes, for each voice by its own last dynamic. ABC 2.1 section 4.14; the rule is not in ABC 2.1.
 pub fn loudness()
     ensures last { velocities_by in_common (codes "C!f!D|!pp!E") ≡ 80 ∷ 105 ∷ 45 ∷ [] }
     ensures chord { velocities_by in_common (codes "!f![CE!p!]C") ≡ 105 ∷ 105 ∷ 105 ∷ [] }
     ensures voices { velocities_by in_common (codes "[V:1]!f!C[V:2]C[V:1]C") ≡ 105 ∷ 80 ∷ 105 ∷ [] }
 {}
 
-/// The items of bars, endings, parts and voices, and of fields that change what is played. Our own.
+/// The items of bars, endings, parts and voices, and of fields that change what is played. Not in ABC 2.1.
 pub fn items_of_fields()
-    ensures bars { items_by in_common (codes "|:C:|") ≡ items.Bar (record { closes = 0; opens = 1; double = false }) ∷ sound (Some 60) 240
+    ensures bars { items_by in_common (codes "|:C:|") ≡ items.Bar (record { closes = 0; opens = 1; double = false })
+        ∷ sound (Some 60) 240
         ∷ items.Bar (record { closes = 1; opens = 0; double = false }) ∷ [] }
     ensures ending { items_by in_common (codes "[1,3C") ≡ items.Ending 5 ∷ sound (Some 60) 240 ∷ [] }
     ensures part { items_by in_common (codes "P:B2") ≡ items.Section 66 ∷ [] }
@@ -120,7 +125,7 @@ pub fn items_of_fields()
     ensures no_effect { items_by in_common (codes "T:a") ≡ [] }
 {}
 
-/// What refused fields and directives give: a fault, and an item where the field is played. Our own.
+/// What refused fields and directives give: a fault, and an item where the field is played. Not in ABC 2.1.
 pub fn items_of_refused_fields()
     ensures meter { items_by in_common (codes "M:3") ≡ items.Meter false None ∷ [] }
     ensures key { items_by in_common (codes "K:H") ≡ items.Key false (Some (pos 0, false)) ∷ [] }
@@ -130,7 +135,7 @@ pub fn items_of_refused_fields()
     ensures others { items_by in_common (codes "[L:3][P:a][V:]") ≡ [] }
 {}
 
-/// Where the faults of fields stand: at column 1, or at the `[` of an inline field. Our own.
+/// The columns of faults in fields: column 1, or that of the `[` of an inline field. Not in ABC 2.1.
 pub fn faults_of_fields()
     ensures meter { faults_by in_common (codes "M:3") ≡ (1, BadMeter) ∷ [] }
     ensures unit { faults_by in_common (codes "C[L:3]") ≡ (2, BadUnit) ∷ [] }
@@ -143,7 +148,7 @@ pub fn faults_of_fields()
     ensures open { faults_by in_common (codes "C[K:Hp") ≡ (2, Unclosed) ∷ (4, BadByte) ∷ [] }
 {}
 
-/// Where the faults of tokens stand. Our own.
+/// The columns of faults in tokens. Not in ABC 2.1.
 pub fn faults_of_tokens()
     ensures bad_byte { faults_by in_common (codes "C&D") ≡ (2, BadByte) ∷ [] }
     ensures unclosed { faults_by in_common (codes "C{") ≡ (2, Unclosed) ∷ [] }
@@ -152,14 +157,15 @@ pub fn faults_of_tokens()
     ensures length_and_key { faults_by in_common (codes "C,,,,,,0") ≡ (1, BadLength) ∷ (1, KeyRange) ∷ [] }
     ensures tuplet { faults_by in_common (codes "(65C(3:0C") ≡ (1, BadTuplet) ∷ (5, BadTuplet) ∷ [] }
     ensures nested { faults_by in_common (codes "(3C(2DE") ≡ (4, NestedTuplet) ∷ [] }
-    ensures broken { faults_by in_common (codes ">CC>|C>>>>D") ≡ (1, BadBroken) ∷ (4, BadBroken) ∷ (7, BadBroken) ∷ (10, BadBroken) ∷ [] }
+    ensures broken { faults_by in_common (codes ">CC>|C>>>>D") ≡ (1, BadBroken) ∷ (4, BadBroken) ∷ (7, BadBroken) ∷ (10, BadBroken)
+        ∷ [] }
     ensures ties { faults_by in_common (codes "-C--z-C!f!-") ≡ (1, LooseTie) ∷ (4, LooseTie) ∷ (6, LooseTie) ∷ (11, LooseTie) ∷ [] }
     ensures ending { faults_by in_common (codes "[0C|33") ≡ (1, BadEnding) ∷ (5, BadEnding) ∷ [] }
     ensures bar_rests { faults_by in_common (codes "Z0Z1025Z") ≡ (1, BadLength) ∷ (3, BadLength) ∷ [] }
     ensures free_bar_rest { faults_by in_free (codes "CZ0") ≡ (2, FreeBarRest) ∷ [] }
 {}
 
-/// Where the faults of chords stand. Our own.
+/// The columns of faults in chords. Not in ABC 2.1.
 pub fn faults_of_chords()
     ensures empty { faults_by in_common (codes "C[]-") ≡ (2, EmptyChord) ∷ [] }
     ensures inside { faults_by in_common (codes "[-C-1]") ≡ (2, LooseTie) ∷ (5, BadByte) ∷ [] }

@@ -6,7 +6,7 @@ ghost use Rattle.abc_scan.specs.declared.class.LineClass.TheVariants.{Blank, Com
 ghost use Rattle.abc_book.specs.Block.{blocks_of};
 ghost use Rattle.text_examples.specs.Blocks.{continued, free, header, key, reference, tune};
 
-/// What stands before the first tune. ABC 2.1 section 2.2.2; that its first line decides is our own.
+/// What is before the first tune. ABC 2.1 section 2.2.2; that its first line decides is not in ABC 2.1.
 pub fn file_headers()
     ensures nothing { blocks_of [] ≡ [] }
     ensures comments_alone { blocks_of (Comment ∷ Blank ∷ Comment ∷ []) ≡ [] }
@@ -33,5 +33,6 @@ pub fn comments_and_blank_lines()
     ensures comment { blocks_of (reference ∷ key ∷ Music ∷ Comment ∷ Music ∷ []) ≡ tune 0 5 ∷ [] }
     ensures blank { blocks_of (reference ∷ key ∷ Music ∷ Blank ∷ Music ∷ []) ≡ tune 0 3 ∷ free 4 5 ∷ [] }
     ensures neither { blocks_of (reference ∷ key ∷ Music ∷ Music ∷ []) ≡ tune 0 4 ∷ [] }
-    ensures at_the_ends { blocks_of (reference ∷ Comment ∷ Music ∷ Comment ∷ Blank ∷ Comment ∷ Music ∷ []) ≡ tune 0 3 ∷ free 6 7 ∷ [] }
+    ensures at_the_ends { blocks_of (reference ∷ Comment ∷ Music ∷ Comment ∷ Blank ∷ Comment ∷ Music ∷ []) ≡ tune 0 3 ∷ free 6 7
+        ∷ [] }
 {}

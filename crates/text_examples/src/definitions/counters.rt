@@ -1,4 +1,4 @@
-//! Counters of work, by the definitions of `abc_fold`. Our own.
+//! Counters of work, by the definitions of `abc_fold`. Not in ABC 2.1.
 #![tactic(auto, unfolding(abc_fold::specs::Work::raised))]
 
 ghost use Rattle.std.specs.Prelude.{◌≡◌, ◌-◌, ◌^◌};

@@ -1,5 +1,5 @@
-//! Values of fields, by the definitions of what each says (ABC 2.1 section 3.1; bounds and refusals are our own).
-#![tactic(auto, unfolding(abc_text::specs::Accidental::accidental_of, abc_text::specs::Letter::letter_of, abc_fields::specs::Accidental::changes_of, abc_text::specs::Cut::cut_at, abc_text::specs::Blank::trim_start, abc_text::specs::Blank::trim_end, abc_fields::specs::Key::key_with, abc_fields::specs::Clef::names_clef, abc_fields::specs::Clef::without_line, abc_fields::specs::Key::start_of, abc_fields::specs::Key::completed, abc_fields::specs::Key::key_in, abc_fields::specs::Letters::play_on, abc_fields::specs::Listed::with_accidentals, abc_fields::specs::Meter::sum_of, abc_fields::specs::Meter::fraction_of, abc_fields::specs::Meter::symbol_or_fraction, abc_fields::specs::Mode::mode_named, abc_fields::specs::Mode::mode_of, abc_text::specs::Number::number_of, abc_fields::specs::Parts::next, abc_fields::specs::Property::unquoted, abc_fields::specs::Property::signed_number, abc_fields::specs::Clef::mark_of, abc_fields::specs::Property::property_of, abc_fields::specs::Shift::shift_of, abc_fields::specs::Signature::signature_of, abc_fields::specs::Tempo::positive_of, abc_fields::specs::Tempo::part_of, abc_fields::specs::Tempo::fraction_of, abc_fields::specs::Tempo::word_in_front, abc_fields::specs::Tempo::behind_word, abc_fields::specs::Tempo::sum_of, abc_fields::specs::Tempo::halved, abc_fields::specs::Tempo::bare_tempo, abc_fields::specs::Tempo::tempo_around, abc_fields::specs::Tempo::tempo_in, abc_fields::specs::Tempo::tempo_of, abc_fields::specs::Tonic::basis_at, abc_fields::specs::Voice::voice_in, abc_fields::specs::Voice::voice_of, abc_text::specs::Word::words_of, abc_text::specs::Word::first_word, abc_time::specs::Tempo::quarter_of, abc_text::specs::Power::is_power_up_to))]
+//! Values of fields, by the definitions of what each says (ABC 2.1 section 3.1; bounds and refusals are not in ABC 2.1).
+#![tactic(auto, unfolding(abc_text::specs::Accidental::accidental_of, abc_text::specs::Letter::letter_of, abc_fields::specs::Accidental::changes_of, abc_text::specs::Cut::cut_at, abc_text::specs::Blank::trim_start, abc_text::specs::Blank::trim_end, abc_fields::specs::Key::key_with, abc_fields::specs::Clef::names_clef, abc_fields::specs::Clef::without_line, abc_fields::specs::Key::start_of, abc_fields::specs::Key::complete_key, abc_fields::specs::Key::key_in, abc_fields::specs::Letters::play_on, abc_fields::specs::Listed::with_accidentals, abc_fields::specs::Meter::sum_of, abc_fields::specs::Meter::fraction_of, abc_fields::specs::Meter::symbol_or_fraction, abc_fields::specs::Mode::mode_named, abc_fields::specs::Mode::mode_of, abc_text::specs::Number::number_of, abc_fields::specs::Parts::next, abc_fields::specs::Property::unquote, abc_fields::specs::Property::signed_number, abc_fields::specs::Clef::mark_of, abc_fields::specs::Property::property_of, abc_fields::specs::Shift::shift_of, abc_fields::specs::Signature::signature_of, abc_fields::specs::Tempo::positive_number, abc_fields::specs::Tempo::part_of, abc_fields::specs::Tempo::fraction_of, abc_fields::specs::Tempo::word_in_front, abc_fields::specs::Tempo::behind_word, abc_fields::specs::Tempo::sum_of, abc_fields::specs::Tempo::halve, abc_fields::specs::Tempo::bare_tempo, abc_fields::specs::Tempo::tempo_around, abc_fields::specs::Tempo::tempo_in, abc_fields::specs::Tempo::tempo_of, abc_fields::specs::Tonic::basis_at, abc_fields::specs::Voice::voice_in, abc_fields::specs::Voice::voice_of, abc_text::specs::Word::words_of, abc_text::specs::Word::first_word, abc_time::specs::Tempo::quarter_of, abc_text::specs::Power::is_power_up_to))]
 
 ghost use Rattle.std.specs.Prelude.{◌≡◌, pos, negsuc, false, [], ◌∷◌, codes, map, replicate, Some, None, Ok, Err};
 ghost use Rattle.abc_fields.specs.Key.{key_of};
@@ -77,24 +77,30 @@ pub fn orders()
     ensures empty_group { parts_of (codes "()") ≡ Err BadOrder }
 {}
 
-/// Orders that are accepted: blanks and dots are left out, counts are from 1, groups stand up to 32 deep.
+/// Orders that are accepted: blanks and dots are left out, counts are from 1, groups are up to 32 deep.
 pub fn accepted_orders()
-    ensures letters { map parts_of (codes "A" ∷ codes "AB" ∷ codes "Z" ∷ codes "A.B" ∷ codes " A B " ∷ codes "A\tB" ∷ []) ≡ replicate 6 (Ok tt) }
-    ensures counts { map parts_of (codes "A1" ∷ codes "A01" ∷ codes "A1.2" ∷ codes "A99B" ∷ codes "A999999999" ∷ []) ≡ replicate 5 (Ok tt) }
-    ensures groups { map parts_of (codes "(A)" ∷ codes "(A)(B)" ∷ codes "A(B)C" ∷ codes "(A3)" ∷ codes "(A)2(B)3C" ∷ codes "(A99)99" ∷ []) ≡ replicate 6 (Ok tt) }
+    ensures letters { map parts_of (codes "A" ∷ codes "AB" ∷ codes "Z" ∷ codes "A.B" ∷ codes " A B " ∷ codes "A\tB" ∷ [])
+        ≡ replicate 6 (Ok tt) }
+    ensures counts { map parts_of (codes "A1" ∷ codes "A01" ∷ codes "A1.2" ∷ codes "A99B" ∷ codes "A999999999" ∷ [])
+        ≡ replicate 5 (Ok tt) }
+    ensures groups { map parts_of (codes "(A)" ∷ codes "(A)(B)" ∷ codes "A(B)C" ∷ codes "(A3)" ∷ codes "(A)2(B)3C" ∷ codes "(A99)99"
+        ∷ []) ≡ replicate 6 (Ok tt) }
     ensures deepest { parts_of (codes "((((((((((((((((((((((((((((((((A))))))))))))))))))))))))))))))))") ≡ Ok tt }
 {}
 
 /// Orders that are refused: nothing to play, other bytes, counts of none or of ten digits, groups that do not close.
 pub fn refused_orders()
     ensures nothing { map parts_of ([] ∷ codes "." ∷ codes "()" ∷ codes "A()B" ∷ []) ≡ replicate 4 (Err BadOrder) }
-    ensures other_bytes { map parts_of (codes "a" ∷ codes "[" ∷ codes "@" ∷ codes "A-B" ∷ codes "A,B" ∷ (65 ∷ 0 ∷ []) ∷ (0xC3 ∷ 0x84 ∷ []) ∷ []) ≡ replicate 7 (Err BadOrder) }
-    ensures counts { map parts_of (codes "A0" ∷ codes "A00" ∷ codes "(A)0" ∷ codes "A0000000001" ∷ codes "A1234567890" ∷ codes "3A" ∷ codes "(3A)" ∷ []) ≡ replicate 7 (Err BadOrder) }
-    ensures groups { map parts_of (codes "(A" ∷ codes "A)" ∷ codes ")(" ∷ codes "((((((((((((((((((((((((((((((((A)))))))))))))))))))))))))))))))" ∷ []) ≡ replicate 4 (Err BadOrder) }
+    ensures other_bytes { map parts_of (codes "a" ∷ codes
+        "[" ∷ codes "@" ∷ codes "A-B" ∷ codes "A,B" ∷ (65 ∷ 0 ∷ []) ∷ (0xC3 ∷ 0x84 ∷ []) ∷ []) ≡ replicate 7 (Err BadOrder) }
+    ensures counts { map parts_of (codes "A0" ∷ codes "A00" ∷ codes "(A)0" ∷ codes "A0000000001" ∷ codes "A1234567890" ∷ codes "3A"
+        ∷ codes "(3A)" ∷ []) ≡ replicate 7 (Err BadOrder) }
+    ensures groups { map parts_of (codes "(A" ∷ codes "A)" ∷ codes ")("
+        ∷ codes "((((((((((((((((((((((((((((((((A)))))))))))))))))))))))))))))))" ∷ []) ≡ replicate 4 (Err BadOrder) }
     ensures too_deep { parts_of (codes "(((((((((((((((((((((((((((((((((A)))))))))))))))))))))))))))))))))") ≡ Err BadOrder }
 {}
 
-/// Keys: the tonic and the mode make the sharps; words behind them list accidentals and properties.
+/// Keys: the tonic and the mode make the sharps; words after them list accidentals and properties.
 pub fn keys()
     ensures phrygian { sharps_of (key_of (codes "F# Phrygian")) ≡ Some (pos 2) }
     ensures locrian { sharps_of (key_of (codes "E loc")) ≡ Some (negsuc 0) }
@@ -104,8 +110,10 @@ pub fn keys()
     ensures capital_m { key_of (codes "CM") ≡ Err BadKey }
     ensures none_and_more { key_of (codes "none clef=bass") ≡ Err BadKey }
     ensures malformed { key_of (codes "C octave=x") ≡ Err BadKey }
-    ensures shifted { shift_in_key (key_of (codes "C transpose=-2 treble-8")) ≡ Some (shift (Some (negsuc 11)) None (Some (negsuc 1))) }
-    ensures properties { key_of (codes "alto1") ≡ Ok (record { signature = None; sharps = pos 0; minor = false; shift = shift None None None }) }
+    ensures shifted { shift_in_key (key_of (codes "C transpose=-2 treble-8"))
+        ≡ Some (shift (Some (negsuc 11)) None (Some (negsuc 1))) }
+    ensures properties { key_of (codes "alto1") ≡ Ok
+        (record { signature = None; sharps = pos 0; minor = false; shift = shift None None None }) }
 {}
 
 /// Voices: the first word is the identifier, whatever its bytes are, and words without effect may follow.
@@ -138,7 +146,10 @@ pub fn properties_of_voices()
 /// No identifier, or a number that is none.
 pub fn refused_voices()
     ensures no_identifier { map voice_of ([] ∷ codes " " ∷ []) ≡ replicate 2 (Err BadVoice) }
-    ensures no_number { map voice_of (codes "Solo octave=" ∷ codes "Solo octave=x" ∷ codes "Solo octave=1.5" ∷ codes "Solo octave=--1" ∷ codes "Solo transpose=+" ∷ []) ≡ replicate 5 (Err BadVoice) }
-    ensures one_quote { map voice_of (codes "Solo octave=\"1" ∷ codes "Solo name=\"a octave=2\"" ∷ []) ≡ replicate 2 (Err BadVoice) }
-    ensures ten_digits { map voice_of (codes "Solo transpose=12345678901" ∷ codes "Solo transpose=-0000000007" ∷ []) ≡ replicate 2 (Err BadVoice) }
+    ensures no_number { map voice_of (codes "Solo octave=" ∷ codes "Solo octave=x" ∷ codes "Solo octave=1.5"
+        ∷ codes "Solo octave=--1" ∷ codes "Solo transpose=+" ∷ []) ≡ replicate 5 (Err BadVoice) }
+    ensures one_quote { map voice_of (codes "Solo octave=\"1" ∷ codes "Solo name=\"a octave=2\"" ∷ [])
+        ≡ replicate 2 (Err BadVoice) }
+    ensures ten_digits { map voice_of (codes "Solo transpose=12345678901" ∷ codes "Solo transpose=-0000000007" ∷ [])
+        ≡ replicate 2 (Err BadVoice) }
 {}

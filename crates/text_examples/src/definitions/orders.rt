@@ -1,4 +1,4 @@
-//! Orders of sections, by the definition of `abc_repeat` (ABC 2.1 section 3.1.9; what is played of them is our own).
+//! Orders of sections, by the definition of `abc_repeat` (ABC 2.1 section 3.1.9; what is played of them is not in ABC 2.1).
 //! Each row is an order and the letters of the sections, which are counted from 1; 0 is the opening section.
 #![tactic(auto, unfolding(abc_fields::specs::Letters::play_on, abc_repeat::specs::Order::sections_of, abc_repeat::specs::Order::has_unknown))]
 

@@ -1,5 +1,5 @@
 //! Line classes, what is read of a line, and its tokens, by the definitions of `abc_scan`.
-#![tactic(auto, unfolding(abc_scan::specs::Line::tokens_of, abc_scan::specs::Directive::directive_of, abc_scan::specs::Dynamic::dynamic_of, abc_scan::specs::Delimited::delimited_at, abc_scan::specs::Number::number_at, abc_scan::specs::Chord::part_reading_at, abc_scan::specs::Chord::parts_of, abc_scan::specs::Chord::chord_at, abc_scan::specs::Frame::frame_at, abc_scan::specs::Token::reading_at, abc_scan::specs::Start::byte_start, abc_scan::specs::Start::bracket_start, abc_scan::specs::Bar::bar_at, abc_scan::specs::Ending::ending_at, abc_text::specs::Blank::trimmed, abc_text::specs::Blank::trim_start, abc_text::specs::Blank::trim_end, abc_scan::specs::Length::length_at, abc_scan::specs::Length::length_size, abc_scan::specs::Note::accidental_at, abc_text::specs::Letter::letter_of, abc_scan::specs::Note::note_at, abc_scan::specs::Note::rest_at))]
+#![tactic(auto, unfolding(abc_scan::specs::Line::tokens_of, abc_scan::specs::Directive::directive_of, abc_scan::specs::Dynamic::dynamic_of, abc_scan::specs::Delimited::delimited_at, abc_scan::specs::Number::number_at, abc_scan::specs::Chord::part_reading_at, abc_scan::specs::Chord::parts_of, abc_scan::specs::Chord::chord_at, abc_scan::specs::Frame::frame_at, abc_scan::specs::Token::reading_at, abc_scan::specs::Start::byte_start, abc_scan::specs::Start::bracket_start, abc_scan::specs::Bar::bar_at, abc_scan::specs::Ending::ending_at, abc_text::specs::Blank::trim_blanks, abc_text::specs::Blank::trim_start, abc_text::specs::Blank::trim_end, abc_scan::specs::Length::length_at, abc_scan::specs::Length::length_size, abc_scan::specs::Note::accidental_at, abc_text::specs::Letter::letter_of, abc_scan::specs::Note::note_at, abc_scan::specs::Note::rest_at))]
 
 ghost use Rattle.std.specs.Prelude.{◌≡◌, false, pos, negsuc, [], ◌∷◌, codes, drop, replicate, take};
 ghost use Rattle.abc_scan.specs.declared.class.LineClass.TheVariants.{Blank, Comment, Directive, Field, Music};
@@ -9,7 +9,7 @@ ghost use Rattle.abc_text.specs.declared.letter.Letter.TheVariants.{C};
 ghost use Rattle.abc_scan.specs.declared.directive.Directive.TheVariants as directives;
 ghost use Rattle.abc_scan.specs.declared.directive.Reach.TheVariants.{Octave};
 ghost use Rattle.abc_scan.specs.declared.dynamic.Dynamic.TheVariants.{Ppp, Mp, Mf, F, Fff};
-ghost use Rattle.abc_scan.specs.declared.parts.ChordPartKind.TheVariants as parts;
+ghost use Rattle.abc_scan.specs.declared.chord_part.ChordPartKind.TheVariants as parts;
 ghost use Rattle.abc_scan.specs.declared.token.TokenKind.TheVariants as kinds;
 ghost use Rattle.abc_scan.specs.Line.{tokens_of};
 ghost use Rattle.abc_scan.specs.Length.{length_at};
@@ -19,7 +19,7 @@ ghost use Rattle.abc_scan.specs.Text.{content};
 ghost use Rattle.text_examples.specs.Values.{blank, c_part, c_token, chord_token, part, plain, token};
 
 /// Blank lines and comments. ABC 2.1 section 2.2; that only spaces and tabs are blanks, and that one carriage return is
-/// dropped at the end, is our own.
+/// dropped at the end, is not in ABC 2.1.
 pub fn blanks_and_comments()
     ensures empty { class_of [] ≡ Blank }
     ensures blanks { class_of (codes " \t") ≡ Blank }
@@ -32,7 +32,7 @@ pub fn blanks_and_comments()
 {}
 
 /// A program: `%%MIDI`, `program` and a number of one to nine digits, with blanks between them, in the first column, and
-/// behind it blanks or a comment alone. It is abc2midi's own directive; the rest is our own.
+/// after it blanks or a comment alone. It is abc2midi's own directive; the rest is not in ABC 2.1.
 pub fn programs()
     ensures program { class_of (codes "%%MIDI program 1") ≡ Directive }
     ensures blanks { class_of (codes "%%MIDI \t program  41 \t") ≡ Directive }
@@ -51,7 +51,7 @@ pub fn programs()
     ensures behind_a_blank { class_of (codes " %%MIDI program 5") ≡ Comment }
 {}
 
-/// How far accidentals reach. ABC 2.1 section 11.3; that it begins in the first column is our own.
+/// How far accidentals reach. ABC 2.1 section 11.3; that it begins in the first column is not in ABC 2.1.
 pub fn reaches()
     ensures none { class_of (codes "%%propagate-accidentals not") ≡ Directive }
     ensures octave { class_of (codes "%%propagate-accidentals\toctave % c and C' are one") ≡ Directive }
@@ -74,7 +74,7 @@ pub fn fields()
     ensures no_colon { class_of (codes "C D") ≡ Music }
 {}
 
-/// A letter of a note or of a rest before a repeat bar is music; the class looks at the comment too. Our own.
+/// A letter of a note or of a rest before a repeat bar is music; the class looks at the comment too. Not in ABC 2.1.
 pub fn notes_before_repeat_bars()
     ensures note { class_of (codes "C:|") ≡ Music }
     ensures small_note { class_of (codes "g::") ≡ Music }
@@ -87,8 +87,8 @@ pub fn notes_before_repeat_bars()
     ensures comment { class_of (codes "C:%|") ≡ Field 67 }
 {}
 
-/// What is read of a line: all but one carriage return at its end, and then all before its comment. A `%` behind a
-/// backslash begins none, also behind two. ABC 2.1 section 2.2; that backslashes do not pair up is our own.
+/// What is read of a line: all but one carriage return at its end, and then all before its comment. A `%` after a
+/// backslash begins none, also after two. ABC 2.1 section 2.2; that backslashes do not pair up is not in ABC 2.1.
 pub fn what_is_read()
     ensures comment { content (codes "C D % E\r") ≡ codes "C D " }
     ensures comment_alone { content (codes "%") ≡ [] }
@@ -100,7 +100,7 @@ pub fn what_is_read()
 {}
 
 /// Lengths as written: 3/2, a half, a quarter. ABC 2.1 section 4.3; that zero and ten digits are refused, in either
-/// place, and thirty slashes is our own.
+/// place, and thirty slashes is not in ABC 2.1.
 pub fn written_lengths()
     ensures plain { length_at [] ≡ Factor 1 1 }
     ensures three_halves { length_at (codes "3/2") ≡ Factor 3 2 }
@@ -142,7 +142,7 @@ pub fn tokens_of_low_notes()
 {}
 
 /// The longest token is taken: `C//2` is `C//` and a byte that begins no token, and of three signs the first is none.
-/// ABC 2.1 sections 4.2, 4.3 and 4.5; a byte that begins no token stands alone, our own.
+/// ABC 2.1 sections 4.2, 4.3 and 4.5; that a byte that begins no token is a token of its own is not in ABC 2.1.
 pub fn longest_tokens()
     ensures slashes { tokens_of (codes "C//2") ≡ c_token (pos 0) (Factor 1 4) 0 3 ∷ token kinds.BadByte 3 4 ∷ [] }
     ensures signs { tokens_of (codes "^^^c") ≡ token kinds.BadByte 0 1
@@ -153,7 +153,7 @@ pub fn longest_tokens()
 {}
 
 /// A dynamic is a token; another decoration has no effect, and one that nothing closes begins none. In a chord a dynamic
-/// has no effect. ABC 2.1 section 4.14; the last is our own.
+/// has no effect. ABC 2.1 section 4.14; the last is not in ABC 2.1.
 pub fn tokens_of_dynamics()
     ensures between_notes { tokens_of (codes "C!f!C!foo!C") ≡
         c_token (pos 0) plain 0 1 ∷ token (kinds.Dynamic F) 1 4
@@ -166,14 +166,15 @@ pub fn tokens_of_dynamics()
     ensures in_a_chord { tokens_of (codes "[C!f!]") ≡ chord_token (c_part 1 2 ∷ part parts.NoEffect 2 5 ∷ []) 0 6 ∷ [] }
 {}
 
-/// A directive line is one token, with its comment and without its carriage return. Its number is the one written. Our own.
+/// A directive line is one token, with its comment and without its carriage return. Its number is the one written. Not in ABC 2.1.
 pub fn tokens_of_directives()
     ensures program { tokens_of (codes "%%MIDI program 128 % a\r") ≡ token (kinds.Directive (directives.Program 128)) 0 22 ∷ [] }
-    ensures reach { tokens_of (codes "%%propagate-accidentals octave") ≡ token (kinds.Directive (directives.Reach Octave)) 0 30 ∷ [] }
+    ensures reach { tokens_of (codes "%%propagate-accidentals octave") ≡ token (kinds.Directive (directives.Reach Octave)) 0 30
+        ∷ [] }
     ensures none { tokens_of (codes "%%MIDI program 2 41") ≡ [] }
 {}
 
-/// A field line is one token, without its comment; a blank line and a comment have none. Our own.
+/// A field line is one token, without its comment; a blank line and a comment have none. Not in ABC 2.1.
 pub fn lines_without_music()
     ensures field { tokens_of (codes "T:a % b") ≡ token (kinds.Field (record { letter = 84; value = codes "a" })) 0 4 ∷ [] }
     ensures blank { tokens_of (codes " \r") ≡ [] }

@@ -1,10 +1,10 @@
 //! Blanks, words, numbers, letters and accidentals, by the definitions of `abc_text`. What a blank and a number are is our
 //! own.
-#![tactic(auto, unfolding(abc_text::specs::Accidental::accidental_of, abc_text::specs::Blank::trim_end, abc_text::specs::Blank::trim_start, abc_text::specs::Blank::trimmed, abc_text::specs::Cut::cut_at, abc_text::specs::Letter::letter_of, abc_text::specs::Number::number_of, abc_text::specs::Power::is_power_up_to, abc_text::specs::Word::words_of))]
+#![tactic(auto, unfolding(abc_text::specs::Accidental::accidental_of, abc_text::specs::Blank::trim_end, abc_text::specs::Blank::trim_start, abc_text::specs::Blank::trim_blanks, abc_text::specs::Cut::cut_at, abc_text::specs::Letter::letter_of, abc_text::specs::Number::number_of, abc_text::specs::Power::is_power_up_to, abc_text::specs::Word::words_of))]
 
 ghost use Rattle.std.specs.Prelude.{◌≡◌, true, false, [], ◌∷◌, codes, Some, None};
 ghost use Rattle.abc_text.specs.Accidental.{accidental_of};
-ghost use Rattle.abc_text.specs.Blank.{trimmed};
+ghost use Rattle.abc_text.specs.Blank.{trim_blanks};
 ghost use Rattle.abc_text.specs.Cut.{cut_at};
 ghost use Rattle.abc_text.specs.LineEnd.{without_return};
 ghost use Rattle.abc_text.specs.Letter.{letter_of};
@@ -16,9 +16,9 @@ ghost use Rattle.abc_text.specs.declared.letter.Letter.TheVariants as letters;
 
 /// Spaces and tabs are blanks, and no other byte is.
 pub fn blanks()
-    ensures both_ends { trimmed (codes " \ta b\t ") ≡ codes "a b" }
-    ensures nothing_else { trimmed (codes " \t") ≡ [] }
-    ensures other_bytes { trimmed (codes "\r a\n") ≡ codes "\r a\n" }
+    ensures both_ends { trim_blanks (codes " \ta b\t ") ≡ codes "a b" }
+    ensures nothing_else { trim_blanks (codes " \t") ≡ [] }
+    ensures other_bytes { trim_blanks (codes "\r a\n") ≡ codes "\r a\n" }
     ensures words { words_of (codes " a\tbc  d ") ≡ codes "a" ∷ codes "bc" ∷ codes "d" ∷ [] }
     ensures no_words { words_of (codes " \t ") ≡ [] }
 {}

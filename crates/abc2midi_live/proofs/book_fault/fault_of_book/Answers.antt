@@ -3,7 +3,7 @@ use Rattle.std.specs.List.{list_all}
 use Rattle.std.specs.Result.{result_err}
 use Rattle.abc_lines.specs.Text.{is_line}
 use Rattle.abc_lines.specs.Edits.{edited, insertion}
-use Rattle.abc2midi_live.specs.Refusal.{refused}
+use Rattle.abc2midi_live.specs.Refusal.{book_refusal}
 use Rattle.abc2midi_live.specs.Transcript.{book_lines, without_mark}
 use Rattle.abc2midi_live.proofs.Feeding.{cut_some, cut_none}
 use Rattle.abc2midi_live.proofs.InputLines.{lines_in, lines_in-more, lines_in-last}
@@ -16,7 +16,7 @@ lines-init c =
     let same : length c.without_mark-rest.result.now ≡ length (without_mark c.args.book.now) = ap length c.without_mark-rest.ensures in
     let shorter = without_mark_shorter c.args.book.now in (
       omega arith,
-      ap (λ r. refused (list_all is_line (lines_in r)) (0 + length (lines_in r))) c.without_mark-rest.ensures ∙ refused_book (book_lines c.args.book.now),
+      ap (λ r. book_refusal (list_all is_line (lines_in r)) (0 + length (lines_in r))) c.without_mark-rest.ensures ∙ refused_book (book_lines c.args.book.now),
     )
 
 pub returns-then-line-gt-LONGEST_LINE : goal.returns-then-line-gt-LONGEST_LINE
@@ -38,11 +38,11 @@ lines-preserved c =
     let shorter : c.lines.count + 1 + length behind.now ≤ length c.args.book.now = omega arith in
     subst
     (λ (r : Bor (List ℕ)). (c.lines.count + 1 + length r.now ≤ length c.args.book.now)
-    × (refused (list_all is_line (lines_in r.now)) (c.lines.count + 1 + length (lines_in r.now)) ≡ result_err (edited [] (insertion 1 (book_lines c.args.book.now)))))
+    × (book_refusal (list_all is_line (lines_in r.now)) (c.lines.count + 1 + length (lines_in r.now)) ≡ result_err (edited [] (insertion 1 (book_lines c.args.book.now)))))
     (sym c.in_default-Some.behind-is) (shorter, sym step ∙ c.lines.invariant.1)
 
 pub returns-in_default-None : goal.returns-in_default-None
 returns-in_default-None c =
     let line = c.cut.result.0.now in
     let last = lines_in-last c.lines.rest.now line c.cut.ensures.clean (cut_none c.lines.rest.now line c.cut.result.1 c.cut.ensures c.in_default-None.is-1) in
-    c.fault_behind.ensures ∙ sym (ap (λ ls. refused (list_all is_line ls) (c.lines.count + length ls)) last) ∙ c.lines.invariant.1
+    c.fault_with_last_line.ensures ∙ sym (ap (λ ls. book_refusal (list_all is_line ls) (c.lines.count + length ls)) last) ∙ c.lines.invariant.1

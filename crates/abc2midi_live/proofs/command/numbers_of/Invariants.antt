@@ -6,7 +6,7 @@ use Rattle.abc2midi_live.proofs.command.numbers_of.Given as goal
 -- the numbers read so far, and those of the words that are left
 abbrev pub invariant-loop-rest : goal.invariant-loop-rest
 invariant-loop-rest l = record {
-  spelled : numbers_behind (take l.count l.values) (words_behind l.rest) ≡ numbers_of (words_behind l.fn.words);
+  command_of_words : numbers_behind (take l.count l.values) (words_behind l.rest) ≡ numbers_of (words_behind l.fn.words);
   few : l.count ≤ 3;
   places : length l.values ≡ 3;
 }

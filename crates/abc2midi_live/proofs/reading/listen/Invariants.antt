@@ -1,5 +1,5 @@
 use Rattle.std.proofs.Common.{◌≡◌, []}
-use Rattle.abc2midi_live.specs.Machine.{ahead}
+use Rattle.abc2midi_live.specs.Machine.{future_of_bytes}
 use Rattle.abc2midi_live.specs.Outcome.{outlets}
 use Rattle.abc_fold.specs.Work.{raised}
 use Rattle.abc2midi_live.proofs.Feeding.{Heard}
@@ -12,7 +12,8 @@ invariant-reads g l =
     let contents = g.W.Sink.contents in
     let seen = g.S.Store.seen in
     record {
-      heard : Heard l.counter (ahead (state l.fn.machine).future []) (ahead (state l.listener.machine).future l.listener.begun.items) (state l.fn.machine).directory (state l.listener.machine).directory
+      heard : Heard l.counter (future_of_bytes (state l.fn.machine).future [])
+          (future_of_bytes (state l.listener.machine).future l.listener.begun.items) (state l.fn.machine).directory (state l.listener.machine).directory
           (g.R.Source.remaining l.fn.reader) (g.R.Source.remaining l.reader)
           (outlets (contents l.fn.writer) (seen l.fn.store)) (outlets (contents l.writer) (seen l.store));
       calls : g.R.Source.calls l.reader ≡ raised (g.R.Source.calls l.fn.reader) l.counter;

@@ -1,6 +1,6 @@
 use Rattle.std.proofs.Common.{◌≡◌, ◌+◌, ◌++◌, [], drop, sym, ap, ◌∙◌, arith}
 use Rattle.std.proofs.lemmas.List.{drop_all}
-use Rattle.abc_book.specs.declared.pass.Before.TheVariants.{Nothing}
+use Rattle.abc_book.specs.declared.pass.OpenBlock.TheVariants.{Nothing}
 use Rattle.abc_book.specs.Pass.{blocks_from}
 use Rattle.abc_book.proofs.pass.blocks_from.Goals as goal
 

@@ -1,5 +1,5 @@
 use Rattle.std.proofs.Common.{◌≡◌, ◌+◌, ◌++◌, drop}
-use Rattle.abc_book.specs.declared.pass.Before.TheVariants.{Nothing}
+use Rattle.abc_book.specs.declared.pass.OpenBlock.TheVariants.{Nothing}
 use Rattle.abc_book.specs.Pass.{blocks_from}
 use Rattle.abc_book.proofs.pass.blocks_from.Given as goal
 

@@ -1,7 +1,7 @@
 use Rattle.std.proofs.Common.{◌≡◌, ◌+◌, IfOk, List, map, sym, ap, ◌∙◌, subst, arith}
 use Rattle.std.specs.Global.{Vec}
 use Rattle.abc_book.specs.declared.block.Block.{Block}
-use Rattle.abc_book.specs.declared.pass.Before.TheVariants.{Nothing}
+use Rattle.abc_book.specs.declared.pass.OpenBlock.TheVariants.{Nothing}
 use Rattle.abc_book.specs.Laws.{moved}
 use Rattle.abc_book.specs.Pass.{blocks_from}
 use Rattle.abc_book.proofs.OnePass.{one_pass}

@@ -12,12 +12,12 @@ loop-word-init c =
 
 pub loop-word-preserved : goal.loop-word-preserved
 loop-word-preserved c =
-    IsSummed-more _ c.loop-word.word-iterator _ c.args.text.now c.loop-word.sum _ c.in-Some.word c.loop-word.invariant c.in-Some.ensures.steps (sym c.plus.ensures ∙ c.in_ok-sum.was)
+    IsSummed-more _ c.loop-word.word-iterator _ c.args.text.now c.loop-word.sum _ c.in-Some.word c.loop-word.invariant c.in-Some.ensures.steps (sym c.add_word.ensures ∙ c.in_ok-sum.was)
 
 pub returns-in_err-sum : goal.returns-in_err-sum
 returns-in_err-sum c =
     c.from_residual.ensures
-    ∙ IsSummed-over _ c.loop-word.word-iterator c.next.new.self c.args.text.now c.loop-word.sum c.in-Some.word c.loop-word.invariant c.in-Some.ensures.steps (sym c.plus.ensures ∙ c.in_err-sum.was)
+    ∙ IsSummed-over _ c.loop-word.word-iterator c.next.new.self c.args.text.now c.loop-word.sum c.in-Some.word c.loop-word.invariant c.in-Some.ensures.steps (sym c.add_word.ensures ∙ c.in_err-sum.was)
 
 pub returns : goal.returns
 returns c = IsSummed-end _ c.loop-word.word-iterator c.next.new.self c.args.text.now c.loop-word.sum c.loop-word.invariant c.in-None.ensures.steps

@@ -101,7 +101,10 @@ deallocate_spec 𝓤 𝓛 𝓜 𝓡 wired X A LX LA g d dd met md =
     let z = at_gives Z 𝓛 𝓜.mem 𝓡.returns κ q at from b o (n * s) al (block_ty E n) in
     sets ! (of_opd ! (get_in ! (fld ! refl (stop !)) (sub ! 0 refl (whole !)))) refl (tt, tt) $
     first ! $ blocks ! $ sets ! (of_opd ! (get ! refl)) refl (tt, tt) $
-    sets ! (is ! (bin ! (get ! refl) (size_word !) (record { fits = subst (λ (k : ℕ). k < 2 ^ 64) (sym (uncapped n s bytes)) bytes })) (ap (vint w64) (uncapped n s bytes))) refl (tt, record { fits = bytes }) $
+    sets ! (is ! (bin ! (get ! refl) (size_word !) (record {
+      fits =
+          subst (λ (k : ℕ). k < 2 ^ 64) (sym (uncapped n s bytes)) bytes;
+    })) (ap (vint w64) (uncapped n s bytes))) refl (tt, record { fits = bytes }) $
     group ! 4 $ use1 𝓛 (raw ((Gives Z 𝓛 𝓜.mem 𝓡.returns).pre z)) (Gives-goes Z 𝓛 𝓜.mem 𝓡.returns κ q at from (Incl-trans bounds.0 lives) b o (n * s) al (block_ty E n) (block_size E n bytes) (block_align E n) bytes (capped_fits (align tau))) $
     calls_at_last ! (framed 𝓤 𝓛.H 𝓜 𝓣) (Gives Z 𝓛 𝓜.mem 𝓡.returns) (met.deallocate dd) z (and_then ! (get ! refl) (and_then ! (get ! refl) (and_then ! (get ! refl) (and_then ! (align_word !) (no_more !))))) (λ v.
     use1 𝓛 (later (given (v ≡ vunit) (‵ (flft κ q)))) (Gives-Gives Z 𝓛 𝓜.mem 𝓡.returns κ q at from b o (n * s) al (block_ty E n) v) $ await ! tt $ learn ! (λ nought.

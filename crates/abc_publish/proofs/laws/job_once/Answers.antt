@@ -1,4 +1,4 @@
-use Rattle.abc_publish.proofs.Settled.{job_once}
+use Rattle.abc_publish.proofs.SettledState.{job_once}
 use Rattle.abc_publish.proofs.laws.job_once.Goals as goal
 
 pub returns : goal.returns

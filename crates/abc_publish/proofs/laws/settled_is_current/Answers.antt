@@ -1,4 +1,4 @@
-use Rattle.abc_publish.proofs.Settled.{settled_is_current, current_is_settled}
+use Rattle.abc_publish.proofs.SettledState.{settled_is_current, current_is_settled}
 use Rattle.abc_publish.proofs.laws.settled_is_current.Goals as goal
 
 pub returns-clause-current : goal.returns-clause-current

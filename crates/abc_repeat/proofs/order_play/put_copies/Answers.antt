@@ -13,7 +13,8 @@ extend_from_within-requires-clause-in_bounds c =
 pub loop-preserved : goal.loop-preserved
 loop-preserved c =
     c.in_ok-extend_from_within.ensures.items
-    ∙ copies_more c.args.begin c.len-end.result c.loop.counter c.args.sections.now.items c.loop.sections.items (omega (arith, c.args.sections.now.ok.0)) (omega (arith, c.len-end.ensures, c.args.sections.now.ok.0)) (omega arith) c.loop.invariant
+    ∙ copies_more c.args.begin c.len-end.result c.loop.counter c.args.sections.now.items c.loop.sections.items
+    (omega (arith, c.args.sections.now.ok.0)) (omega (arith, c.len-end.ensures, c.args.sections.now.ok.0)) (omega arith) c.loop.invariant
 
 pub returns-else-begin-end : goal.returns-else-begin-end
 returns-else-begin-end c = copies_none c.args.begin c.args.times c.args.sections.now.items (omega (arith, c.len-end.ensures, c.args.sections.now.ok.0))

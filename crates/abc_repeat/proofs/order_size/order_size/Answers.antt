@@ -30,5 +30,5 @@ loop-byte-preserved c =
 pub returns : goal.returns
 returns c =
     let section = section_of c.args.sections.now in
-    c.so_far.ensures section (front_of c.args.order.now c.loop-byte.byte-index) c.loop-byte.invariant
+    c.total.ensures section (front_of c.args.order.now c.loop-byte.byte-index) c.loop-byte.invariant
     ∙ ap (size_of section) (whole_letters c.args.order.now c.requires c.loop-byte.byte-index c.loop-byte-test.false)

@@ -8,4 +8,5 @@ pub loop-mark-init : goal.loop-mark-init
 loop-mark-init c = let some = most_passes-some c.args.text.now in record { some = omega arith; small = omega arith; most = omega arith }
 
 pub returns : goal.returns
-returns c = let none = ap most_passes (drop_all c.loop-mark.mark-index c.args.text.now c.loop-mark-test.false) in omega (arith, c.loop-mark.invariant.small, c.loop-mark.invariant.some, c.loop-mark.invariant.most)
+returns c = let none = ap most_passes (drop_all c.loop-mark.mark-index c.args.text.now c.loop-mark-test.false) in omega
+    (arith, c.loop-mark.invariant.small, c.loop-mark.invariant.some, c.loop-mark.invariant.most)

@@ -13,8 +13,8 @@ loop-at-preserved c = record {
   inside = rest_inside c.loop-at.at c.args.marks.now c.first_strain-text.result.now c.loop-at.invariant.inside c.first_strain-text.ensures.bounded;
   small = omega arith;
   counted =
-      total_more c.loop-at.at c.loop-at.size c.strain_size.result c.saturating_add-size.result (2 ^ 64 - 1) c.loop-at.opened c.opens_behind-opened.result c.args.marks.now c.first_strain-text.result.now
-      c.first_strain-text.ensures.value c.opens_behind-opened.ensures c.strain_size.ensures c.saturating_add-size.ensures
+      total_more c.loop-at.at c.loop-at.size c.strain_size.result c.saturating_add-size.result (2 ^ 64 - 1) c.loop-at.opened c.opens_after-opened.result c.args.marks.now c.first_strain-text.result.now
+      c.first_strain-text.ensures.value c.opens_after-opened.ensures c.strain_size.ensures c.saturating_add-size.ensures
       ∙ c.loop-at.invariant.counted;
 }
 

@@ -7,7 +7,8 @@ use Rattle.abc_scan.proofs.ClassLaws.{Laws, laws}
 use Rattle.abc_scan.proofs.class.class_of.Goals as goal
 use Rattle.abc_scan.proofs.class.class_of.Goals.{After-class_of_text}
 
-told : (c : After-class_of_text) → Laws c.class_of_text.result (AreBlanks (without_return c.args.line.now)) (BeginsWithPercent (without_return c.args.line.now)) (IsDirectiveLine (without_return c.args.line.now)) (IsFieldLine (without_return c.args.line.now))
+told : (c : After-class_of_text) → Laws c.class_of_text.result (AreBlanks (without_return c.args.line.now)) (BeginsWithPercent (without_return c.args.line.now)) (IsDirectiveLine
+    (without_return c.args.line.now)) (IsFieldLine (without_return c.args.line.now))
 told c = laws (without_return c.args.line.now) c.class_of_text.result (c.class_of_text.ensures ∙ ap class_of_text c.without_return.ensures.value)
 
 pub returns-clause-blank : goal.returns-clause-blank

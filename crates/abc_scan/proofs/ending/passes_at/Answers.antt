@@ -15,7 +15,8 @@ loop-range-init c =
     record {
       some = c.in_ok-first.ensures.some;
       inside = c.in_ok-first.ensures.inside;
-      read = subst (λ p. passes_at text ≡ Some (fold with_range p (more_from 0 (drop size text)).0, size + (more_from 0 (drop size text)).1)) (sym c.with_range-passes.ensures) (passes_first text c.in_ok-first.first size (sym c.in_ok-first.ensures.value));
+      read = subst (λ p. passes_at text ≡ Some (fold with_range p (more_from 0 (drop size text)).0, size + (more_from 0 (drop size text)).1)) (sym c.with_range-passes.ensures) (passes_first text
+          c.in_ok-first.first size (sym c.in_ok-first.ensures.value));
     }
 
 pub loop-range-preserved : goal.loop-range-preserved
@@ -28,5 +29,6 @@ loop-range-preserved c =
     record {
       some = omega arith;
       inside = omega (arith, c.in-Some.ensures.inside, ap length rest, length-drop size text, c.loop-range.invariant.inside);
-      read = subst (λ p. passes_at text ≡ Some (fold with_range p (more_from 0 (drop (size + more) text)).0, size + more + (more_from 0 (drop (size + more) text)).1)) (sym c.with_range-passes-in-Some.ensures) (passes_next text size c.loop-range.passes c.in-Some.range more read c.loop-range.invariant.read);
+      read = subst (λ p. passes_at text ≡ Some (fold with_range p (more_from 0 (drop (size + more) text)).0, size + more + (more_from 0 (drop (size + more) text)).1)) (sym
+          c.with_range-passes-in-Some.ensures) (passes_next text size c.loop-range.passes c.in-Some.range more read c.loop-range.invariant.read);
     }

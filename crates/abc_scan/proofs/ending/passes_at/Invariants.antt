@@ -3,7 +3,7 @@ use Rattle.std.specs.Prelude.{fold}
 use Rattle.abc_scan.specs.Ending.{with_range, more_from, passes_at}
 use Rattle.abc_scan.proofs.ending.passes_at.Given as goal
 
--- the passes so far, and those of the ranges behind
+-- the passes so far, and those of the ranges after
 abbrev pub invariant-loop-range : goal.invariant-loop-range
 invariant-loop-range l = record {
   some : 0 < l.size;

@@ -1,5 +1,5 @@
 use Rattle.std.proofs.Common.{◌≡◌, ◌++◌, ◌≤◌, ◌-◌, drop, length}
-use Rattle.abc_scan.specs.Closing.{IsMissing}
+use Rattle.abc_scan.specs.KnownAbsent.{IsKnownAbsent}
 use Rattle.abc_scan.specs.Cutting.{cutting_from}
 use Rattle.abc_scan.specs.Line.{cutting_of}
 use Rattle.abc_scan.specs.Token.{line_reader}
@@ -9,7 +9,7 @@ use Rattle.abc_scan.proofs.line.cut.Given as goal
 abbrev pub invariant-loop-at : goal.invariant-loop-at
 invariant-loop-at l = record {
   inside : l.at ≤ length l.text;
-  known : IsMissing l.missing (drop l.at l.text);
+  known : IsKnownAbsent l.absent (drop l.at l.text);
   cut : l.tokens.items ++ cutting_from line_reader l.after_bar l.at 0 (drop l.at l.text) ≡ cutting_of l.text;
 }
 

@@ -3,8 +3,8 @@ use Rattle.std.specs.Prelude.{◌==◌}
 use Rattle.abc_scan.proofs.CellLaws.{is_some, single_cell}
 use Rattle.abc_scan.proofs.line_cells.cell_of_one.Goals as goal
 
-pub returns-clause-cells : goal.returns-clause-cells
-returns-clause-cells c =
+pub returns-clause-value : goal.returns-clause-value
+returns-clause-value c =
     let tokens = c.args.tokens.items in
     c.in_ok-push.ensures.items
     ∙ (λ i. c.in_ok-cells.ensures.items i ++ c.in_ok-new.ensures i ∷ [])

@@ -2,10 +2,10 @@ use Rattle.std.proofs.Common.{◌≡◌, ◌+◌, ◌-◌, false, ◌++◌, ap, 
 use Rattle.std.proofs.lemmas.List.{take_all}
 use Rattle.std.proofs.lemmas.List.Elements.{All-nil}
 use Rattle.abc_scan.specs.Cell.{ends_cell, cells_of, HasNoBar}
-use Rattle.abc_scan.specs.Closing.{IsMissing}
+use Rattle.abc_scan.specs.KnownAbsent.{IsKnownAbsent}
 use Rattle.abc_scan.specs.Cutting.{cutting_from}
 use Rattle.abc_scan.specs.Token.{line_reader, next_token}
-use Rattle.abc_scan.proofs.Closings.{missing-drop, missing-behind}
+use Rattle.abc_scan.proofs.Closings.{absent-drop, absent-behind}
 use Rattle.abc_scan.proofs.CellLaws.{stays, still_no_bar}
 use Rattle.abc_scan.proofs.CellCuts.{cells_more}
 use Rattle.abc_scan.proofs.line_cells.cut_cells.Goals as goal
@@ -17,10 +17,13 @@ loop-at-preserved c =
     let size = c.in_ok-kind-in-None.size in
     let told = c.in_ok-kind-in-None.ensures in
     let rest : take (length text - at) (drop at text) ≡ drop at text = take_all (length text - at) (drop at text) (omega (arith, length-drop at text)) in
-    let more = cells_more text c.loop-at.after_bar at c.loop-at.cells.items c.put_token.new.cells.items _ c.loop-at.begun.items c.put_token.new.begun.items _ (c.in_ok-kind-in-None.kind, size) c.loop-at-test.true told.some (told.value ∙ ap (next_token c.loop-at.after_bar) rest) c.token_at-in-None.ensures c.in_ok-put_token-in-None.ensures.cells c.loop-at.invariant.cut in
+    let more = cells_more text c.loop-at.after_bar at c.loop-at.cells.items c.put_token.new.cells.items _ c.loop-at.begun.items c.put_token.new.begun.items _ (
+      c.in_ok-kind-in-None.kind,
+      size,
+    ) c.loop-at-test.true told.some (told.value ∙ ap (next_token c.loop-at.after_bar) rest) c.token_at-in-None.ensures c.in_ok-put_token-in-None.ensures.cells c.loop-at.invariant.cut in
     record {
       inside = omega (arith, told.inside, ap length rest, length-drop at text);
-      known = missing-behind c.next_token.new.missing text at size told.some (subst (λ l. IsMissing c.next_token.new.missing (drop 1 l)) rest told.kept);
+      known = absent-behind c.next_token.new.absent text at size told.some (subst (λ l. IsKnownAbsent c.next_token.new.absent (drop 1 l)) rest told.kept);
       begun = c.in_ok-put_token-in-None.ensures.begun;
       cut = ap (λ b. c.put_token.new.cells.items ++ cells_of (c.put_token.new.begun.items ++ cutting_from line_reader b (at + size) 0 (drop (at + size) text))) c.is_bar-after_bar.ensures ∙ more;
     }
@@ -36,10 +39,13 @@ loop-at-preserved-in-Some c =
     let begun = c.push.new.self.items in
     let rest : take (length text - at) (drop at text) ≡ drop at text = take_all (length text - at) (drop at text) (omega (arith, length-drop at text)) in
     let read : (kind, size) ≡ next_token c.loop-at.after_bar (drop at text) = sym (told.value c.loop-at.after_bar) ∙ ap (next_token c.loop-at.after_bar) rest in
-    let more = cells_more text c.loop-at.after_bar at c.loop-at.cells.items c.loop-at.cells.items _ c.loop-at.begun.items begun token (kind, size) c.loop-at-test.true told.some read c.token_at.ensures (stays token c.loop-at.cells.items c.loop-at.begun.items begun c.in_ok-push-in-Some.ensures.items) c.loop-at.invariant.cut in
+    let more = cells_more text c.loop-at.after_bar at c.loop-at.cells.items c.loop-at.cells.items _ c.loop-at.begun.items begun token (
+      kind,
+      size,
+    ) c.loop-at-test.true told.some read c.token_at.ensures (stays token c.loop-at.cells.items c.loop-at.begun.items begun c.in_ok-push-in-Some.ensures.items) c.loop-at.invariant.cut in
     record {
       inside = omega (arith, told.inside, ap length rest, length-drop at text);
-      known = missing-behind c.loop-at.missing text at size told.some (missing-drop 1 c.loop-at.missing (drop at text) c.loop-at.invariant.known);
+      known = absent-behind c.loop-at.absent text at size told.some (absent-drop 1 c.loop-at.absent (drop at text) c.loop-at.invariant.known);
       begun = subst HasNoBar (sym c.in_ok-push-in-Some.ensures.items) (still_no_bar token c.loop-at.begun.items c.loop-at.invariant.begun (ap ends_cell c.token_at.ensures ∙ told.plain));
       cut = ap (λ b. c.loop-at.cells.items ++ cells_of (begun ++ cutting_from line_reader b (at + size) 0 (drop (at + size) text))) (sym told.plain) ∙ more;
     }
@@ -47,7 +53,7 @@ loop-at-preserved-in-Some c =
 pub loop-at-init : goal.loop-at-init
 loop-at-init c = record {
   inside = omega arith;
-  known = c.none-missing.ensures c.args.text.now;
+  known = c.none-absent.ensures c.args.text.now;
   begun = subst HasNoBar (sym c.in_ok-begun.ensures.items) (All-nil (λ t. ends_cell t ≡ false));
   cut = λ i. c.in_ok-cells.ensures.items i ++ cells_of (c.in_ok-begun.ensures.items i ++ cutting_from line_reader false 0 0 c.args.text.now);
 }
@@ -57,4 +63,4 @@ next_token-requires-clause-known c =
     let text = c.args.text.now in
     let at = c.loop-at.at in
     let rest : take (length text - at) (drop at text) ≡ drop at text = take_all (length text - at) (drop at text) (omega (arith, length-drop at text)) in
-    subst (λ l. IsMissing c.loop-at.missing (drop 1 l)) (sym rest) (missing-drop 1 c.loop-at.missing (drop at text) c.loop-at.invariant.known)
+    subst (λ l. IsKnownAbsent c.loop-at.absent (drop 1 l)) (sym rest) (absent-drop 1 c.loop-at.absent (drop at text) c.loop-at.invariant.known)

@@ -20,4 +20,5 @@ overflow_add-number c =
     omega (arith, b)
 
 pub returns-clause-bounded : goal.returns-clause-bounded
-returns-clause-bounded c = let below = decimal-lt c.args.digits.now c.requires.digits c.requires.short in let whole = ap decimal (take_all c.loop-digit.digit-index c.args.digits.now (omega arith)) in omega (arith, below, whole)
+returns-clause-bounded c = let below = decimal-lt c.args.digits.now c.requires.digits c.requires.short in let whole = ap decimal (take_all c.loop-digit.digit-index c.args.digits.now
+    (omega arith)) in omega (arith, below, whole)

@@ -2,7 +2,8 @@ use Rattle.std.proofs.Common.{◌∙◌, sym, ap, Some, None, arith}
 use Rattle.std.proofs.lemmas.Bool.{eqb-false}
 use Rattle.abc_text.proofs.Numbers.{number_of-empty, number_of-long, number_of-other, number_of-whole, number_exact}
 use Rattle.abc_text.proofs.number.number_of.Goals as goal
-use Rattle.abc_text.proofs.number.number_of.Goals.{then-is_empty-via-then-is_empty, then-is_empty-via-else-is_empty+then-text-gt-LONGEST_NUMBER, then-is_empty-via-else-is_empty+else-text-gt-LONGEST_NUMBER+then-not-are_digits}
+use Rattle.abc_text.proofs.number.number_of.Goals.{then-is_empty-via-then-is_empty, then-is_empty-via-else-is_empty+then-text-gt-LONGEST_NUMBER}
+use Rattle.abc_text.proofs.number.number_of.Goals.{then-is_empty-via-else-is_empty+else-text-gt-LONGEST_NUMBER+then-not-are_digits}
 
 pub returns-then-is_empty-clause-value : goal.returns-then-is_empty-clause-value
 returns-then-is_empty-clause-value c =

@@ -16,7 +16,7 @@ unfolding first_word
 returns-clause-value c = grind (arith, common_steps)
 
 pub returns-clause-words : goal.returns-clause-words
-returns-clause-words c = words_at c.args.text.now (Some (c.leading_blanks-from.result, c.leading_blanks-from.result + c.before_blank.result)) (returns-clause-value c)
+returns-clause-words c = words_at c.args.text.now (Some (c.leading_blanks-from.result, c.leading_blanks-from.result + c.bytes_before_blank.result)) (returns-clause-value c)
 
 pub returns-clause-some : goal.returns-clause-some
-returns-clause-some c = word_some c.args.text.now (Some (c.leading_blanks-from.result, c.leading_blanks-from.result + c.before_blank.result)) (returns-clause-value c)
+returns-clause-some c = word_some c.args.text.now (Some (c.leading_blanks-from.result, c.leading_blanks-from.result + c.bytes_before_blank.result)) (returns-clause-value c)

@@ -6,9 +6,9 @@ pub overflow_cast-result : goal.overflow_cast-result
 unfolding grains_of_a_tick
 overflow_cast-result c = omega (arith, tick_at-below _ c.requires)
 
-pub returns-clause-exact : goal.returns-clause-exact
+pub returns-clause-value : goal.returns-clause-value
 unfolding grains_of_a_tick
-returns-clause-exact c = refl
+returns-clause-value c = refl
 
 pub returns-clause-bounded : goal.returns-clause-bounded
 unfolding grains_of_a_tick

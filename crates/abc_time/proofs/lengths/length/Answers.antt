@@ -12,14 +12,14 @@ returns-in_err-divide_by_denominators c =
     let n = not_whole_from_quotient _ _ c.requires.unit c.requires.factors _ c.numerators_of-numerators.ensures.product h.1 in
     let e : c.from_residual.result ≡ length_of c.args.unit c.args.factors.now = cc (p.1, p.2, h.0, n) in
     let j = judges _ _ c.requires.unit c.requires.factors _ e in
-    record { exact = e; ok = j.ok; not_whole = j.not_whole; too_long = j.too_long }
+    record { value = e; ok = j.ok; not_whole = j.not_whole; too_long = j.too_long }
 
 pub returns-in-Some : goal.returns-in-Some
 unfolding grains_of_a_whole_note grains_of_the_longest_length
 returns-in-Some c =
     let e = length_from_quotient _ _ c.requires.unit c.requires.factors _ _ _ c.numerators_of-numerators.ensures.product c.in_ok-divide_by_denominators.ensures.quotient c.in-Some.ensures in
     let j = judges _ _ c.requires.unit c.requires.factors _ e in
-    record { exact = e; ok = j.ok; not_whole = j.not_whole; too_long = j.too_long }
+    record { value = e; ok = j.ok; not_whole = j.not_whole; too_long = j.too_long }
 
 pub returns-in-None : goal.returns-in-None
 unfolding grains_of_a_whole_note grains_of_the_longest_length
@@ -27,4 +27,4 @@ returns-in-None c =
     let q = c.in_ok-divide_by_denominators.ensures.quotient in
     let e = too_long_from_quotient _ _ c.requires.unit c.requires.factors _ _ c.numerators_of-numerators.ensures.product q (omega (arith, c.in-None.ensures)) in
     let j = judges _ _ c.requires.unit c.requires.factors _ e in
-    record { exact = e; ok = j.ok; not_whole = j.not_whole; too_long = j.too_long }
+    record { value = e; ok = j.ok; not_whole = j.not_whole; too_long = j.too_long }

@@ -8,4 +8,4 @@ unfolding quarter_of
 returns c =
     let e : c.in_tempo_event.result ≡ quarter_micros_of c.args.beat c.args.per_minute = cc in
     let l = laws c.args.beat c.args.per_minute c.in_tempo_event.result e c.requires.beat.num_least c.requires.some in
-    record { exact = e; iff = l.iff; some = l.some; none = l.none }
+    record { value = e; exact = l.iff; some = l.some; none = l.none }

@@ -1,7 +1,7 @@
 use Rattle.std.proofs.Common.{◌≡◌, ◌+◌, ◌++◌, drop}
-use Rattle.abc_sections.specs.Items.{items_of}
+use Rattle.abc_voices_sections.specs.Items.{items_of}
 use Rattle.abc_voices.specs.Change.{set_from}
-use Rattle.abc_sections.specs.Play.{duration}
+use Rattle.abc_voices_sections.specs.Play.{duration}
 use Rattle.abc_voices.proofs.change.put_set.Given as goal
 
 -- what is set so far, and what the rest sets

@@ -1,6 +1,6 @@
 use Rattle.std.proofs.Common.{◌≡◌, drop}
 use Rattle.abc_voices.specs.Fields.{keeps_programs}
-use Rattle.abc_sections.specs.Items.{items_of}
+use Rattle.abc_voices_sections.specs.Items.{items_of}
 use Rattle.abc_voices.proofs.fields.keeps_programs.Given as goal
 
 -- the rest says what all say

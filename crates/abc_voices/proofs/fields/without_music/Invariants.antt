@@ -1,5 +1,5 @@
 use Rattle.std.proofs.Common.{◌≡◌, ◌++◌, drop}
-use Rattle.abc_sections.specs.Items.{items_of}
+use Rattle.abc_voices_sections.specs.Items.{items_of}
 use Rattle.abc_voices.specs.Fields.{without_music}
 use Rattle.abc_voices.proofs.fields.without_music.Given as goal
 

@@ -1,13 +1,13 @@
 use Rattle.std.proofs.Common.{◌≡◌, ◌<◌, ◌≤◌, List, ℕ, map, Err, ap, ◌∙◌, arith}
 use Rattle.std.specs.Prelude.{IfOk, sum_by}
-use Rattle.abc_items.specs.declared.item.Item.{Item}
+use Rattle.abc_bars_items.specs.declared.item.Item.{Item}
 use Rattle.abc_repeat.specs.declared.play.TheConstants.{MOST_PLACES}
 use Rattle.abc_time.specs.Grains.{grains_of_the_latest_end}
-use Rattle.abc_sections.specs.Items.{items_of}
-use Rattle.abc_sections.specs.declared.stage.StageFault.TheVariants.{TooMany, TooLate}
+use Rattle.abc_voices_sections.specs.Items.{items_of}
+use Rattle.abc_voices_sections.specs.declared.stage.StageFault.TheVariants.{TooMany, TooLate}
 use Rattle.abc_voices.specs.Stages.{at_places}
-use Rattle.abc_sections.specs.PlayedSection.{size_in, longest}
-use Rattle.abc_sections.specs.Stage.{content, stage_of}
+use Rattle.abc_voices_sections.specs.PlayedSection.{size_in, longest}
+use Rattle.abc_voices_sections.specs.Stage.{content, stage_of}
 use Rattle.abc_voices.proofs.Given.{opening_given}
 use Rattle.abc_voices.proofs.Layouts.{played_here, alike}
 use Rattle.abc_voices.proofs.Staged.{total_within}

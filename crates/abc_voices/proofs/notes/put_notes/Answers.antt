@@ -1,9 +1,9 @@
 use Rattle.std.proofs.Common.{◌-◌, sym, subst, arith}
 use Rattle.std.proofs.lemmas.List.Elements.{All-get_or}
 use Rattle.std.specs.Borrow.{Bor}
-use Rattle.abc_items.specs.declared.item.Item.{Item}
-use Rattle.abc_items.specs.Item.{IsItem}
-use Rattle.abc_sections.proofs.Items.{of_map}
+use Rattle.abc_bars_items.specs.declared.item.Item.{Item}
+use Rattle.abc_bars_items.specs.Item.{IsItem}
+use Rattle.abc_voices_sections.proofs.Items.{of_map}
 use Rattle.abc_voices.proofs.notes.put_notes.Goals as goal
 
 pub put_item-requires-clause-item : goal.put_item-requires-clause-item

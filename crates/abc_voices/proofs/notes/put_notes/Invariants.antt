@@ -1,8 +1,8 @@
 use Rattle.std.proofs.Common.{◌≡◌, ◌+◌, ◌-◌, ◌≤◌, length, take, drop}
 use Rattle.abc_time.specs.Grains.{grains_of_the_latest_end}
-use Rattle.abc_sections.specs.Items.{items_of}
+use Rattle.abc_voices_sections.specs.Items.{items_of}
 use Rattle.abc_voices.specs.TiedNotes.{notes_from, notes_in}
-use Rattle.abc_sections.specs.Play.{duration}
+use Rattle.abc_voices_sections.specs.Play.{duration}
 use Rattle.abc_voices.proofs.notes.put_notes.Given as goal
 
 -- the notes of what stands from here on

@@ -1,8 +1,8 @@
 use Rattle.std.proofs.Common.{◌≡◌, None, drop}
-use Rattle.abc_sections.specs.Items.{items_of}
-use Rattle.abc_voices.specs.Opening.{key_past, past_all}
+use Rattle.abc_voices_sections.specs.Items.{items_of}
+use Rattle.abc_voices.specs.Opening.{key_after, after_all}
 use Rattle.abc_voices.proofs.opening.opening_key.Given as goal
 
--- what holds so far, and behind the rest
+-- what holds so far, and after the rest
 abbrev pub invariant-loop-item : goal.invariant-loop-item
-invariant-loop-item l = past_all key_past l.key (items_of (drop l.item-index l.tune)) ≡ past_all key_past None (items_of l.tune)
+invariant-loop-item l = after_all key_after l.key (items_of (drop l.item-index l.tune)) ≡ after_all key_after None (items_of l.tune)

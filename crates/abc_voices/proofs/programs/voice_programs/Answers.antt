@@ -6,6 +6,7 @@ use Rattle.abc_voices.specs.Turns.{stages_in, IsStage}
 use Rattle.abc_voices.proofs.Within.{one_set}
 use Rattle.abc_voices.proofs.programs.voice_programs.Goals as goal
 
-pub programs_that_stand-requires : goal.programs_that_stand-requires
-programs_that_stand-requires c =
-    one_set program_of c.args.voice c.args.opening grains_of_the_latest_end (stages_in c.args.turns.now) c.deref.result.now c.requires.in_time (All-map IsStage (λ turn. turn.stage.now) c.args.turns.now c.requires.stages) (c.deref.ensures.value ∙ c.in_ok-sets.ensures)
+pub programs_in_force-requires : goal.programs_in_force-requires
+programs_in_force-requires c =
+    one_set program_of c.args.voice c.args.opening grains_of_the_latest_end
+    (stages_in c.args.turns.now) c.deref.result.now c.requires.in_time (All-map IsStage (λ turn. turn.stage.now) c.args.turns.now c.requires.stages) (c.deref.ensures.value ∙ c.in_ok-sets.ensures)

@@ -1,6 +1,6 @@
 use Rattle.std.proofs.Common.{◌≡◌, ◌-◌, ◌∙◌, sym, ap, subst, List}
 use Rattle.std.specs.Prelude.{IfOk}
-use Rattle.abc_score.specs.declared.score.ProgramChange.{ProgramChange}
+use Rattle.abc_voices_score.specs.declared.score.ProgramChange.{ProgramChange}
 use Rattle.abc_voices.specs.Turns.{stages_in, programs_along}
 use Rattle.abc_voices.proofs.Steady.{programs_kept}
 use Rattle.abc_voices.proofs.programs.voices_programs.Goals as goal

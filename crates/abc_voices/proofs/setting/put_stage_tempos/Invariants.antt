@@ -5,4 +5,5 @@ use Rattle.abc_voices.proofs.setting.put_stage_tempos.Given as goal
 
 -- what is set so far, and what the other parts set
 abbrev pub invariant-loop-part : goal.invariant-loop-part
-invariant-loop-part l = l.tempos.items ++ flat_map (λ part. set_from tempo_of l.at.0 part.steps) (drop l.part-index l.stage.parts) ≡ l.initial.tempos.items ++ flat_map (λ part. set_from tempo_of l.at.0 part.steps) l.stage.parts
+invariant-loop-part l = l.tempos.items ++ flat_map (λ part. set_from tempo_of l.at.0 part.steps) (drop l.part-index l.stage.parts)
+    ≡ l.initial.tempos.items ++ flat_map (λ part. set_from tempo_of l.at.0 part.steps) l.stage.parts

@@ -10,5 +10,6 @@ put_stage-requires-clause-stage g c =
 pub loop-turn-preserved : goal.loop-turn-preserved
 loop-turn-preserved g c =
     let length = length_step c.args.turns.now c.loop-turn.turn-index c.turn-item.result c.loop-turn-test.true c.turn-item.is in
-    let step = set_one_step g.S.Setting.value_of c.args.voice c.args.turns.now c.loop-turn.turn-index c.loop-turn.at.0 c.loop-turn.sets.items _ c.turn-item.result c.loop-turn-test.true c.turn-item.is c.loop-turn.invariant.set in
+    let step = set_one_step g.S.Setting.value_of c.args.voice c.args.turns.now c.loop-turn.turn-index c.loop-turn.at.0
+    c.loop-turn.sets.items _ c.turn-item.result c.loop-turn-test.true c.turn-item.is c.loop-turn.invariant.set in
     record { moment = omega (arith, length, c.loop-turn.invariant.moment); set = grind (arith, common_steps, step) }

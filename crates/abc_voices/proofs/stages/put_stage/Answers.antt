@@ -14,20 +14,20 @@ returns-in_default-clause-fits c =
     let none = nothing_size (map (λ voice. voice.now) c.args.voices.now) c.args.sections.now c.args.place (sym c.section_at.ensures ∙ ap option_copied c.in_default.is) in
     omega arith
 
-pub room_behind-requires : goal.room_behind-requires
-room_behind-requires c =
+pub room_after-requires : goal.room_after-requires
+room_after-requires c =
     let is = c.requires.table.each c.args.place c.in-Some-stage_at.stage.now (sym c.stage_at.ensures ∙ ap option_copied c.in-Some-stage_at.is) in
     omega (arith, is.few)
 
 pub returns-in-Some-stage_at-clause-fits : goal.returns-in-Some-stage_at-clause-fits
 returns-in-Some-stage_at-clause-fits c =
     let is = c.requires.table.each c.args.place c.in-Some-stage_at.stage.now (sym c.stage_at.ensures ∙ ap option_copied c.in-Some-stage_at.is) in
-    subst (λ (n : ℕ). IfOk c.room_behind.result (λ left. left + n ≡ c.args.room)) is.size c.room_behind.ensures.room
+    subst (λ (n : ℕ). IfOk c.room_after.result (λ left. left + n ≡ c.args.room)) is.size c.room_after.ensures.room
 
 pub returns-in-Some-stage_at-clause-too_many : goal.returns-in-Some-stage_at-clause-too_many
 returns-in-Some-stage_at-clause-too_many c = λ e.
     let is = c.requires.table.each c.args.place c.in-Some-stage_at.stage.now (sym c.stage_at.ensures ∙ ap option_copied c.in-Some-stage_at.is) in
-    omega (arith, is.size, c.room_behind.ensures.too_many e)
+    omega (arith, is.size, c.room_after.ensures.too_many e)
 
 pub returns-clause-put : goal.returns-clause-put
 returns-clause-put c =

@@ -1,8 +1,8 @@
 use Rattle.std.proofs.Common.{◌≡◌, ◌∙◌, ℕ, ◌+◌, ◌++◌, List, length, take, drop, sym, ap, subst, map, arith}
 use Rattle.std.proofs.lemmas.Grind.{common_steps}
 use Rattle.std.specs.Prelude.{Option, Err}
-use Rattle.abc_sections.specs.declared.stage.Stage.{Stage}
-use Rattle.abc_sections.specs.declared.stage.StageFault.TheVariants as faults
+use Rattle.abc_voices_sections.specs.declared.stage.Stage.{Stage}
+use Rattle.abc_voices_sections.specs.declared.stage.StageFault.TheVariants as faults
 use Rattle.abc_voices.specs.Stages.{ArePut}
 use Rattle.abc_voices.proofs.Placed.{put_more, staged, too_many_at, too_late_at, places_at, fault_is, none_in}
 use Rattle.abc_voices.proofs.stages.stages.Goals as goal
@@ -29,7 +29,9 @@ loop-place-preserved c =
     let P : List (Option Stage) → Type 0 = λ t. ArePut voices c.args.sections.now (take (c.loop-place.place-index + 1) c.args.played.now) c.in_ok-room.room t in
     let Q : List (Option Stage) → Type 0 = λ t. ArePut voices c.args.sections.now (take c.loop-place.place-index c.args.played.now) c.loop-place.room t in
     let long : length c.put_stage.new.table ≡ length c.deref_mut.result.now = grind (arith, common_steps) in
-    subst P (sym same) (put_more _ _ c.args.played.now c.loop-place.place-index _ _ c.deref_mut.result.now _ c.loop-place-test.true long (subst Q (sym c.deref_mut.ensures.value) c.loop-place.invariant) c.in_ok-room.ensures.put c.in_ok-room.ensures.fits)
+    subst P (sym same)
+    (put_more _ _ c.args.played.now c.loop-place.place-index _ _ c.deref_mut.result.now _ c.loop-place-test.true long
+    (subst Q (sym c.deref_mut.ensures.value) c.loop-place.invariant) c.in_ok-room.ensures.put c.in_ok-room.ensures.fits)
 
 pub returns-clause-value : goal.returns-clause-value
 returns-clause-value c =

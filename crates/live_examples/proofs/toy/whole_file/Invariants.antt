@@ -7,4 +7,5 @@ use Rattle.live_examples.proofs.toy.whole_file.Given as goal
 
 -- what the lines so far give, and what the rest gives
 abbrev pub invariant-loop-one : goal.invariant-loop-one
-invariant-loop-one l = l.file ++ flat_map (λ (one : Played). bytes_of_class (class_of one.line) one) (drop l.one-index l.all) ≡ flat_map (λ (one : Played). bytes_of_class (class_of one.line) one) l.all
+invariant-loop-one l = l.file ++ flat_map (λ (one : Played). bytes_of_class (class_of one.line) one) (drop l.one-index l.all)
+    ≡ flat_map (λ (one : Played). bytes_of_class (class_of one.line) one) l.all

@@ -3,8 +3,8 @@ use Rattle.std.specs.Prelude.{IsPermutation, OnOk}
 use Rattle.std.proofs.lemmas.Grind.{common_steps}
 use Rattle.std.proofs.lemmas.List.Sorted.{All-permutation}
 use Rattle.abc_time.specs.Grains.{tick_at}
-use Rattle.abc_score.specs.declared.score.ProgramChange.{ProgramChange}
-use Rattle.abc_score.specs.declared.score.Sounding.{Sounding}
+use Rattle.abc_voices_score.specs.declared.score.ProgramChange.{ProgramChange}
+use Rattle.abc_voices_score.specs.declared.score.Sounding.{Sounding}
 use Rattle.smf_bytes.specs.Voice.{all_of, event_at}
 use Rattle.smf_bytes.specs.Track.{channel_of, track, voice_events}
 use Rattle.smf_bytes.proofs.Lengths.{EndBy, voice_length, voice_ticks}
@@ -27,9 +27,11 @@ put_track-requires c =
       channel = grind (arith, common_steps);
       end = omega arith;
       before_end =
-          subst (λ (t : ℕ). EndBy t events) (sym c.tick_of.ensures.exact)
-          (All-permutation (λ event. event.tick ≤ tick_at c.args.end.0) (voice_events channel programs notes) events same (voice_ticks c.args.end channel programs notes c.requires.programs.each c.requires.notes.each));
-      length = subst (λ (body : List ℕ). length body < 2 ^ 32) (same_body tick (voice_events channel programs notes) events same) (voice_length tick channel programs notes c.requires.programs.count c.requires.notes.count);
+          subst (λ (t : ℕ). EndBy t events) (sym c.tick_of.ensures.value)
+          (All-permutation (λ event. event.tick ≤ tick_at c.args.end.0) (voice_events channel programs notes) events same
+          (voice_ticks c.args.end channel programs notes c.requires.programs.each c.requires.notes.each));
+      length = subst (λ (body : List ℕ). length body < 2 ^ 32) (same_body tick (voice_events channel programs notes) events same)
+          (voice_length tick channel programs notes c.requires.programs.count c.requires.notes.count);
     }
 
 pub returns : goal.returns
@@ -45,6 +47,6 @@ returns c =
     (subst (λ (l : List Sounding). IsPermutation (all_of programs l) own) c.as_slice-2.ensures
     (subst (λ (l : List ProgramChange). IsPermutation (all_of l c.as_slice-2.result.now) own) c.as_slice.ensures c.in_ok-events.ensures)) in
     let written : track c.tick_of.result events ≡ track tick (voice_events (channel_of c.args.place) programs notes) =
-    ap (λ t. track t events) c.tick_of.ensures.exact ∙ sym (same_track tick (voice_events channel programs notes) events same)
+    ap (λ t. track t events) c.tick_of.ensures.value ∙ sym (same_track tick (voice_events channel programs notes) events same)
     ∙ ap (λ n. track tick (voice_events n programs notes)) c.channel-channel.ensures in
     subst (λ (t : List ℕ). OnOk c.put_track.result (c.put_track.new.out.items ≡ c.args.out.now.items ++ t)) written c.put_track.ensures

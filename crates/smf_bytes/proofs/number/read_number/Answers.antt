@@ -2,8 +2,8 @@ use Rattle.std.proofs.Common.{arith, subst, ◌∙◌}
 use Rattle.smf_bytes.proofs.NumberTexts.{Means, meant, complete, padded, too_long, truncated}
 use Rattle.smf_bytes.proofs.number.read_number.Goals as goal
 
-pub returns-clause-number : goal.returns-clause-number
-returns-clause-number c n used = (
+pub returns-clause-ok : goal.returns-clause-ok
+returns-clause-ok c n used = (
   λ e. subst (Means c.args.bytes.now) e (meant c.args.bytes.now c.read.result (λ i. omega (arith, c.type_inv.bytes i)) c.read.ensures),
   λ h. c.read.ensures ∙ complete c.args.bytes.now n used h,
 )

@@ -3,7 +3,7 @@ use Rattle.std.specs.Prelude.{OnOk}
 use Rattle.std.proofs.lemmas.List.{drop_all}
 use Rattle.smf_bytes.specs.Order.{in_order}
 use Rattle.smf_bytes.specs.Event.{end_event}
-use Rattle.smf_bytes.specs.Track.{timed, track_body}
+use Rattle.smf_bytes.specs.Track.{timed_events, track_body}
 use Rattle.smf_bytes.proofs.Timed.{Follows, follows_sorted, closed}
 use Rattle.smf_bytes.proofs.track.put_events.Goals as goal
 
@@ -22,11 +22,11 @@ unfolding track_body
 returns c =
     let items = c.deref-event-items.result.now in
     let out = c.args.out.now.items in
-    let whole = out ++ timed 0 (items ++ end_event c.args.end ∷ []) in
+    let whole = out ++ timed_events 0 (items ++ end_event c.args.end ∷ []) in
     let done : drop c.loop-event.event-index items ≡ [] = drop_all c.loop-event.event-index items (omega arith) in
     let shut =
     closed c.loop-event.out.items whole c.loop-event.before c.args.end
-    (ap (λ l. c.loop-event.out.items ++ timed c.loop-event.before (l ++ end_event c.args.end ∷ [])) (sym done) ∙ c.loop-event.invariant.written) in
+    (ap (λ l. c.loop-event.out.items ++ timed_events c.loop-event.before (l ++ end_event c.args.end ∷ [])) (sym done) ∙ c.loop-event.invariant.written) in
     let same : items ≡ in_order c.args.events.items = c.deref-event-items.ensures.value ∙ c.in_ok-ordered.ensures.exact in
     subst (λ (l : List ℕ). OnOk c.put_end.result (c.put_end.new.out.items ≡ l))
-    (shut ∙ ap (λ l. out ++ timed 0 (l ++ end_event c.args.end ∷ [])) same) c.put_end.ensures
+    (shut ∙ ap (λ l. out ++ timed_events 0 (l ++ end_event c.args.end ∷ [])) same) c.put_end.ensures

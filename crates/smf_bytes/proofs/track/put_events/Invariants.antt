@@ -1,13 +1,13 @@
 use Rattle.std.proofs.Common.{◌≡◌, [], ◌∷◌, ◌++◌}
 use Rattle.std.specs.Prelude.{drop}
 use Rattle.smf_bytes.specs.Event.{end_event}
-use Rattle.smf_bytes.specs.Track.{timed}
+use Rattle.smf_bytes.specs.Track.{timed_events}
 use Rattle.smf_bytes.proofs.Timed.{Follows}
 use Rattle.smf_bytes.proofs.track.put_events.Given as goal
 
 abbrev pub invariant-loop-event : goal.invariant-loop-event
 invariant-loop-event l =
     record {
-      written : l.out.items ++ timed l.before (drop l.event-index l.event-items ++ end_event l.end ∷ []) ≡ l.fn.out.items ++ timed 0 (l.event-items ++ end_event l.end ∷ []);
+      written : l.out.items ++ timed_events l.before (drop l.event-index l.event-items ++ end_event l.end ∷ []) ≡ l.fn.out.items ++ timed_events 0 (l.event-items ++ end_event l.end ∷ []);
       follows : Follows l.end l.before (drop l.event-index l.event-items);
     }

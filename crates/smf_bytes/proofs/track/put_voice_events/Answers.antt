@@ -5,7 +5,7 @@ use Rattle.smf_bytes.specs.declared.voice_event.VoiceEvent.{VoiceEvent}
 use Rattle.smf_bytes.specs.Order.{in_order}
 use Rattle.smf_bytes.specs.Event.{end_event}
 use Rattle.smf_bytes.specs.Voice.{event_at}
-use Rattle.smf_bytes.specs.Track.{timed, track_body}
+use Rattle.smf_bytes.specs.Track.{timed_events, track_body}
 use Rattle.smf_bytes.proofs.Ordered.{is_permutation, is_sorted}
 use Rattle.smf_bytes.proofs.Timed.{Follows, follows_sorted, closed}
 use Rattle.smf_bytes.proofs.track.put_voice_events.Goals as goal
@@ -19,8 +19,8 @@ loop-left-init c =
     let same : map f left ≡ in_order events = ap (map f) c.as_slice-left.ensures.value ∙ c.in_ok-ordered.ensures.exact c.args.channel in
     record {
       written =
-          ap (λ l. l ++ timed 0 (map f left ++ end_event c.args.end ∷ [])) c.in_ok-reserve.ensures.items
-          ∙ ap (λ l. c.args.out.now.items ++ timed 0 (l ++ end_event c.args.end ∷ [])) same;
+          ap (λ l. l ++ timed_events 0 (map f left ++ end_event c.args.end ∷ [])) c.in_ok-reserve.ensures.items
+          ∙ ap (λ l. c.args.out.now.items ++ timed_events 0 (l ++ end_event c.args.end ∷ [])) same;
       follows =
           subst (Follows c.args.end 0) (sym same)
           (follows_sorted c.args.end events (in_order events) c.requires.before_end (is_permutation events) (is_sorted events));
@@ -33,5 +33,5 @@ returns c =
     let done : left ≡ [] = nil_from_length left (omega (arith, c.in_default.len_below)) in
     let shut =
     closed body _ c.loop-left.before c.args.end
-    (ap (λ (l : List VoiceEvent). body ++ timed c.loop-left.before (map (event_at c.args.channel) l ++ end_event c.args.end ∷ [])) (sym done) ∙ c.loop-left.invariant.written) in
+    (ap (λ (l : List VoiceEvent). body ++ timed_events c.loop-left.before (map (event_at c.args.channel) l ++ end_event c.args.end ∷ [])) (sym done) ∙ c.loop-left.invariant.written) in
     subst (λ l. OnOk c.put_end.result (c.put_end.new.out.items ≡ l)) shut c.put_end.ensures

@@ -8,6 +8,6 @@ returns-then-line-gt-LONGEST_LINE c = command_of-long c.args.line.now c.if-line-
 
 pub returns : goal.returns
 returns c =
-    c.spelled.ensures
+    c.command_of_words.ensures
     ∙ ap (λ line. command_of_words (words_of line)) c.without_return.ensures.value
     ∙ command_of-short c.args.line.now c.if-line-gt-LONGEST_LINE.false

@@ -7,7 +7,8 @@ pub returns-in-Ok-clause-answer : goal.returns-in-Ok-clause-answer
 unfolding files_of
 returns-in-Ok-clause-answer c =
     IfOk-weaker c.report_line.result _ _
-    (λ text h. answer_accepted c.args.self.now.session.text c.apply.new.self.text _ text.items _ _ c.in-Ok.ensures.text c.in-Ok.ensures.report.writes c.in-Ok.ensures.report.removes h) c.report_line.ensures
+    (λ text h. answer_accepted c.args.self.now.session.text c.apply.new.self.text _ text.items _ _ c.in-Ok.ensures.text
+    c.in-Ok.ensures.report.writes c.in-Ok.ensures.report.removes h) c.report_line.ensures
 
 pub returns-in-Err-clause-answer : goal.returns-in-Err-clause-answer
 returns-in-Err-clause-answer c =

@@ -4,9 +4,9 @@ use Rattle.std.proofs.lemmas.List.{length-map}
 use Rattle.abc_lines.specs.Text.{text_of}
 use Rattle.abc_publish.specs.Publisher.{maps_of}
 use Rattle.abc2midi_live.specs.Command.{line_count}
-use Rattle.abc2midi_live.specs.Dialogue.{Says, begun_with, proceeding}
-use Rattle.abc2midi_live.specs.Gathering.{begun_of}
-use Rattle.abc2midi_live.specs.Told.{holding}
+use Rattle.abc2midi_live.specs.Dialogue.{Says, with_first_lines, dialogue_change}
+use Rattle.abc2midi_live.specs.PendingCommand.{begun_command}
+use Rattle.abc2midi_live.specs.RunOutput.{dialogue_view}
 use Rattle.abc2midi_live.proofs.Requests.{says_whole, stops_whole}
 use Rattle.abc2midi_live.proofs.Storing.{follows_none}
 use Rattle.abc2midi_live.proofs.dialogue.Dialogue.proceed.Goals as goal
@@ -20,16 +20,21 @@ returns-then-len-line_count-clause-reply g c = ([], (λ extent lines later. refl
 pub returns-clause-reply : goal.returns-clause-reply
 returns-clause-reply g c =
     let lines = text_of c.args.lines in
-    let old = holding c.args.self.now.session.text (maps_of c.args.self.now.publisher).directory in
-    let new = holding c.respond.new.self.session.text (maps_of c.respond.new.self.publisher).directory in
+    let old = dialogue_view c.args.self.now.session.text (maps_of c.args.self.now.publisher).directory in
+    let new = dialogue_view c.respond.new.self.session.text (maps_of c.respond.new.self.publisher).directory in
     let whole : length lines ≡ line_count c.args.command = length-map c.args.lines.items (λ line. line.items) ∙ (omega (arith, c.args.lines.ok.0)) in
     IfOk-weaker c.respond.result _ _
-    (λ reply h. (h.0, subst (λ o. Says (proceeding old (begun_with c.args.command lines) new (begun_of o)) h.0 reply) (sym (c.respond.ensures.gathering ∙ c.requires.idle)) (says_whole old new c.args.command lines h.0 reply whole h.1), h.2))
+    (λ reply h. (
+      h.0,
+      subst (λ o. Says (dialogue_change old (with_first_lines c.args.command lines) new (begun_command o)) h.0 reply)
+          (sym (c.respond.ensures.pending ∙ c.requires.idle)) (says_whole old new c.args.command lines h.0 reply whole h.1),
+      h.2,
+    ))
     c.respond.ensures.reply
 
 pub returns-clause-unchanged : goal.returns-clause-unchanged
 returns-clause-unchanged g c =
     let lines = text_of c.args.lines in
-    let h = holding c.args.self.now.session.text (maps_of c.args.self.now.publisher).directory in
+    let h = dialogue_view c.args.self.now.session.text (maps_of c.args.self.now.publisher).directory in
     let whole : length lines ≡ line_count c.args.command = length-map c.args.lines.items (λ line. line.items) ∙ (omega (arith, c.args.lines.ok.0)) in
     on_err_weaker c.respond.result (λ stops. stops_whole h c.args.command lines _ _ whole stops) c.respond.ensures.unchanged

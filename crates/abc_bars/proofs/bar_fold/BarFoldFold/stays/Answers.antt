@@ -1,4 +1,4 @@
-use Rattle.abc_cells.specs.SameEntry.{same_entry_tells}
+use Rattle.abc_bars_body.specs.SameEntry.{same_entry_tells}
 use Rattle.abc_bars.proofs.bar_fold.BarFoldFold.stays.Goals as goal
 
 pub returns : goal.returns

@@ -1,4 +1,4 @@
-use Rattle.abc_lines.specs.Block.{shown}
+use Rattle.abc_lines.specs.Block.{block_view}
 use Rattle.std.specs.Option.{ghost_name_of}
 use borrow.Follows.Closed.{read_of}
 use Rattle.abc_lines.proofs.Blocks.{sound_in, shown_in}
@@ -11,6 +11,6 @@ pub returns : goal.returns
 returns g c =
     let row = c.self.inside.row in
     rw (← c.self.view_is) (
-      (λ i. read_of (ghost_name_of c.item_in.result) (λ w. shown_in row c.args.i w c.self.invariant i) (shown row)),
+      (λ i. read_of (ghost_name_of c.item_in.result) (λ w. shown_in row c.args.i w c.self.invariant i) (block_view row)),
       record { writes_back = tt; value = c.item_in.ensures.value },
     )

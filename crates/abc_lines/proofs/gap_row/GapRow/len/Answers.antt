@@ -2,5 +2,5 @@ use Rattle.std.proofs.Common.{sym}
 use Rattle.abc_lines.proofs.GapRow.{held_count}
 use Rattle.abc_lines.proofs.gap_row.GapRow.len.Goals as goal
 
-pub returns-clause-count : goal.returns-clause-count
-returns-clause-count g c = sym (held_count c.requires)
+pub returns-clause-value : goal.returns-clause-value
+returns-clause-value g c = sym (held_count c.requires)

@@ -16,7 +16,8 @@ use mir.Syntax.{a_type, named}
 use mir.Val.{Val, vptr}
 use prog.Wp.{WpFn}
 use types.Logic.{Logic, sem}
-use types.Kit.{‵, raw, prop, ◌⊛◌, some, later, await, pick, at_ret, ◌$◌, ◌∵◌, !, qed, done, move, keep, drop, use1, use2, split, split3, join, group, fsplit, fsplit3, fjoin, fjoin3, fpack, flt_l, flt_i, rewrite, regoal, suffices, frame}
+use types.Kit.{‵, raw, prop, ◌⊛◌, some, later, await, pick, at_ret, ◌$◌, ◌∵◌, !, qed, done, move, keep, drop, use1, use2, split, split3, join, group, fsplit, fsplit3, fjoin, fjoin3, fpack, flt_l}
+use types.Kit.{flt_i, rewrite, regoal, suffices, frame}
 use types.Part.{whole, sub, look_in}
 use types.Run.{enter, of_opd, bin, size_lit, addr, load, stop, fld, first, blocks, exec, returns}
 use types.ByLocal.{alloc_all, pass_all, free_all, look_at, get, through, sets, sets_last, env}

@@ -19,4 +19,5 @@ returns-in-Some-clause-refused g c = rw (edit_is c.args.self.now.text _ _ c.in-S
 
 pub returns-in-Some-clause-counted : goal.returns-in-Some-clause-counted
 returns-in-Some-clause-counted g c =
-    cost_is (g.C.Fold.steps c.args.self.now.compiler) (g.C.Compiler.rules c.args.self.now.compiler) c.args.self.now.text (splice_of c.args.edit.now) (splice_in c.in-Some.change) _ _ c.in-Some.ensures c.prepare_change.ensures.counted
+    cost_is (g.C.Fold.steps c.args.self.now.compiler) (g.C.Compiler.rules c.args.self.now.compiler) c.args.self.now.text
+    (splice_of c.args.edit.now) (splice_in c.in-Some.change) _ _ c.in-Some.ensures c.prepare_change.ensures.counted

@@ -1,5 +1,5 @@
 use Rattle.std.proofs.Common.{drop, map, sym, ap, ◌∙◌}
-use Rattle.abc_outputs.specs.Output.{output_in}
+use Rattle.abc_live_index.specs.Output.{output_in}
 use Rattle.abc_live.proofs.Memos.{no_book, nothing_remembered}
 use Rattle.abc_live.proofs.session.LiveSession.with.Goals as goal
 

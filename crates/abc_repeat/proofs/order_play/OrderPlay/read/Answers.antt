@@ -20,7 +20,8 @@ returns-in_ok-end_item-in-40 c = λ played is.
 pub returns-in_ok-end_item-in-41 : goal.returns-in_ok-end_item-in-41
 returns-in_ok-end_item-in-41 c = λ played is.
     let section = section_of c.args.sections.now in
-    close_played section played c.end_item-in-41.new.self c.pop.new.self c.pop.result c.args.byte c.unwrap_or-self.result c.in-41.is (c.in_ok-end_item-in-41.ensures.played section played is) c.pop.ensures.items c.pop.ensures.variant.1
+    close_played section played c.end_item-in-41.new.self c.pop.new.self c.pop.result c.args.byte c.unwrap_or-self.result c.in-41.is
+    (c.in_ok-end_item-in-41.ensures.played section played is) c.pop.ensures.items c.pop.ensures.variant.1
     c.unwrap_or-self.ensures
 
 pub returns-then-byte-lt48 : goal.returns-then-byte-lt48

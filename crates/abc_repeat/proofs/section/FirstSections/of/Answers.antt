@@ -16,7 +16,8 @@ loop-at-preserved c =
       | then-is_ascii_uppercase w ↦ record {
         wide = ap length w.by_letter-is ∙ length-set c.loop-at.by_letter (get_or letters at 0 - 65) w.or.result ∙ c.loop-at.invariant.wide;
         told = λ letter upper.
-            ap (λ table. option_or (get_or table (letter - 65) None) (position_from (λ own. own == letter) ((at + 1) + 1) (drop (at + 1) letters))) (w.by_letter-is ∙ ap (λ made. set c.loop-at.by_letter (get_or letters at 0 - 65) made) w.or.ensures)
+            ap (λ table. option_or (get_or table (letter - 65) None)
+            (position_from (λ own. own == letter) ((at + 1) + 1) (drop (at + 1) letters))) (w.by_letter-is ∙ ap (λ made. set c.loop-at.by_letter (get_or letters at 0 - 65) made) w.or.ensures)
             ∙ table_set c.loop-at.by_letter letters at letter c.loop-at.invariant.wide c.loop-at-test.true (sym c.is_ascii_uppercase.ensures.value ∙ w.if-is_ascii_uppercase.true) upper
             ∙ c.loop-at.invariant.told letter upper;
       }

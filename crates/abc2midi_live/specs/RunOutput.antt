@@ -1,0 +1,60 @@
+-- What a run tells. Not in ABC 2.1.
+use Rattle.std.specs.Prelude.{ℕ, Bool, true, false, List, [], ◌∷◌, ◌++◌, Option, Some, None, option_map}
+use Rattle.abc_lines.specs.Text.{Text}
+use Rattle.abc_publish.specs.Publisher.{Directory}
+use Rattle.abc2midi_live.specs.Storing.{StoreAnswer}
+
+-- How much of what a run is given has come.
+pub data Extent : Type 0 where
+  Whole : Extent  -- all of it
+  SoFar : Extent  -- more may come
+  Stopped : Extent  -- more may come, but the run stops within its last request, so the store need not answer all of that
+
+abbrev pub is_whole : Extent → Bool
+is_whole Whole = true
+is_whole SoFar = false
+is_whole Stopped = false
+
+-- What holds between two commands: the text, and what the directory is known to hold.
+pub record DialogueView : Type 0 where
+  pub text : Text
+  pub directory : Directory
+
+abbrev pub dialogue_view : Text → Directory → DialogueView
+dialogue_view text directory = record { text = text; directory = directory }
+
+-- What is written, and what the directory is then known to hold.
+pub record RunOutput : Type 0 where
+  pub text : List ℕ
+  pub directory : Directory
+
+abbrev pub run_output : List ℕ → Directory → RunOutput
+run_output text directory = record { text = text; directory = directory }
+
+-- a text before what is written
+abbrev pub with_text_before : List ℕ → Option RunOutput → Option RunOutput
+with_text_before text rest = option_map (λ t. run_output (text ++ t.text) t.directory) rest
+
+-- Nothing more is written, and the store gave no answer that nobody asked for.
+abbrev pub nothing_more : Directory → List StoreAnswer → Option RunOutput
+nothing_more directory [] = Some (run_output [] directory)
+nothing_more directory (answer ∷ answers) = None
+
+-- What a request leads to: its answer, what holds after it, and the answers of the store that are left.
+pub record RequestOutcome : Type 0 where
+  pub text : List ℕ
+  pub after : DialogueView
+  pub left : List StoreAnswer
+
+abbrev pub request_outcome : List ℕ → DialogueView → List StoreAnswer → RequestOutcome
+request_outcome text after left = record { text = text; after = after; left = left }
+
+-- What a request leads to that asks the store for more than it answers: nothing, unless the run stops there.
+abbrev pub outcome_if_stopped : Extent → DialogueView → Option RequestOutcome
+outcome_if_stopped Whole h = None
+outcome_if_stopped SoFar h = None
+outcome_if_stopped Stopped h = Some (request_outcome [] h [])
+
+-- a line before the answer
+abbrev pub line_before : List ℕ → Option RequestOutcome → Option RequestOutcome
+line_before line rest = option_map (λ a. request_outcome (line ++ a.text) a.after a.left) rest

@@ -1,5 +1,0 @@
-use Rattle.abc_bars.proofs.LookBack.FaultsOfFields.{field_faults}
-use Rattle.abc_bars.proofs.cell_fault_laws.field_faults_of_cells.Goals as goal
-
-pub returns : goal.returns
-returns c = field_faults

@@ -1,5 +1,0 @@
-use Rattle.abc_bars.proofs.LookBack.Marks.{bad_marks_do_not_act}
-use Rattle.abc_bars.proofs.fault_laws.bad_marks_of_cells.Goals as goal
-
-pub returns : goal.returns
-returns c = bad_marks_do_not_act

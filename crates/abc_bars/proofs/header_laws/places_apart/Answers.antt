@@ -1,5 +1,0 @@
-use Rattle.abc_bars.proofs.EntryLaws.{kinds_apart}
-use Rattle.abc_bars.proofs.header_laws.places_apart.Goals as goal
-
-pub returns : goal.returns
-returns c = kinds_apart

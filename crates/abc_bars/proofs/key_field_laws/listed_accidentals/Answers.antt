@@ -1,5 +1,0 @@
-use Rattle.abc_bars.proofs.ListedAccidentals.{last_listed_counts}
-use Rattle.abc_bars.proofs.key_field_laws.listed_accidentals.Goals as goal
-
-pub returns : goal.returns
-returns c = last_listed_counts

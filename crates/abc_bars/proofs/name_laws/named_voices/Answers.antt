@@ -1,5 +1,0 @@
-use Rattle.abc_bars.proofs.LookBack.Held.{voices_found}
-use Rattle.abc_bars.proofs.name_laws.named_voices.Goals as goal
-
-pub returns-clause-voices : goal.returns-clause-voices
-returns-clause-voices c = voices_found

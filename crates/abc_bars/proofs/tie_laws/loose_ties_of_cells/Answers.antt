@@ -1,5 +1,0 @@
-use Rattle.abc_bars.proofs.LookBack.Ties.{ties_loose}
-use Rattle.abc_bars.proofs.tie_laws.loose_ties_of_cells.Goals as goal
-
-pub returns : goal.returns
-returns c = ties_loose

@@ -1,0 +1,53 @@
+//! The law of the fold along the cells of a file header and of a tune.
+
+ghost use Rattle.std.specs.Prelude.{◌≡◌, ◌↔◌, IsTrue, List, Option};
+ghost use Rattle.abc_bars_header.specs.Defaults.{no_defaults};
+ghost use Rattle.abc_bars.specs.LookBack.Along.{CellTokens, IsLookBack, file_header_beginning, results_along, place_after};
+ghost use Rattle.abc_bars.specs.LookBack.Along.{tune_beginning, tune_state, values_of_header};
+ghost use Rattle.abc_bars.specs.LookBack.Place.{Place, view};
+ghost use Rattle.abc_bars.specs.LookBack.TunePlaces.{IsOfTune};
+ghost use Rattle.abc_bars.specs.declared.bar_fold.BarFold.{BarFold};
+ghost use Rattle.abc_bars_body.specs.declared.entry.Entry.{Entry};
+ghost use Rattle.abc_bars_body.specs.declared.entry.Entry.TheVariants as entries;
+
+use crate::bar_fold::BarFold;
+use abc_fold::Fold;
+
+/// The fold is the look back: along any cells, those of a file header from `Entry::header` on and those of a
+/// tune from `Entry::tune` on, each cell is entered in the view of its place and gives what looking back gives
+/// there, items and faults. A tune begins with what the lines of the file header set, if there is one. So it is
+/// from the view of any place on.
+#[tactic(auto, using(crate::proofs::LookBack::Along::file_header_looked_back, crate::proofs::LookBack::Along::tune_looked_back, crate::proofs::LookBack::Along::from_view))]
+pub fn views_along()
+    ensures file_header { (fold : BarFold) → IsLookBack (⟦<BarFold as Fold>⟧.steps fold) (entries.FileHeader no_defaults)
+        file_header_beginning }
+    ensures tune { (fold : BarFold) (header : Option (List CellTokens)) → let steps = ⟦<BarFold as Fold>⟧.steps fold in
+        IsLookBack steps (tune_state steps header) (tune_beginning header) }
+    ensures place { (fold : BarFold) (place : Place) → IsLookBack (⟦<BarFold as Fold>⟧.steps fold) (view place) place }
+{}
+
+/// What cells give, and the state after them, depends on the view at the place that they follow and on nothing
+/// else that is before it: if the views at two places of two texts are the same and the same cells follow,
+/// these give the same items and the same faults at both, and the views after them are the same.
+#[tactic(auto, using(crate::proofs::LookBack::Along::same_given, crate::proofs::LookBack::Along::same_behind))]
+pub fn views_decide()
+    ensures given { (here there : Place) (cells : List CellTokens) → view here ≡ view there →
+        results_along here cells ≡ results_along there cells }
+    ensures after { (here there : Place) (cells : List CellTokens) → view here ≡ view there →
+        view (place_after here cells) ≡ view (place_after there cells) }
+{}
+
+/// The fold compares exactly: it takes two places for alike exactly if the states there are equal,
+/// part by part and voice by voice, in the order in which the voices were mentioned.
+#[tactic(auto, using(crate::proofs::EntryLaws::alike_where_equal))]
+pub fn alike_views()
+    ensures { (fold : BarFold) (here there : Entry) → IsTrue ((⟦<BarFold as Fold>⟧.steps fold).alike here there) ↔ (here ≡ there) }
+{}
+
+/// What a place of a tune keeps is what is before it in the file header and in its own: the values of the
+/// former, and in the body the key of the latter. A tune is in its header as long as that has no K:.
+#[tactic(auto, using(crate::proofs::LookBack::TunePlaces::places_kept))]
+pub fn tune_places()
+    ensures { (header : Option (List CellTokens)) (cells : List CellTokens) →
+        IsOfTune (values_of_header header) (place_after (tune_beginning header) cells) }
+{}

@@ -1,0 +1,29 @@
+//! Laws of what the cells of a tune give.
+
+ghost use Rattle.std.specs.Prelude.{◌≡◌, List};
+ghost use Rattle.abc_bars_body.specs.Cell.{with_token};
+ghost use Rattle.abc_bars_body.specs.Step.{entry_step};
+ghost use Rattle.abc_bars.specs.LookBack.AfterBody.{body_after};
+ghost use Rattle.abc_bars.specs.LookBack.Cells.{element_of};
+ghost use Rattle.abc_bars.specs.LookBack.Place.{Place, result_at, place_behind, view};
+ghost use Rattle.abc_bars_body.specs.declared.body.Body.{Body};
+ghost use Rattle.abc_bars_body.specs.declared.cell.CellResult.{CellResult};
+ghost use Rattle.abc_scan.specs.declared.spanned.Spanned.{Spanned};
+ghost use Rattle.abc_scan.specs.declared.token.TokenKind.{TokenKind};
+
+/// Whatever is before a cell, of a file header or of a tune: if it is entered with what looking back
+/// finds there, the state after it is what looking back finds there, and it gives what each of its tokens
+/// gives where looking back finds the state at that token's own place.
+#[tactic(auto, using(crate::proofs::LookBack::Places::stepped_back))]
+pub fn cell_views()
+    ensures { (place : Place) (cell : List (Spanned TokenKind)) →
+        entry_step (view place) cell ≡ (view (place_behind place cell), result_at place cell) }
+{}
+
+/// What a token of a cell leaves, wherever it is in its line and whatever broken rhythm it is in, is
+/// what the element leaves that it is.
+#[tactic(auto, using(crate::proofs::LookBack::Tokens::token_leaves))]
+pub fn left_by_tokens()
+    ensures { (given : CellResult) (body : Body) (token : Spanned TokenKind) (ahead : List (Spanned TokenKind)) →
+        (with_token (record given { body = body }) token ahead).body ≡ body_after body (element_of token ahead) }
+{}

@@ -1,0 +1,54 @@
+//! Laws of the state at the places of headers.
+
+ghost use Rattle.std.specs.Prelude.{◌≡◌, ◌≤◌, [], ◌∷◌, List, bytes_eq, length};
+ghost use Rattle.std.specs.List.{IsDistinct};
+ghost use Rattle.std.specs.Map.{keys_of};
+ghost use Rattle.abc_fields.specs.declared.key.Key.{Key};
+ghost use Rattle.abc_bars_header.specs.declared.defaults.Defaults.{Defaults};
+ghost use Rattle.abc_bars_body.specs.declared.entry.Entry.TheVariants as entries;
+ghost use Rattle.abc_bars_header.specs.declared.header.Header.{Header};
+ghost use Rattle.abc_bars_items.specs.declared.item.TheConstants.{MOST_VOICES};
+ghost use Rattle.abc_bars_body.specs.BodyOpening.{body_from};
+ghost use Rattle.abc_bars_header.specs.Defaults.{no_defaults};
+ghost use Rattle.abc_bars_header.specs.FileHeader.{file_header_result};
+ghost use Rattle.abc_bars_header.specs.Header.{header_result, opening_header};
+ghost use Rattle.abc_bars_header.specs.HeaderLine.{HeaderLine};
+ghost use Rattle.abc_bars.specs.LookBack.Defaults.{defaults_at};
+ghost use Rattle.abc_bars.specs.LookBack.Header.{declared_names, file_header_view, header_at, header_view};
+ghost use Rattle.abc_bars.specs.LookBack.Place.{KindsApart};
+
+/// The state at a place of a file header or of a tune's header is what looking back over the lines before
+/// it finds: before the first line the values with which it opens, and after one more line, a field or a
+/// directive, what it gives from what held before it. The view there is that and no more; a tune begins with the
+/// file header's values alone, which are a header's without voices, and is in its header after its first line.
+#[tactic(auto, using(crate::proofs::HeaderViews::defaults_behind, crate::proofs::HeaderLaws::header_behind))]
+pub fn header_views()
+    ensures values_open { (opening : Defaults) → defaults_at opening [] ≡ opening }
+    ensures values { (opening : Defaults) (before : List HeaderLine) (line : HeaderLine) →
+        defaults_at opening (line ∷ before) ≡ (file_header_result (defaults_at opening before) line).defaults }
+    ensures header_opens { (opening : Defaults) → header_at opening [] ≡ opening_header opening }
+    ensures header { (opening : Defaults) (before : List HeaderLine) (line : HeaderLine) →
+        header_at opening (line ∷ before) ≡ (header_result (header_at opening before) line).header }
+    ensures in_file_header { (before : List HeaderLine) → file_header_view before
+        ≡ entries.FileHeader (defaults_at no_defaults before) }
+    ensures tune_opens { (opening : Defaults) → header_view opening [] ≡ entries.Opening opening }
+    ensures in_header { (opening : Defaults) (before : List HeaderLine) (line : HeaderLine) →
+        header_view opening (line ∷ before) ≡ entries.Header (header_at opening (line ∷ before)) }
+{}
+
+/// The state at two places of different kinds is never the same: in a file header, at a tune's first line, in its
+/// header after that line, and in its body.
+pub fn places_apart()
+    ensures { KindsApart }
+{}
+
+/// The voices that a header declares, with which its body begins: no two have the same name, and there are no
+/// more than a tune may have.
+#[tactic(auto, using(crate::proofs::DeclaredVoices::declared_keys, crate::proofs::DeclaredVoices::distinct_names, crate::proofs::DeclaredVoices::few_names, abc_bars_body::proofs::BodyOpenings::opening_names))]
+pub fn declared_voices()
+    ensures names { (opening : Defaults) (before : List HeaderLine) → keys_of (header_at opening before).voices
+        ≡ declared_names before }
+    ensures distinct { (before : List HeaderLine) → IsDistinct bytes_eq (declared_names before) }
+    ensures few { (before : List HeaderLine) → length (declared_names before) ≤ MOST_VOICES }
+    ensures body { (header : Header) (key : Key) → keys_of (body_from header key).voices ≡ keys_of header.voices }
+{}

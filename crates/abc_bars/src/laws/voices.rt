@@ -1,0 +1,16 @@
+//! Laws of the state of a voice at the places of a tune.
+
+ghost use Rattle.std.specs.Prelude.{◌≡◌, List, ◌∷◌};
+ghost use Rattle.abc_bars_voice.specs.declared.voice_state.VoiceState.{VoiceState};
+ghost use Rattle.abc_bars.specs.LookBack.After.{after};
+ghost use Rattle.abc_bars.specs.LookBack.Element.{Element};
+ghost use Rattle.abc_bars.specs.LookBack.Voice.{voice_state_at};
+
+/// The state of a voice at a place is what looking back over its music and its fields finds: after one
+/// element more it is what that element leaves of what was found before.
+#[tactic(auto, using(crate::proofs::LookBack::Voice::voice_state_behind))]
+pub fn voice_views()
+    ensures state { (opening : VoiceState) (before : List Element) (element : Element) →
+        voice_state_at opening (element ∷ before)
+        ≡ after (voice_state_at opening before) element }
+{}

@@ -1,0 +1,20 @@
+-- Copies of a body, as they are stored.
+use Rattle.abc_bars_body.specs.Body.{with_here}
+use Rattle.abc_bars_body.specs.declared.body.Body.{Body}
+use Rattle.abc_bars_body.specs.declared.body_copy.BodyStorage.{BodyStorage}
+use Rattle.abc_bars_body.specs.declared.body_copy.BodyStorage.TheVariants as storages
+
+-- The stored body.
+abbrev pub stored_body : BodyStorage → Body
+stored_body (storages.Borrowed body here) = with_here body here
+stored_body (storages.Owned body) = body.value
+
+-- Nothing of it is shared.
+abbrev pub IsOwned : BodyStorage → Type 0
+IsOwned (storages.Borrowed body here) = ⊥
+IsOwned (storages.Owned body) = Unit {0}
+
+-- The storage with another body, if nothing of it is shared.
+abbrev pub with_own : BodyStorage → Body → BodyStorage
+with_own (storages.Borrowed body here) other = storages.Borrowed body here
+with_own (storages.Owned body) other = storages.Owned (record body { value = other })

@@ -1,0 +1,371 @@
+//! The cells of a tune's body.
+
+ghost use Rattle.std.specs.Prelude.{◌≡◌, ℕ, Bool, option_to_list, IfOk, IfSome, OnOk};
+ghost use Rattle.abc_bars_body.specs.Cell.{is_tie_token, tie_ahead, may_be_tied, empty_cell_result, with_item, with_items};
+ghost use Rattle.abc_bars_body.specs.Cell.{with_faults, with_fault, with_fault_if, with_some_fault, with_note, with_rest};
+ghost use Rattle.abc_bars_body.specs.Cell.{with_chord, with_bar_rest, with_field, with_bar, with_ending, with_tuplet, with_dynamic};
+ghost use Rattle.abc_bars_body.specs.Cell.{with_program, with_directive, with_tie, with_kind, with_token, cell_result_from};
+ghost use Rattle.abc_bars_body.specs.Cell.{cell_result};
+ghost use Rattle.abc_bars_notes.specs.Broken.{factors_of};
+ghost use Rattle.abc_bars_items.specs.Item.{IsItem};
+ghost use Rattle.abc_bars_items.specs.Program.{program_of};
+ghost use Rattle.abc_bars_notes.specs.TimeTokens.{play_chord};
+ghost use Rattle.abc_bars_voice.specs.declared.voice_state.VoiceState.{VoiceState};
+
+use crate::body_copy::BodyCopy;
+use crate::body_fields::FieldItem;
+use crate::room::room_for;
+use abc_bars_items::{Item, ItemsBuilder, LocalFault, column_of, program_of};
+use abc_bars_notes::{
+    BrokenFactors, NotePlace, Preceding, TokenRole, bar_rest_of, has_note, is_bad_mark, play_chord,
+    play_note, play_rest, preceding_after, token_role,
+};
+use abc_bars_voice::begin_tuplet;
+use abc_fields::FaultCode;
+use abc_scan::{
+    BarLine, Chord, Directive, Dynamic, Field, Note, Token, TokenKind, Tuplet, WrittenLength,
+};
+use std::alloc::{AllocError, Global};
+
+/// Whether a token is a tie.
+fn is_tie_token(kind: &TokenKind) -> bool
+    ensures { result ≡ is_tie_token kind.now }
+{
+    matches!(token_role(kind), TokenRole::Tie)
+}
+
+/// Whether a tie comes first.
+fn tie_ahead(ahead: &[Token]) -> bool
+    ensures { result ≡ tie_ahead ahead.now }
+{
+    match ahead {
+        [token, ..] => is_tie_token(&token.kind),
+        [] => false,
+    }
+}
+
+/// Whether a tie may be directly after a token.
+fn may_be_tied(kind: &TokenKind) -> bool
+    ensures { result ≡ may_be_tied kind.now }
+{
+    matches!(token_role(kind), TokenRole::Sound { .. })
+}
+
+/// Factors that give a chord the same result as those of the marks around it. A chord without notes takes no time, so no
+/// token ahead is read for it.
+#[tactic(auto, using(crate::proofs::SilentChords::silent_same))]
+fn chord_factors(behind: Preceding, chord: &Chord, ahead: &[Token]) -> BrokenFactors
+    ensures { (state : VoiceState) (tied : Bool) (from : ℕ) →
+        play_chord state result tied from chord.now ≡ play_chord state (factors_of behind ahead.now) tied from chord.now }
+{
+    if has_note(chord.parts.as_slice()) {
+        BrokenFactors::of(behind, ahead)
+    } else {
+        BrokenFactors::of(behind, &[])
+    }
+}
+
+/// The state after some tokens of a cell, and their items and faults.
+#[derive(Drop)]
+pub struct CellResult {
+    pub body: BodyCopy,
+    pub items: ItemsBuilder,
+    /// What precedes, as far as it matters to broken rhythm.
+    pub(crate) behind: Preceding,
+    /// Whether a note or chord is directly before.
+    pub(crate) after_note: bool,
+}
+
+impl CellResult {
+    /// The result before the first token of a cell, with room for `room` items.
+    fn new(alloc: Global, body: BodyCopy, room: usize) -> Result<CellResult, AllocError>
+        ensures { IfOk result (λ given. given ≡ empty_cell_result body) }
+    {
+        let items = ItemsBuilder::with_room(alloc, room)?;
+        Ok(CellResult {
+            body,
+            items,
+            behind: Preceding::Nothing,
+            after_note: false,
+        })
+    }
+
+    /// Adds the item of a token.
+    fn item(&mut self, item: Item) -> Result<(), AllocError>
+        requires { IsItem item }
+        ensures { OnOk result (self.new ≡ with_item self.old item) }
+    {
+        self.items.push_item(item)?;
+        Ok(())
+    }
+
+    /// Adds the item of a token, if there is one.
+    fn some_item(&mut self, item: Option<Item>) -> Result<(), AllocError>
+        requires { IfSome item IsItem }
+        ensures { OnOk result (self.new ≡ with_items self.old (option_to_list item)) }
+    {
+        if let Some(item) = item {
+            self.item(item)?;
+        }
+        Ok(())
+    }
+
+    /// Adds the fault of a token with its column, if there is one.
+    fn some_local_fault(&mut self, fault: Option<LocalFault>) -> Result<(), AllocError>
+        ensures { OnOk result (self.new ≡ with_faults self.old (option_to_list fault)) }
+    {
+        if let Some(fault) = fault {
+            self.items.push_fault(fault)?;
+        }
+        Ok(())
+    }
+
+    /// Adds the fault of a token.
+    fn fault(&mut self, place: usize, code: FaultCode) -> Result<(), AllocError>
+        ensures { OnOk result (self.new ≡ with_fault self.old place code) }
+    {
+        self.items.push_fault((column_of(place), code))?;
+        Ok(())
+    }
+
+    /// Adds the fault of a token, if it has one.
+    fn fault_if(&mut self, is_fault: bool, place: usize, code: FaultCode) -> Result<(), AllocError>
+        ensures { OnOk result (self.new ≡ with_fault_if self.old is_fault place code) }
+    {
+        if is_fault {
+            self.fault(place, code)?;
+        }
+        Ok(())
+    }
+
+    /// Adds the fault of a token, if there is one.
+    fn some_fault(&mut self, place: usize, fault: Option<FaultCode>) -> Result<(), AllocError>
+        ensures { OnOk result (self.new ≡ with_some_fault self.old place fault) }
+    {
+        if let Some(code) = fault {
+            self.fault(place, code)?;
+        }
+        Ok(())
+    }
+
+    /// A note, which mentions its voice.
+    #[inline(always)]
+    fn note(
+        &mut self,
+        alloc: Global,
+        place: usize,
+        note: Note,
+        ahead: &[Token],
+    ) -> Result<(), AllocError>
+        ensures { OnOk result (self.new ≡ with_note self.old place note ahead.now) }
+    {
+        let factors = BrokenFactors::of(self.behind, ahead);
+        let place = NotePlace {
+            from: place,
+            tied: tie_ahead(ahead),
+        };
+        self.body.mention(alloc)?;
+        let here = self.body.here_mut();
+        play_note(alloc, here, &mut self.items, note, &factors, place)?;
+        Ok(())
+    }
+
+    /// A rest, which mentions its voice.
+    fn rest(
+        &mut self,
+        alloc: Global,
+        place: usize,
+        written: WrittenLength,
+        ahead: &[Token],
+    ) -> Result<(), AllocError>
+        ensures { OnOk result (self.new ≡ with_rest self.old place written ahead.now) }
+    {
+        let factors = BrokenFactors::of(self.behind, ahead);
+        self.body.mention(alloc)?;
+        let here = self.body.here_mut();
+        play_rest(alloc, here, &mut self.items, written, &factors, place)?;
+        Ok(())
+    }
+
+    /// A chord, which mentions its voice if it has a note.
+    fn chord(
+        &mut self,
+        alloc: Global,
+        place: usize,
+        chord: &Chord,
+        ahead: &[Token],
+    ) -> Result<(), AllocError>
+        ensures { OnOk result (self.new ≡ with_chord self.old place chord.now ahead.now) }
+    {
+        let factors = chord_factors(self.behind, chord, ahead);
+        let place = NotePlace {
+            from: place,
+            tied: tie_ahead(ahead),
+        };
+        if has_note(chord.parts.as_slice()) {
+            self.body.mention(alloc)?;
+        }
+        let here = self.body.here_mut();
+        play_chord(alloc, here, &mut self.items, chord, &factors, place)?;
+        Ok(())
+    }
+
+    /// A rest of bars, which mentions its voice.
+    fn bar_rest(&mut self, alloc: Global, place: usize, bars: Option<u32>) -> Result<(), AllocError>
+        ensures { OnOk result (self.new ≡ with_bar_rest self.old place bars) }
+    {
+        self.body.mention(alloc)?;
+        let (item, fault) = bar_rest_of(self.body.here().meter, bars);
+        self.item(item)?;
+        self.some_fault(place, fault)?;
+        Ok(())
+    }
+
+    /// A field line or an inline field.
+    fn field(&mut self, alloc: Global, place: usize, field: &Field) -> Result<(), AllocError>
+        ensures { OnOk result (self.new ≡ with_field self.old place field.now) }
+    {
+        let FieldItem { item, fault } = self.body.field(alloc, field, place)?;
+        self.some_item(item)?;
+        self.some_local_fault(fault)?;
+        Ok(())
+    }
+
+    /// A bar line, which ends the accidentals of its voice (ABC 2.1 section 4.2).
+    fn bar(&mut self, bar: BarLine) -> Result<(), AllocError>
+        ensures { OnOk result (self.new ≡ with_bar self.old bar) }
+    {
+        self.body.here_mut().clear_accidentals();
+        self.item(Item::Bar(bar))?;
+        Ok(())
+    }
+
+    /// The mark of an ending.
+    fn ending(&mut self, place: usize, passes: Option<u32>) -> Result<(), AllocError>
+        ensures { OnOk result (self.new ≡ with_ending self.old place passes) }
+    {
+        match passes {
+            Some(passes) => self.item(Item::Ending(passes))?,
+            None => self.fault(place, FaultCode::BadEnding)?,
+        }
+        Ok(())
+    }
+
+    /// A tuplet mark.
+    fn tuplet(&mut self, place: usize, mark: Tuplet) -> Result<(), AllocError>
+        ensures { OnOk result (self.new ≡ with_tuplet self.old place mark) }
+    {
+        let here = self.body.here_mut();
+        let (open, fault) = begin_tuplet(here.meter, here.tuplet, mark);
+        here.tuplet = open;
+        self.some_fault(place, fault)?;
+        Ok(())
+    }
+
+    /// A dynamic (ABC 2.1 section 4.14).
+    fn dynamic(&mut self, dynamic: Dynamic)
+        ensures { self.new ≡ with_dynamic self.old dynamic }
+    {
+        self.body.here_mut().dynamic = Some(dynamic);
+    }
+
+    /// A directive of a program, with the number that is written.
+    fn program(&mut self, place: usize, written: u32) -> Result<(), AllocError>
+        ensures { OnOk result (self.new ≡ with_program self.old place (program_of written)) }
+    {
+        let number = program_of(written);
+        self.item(Item::Program {
+            opening: false,
+            number,
+        })?;
+        self.fault_if(number.is_none(), place, FaultCode::BadProgram)
+    }
+
+    /// A directive: the reach of accidentals is fixed where the body begins.
+    fn directive(&mut self, place: usize, directive: Directive) -> Result<(), AllocError>
+        ensures { OnOk result (self.new ≡ with_directive self.old place directive) }
+    {
+        match directive {
+            Directive::Program(written) => self.program(place, written),
+            Directive::Reach(_) => Ok(()),
+        }
+    }
+
+    /// A tie.
+    fn tie(&mut self, place: usize) -> Result<(), AllocError>
+        ensures { OnOk result (self.new ≡ with_tie self.old place) }
+    {
+        if !self.after_note {
+            self.fault(place, FaultCode::LooseTie)?;
+        }
+        Ok(())
+    }
+
+    /// A token at a place of its line, with the tokens after it in its cell.
+    #[inline(always)]
+    fn kind(
+        &mut self,
+        alloc: Global,
+        place: usize,
+        kind: &TokenKind,
+        ahead: &[Token],
+    ) -> Result<(), AllocError>
+        ensures { OnOk result (self.new ≡ with_kind self.old place kind.now ahead.now) }
+    {
+        match kind {
+            TokenKind::Note(note) => self.note(alloc, place, *note, ahead),
+            TokenKind::Rest(written) => self.rest(alloc, place, *written, ahead),
+            TokenKind::BarRest(bars) => self.bar_rest(alloc, place, *bars),
+            TokenKind::Chord(chord) => self.chord(alloc, place, chord.get(), ahead),
+            TokenKind::InlineField(field) | TokenKind::Field(field) => {
+                self.field(alloc, place, field.get())
+            }
+            TokenKind::Bar(bar) => self.bar(*bar),
+            TokenKind::Ending(passes) => self.ending(place, *passes),
+            TokenKind::Tuplet(mark) => self.tuplet(place, *mark),
+            TokenKind::Broken(_) => {
+                self.fault_if(is_bad_mark(self.behind, ahead), place, FaultCode::BadBroken)
+            }
+            TokenKind::Tie => self.tie(place),
+            TokenKind::Blank | TokenKind::NoEffect => Ok(()),
+            TokenKind::Dynamic(dynamic) => {
+                self.dynamic(*dynamic);
+                Ok(())
+            }
+            TokenKind::Directive(directive) => self.directive(place, *directive),
+            TokenKind::Unclosed => self.fault(place, FaultCode::Unclosed),
+            TokenKind::BadByte => self.fault(place, FaultCode::BadByte),
+        }
+    }
+
+    /// One more token of the cell, with those after it.
+    #[inline(always)]
+    fn token(&mut self, alloc: Global, token: &Token, ahead: &[Token]) -> Result<(), AllocError>
+        ensures { OnOk result (self.new ≡ with_token self.old token.now ahead.now) }
+    {
+        self.kind(alloc, token.from as usize, &token.kind, ahead)?;
+        self.behind = preceding_after(self.behind, &token.kind);
+        self.after_note = may_be_tied(&token.kind);
+        Ok(())
+    }
+
+    /// The tokens of the cell, or those that are left of it.
+    #[inline(always)]
+    fn tokens(&mut self, alloc: Global, cell: &[Token]) -> Result<(), AllocError>
+        ensures { OnOk result (self.new ≡ cell_result_from self.old cell.now) }
+    {
+        for (at, token) in cell.iter().enumerate() {
+            self.token(alloc, token, &cell[at + 1..])?;
+        }
+        Ok(())
+    }
+}
+
+/// Reads a cell in a body: the state after it, its items and its faults.
+pub fn cell_result(alloc: Global, body: BodyCopy, cell: &[Token]) -> Result<CellResult, AllocError>
+    ensures { IfOk result (λ given. given ≡ cell_result body cell.now) }
+{
+    let mut given = CellResult::new(alloc, body, room_for(cell))?;
+    given.tokens(alloc, cell)?;
+    Ok(given)
+}

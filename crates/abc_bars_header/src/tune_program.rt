@@ -1,0 +1,52 @@
+//! The program of a tune.
+
+ghost use Rattle.std.specs.Prelude.{◌≡◌, ◌≤◌, ◌↔◌, IsTrue};
+ghost use Rattle.abc_bars_items.specs.Program.{program_of};
+ghost use Rattle.abc_bars_items.specs.declared.program.TheConstants.{HIGHEST_PROGRAM};
+
+use abc_bars_items::program_of;
+use std::marker::Model;
+
+/// A program of MIDI (SMF 1.0). Contracts see its number.
+#[derive(Clone, Copy)]
+pub struct TuneProgram {
+    number: u8,
+}
+
+impl Model for TuneProgram {
+    ghost use Rattle.std.specs.Prelude.{ℕ, ◌≤◌};
+    ghost use Rattle.abc_bars_items.specs.declared.program.TheConstants.{HIGHEST_PROGRAM};
+
+    ghost Value = { ℕ };
+
+    ghost view = { λ p. p.number };
+
+    ghost invariant = { λ p. p.number ≤ HIGHEST_PROGRAM };
+
+    ghost inverse = { λ number. record { number = number } };
+}
+
+impl TuneProgram {
+    /// The program of a directive's number, if MIDI has it.
+    pub(crate) fn read(written: u32) -> Option<TuneProgram>
+        ensures { result ≡ program_of written }
+    {
+        let number = program_of(written)?;
+        Some(TuneProgram { number })
+    }
+
+    /// Its number, counted from 0.
+    pub fn get(self) -> u8
+        ensures value { result ≡ self }
+        ensures range { result ≤ HIGHEST_PROGRAM }
+    {
+        self.number
+    }
+
+    /// Whether both are the same program.
+    pub fn same(self, other: TuneProgram) -> bool
+        ensures { IsTrue result ↔ (self ≡ other) }
+    {
+        self.get() == other.get()
+    }
+}

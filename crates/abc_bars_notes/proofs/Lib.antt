@@ -1,0 +1,13 @@
+pub mod Acting
+pub mod BarCounts
+pub mod ChordFaults
+pub mod ChordKeys
+pub mod ChordNotes
+pub mod ChordTones
+pub mod Factors
+pub mod ChordLoop
+pub mod Lasting
+pub mod LooseTies
+pub mod NoteKeys
+pub mod Pitches
+pub mod WholeBars

@@ -1,0 +1,250 @@
+//! Notes, chords and rests: their items and faults, and the state of the voice after them.
+
+ghost use Rattle.std.specs.Prelude.{◌≡◌, ◌∷◌, ◌++◌, [], false, All, IfOk, OnErr, OnOk, is_none, unwrap_or};
+ghost use Rattle.abc_fields.specs.declared.fault.FaultCode.TheVariants.{BadLength, EmptyChord, KeyRange};
+ghost use Rattle.abc_bars_items.specs.Column.{column_of};
+ghost use Rattle.abc_bars_items.specs.Item.{AreTones, IsTone, IsWithinLongest, append_faults, append_item};
+ghost use Rattle.abc_bars_notes.specs.Sound.{fault_if};
+ghost use Rattle.abc_bars_items.specs.declared.item.Item.TheVariants as item_kinds;
+ghost use Rattle.abc_bars_voice.specs.Tuplet.{count_down};
+ghost use Rattle.abc_bars_notes.specs.TimeTokens.{first_length, sound_notes, play_note, play_chord, play_rest, with_result};
+
+use crate::broken::BrokenFactors;
+use crate::chords::{ChordContext, chord_builder_of};
+use crate::role::has_note;
+use crate::sound::{
+    ChordBuilder, NoteContext, Sounding, accidentals_after, length_in, sounding_of,
+    tied_notes_after,
+};
+use abc_bars_items::{Item, ItemsBuilder, LocalFault, Tone, Tones, column_of};
+use abc_bars_voice::{Accidentals, TiedNote, VoiceState, count_down};
+use abc_fields::FaultCode;
+use abc_scan::{Chord, Note, WrittenLength};
+use abc_text::ShortSequence;
+use abc_time::Grains;
+use std::alloc::{AllocError, Global};
+
+/// The place of a note or chord in its line.
+#[derive(Clone, Copy)]
+pub struct NotePlace {
+    /// The place of its first byte, counted from 0.
+    pub from: usize,
+    /// Whether a tie is after it.
+    pub tied: bool,
+}
+
+/// The length of the first tone.
+fn first_length(tones: &[Tone]) -> Grains
+    ensures value { result ≡ first_length tones.now }
+    ensures range { All IsTone tones.now → IsWithinLongest result }
+{
+    match tones {
+        [tone, ..] => tone.length,
+        [] => Grains(0),
+    }
+}
+
+/// Adds notes that sound together (ABC 2.1 sections 4.1 and 4.17).
+fn push_notes(
+    alloc: Global,
+    state: &mut VoiceState,
+    items: &mut ItemsBuilder,
+    builder: ChordBuilder,
+) -> Result<(), AllocError>
+    requires { AreTones builder.tones }
+    ensures state { OnOk result (state.new ≡ (sound_notes state.old builder).state) }
+    ensures items { OnOk result (items.new ≡ with_result items.old (sound_notes state.old builder)) }
+    ensures unchanged { OnErr result ((state.new ≡ state.old) × (items.new ≡ items.old)) }
+{
+    let ChordBuilder {
+        accidentals,
+        tones,
+        tied,
+        faults,
+        after_note: _,
+        big: _,
+    } = builder;
+    let length = first_length(tones.as_slice());
+    let tones = Tones::of(alloc, tones)?;
+    items.push_with_faults(Item::Tone { tones, length }, faults.as_slice())?;
+    state.accidentals = accidentals;
+    state.tuplet = count_down(state.tuplet);
+    state.tied = tied;
+    Ok(())
+}
+
+/// Adds a single note, and its faults: its length is refused, or MIDI has no key for it.
+#[inline(always)]
+fn push_note(
+    items: &mut ItemsBuilder,
+    tone: Tone,
+    refused: bool,
+    column: u32,
+) -> Result<(), AllocError>
+    requires { IsTone tone }
+    ensures ok { OnOk result (items.new ≡ append_item (append_faults items.old
+        (fault_if refused column BadLength ++ fault_if (is_none tone.key) column KeyRange)) (item_kinds.Tone (tone
+        ∷ []) tone.length)) }
+    ensures unchanged { OnErr result (items.new ≡ items.old) }
+{
+    let item = Item::Tone {
+        tones: Tones::one(tone),
+        length: tone.length,
+    };
+    let length = (column, FaultCode::BadLength);
+    let key = (column, FaultCode::KeyRange);
+    match (refused, tone.key) {
+        (false, Some(_)) => items.push_item(item),
+        (true, Some(_)) => items.push_with_faults(item, &[length]),
+        (false, None) => items.push_with_faults(item, &[key]),
+        (true, None) => items.push_with_faults(item, &[length, key]),
+    }
+}
+
+/// Updates the state of a voice after a single note; the accidentals and tied notes only if they change.
+#[inline(always)]
+fn update_voice(
+    state: &mut VoiceState,
+    accidentals: Option<Accidentals>,
+    tied: Option<ShortSequence<TiedNote>>,
+)
+    ensures { state.new ≡ record state.old {
+      accidentals = unwrap_or accidentals state.old.accidentals;
+      tuplet = count_down state.old.tuplet;
+      tied = unwrap_or tied
+          state.old.tied;
+    } }
+{
+    if let Some(accidentals) = accidentals {
+        state.accidentals = accidentals;
+    }
+    state.tuplet = count_down(state.tuplet);
+    if let Some(tied) = tied {
+        state.tied = tied;
+    }
+}
+
+/// Adds a note.
+#[inline(always)]
+pub fn play_note(
+    alloc: Global,
+    state: &mut VoiceState,
+    items: &mut ItemsBuilder,
+    note: Note,
+    broken: &BrokenFactors,
+    place: NotePlace,
+) -> Result<(), AllocError>
+    ensures state { OnOk result (state.new ≡ (play_note state.old broken.now place.tied place.from note).state) }
+    ensures items { OnOk result (items.new ≡ with_result items.old (play_note state.old broken.now place.tied place.from note)) }
+    ensures unchanged { OnErr result ((state.new ≡ state.old) × (items.new ≡ items.old)) }
+{
+    let column = column_of(place.from);
+    let context = NoteContext {
+        outer: None,
+        column,
+        tied: place.tied,
+    };
+    let Sounding {
+        tone,
+        tied_note,
+        refused,
+    } = sounding_of(state, &state.accidentals, broken, context, note);
+    let accidentals = accidentals_after(state, note)?;
+    let tied = tied_notes_after(alloc, state, place.tied, tied_note)?;
+    push_note(items, tone, refused, column)?;
+    update_voice(state, accidentals, tied);
+    Ok(())
+}
+
+/// The faults of a chord without a note; its own comes first.
+fn silent_faults(builder: ChordBuilder, from: usize) -> Result<Vec<LocalFault>, AllocError>
+    ensures { IfOk result (λ faults. faults.items ≡ (column_of from, EmptyChord) ∷ builder.faults) }
+{
+    let ChordBuilder { faults, .. } = builder;
+    let mut faults = faults.into_vec();
+    faults.insert(0, (column_of(from), FaultCode::EmptyChord))?;
+    Ok(faults)
+}
+
+/// Adds the faults of a chord without a note, which takes no time.
+fn push_empty_chord(
+    items: &mut ItemsBuilder,
+    builder: ChordBuilder,
+    from: usize,
+) -> Result<(), AllocError>
+    ensures ok { OnOk result (items.new ≡ append_faults items.old ((column_of from, EmptyChord) ∷ builder.faults)) }
+    ensures unchanged { OnErr result (items.new ≡ items.old) }
+{
+    let faults = silent_faults(builder, from)?;
+    items.push_faults(faults.as_slice())?;
+    Ok(())
+}
+
+/// Adds a chord: one without a note takes no time.
+pub fn play_chord(
+    alloc: Global,
+    state: &mut VoiceState,
+    items: &mut ItemsBuilder,
+    chord: &Chord,
+    broken: &BrokenFactors,
+    place: NotePlace,
+) -> Result<(), AllocError>
+    ensures state { OnOk result (state.new ≡ (play_chord state.old broken.now place.tied place.from chord.now).state) }
+    ensures items { OnOk result (items.new ≡ with_result items.old
+        (play_chord state.old broken.now place.tied place.from chord.now)) }
+    ensures unchanged { OnErr result ((state.new ≡ state.old) × (items.new ≡ items.old)) }
+{
+    let chord_context = ChordContext {
+        length: chord.length,
+        tied: place.tied,
+        from: place.from,
+    };
+    let parts = chord.parts.as_slice();
+    let builder = chord_builder_of(alloc, state, broken, chord_context, parts)?;
+    if has_note(parts) {
+        push_notes(alloc, state, items, builder)?;
+    } else {
+        push_empty_chord(items, builder, place.from)?;
+    }
+    Ok(())
+}
+
+/// Adds a rest, and its fault if its length is refused.
+fn push_rest(
+    items: &mut ItemsBuilder,
+    length: Grains,
+    refused: bool,
+    column: u32,
+) -> Result<(), AllocError>
+    requires { IsWithinLongest length }
+    ensures ok { OnOk result (items.new ≡ append_item (append_faults items.old (fault_if refused column BadLength))
+        (item_kinds.Rest length false)) }
+    ensures unchanged { OnErr result (items.new ≡ items.old) }
+{
+    let rest = Item::Rest { length, bar: false };
+    if refused {
+        items.push_with_faults(rest, &[(column, FaultCode::BadLength)])
+    } else {
+        items.push_item(rest)
+    }
+}
+
+/// Adds a rest at a place of its line, counted from 0 (ABC 2.1 section 4.5).
+pub fn play_rest(
+    alloc: Global,
+    state: &mut VoiceState,
+    items: &mut ItemsBuilder,
+    written: WrittenLength,
+    broken: &BrokenFactors,
+    from: usize,
+) -> Result<(), AllocError>
+    ensures state { OnOk result (state.new ≡ (play_rest state.old broken.now from written).state) }
+    ensures items { OnOk result (items.new ≡ with_result items.old (play_rest state.old broken.now from written)) }
+    ensures unchanged { OnErr result ((state.new ≡ state.old) × (items.new ≡ items.old)) }
+{
+    let (length, refused) = length_in(state, broken, written, None);
+    push_rest(items, length, refused, column_of(from))?;
+    state.tuplet = count_down(state.tuplet);
+    state.tied = ShortSequence::new(alloc);
+    Ok(())
+}

@@ -1,0 +1,10 @@
+pub mod Accidentals
+pub mod Alteration
+pub mod OctaveGroups
+pub mod Reaching
+pub mod VoiceState
+pub mod Tempo
+pub mod TempoItem
+pub mod Tuplet
+pub mod Unit
+pub mod VoiceShift

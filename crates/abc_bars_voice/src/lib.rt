@@ -1,0 +1,29 @@
+//! The state of a voice at a place of a tune: its meter, unit note length, signature and shift, the accidentals of its
+//! bar, its open tuplet, its tied notes, its dynamic.
+#![tactic(auto)]
+
+mod accidentals;
+mod alteration;
+pub mod laws;
+mod meter;
+mod octave_group;
+mod octave_groups;
+mod same;
+mod tempo;
+mod tempo_change;
+mod tied;
+mod tuplet;
+mod unit;
+mod voice_shift;
+mod voice_state;
+
+pub use accidentals::{Accidentals, LetterAccidentals, OctaveAccidentals};
+pub use alteration::{alteration_of, write_own};
+pub use meter::TuneMeter;
+pub use tempo::TuneTempo;
+pub use tempo_change::{is_out_of_range, tempo_item};
+pub use tied::TiedNote;
+pub use tuplet::{LARGEST_TUPLET_NUMBER, OpenTuplet, begin_tuplet, count_down};
+pub use unit::UnitLength;
+pub use voice_shift::VoiceShift;
+pub use voice_state::VoiceState;

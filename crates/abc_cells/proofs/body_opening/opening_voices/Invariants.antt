@@ -1,6 +1,0 @@
-use Rattle.std.proofs.Common.{◌≡◌, map, take}
-use Rattle.abc_cells.specs.BodyOpening.{opening_voice}
-use Rattle.abc_cells.proofs.body_opening.opening_voices.Given as goal
-
-abbrev pub invariant-loop-at : goal.invariant-loop-at
-invariant-loop-at l = l.voices ≡ map (opening_voice l.header l.key) (take l.at l.header.voices)

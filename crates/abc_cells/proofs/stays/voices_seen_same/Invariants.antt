@@ -1,9 +1,0 @@
-use Rattle.std.proofs.Common.{◌≡◌, ℕ, ◌<◌, length}
-use Rattle.abc_header.specs.Voices.{voice_at}
-use Rattle.abc_cells.proofs.stays.voices_seen_same.Given as goal
-
-abbrev pub invariant-loop-at : goal.invariant-loop-at
-invariant-loop-at l = record {
-  agree : (k : ℕ) → k < l.at → voice_at l.fn.voices k ≡ voice_at l.fn.other k;
-  count : l.at-end ≡ length l.fn.voices;
-}

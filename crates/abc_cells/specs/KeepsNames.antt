@@ -1,8 +1,0 @@
--- What the voices of a body keep behind a cell. Our own.
-use Rattle.std.specs.Prelude.{◌≡◌, length}
-use Rattle.std.specs.Map.{keys_of}
-use Rattle.abc_cells.specs.declared.body.Body.{Body}
-
--- Where as many voices are mentioned, and the same one is current, they have the same names.
-abbrev pub KeepsNames : Body → Body → Type 0
-KeepsNames before after = before.current ≡ after.current → length before.voices ≡ length after.voices → keys_of before.voices ≡ keys_of after.voices

@@ -1,8 +1,0 @@
-use Rattle.std.proofs.Common.{◌≡◌, ◌++◌, map, take}
-use Rattle.abc_chains.specs.Rows.{bare}
-use Rattle.abc_chains.proofs.made.append_new.Given as goal
-
-abbrev pub invariant-loop-i : goal.invariant-loop-i
-invariant-loop-i g l = record {
-  made : l.rows.items ≡ l.initial.rows.items ++ map bare (take l.i l.new);
-}

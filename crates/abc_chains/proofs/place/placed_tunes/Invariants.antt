@@ -1,8 +1,0 @@
-use Rattle.std.proofs.Common.{◌≡◌, map, take}
-use Rattle.abc_book.specs.Laws.{moved}
-use Rattle.abc_chains.proofs.place.placed_tunes.Given as goal
-
-abbrev pub invariant-loop-i : goal.invariant-loop-i
-invariant-loop-i l = record {
-  made : l.places.items ≡ map (moved l.stretch.from) (take l.i l.tunes);
-}

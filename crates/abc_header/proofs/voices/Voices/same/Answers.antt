@@ -1,9 +1,0 @@
-use Rattle.std.proofs.Common.{◌≡◌, length, refl, arith}
-use Rattle.abc_settings.proofs.Alike.{same_by_places}
-use Rattle.abc_header.proofs.voices.Voices.same.Goals as goal
-
-pub returns : goal.returns
-returns g c =
-    let long : length c.args.self.now ≡ length c.args.other.now = cc in
-    let all = same_by_places c.args.self.now c.args.other.now long (λ k below. c.loop-at.invariant.agree k (omega (arith, below, c.loop-at.invariant.count))) in
-    (λ _. all, λ _. refl)

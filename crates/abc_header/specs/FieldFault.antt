@@ -1,9 +1,0 @@
--- The fault of a field line. Our own.
-use Rattle.std.specs.Prelude.{ℕ, List, [], ◌∷◌, Option, Some, None}
-use Rattle.abc_fields.specs.declared.fault.FaultCode.{FaultCode}
-use Rattle.abc_items.specs.declared.column.TheConstants.{FIRST_COLUMN}
-
--- The faults of a field line, by the fault of its field: it stands at the line's beginning.
-abbrev pub faults_of : Option FaultCode → List (ℕ × FaultCode)
-faults_of None = []
-faults_of (Some code) = (FIRST_COLUMN, code) ∷ []

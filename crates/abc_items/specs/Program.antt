@@ -1,7 +1,0 @@
--- Programs of MIDI. SMF 1.0.
-use Rattle.std.specs.Prelude.{ℕ, nat_le, if◌then◌else◌, Option, Some, None}
-use Rattle.abc_items.specs.declared.program.TheConstants.{HIGHEST_PROGRAM}
-
--- The program that a number says, which is refused where MIDI has none for it. Our own.
-abbrev pub program_of : ℕ → Option ℕ
-program_of written = if nat_le written HIGHEST_PROGRAM then Some written else None

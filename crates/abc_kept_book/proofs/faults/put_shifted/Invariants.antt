@@ -1,8 +1,0 @@
-use Rattle.std.proofs.Common.{◌≡◌, ◌++◌, drop, map}
-use Rattle.abc_kept_book.specs.Faults.{fault_shifted}
-use Rattle.abc_kept_book.proofs.faults.put_shifted.Given as goal
-
--- those that are put, and the rest
-abbrev pub invariant-loop-fault : goal.invariant-loop-fault
-invariant-loop-fault l =
-    l.faults.items ++ map (fault_shifted l.lines.gone l.lines.came) (drop l.fault-index l.behind) ≡ l.initial.faults.items ++ map (fault_shifted l.lines.gone l.lines.came) l.behind

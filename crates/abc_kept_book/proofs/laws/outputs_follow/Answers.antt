@@ -1,8 +1,0 @@
-use Rattle.abc_kept_book.proofs.Following.{files_follow, titles_follow}
-use Rattle.abc_kept_book.proofs.laws.outputs_follow.Goals as goal
-
-pub returns-clause-files : goal.returns-clause-files
-returns-clause-files c = files_follow
-
-pub returns-clause-titles : goal.returns-clause-titles
-returns-clause-titles c = titles_follow

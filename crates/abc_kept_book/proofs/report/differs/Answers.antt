@@ -1,9 +1,0 @@
-use Rattle.std.proofs.Common.{not, ap, ◌∙◌}
-use Rattle.abc_kept_book.proofs.Reporting.{owner_tells}
-use Rattle.abc_kept_book.specs.Change.{new_in, old_in}
-use Rattle.abc_kept_book.proofs.report.differs.Goals as goal
-
-pub returns : goal.returns
-returns c =
-    ap not c.keeps_file.ensures
-    ∙ owner_tells (old_in c.args.change.now) (new_in c.args.change.now) c.args.number c.get-old.result c.get-new.result c.args.before.now c.args.after.now c.requires.before c.requires.after c.get-old.ensures c.get-new.ensures

@@ -1,9 +1,0 @@
-use Rattle.std.proofs.Common.{refl}
-use Rattle.abc_kept_book.proofs.Building.{titles_among}
-use Rattle.abc_kept_book.specs.Change.{new_in, old_in}
-use Rattle.abc_kept_book.proofs.titles.NewTitles.of.Goals as goal
-
-pub returns-in_ok-titles-clause-after : goal.returns-in_ok-titles-clause-after
-returns-in_ok-titles-clause-after c =
-    let s = c.args.change.now in
-    titles_among (old_in s) (new_in s) s.front s.came s.behind _ c.in_ok-titles.titles.items c.requires.order c.requires.inside (c.keeps_count.ensures c.if-keeps_count.true) refl c.requires.count c.requires.front c.requires.behind c.in_ok-titles.ensures

@@ -1,8 +1,0 @@
-use Rattle.std.proofs.Common.{◌≡◌, ◌-◌, drop, take}
-use Rattle.abc_kept_book.specs.Change.{new_in}
-use Rattle.abc_kept_book.specs.Outputs.{titles_of}
-use Rattle.abc_kept_book.proofs.titles.titles_between.Given as goal
-
--- the titles so far
-abbrev pub invariant-loop-place : goal.invariant-loop-place
-invariant-loop-place l = l.titles.items ≡ titles_of (take (l.place - l.from) (drop l.from (new_in l.change)))

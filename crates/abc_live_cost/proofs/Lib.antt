@@ -1,0 +1,13 @@
+pub mod Lists
+pub mod AllCells
+pub mod Rows
+pub mod FreshCounts
+pub mod SameCells
+pub mod CellOrder
+pub mod Pieces
+pub mod Steps
+pub mod Words
+pub mod Origins
+pub mod ByLines
+pub mod KeptStates
+pub mod WorkedEdits

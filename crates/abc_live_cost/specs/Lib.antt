@@ -1,0 +1,11 @@
+pub mod Layout
+pub mod Spot
+pub mod FreshCells
+pub mod Past
+pub mod Pieces
+pub mod Origin
+pub mod KeptState
+pub mod OldItems
+pub mod Laws
+pub mod EditLaws
+pub mod WorkedEdits

@@ -1,0 +1,92 @@
+-- Elements of lists by their places.
+use Rattle.std.proofs.Common.{◌≡◌, ℕ, zero, suc, ◌+◌, ◌-◌, ◌<◌, ◌≤◌, List, [], ◌∷◌, ◌++◌, length, take, drop, set, Option, Some}
+use Rattle.std.proofs.Common.{None, slice_get, refl, sym, ap, ◌∙◌, append_assoc, arith, inl, inr}
+use Rattle.std.specs.Prelude.{IfOk, Result, Ok, Err}
+use Rattle.std.proofs.Math.Seq.{drop-cons}
+use Rattle.std.proofs.lemmas.List.{drop-drop, drop-set-lt, take_all, take_more, take_more_set, take-append-drop}
+use Rattle.std.proofs.lemmas.Option.{slice_get_within, slice_get_cases, get_or_from_slice_get}
+
+-- the one at a place, and those after it
+pub one_on : {X : Type 0} (xs : List X) (i : ℕ) (x : X) → slice_get xs i ≡ Some x → drop i xs ≡ x ∷ drop (i + 1) xs
+one_on xs i x is =
+    let next : suc i ≡ i + 1 = omega arith in
+    drop-cons xs i x (slice_get_within xs i x is) ∙ ap (λ y. y ∷ drop (suc i) xs) (get_or_from_slice_get xs i x x is) ∙ ap (λ k. x ∷ drop k xs) next
+
+-- those up to a place, and the one there
+pub take_next : {X : Type 0} (xs : List X) (k : ℕ) (x : X) → slice_get xs k ≡ Some x → take (k + 1) xs ≡ take k xs ++ x ∷ []
+take_next xs k x is = take_more xs k x (slice_get_within xs k x is) ∙ ap (λ y. take k xs ++ y ∷ []) (get_or_from_slice_get xs k x x is)
+
+past : {X : Type 0} (xs : List X) (i : ℕ) → slice_get xs i ≡ None → length xs ≤ i
+past xs i is = elim (slice_get_cases xs i).1 [ inl some ↦ absurd (let e = sym is ∙ some.2 in cc) | inr behind ↦ behind.0 ]
+
+-- there is one at each place
+pub never_none : {X : Type 0} (xs : List X) (i : ℕ) → slice_get xs i ≡ None → i < length xs → ⊥
+never_none xs i is inside = let behind = past xs i is in omega (arith, behind, inside)
+
+take_past : {X : Type 0} (xs : List X) (k : ℕ) → slice_get xs k ≡ None → take (k + 1) xs ≡ take k xs
+take_past xs k is =
+    let behind = past xs k is in
+    take_all (k + 1) xs (omega (arith, behind)) ∙ sym (take_all k xs behind)
+
+take_same_step : {X : Type 0} (xs ys : List X) (k : ℕ) (x y : Option X) → slice_get xs k ≡ x → slice_get ys k ≡ y → x ≡ y → take k xs ≡ take k ys → take (k + 1) xs ≡ take (k + 1) ys
+take_same_step xs ys k None None here there same front = take_past xs k here ∙ front ∙ sym (take_past ys k there)
+take_same_step xs ys k None (Some y) here there same front = absurd cc
+take_same_step xs ys k (Some x) None here there same front = absurd cc
+take_same_step xs ys k (Some x) (Some y) here there same front =
+    let one : x ≡ y = cc in
+    take_next xs k x here ∙ ap (λ l. l ++ x ∷ []) front ∙ ap (λ z. take k ys ++ z ∷ []) one ∙ sym (take_next ys k y there)
+
+-- lists that are the same up to a place and at it
+pub take_same : {X : Type 0} (xs ys : List X) (k : ℕ) → slice_get xs k ≡ slice_get ys k → take k xs ≡ take k ys → take (k + 1) xs ≡ take (k + 1) ys
+take_same xs ys k same front = take_same_step xs ys k (slice_get xs k) (slice_get ys k) refl refl same front
+
+-- lists that are the same up to a place and from it on
+pub parts_same : {X : Type 0} (xs ys : List X) (k : ℕ) → take k xs ≡ take k ys → drop k xs ≡ drop k ys → xs ≡ ys
+parts_same xs ys k front rest = sym (take-append-drop k xs) ∙ ap (λ l. l ++ drop k xs) front ∙ ap (λ l. take k ys ++ l) rest ∙ take-append-drop k ys
+
+-- lists that are the same from a place on are so from each later one on
+pub drop_later : {X : Type 0} (xs ys : List X) (k n : ℕ) → k ≤ n → drop k xs ≡ drop k ys → drop n xs ≡ drop n ys
+drop_later xs ys k n order same =
+    let later : k + (n - k) ≡ n = omega (arith, order) in
+    ap (λ m. drop m xs) (sym later) ∙ sym (drop-drop (n - k) k xs) ∙ ap (drop (n - k)) same ∙ drop-drop (n - k) k ys ∙ ap (λ m. drop m ys) later
+
+pub get_behind : {X : Type 0} (n : ℕ) (xs : List X) (k : ℕ) → slice_get (drop n xs) k ≡ slice_get xs (n + k)
+get_behind zero xs k = let e : k ≡ 0 + k = omega arith in ap (slice_get xs) e
+get_behind (suc n) [] k = refl
+get_behind (suc n) (x ∷ xs) k = let e : suc (n + k) ≡ suc n + k = omega arith in get_behind n xs k ∙ ap (slice_get (x ∷ xs)) e
+
+get_front : {X : Type 0} (n : ℕ) (xs : List X) (k : ℕ) → k < n → slice_get (take n xs) k ≡ slice_get xs k
+get_front zero xs k order = absurd (omega (arith, order))
+get_front (suc n) [] k order = refl
+get_front (suc n) (x ∷ xs) zero order = refl
+get_front (suc n) (x ∷ xs) (suc k) order = get_front n xs k (omega (arith, order))
+
+-- where two lists are the same before a place, or from two places on
+pub same_before : {X : Type 0} (xs ys : List X) (n k : ℕ) → k < n → take n ys ≡ take n xs → slice_get xs k ≡ slice_get ys k
+same_before xs ys n k before same = sym (get_front n xs k before) ∙ ap (λ l. slice_get l k) (sym same) ∙ get_front n ys k before
+
+pub same_behind : {X : Type 0} (xs ys : List X) (from to i k : ℕ) → from ≤ i → to ≤ k → k - to ≡ i - from → drop to ys ≡ drop from xs → slice_get xs i ≡ slice_get ys k
+same_behind xs ys from to i k here there apart same =
+    let one : i ≡ from + (i - from) = omega (arith, here) in
+    let other : to + (i - from) ≡ k = omega (arith, there, apart) in
+    ap (slice_get xs) one ∙ sym (get_behind from xs (i - from)) ∙ ap (λ l. slice_get l (i - from)) (sym same) ∙ get_behind to ys (i - from) ∙ ap (slice_get ys) other
+
+-- one more that is put instead of an old one, and those that are still to be put
+pub put_next : {X : Type 0} (xs next : List X) (k : ℕ) (x : X) (rest : List X) → k < length xs → next ≡ set xs k x
+    → take (k + 1) next ++ (rest ++ drop (k + 1 + length rest) next) ≡ take k xs ++ ((x ∷ rest) ++ drop (k + length (x ∷ rest)) xs)
+put_next xs next k x rest inside put =
+    let count : k + 1 + length rest ≡ k + length (x ∷ rest) = omega arith in
+    let front : take (k + 1) next ≡ take k xs ++ x ∷ [] = ap (take (k + 1)) put ∙ take_more_set xs k x inside in
+    let behind : drop (k + 1 + length rest) next ≡ drop (k + length (x ∷ rest)) xs =
+    ap (drop (k + 1 + length rest)) put ∙ drop-set-lt (k + 1 + length rest) xs k x (omega arith) ∙ ap (λ n. drop n xs) count in
+    ap (λ l. l ++ (rest ++ drop (k + 1 + length rest) next)) front ∙ append_assoc (take k xs) (x ∷ []) (rest ++ drop (k + 1 + length rest) next) ∙ ap (λ l. take k xs ++ (x ∷ (rest ++ l))) behind
+
+-- what follows from two facts of an answer
+pub ok_both : {A E : Type 0} (answer : Result A E) (P Q R : A → Type 0) → ((x : A) → P x → Q x → R x) → IfOk answer P → IfOk answer Q → IfOk answer R
+ok_both (Ok x) P Q R follows one other = follows x one other
+ok_both (Err e) P Q R follows one other = tt
+
+-- where none is still to be put
+pub put_none : {X : Type 0} (xs : List X) (k : ℕ) (rest : List X) → length rest ≡ 0 → xs ≡ take k xs ++ (rest ++ drop (k + length rest) xs)
+put_none xs k [] none = let count : k ≡ k + 0 = omega arith in sym (take-append-drop k xs) ∙ ap (λ n. take k xs ++ drop n xs) count
+put_none xs k (x ∷ rest) none = absurd (omega (arith, none))

@@ -1,0 +1,27 @@
+-- Faults that are kept where lines were replaced.
+use Rattle.std.proofs.Common.{◌≡◌, ℕ, ◌+◌, ◌-◌, ◌<◌, ◌≤◌, List, ◌++◌, All, filter, map, ap, ◌∙◌, append_assoc}
+use Rattle.std.proofs.lemmas.Bool.{ltb-true}
+use Rattle.std.proofs.lemmas.List.Elements.{All-filter, All-same, filter_passes}
+use Rattle.abc_live_index.specs.Faults.{shifted_fault, faults_after, is_before, is_after}
+use Rattle.abc_tune_compiler.specs.Fault.{fault_cmp}
+use Rattle.abc_tune_compiler.specs.Sort.{sort_dedup}
+use Rattle.abc_tune_compiler.specs.declared.fault.Fault.{Fault}
+
+-- what the new lines of faults need
+pub fits_behind : (from gone came most : ℕ) (old behind : List Fault) → behind ≡ filter (is_after (from + gone)) old
+    → All (λ (fault : Fault). from + gone < fault.line → fault.line - gone + came ≤ most) old
+    → All (λ (fault : Fault). fault.line - gone + came ≤ most) behind
+fits_behind from gone came most old behind are few =
+    All-same (λ (fault : Fault). fault.line - gone + came ≤ most) behind (filter (is_after (from + gone)) old) are (λ k d inside.
+    All-filter (is_after (from + gone)) (λ (fault : Fault). from + gone < fault.line
+    → fault.line - gone + came ≤ most) old few k d inside (ltb-true _ _ (filter_passes (is_after (from + gone)) old k d inside)))
+
+-- the three parts, as code puts them one after another
+pub put_together : (from gone came : ℕ) (old new first sorted more behind all : List Fault) → first ≡ filter (is_before from) old → sorted ≡ sort_dedup fault_cmp new → more ≡ first ++ sorted
+    → behind ≡ filter (is_after (from + gone)) old → all ≡ more ++ map (shifted_fault gone came) behind → all ≡ faults_after from gone came old new
+unfolding faults_after
+put_together from gone came old new first sorted more behind all one two three four five =
+    five ∙ ap (λ l. l ++ map (shifted_fault gone came) behind) three ∙ ap (λ l. (l ++ sorted) ++ map (shifted_fault gone came) behind) one
+    ∙ ap (λ l. (filter (is_before from) old ++ l) ++ map (shifted_fault gone came) behind) two
+    ∙ ap (λ l. (filter (is_before from) old ++ sort_dedup fault_cmp new) ++ map (shifted_fault gone came) l) four
+    ∙ append_assoc (filter (is_before from) old) (sort_dedup fault_cmp new) (map (shifted_fault gone came) (filter (is_after (from + gone)) old))

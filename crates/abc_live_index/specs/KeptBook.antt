@@ -1,0 +1,24 @@
+-- A book that is kept, and a change of it that has been prepared, as contracts see them. Not in ABC 2.1.
+use Rattle.std.specs.Prelude.{List}
+use Rattle.abc_lines.specs.GapList.{Gapped}
+use Rattle.abc_live_index.specs.declared.output.Output.{Output}
+use Rattle.abc_tune_compiler.specs.declared.fault.Fault.{Fault}
+use Rattle.abc_tune_compiler.specs.declared.report.Report.{Report}
+
+-- What each tune gives, and the faults in order. The files and the titles are what the tunes give.
+pub record KeptBookView : Type 0 where
+  pub outputs : Gapped Output
+  pub faults : List Fault
+
+abbrev pub kept_book_view : Gapped Output → List Fault → KeptBookView
+kept_book_view outputs faults = record { outputs = outputs; faults = faults }
+
+-- A book before a change, what its tunes and faults are after it, and how its files differ.
+pub record BookPatchView : Type 0 where
+  pub on : KeptBookView
+  pub outputs : List Output
+  pub faults : List Fault
+  pub report : Report
+
+abbrev pub book_patch_view : KeptBookView → List Output → List Fault → Report → BookPatchView
+book_patch_view on outputs faults report = record { on = on; outputs = outputs; faults = faults; report = report }

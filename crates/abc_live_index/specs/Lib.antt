@@ -1,0 +1,15 @@
+pub mod BuildCount
+pub mod TuneChange
+pub mod Differences
+pub mod Faults
+pub mod StayInFront
+pub mod KeptBook
+pub mod Key
+pub mod Laws
+pub mod Output
+pub mod Outputs
+pub mod Owners
+pub mod Report
+pub mod ReusedOutputs
+pub mod Titles
+pub mod Tunes

@@ -1,0 +1,25 @@
+//! The index of a text that is edited: what each tune gives, by its chain or by a memo of built tunes, the file of each
+//! reference number, the titles and the faults. An edit changes it by differences.
+#![tactic(auto)]
+
+mod faults;
+mod kept_book;
+mod key;
+pub mod laws;
+mod new_tunes;
+mod output;
+mod outputs;
+mod owners;
+mod report;
+mod stretch_view;
+mod titles;
+mod tune_change;
+mod tune_faults;
+mod tunes;
+
+pub use kept_book::{BookPatch, KeptBook};
+pub use new_tunes::NewTunes;
+pub use output::Output;
+pub use outputs::outputs_of;
+pub use stretch_view::{ReusedOutputs, StretchView};
+pub use tunes::{put_cell_faults, put_tune_faults};

@@ -1,0 +1,184 @@
+-- A stretch that begins with a tune.
+use Rattle.std.proofs.Common.{◌≡◌, ℕ, zero, suc, ◌+◌, ◌-◌, ◌≤◌, List, [], ◌∷◌, ◌++◌, map, Option, Some, None, All, length, take}
+use Rattle.std.proofs.Common.{drop, sym, ◌∙◌, ap, subst, arith, append_assoc, drop-drop, take-append-drop}
+use Rattle.std.proofs.lemmas.List.{map-append, take-map}
+use Rattle.std.proofs.lemmas.List.Elements.{All-cons}
+use Rattle.abc_book.specs.Block.{blocks_of}
+use Rattle.abc_book.specs.Laws.{RiseFromTo, moved}
+use Rattle.abc_book.specs.Stretch.{BeginTune, shifted}
+use Rattle.abc_book.specs.declared.block.Block.{Block}
+use Rattle.abc_book.proofs.Rising.{blocks_rise}
+use Rattle.abc_lines.specs.Text.{Splice, Text, spliced}
+use Rattle.abc_scan.specs.declared.class.LineClass.{LineClass}
+use Rattle.abc_tune_compiler.specs.Book.{blocks_in, header_in, tunes_in}
+use Rattle.abc_tune_compiler.specs.Rules.{Rules}
+use Rattle.abc_live_text.specs.Pieces.{class_in}
+use Rattle.abc_live_text.specs.Chains.{header_place, places_of}
+use Rattle.abc_live_text.specs.Origin.{BlocksRise, rows_until}
+use Rattle.abc_live_text.specs.NewParts.{IsSpan, start_of}
+use Rattle.abc_live_text.specs.Row.{CarriedRow, Row, carried_row}
+use Rattle.abc_live_text.specs.KeptText.{AreRows}
+use Rattle.abc_live_text.specs.declared.stretch.Span.{Span}
+use Rattle.abc_live_text.proofs.StretchLines.{BeginBehind, length-until}
+use Rattle.abc_live_text.proofs.Edits.{edit_of, fresh_row}
+use Rattle.abc_live_text.proofs.FreshSteps.{length-over}
+use Rattle.abc_live_text.proofs.NewBlocks.{IsRun, begin_taken, header_after, run_begins, tunes_after}
+use Rattle.abc_live_text.proofs.OutsideStretch.{HeaderEnds, StartsFrom}
+use Rattle.abc_live_text.proofs.EditedRows.{IsAmong, Parted, bare_read, parted, placed_read, stretch_rows}
+use Rattle.abc_live_text.proofs.ChainPlaces.{places_rise}
+use Rattle.abc_live_text.proofs.Spans.{Ends, end_start, rise_back, rise_front, start_inside, tunes_strict}
+use Rattle.abc_live_text.proofs.WholeRows.{AreRead, placed_from}
+
+-- A list in three parts.
+pub three_parts : {X : Type 0} (front behind : ℕ) (xs : List X) → front ≤ behind → xs ≡ take front xs ++ (take (behind - front) (drop front xs) ++ drop behind xs)
+three_parts front behind xs h =
+    let here : front + (behind - front) ≡ behind = omega arith in
+    sym (take-append-drop front xs) ∙ ap (λ l. take front xs ++ l)
+    (sym (take-append-drop (behind - front) (drop front xs)) ∙ ap (λ l. take (behind - front) (drop front xs) ++ l) (drop-drop (behind - front) front xs ∙ ap (λ n. drop n xs) here))
+
+two_parts : {X : Type 0} (front behind : ℕ) (xs : List X) → front ≤ behind → drop front xs ≡ take (behind - front) (drop front xs) ++ drop behind xs
+two_parts front behind xs h =
+    let here : front + (behind - front) ≡ behind = omega arith in
+    sym (take-append-drop (behind - front) (drop front xs)) ∙ ap (λ l. take (behind - front) (drop front xs) ++ l) (drop-drop (behind - front) front xs ∙ ap (λ n. drop n xs) here)
+
+pub begin_behind : (blocks : List Block) (last : ℕ) → BeginBehind (start_of blocks last) blocks
+begin_behind [] last = tt
+begin_behind (block ∷ blocks) last = omega arith
+
+-- Where the parts of rising blocks lie.
+pub among_parts : (front mid back : List Block) (count from to : ℕ) → BlocksRise 0 (front ++ (mid ++ back)) count
+    → from ≡ start_of (mid ++ back) count → to ≡ start_of back count → IsAmong from to count front mid back
+among_parts front mid back count from to rise f t =
+    let rest = rise_back 0 front (mid ++ back) count rise in
+    record {
+      first = subst (BlocksRise 0 front) (sym f) (rise_front 0 front (mid ++ back) count rise);
+      here = subst (λ n. BlocksRise n mid to) (sym f) (subst (BlocksRise (start_of (mid ++ back) count) mid) (sym t) (rise_front (start_of (mid ++ back) count) mid back count rest));
+      begins = subst (λ n. BeginBehind n (mid ++ back)) (sym f) (begin_behind (mid ++ back) count);
+      ends = subst (λ n. BeginBehind n back) (sym t) (begin_behind back count);
+      inside = subst (λ n. n ≤ count) (sym t) (start_inside (start_of (mid ++ back) count) mid back count rest).1;
+    }
+
+some_taken : {X : Type 0} (k : ℕ) (own rest : List X) → 1 ≤ k → 1 ≤ length own → 1 ≤ length (take k own ++ rest)
+some_taken zero own rest h some = absurd (omega arith)
+some_taken (suc k) [] rest h some = absurd (omega arith)
+some_taken (suc k) (x ∷ own) rest h some = omega arith
+
+pub all_starts : (at : ℕ) (xs : List Block) (last : ℕ) (line : ℕ) → line ≤ at → RiseFromTo at xs last → All (StartsFrom line) xs
+all_starts at [] last line h rise = λ i d l. absurd (omega (arith, l))
+all_starts at (block ∷ xs) last line h rise =
+    let own : StartsFrom line block = (omega (arith, h, rise.0), omega (arith, rise.1)) in
+    All-cons (StartsFrom line) block xs own (all_starts block.to xs last line (omega (arith, h, rise.0, rise.1)) rise.2)
+
+pub strict_rest : (at : ℕ) (xs ys : List Block) (last : ℕ) → RiseFromTo at (xs ++ ys) last → RiseFromTo (start_of ys last) ys last
+strict_rest at [] [] last rise = omega arith
+strict_rest at [] (block ∷ ys) last rise = let here : block.from ≤ block.from = omega arith in (here, rise.1, rise.2)
+strict_rest at (block ∷ xs) ys last rise = strict_rest block.to xs ys last rise.2
+
+module _ {State Cell Items Defaults : Type 0} (rules : Rules State Cell Items Defaults) (text : Text) (s : Splice) (rows : List (Row Cell)) (span : Span) where
+  abbrev pub mid_tunes : List Block
+  mid_tunes = take (span.behind - span.front) (drop span.front (tunes_in (blocks_in rules text)))
+
+  abbrev pub front_places : List Block
+  front_places = header_place (header_in (blocks_in rules text)) ∷ take span.front (tunes_in (blocks_in rules text))
+
+  abbrev pub old_run : List (CarriedRow Cell)
+  old_run = rows_until (map carried_row rows) span.from span.to (0 + length front_places) mid_tunes
+
+  -- What is known of a stretch that begins with a tune.
+  pub record IsNarrow : Type 0 where
+    pub parts : Parted rules s (placed_from (map carried_row rows) 0 0 (places_of (blocks_in rules text))) old_run span.from
+    pub tunes : tunes_in (blocks_in rules (spliced text s)) ≡ take span.front (tunes_in (blocks_in rules text)) ++
+        (map (moved span.from) (tunes_in (blocks_of (map class_in (stretch_rows rules s span.from old_run)))) ++ map
+        (shifted (span.to - span.from) (length (stretch_rows rules s span.from old_run))) (drop span.behind (tunes_in (blocks_in rules text))))
+    pub header : header_in (blocks_in rules (spliced text s)) ≡ header_in (blocks_in rules text)
+    pub header_ends : HeaderEnds span.from (header_in (blocks_in rules text))
+    pub before : All (Ends span.from) (take span.front (tunes_in (blocks_in rules text)))
+    pub behind : All (StartsFrom span.to) (drop span.behind (tunes_in (blocks_in rules text)))
+    pub order : span.from ≤ span.to
+    pub inside : span.to ≤ length text
+    pub count : length old_run ≡ span.to - span.from
+    pub rise : BlocksRise span.from mid_tunes span.to
+
+  pub narrow : AreRows rules text rows → IsSpan (tunes_in (blocks_in rules text)) (length text) s.at s.removed span
+      → AreRead rules (spliced text s) (edit_of rules s (placed_from (map carried_row rows) 0 0 (places_of (blocks_in rules text))))
+      → IsNarrow
+  narrow are is new =
+      let blocks = blocks_in rules text in
+      let tunes = tunes_in blocks in
+      let head = header_place (header_in blocks) in
+      let front = take span.front tunes in
+      let back = drop span.behind tunes in
+      let all = map carried_row rows in
+      let read = bare_read rules text rows are in
+      let order : span.front ≤ span.behind = omega (arith, is.order) in
+      let whole = three_parts span.front span.behind tunes order in
+      let rest = two_parts span.front span.behind tunes order in
+      let long : length all ≡ length text = sym (length-over class_in all) ∙ (ap length read.classes ∙ length-over rules.class text) in
+      let same : blocks ≡ blocks_of (map class_in all) = ap blocks_of (sym read.classes) in
+      let rise : BlocksRise 0 (front_places ++ (mid_tunes ++ back)) (length text) =
+      subst (λ (l : List Block). BlocksRise 0 (head ∷ l) (length text)) whole (subst (BlocksRise 0 (places_of blocks)) long (places_rise all blocks same)) in
+      let from : span.from ≡ start_of (mid_tunes ++ back) (length text) = is.from ∙ ap (λ l. start_of l (length text)) rest in
+      let among_text = among_parts front_places mid_tunes back (length text) span.from span.to rise from is.to in
+      let among = subst (λ n. IsAmong span.from span.to n front_places mid_tunes back) (sym long) among_text in
+      let ordered : span.from ≤ span.to = omega (arith, is.begins, is.ends) in
+      let cut = parted rules s all span.from span.to front_places mid_tunes back among ordered (omega (arith, is.begins)) is.ends in
+      let places : placed_from all 0 0 (places_of blocks) ≡ placed_from all 0 0 (front_places ++ (mid_tunes ++ back)) = ap (λ (l : List Block). placed_from all 0 0 (head ∷ l)) whole in
+      let own : Parted rules s (placed_from all 0 0 (places_of blocks)) old_run span.from = subst (λ x. Parted rules s x old_run span.from) (sym places) cut in
+      let run = stretch_rows rules s span.from old_run in
+      let old_classes : map class_in own.before ++ (map class_in old_run ++ map class_in own.behind) ≡ map rules.class text =
+      (λ i. map class_in own.before ++ sym (map-append class_in old_run own.behind) i)
+      ∙ (sym (map-append class_in own.before (old_run ++ own.behind)) ∙ (ap (map class_in) (sym own.old_are) ∙ (placed_read rules text rows are).classes)) in
+      let new_classes : map class_in own.before ++ (map class_in run ++ map class_in own.behind) ≡ map rules.class (spliced text s) =
+      (λ i. map class_in own.before ++ sym (map-append class_in run own.behind) i) ∙ (sym (map-append class_in own.before (run ++ own.behind)) ∙ (ap (map class_in) (sym own.new_are) ∙ new.classes)) in
+      let count : length old_run ≡ span.to - span.from = length-until all span.from span.to (0 + length front_places) mid_tunes among.here among.inside in
+      let long_old : length (map class_in old_run) ≡ span.to - span.from = length-over class_in old_run ∙ count in
+      let long_before : length (map class_in own.before) ≡ span.from = length-over class_in own.before ∙ sym own.count in
+      let long_all : length (map class_in own.before ++ (map class_in old_run ++ map class_in own.behind)) ≡ length text = ap length old_classes ∙ length-over rules.class text in
+      let is_run : IsRun (map class_in own.before) (map class_in old_run) (map class_in own.behind) front mid_tunes back = record {
+        tunes = ap (λ c. tunes_in (blocks_of c)) old_classes ∙ whole;
+        from = long_before ∙ (from ∙ ap (start_of (mid_tunes ++ back)) (sym long_all));
+        to = (let sum : length (map class_in own.before) + length (map class_in old_run)
+            ≡ span.to = omega (arith, long_before, long_old, ordered) in sum) ∙ (is.to ∙ ap (start_of back) (sym long_all));
+        some = omega (arith, long_old, is.begins, is.ends);
+      } in
+      let k : ℕ = s.at - span.from in
+      let tail = map (fresh_row rules) s.lines ++ drop (s.at + s.removed - span.from) old_run in
+      let reused_tunes : map class_in run ≡ take k (map class_in old_run) ++ map class_in tail =
+      map-append class_in (take k old_run) tail ∙ ap (λ l. l ++ map class_in tail) (sym (take-map class_in k old_run)) in
+      let some_k : 1 ≤ k = omega (arith, is.begins) in
+      let begins : BeginTune (map class_in run) = subst BeginTune (sym reused_tunes)
+      (begin_taken k (map class_in old_run) (map class_in tail) some_k is_run.some
+      (run_begins (map class_in own.before) (map class_in old_run) (map class_in own.behind) front mid_tunes back is_run)) in
+      let some_new : 1 ≤ length (map class_in run) = subst (λ (l : List LineClass). 1 ≤ length l) (sym reused_tunes) (some_taken k (map class_in old_run) (map class_in tail) some_k is_run.some) in
+      let law = tunes_after (map class_in own.before) (map class_in old_run) (map class_in run) (map class_in own.behind) front mid_tunes back is_run begins in
+      let law_header = header_after (map class_in own.before) (map class_in old_run) (map class_in run) (map class_in own.behind) front mid_tunes back is_run some_new begins in
+      let classes = map rules.class text in
+      let strict = tunes_strict 0 blocks (length classes) (blocks_rise classes) in
+      let strict_text : RiseFromTo 0 tunes (length text) = subst (RiseFromTo 0 tunes) (length-over rules.class text) strict in
+      let strict_front : RiseFromTo 0 (front ++ (mid_tunes ++ back)) (length text) = subst (λ (l : List Block). RiseFromTo 0 l (length text)) whole strict_text in
+      let strict_back : RiseFromTo 0 ((front ++ mid_tunes) ++ back) (length text) = subst (λ (l : List Block). RiseFromTo 0 l (length text)) (sym (append_assoc front mid_tunes back)) strict_front in
+      record {
+        parts = own;
+        tunes = sym (ap (λ c. tunes_in (blocks_of c)) new_classes) ∙ (law
+            ∙ (λ i. front ++ (map (moved (long_before i)) (tunes_in (blocks_of (map class_in run))) ++ map (shifted (long_old i) (length-over class_in run i)) back)));
+        header = sym (ap (λ c. header_in (blocks_of c)) new_classes) ∙ (law_header ∙ ap (λ c. header_in (blocks_of c)) old_classes);
+        header_ends = header_lies span.from (header_in blocks) (among_text.first);
+        before = subst (λ n. All (Ends n) front) (sym from) (end_start front (mid_tunes ++ back) (length text) strict_front);
+        behind = all_starts (start_of back (length text)) back (length text) span.to (omega (arith, is.to)) (strict_rest 0 (front ++ mid_tunes) back (length text) strict_back);
+        order = ordered;
+        inside = among_text.inside;
+        count = count;
+        rise = among_text.here;
+      }
+    where
+      rise_past : (at : ℕ) (xs : List Block) (last : ℕ) → BlocksRise at xs last → at ≤ last
+      rise_past at [] last rise = rise
+      rise_past at (block ∷ xs) last rise = let more = rise_past block.to xs last rise.2 in omega (arith, rise.0, rise.1, more)
+
+      header_lies : (line : ℕ) (header : Option Block) → BlocksRise 0 (header_place header ∷ take span.front (tunes_in (blocks_in rules text))) line → HeaderEnds line header
+      header_lies line None rise = λ block e. absurd (cc)
+      header_lies line (Some own) rise = λ block e.
+          let same : own ≡ block = cc in
+          let end = rise_past own.to (take span.front (tunes_in (blocks_in rules text))) line rise.2 in
+          let here : Ends line own = (rise.1, end) in
+          subst (Ends line) same here

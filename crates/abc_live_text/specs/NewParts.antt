@@ -1,0 +1,143 @@
+-- What an edit folds again: the tunes of its stretch, and the file header if that may change. Not in ABC 2.1.
+use Rattle.std.specs.Prelude.{◌≡◌, ◌⊎◌, ℕ, ◌+◌, ◌-◌, ◌<◌, ◌≤◌, All, List, [], ◌∷◌, ◌++◌, drop, length, map, take, Option, Some}
+use Rattle.std.specs.Prelude.{None, IsSome}
+use Rattle.std.specs.List.{AllZip}
+use Rattle.abc_book.specs.Laws.{moved}
+use Rattle.abc_book.specs.declared.block.Block.{Block}
+use Rattle.abc_fold.specs.Chain.{Chained}
+use Rattle.abc_fold.specs.Steps.{Steps}
+use Rattle.abc_lines.specs.Text.{Splice, Text, spliced}
+use Rattle.abc_tune_compiler.specs.Book.{blocks_in, header_in, tunes_in}
+use Rattle.abc_tune_compiler.specs.Rules.{Rules}
+use Rattle.abc_live_text.specs.Pieces.{LiesWithin}
+use Rattle.abc_live_text.specs.Chains.{AreChains}
+use Rattle.abc_live_text.specs.Row.{CarriedRow, Row, carried_row, new_row}
+use Rattle.abc_live_text.specs.KeptText.{KeptTextView, LiesAmid, LiesBefore, LiesAfter, MayEndBy, MayLieBefore, gone, block_after}
+use Rattle.abc_live_text.specs.KeptText.{reused_tunes_after}
+use Rattle.abc_live_cost.specs.OldItems.{HasItemsOf, TakesUntouched}
+use Rattle.abc_live_text.specs.declared.new_parts.NewParts.{NewParts}
+use Rattle.abc_live_text.specs.declared.stretch.Stretch.{Stretch}
+use Rattle.abc_live_text.specs.declared.stretch.Lead.{Lead}
+use Rattle.abc_live_text.specs.declared.stretch.Span.{Span}
+
+-- Where the first of some blocks begins; without one, at the end.
+abbrev pub start_of : List Block → ℕ → ℕ
+start_of [] last = last
+start_of (block ∷ blocks) last = block.from
+
+-- A splice of lines.
+abbrev pub splice_at : ℕ → ℕ → Text → Splice
+splice_at at removed lines = record { at = at; removed = removed; lines = lines }
+
+-- A law of the splice that puts lines instead of others, if these rows were read from the lines.
+abbrev pub ForSplice : {State Cell Items Defaults : Type 0} → Rules State Cell Items Defaults → ℕ → ℕ → List (Row Cell)
+    → (Splice → Type 0) → Type 0
+ForSplice rules at removed rows Holds = (lines : Text) → rows ≡ map (new_row rules) lines → Holds (splice_at at removed lines)
+
+-- A stretch that begins with the last tune before an edit, and goes on to the first one after it.
+pub record IsSpan (tunes : List Block) (count at removed : ℕ) (span : Span) : Type 0 where
+  pub order : span.front < span.behind
+  pub most : span.behind ≤ length tunes
+  pub from : span.from ≡ start_of (drop span.front tunes) count
+  pub to : span.to ≡ start_of (drop span.behind tunes) count
+  pub begins : span.from < at
+  pub ends : at + removed ≤ span.to
+
+-- The first lines of a text, up to a tune or to the end, that an edit may change that ends at a line.
+pub record IsLead (tunes : List Block) (count end : ℕ) (lead : Lead) : Type 0 where
+  pub most : lead.behind ≤ length tunes
+  pub to : lead.to ≡ start_of (drop lead.behind tunes) count
+  pub ends : end ≤ lead.to
+
+-- Lines after an edit of them: new ones, without origins, replace those that go.
+abbrev pub edited_rows : {Cell : Type 0} → ℕ → ℕ → List (Row Cell) → List (CarriedRow Cell) → List (CarriedRow Cell)
+edited_rows at removed new old = take at old ++ (map carried_row new ++ drop (at + removed) old)
+
+-- The chain of the file header: a new one, or the old one.
+abbrev pub first_of : {State Cell Items : Type 0} → Option (Chained State Cell Items) → List (Chained State Cell Items)
+    → List (Chained State Cell Items)
+first_of None old = take 1 old
+first_of (Some first) old = first ∷ []
+
+-- The chains of a text after an edit.
+abbrev pub chains_after : {State Cell Items : Type 0} → Option (Chained State Cell Items) → Stretch
+    → List (Chained State Cell Items) → List (Chained State Cell Items) → List (Chained State Cell Items)
+chains_after first stretch old new_chains =
+    first_of first old ++ (take stretch.front (drop 1 old) ++ (new_chains ++ drop stretch.behind (drop 1 old)))
+
+-- Where its tunes lie.
+abbrev pub tunes_after : Stretch → List Block → List Block → List Block
+tunes_after stretch old tunes =
+    take stretch.front old ++ (map (moved stretch.from) tunes ++ map (block_after stretch) (drop stretch.behind old))
+
+-- The file header stays, and lies before the stretch.
+pub record HeaderStays {State Cell Items : Type 0} (first : Option (Chained State Cell Items)) (header was : Option Block)
+    (stretch : Stretch) : Type 0 where
+  pub none : first ≡ None
+  pub header_stays : header ≡ was
+  pub before : MayLieBefore stretch was
+
+-- The file header is folded again, and lies in the first lines of the text before and after.
+pub record HeaderIsReplaced {State Cell Items : Type 0} (first : Option (Chained State Cell Items)) (header was : Option Block)
+    (stretch : Stretch) : Type 0 where
+  pub some : IsSome first
+  pub front : stretch.front ≡ 0
+  pub from : stretch.from ≡ 0
+  pub goes : MayEndBy stretch.to was
+  pub comes : MayEndBy stretch.came header
+
+-- What an edit folds again: the file header, its chain if that may change, the tunes of the stretch, counted from its
+-- first line, their chains, and which old ones have their items.
+pub record NewPartsView (State Cell Items : Type 0) : Type 0 where
+  pub stretch : Stretch
+  pub header : Option Block
+  pub first : Option (Chained State Cell Items)
+  pub tunes : List Block
+  pub new_chains : List (Chained State Cell Items)
+  pub reused_tunes : List (Option ℕ)
+
+abbrev pub new_parts_view : {State Cell Items : Type 0} → Stretch → Option Block → Option (Chained State Cell Items)
+    → List Block → List (Chained State Cell Items) → List (Option ℕ) → NewPartsView State Cell Items
+new_parts_view stretch header first tunes new_chains reused_tunes = record {
+  stretch = stretch;
+  header = header;
+  first = first;
+  tunes = tunes;
+  new_chains = new_chains;
+  reused_tunes = reused_tunes;
+}
+
+abbrev pub view_of_new_parts : {C Defaults State Cell Items Work : Type 0} → NewParts C Defaults State Cell Items Work
+    → NewPartsView State Cell Items
+view_of_new_parts r =
+    new_parts_view r.stretch r.header r.first r.folded.tunes.items r.folded.new_chains.items r.folded.reused_tunes.items
+
+-- The parts that were folded again are those of the new text.
+pub record AreNewParts {C State Cell Items Defaults : Type 0} (steps : Steps State Cell Items)
+    (rules : Rules State Cell Items Defaults) (on : KeptTextView C State Cell Items) (s : Splice)
+    (new : NewPartsView State Cell Items) : Type 0 where
+  pub order : new.stretch.front ≤ new.stretch.behind
+  pub most : new.stretch.behind ≤ length on.tunes
+  pub begins : new.stretch.from ≤ s.at
+  pub ends : s.at + s.removed ≤ new.stretch.to
+  pub inside : new.stretch.to ≤ length on.lines.text
+  pub came : new.stretch.came ≡ gone new.stretch - s.removed + length s.lines
+  pub header_is : new.header ≡ header_in (blocks_in rules (spliced on.lines.text s))
+  pub tunes_are : tunes_in (blocks_in rules (spliced on.lines.text s)) ≡ tunes_after new.stretch on.tunes new.tunes
+  pub chains_are : AreChains steps rules (spliced on.lines.text s)
+      (chains_after new.first new.stretch on.chains.items new.new_chains)
+  pub count : length new.new_chains ≡ length new.tunes
+  pub before : All (LiesBefore new.stretch) (take new.stretch.front on.tunes)
+  pub beyond : All (LiesAfter new.stretch) (drop new.stretch.behind on.tunes)
+  pub among : All (LiesWithin new.stretch.came) new.tunes
+  pub amid : All (LiesAmid new.stretch) (take (new.stretch.behind - new.stretch.front) (drop new.stretch.front on.tunes))
+  pub keeps : HeaderStays new.first new.header on.header new.stretch ⊎ HeaderIsReplaced new.first new.header on.header new.stretch
+  pub lines_before : take new.stretch.from (spliced on.lines.text s) ≡ take new.stretch.from on.lines.text
+  pub lines_behind : drop (new.stretch.from + new.stretch.came) (spliced on.lines.text s) ≡ drop new.stretch.to on.lines.text
+  pub items : AllZip (HasItemsOf (drop 1 on.chains.items)) new.new_chains new.reused_tunes
+  pub untouched : TakesUntouched steps rules on.lines.text s (reused_tunes_after new.stretch (length on.tunes) new.reused_tunes)
+
+-- A new chain of the file header comes with the first tunes.
+abbrev pub MayReplaceHeader : {A : Type 0} → Option A → Stretch → Type 0
+MayReplaceHeader None stretch = Unit {0}
+MayReplaceHeader (Some first) stretch = stretch.front ≡ 0

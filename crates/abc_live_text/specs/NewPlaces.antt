@@ -1,0 +1,29 @@
+-- The places of the tunes of an edited text. Not in ABC 2.1.
+use Rattle.std.specs.Prelude.{◌≡◌, ◌+◌, ◌≤◌, ⊤, All, List, ◌++◌, drop, length, map, take}
+use Rattle.abc_book.specs.declared.block.Block.{Block}
+use Rattle.abc_lines.specs.declared.limits.TheConstants.{MOST_LINES}
+use Rattle.abc_live_text.specs.Pieces.{LiesWithin}
+use Rattle.abc_live_text.specs.KeptText.{LiesAfter, block_after}
+use Rattle.abc_live_text.specs.declared.stretch.Stretch.{Stretch}
+use Rattle.abc_live_text.specs.declared.new_places.NewPlaces.{NewPlaces}
+use Rattle.abc_live_text.specs.declared.new_places.NewPlaces.TheVariants.{Whole, Among}
+
+-- The places after an edit: all of them, or new ones for the stretch, and those after it moved.
+abbrev pub tune_places_after : NewPlaces → Stretch → List Block → List Block → List Block
+tune_places_after (Whole tunes) stretch old places = tunes.items
+tune_places_after Among stretch old places = take stretch.front old
+    ++ (places ++ map (block_after stretch) (drop stretch.behind old))
+
+-- As many tunes come as go, and those after the stretch can be moved.
+pub record FitAmong (stretch : Stretch) (old places : List Block) : Type 0 where
+  pub count : stretch.front + length places ≡ stretch.behind
+  pub inside : stretch.behind ≤ length old
+  pub beyond : All (LiesAfter stretch) (drop stretch.behind old)
+  pub within : All (LiesWithin MOST_LINES) old
+  pub lines : stretch.from ≤ stretch.to
+  pub numbers : stretch.came ≤ MOST_LINES
+
+-- New places among others replace as many old ones.
+abbrev pub MayReplaceTunes : NewPlaces → Stretch → List Block → List Block → Type 0
+MayReplaceTunes (Whole tunes) stretch old places = ⊤
+MayReplaceTunes Among stretch old places = FitAmong stretch old places

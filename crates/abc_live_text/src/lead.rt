@@ -1,0 +1,169 @@
+//! The first lines of a text, which an edit may change if no tune begins before it.
+
+ghost use Rattle.std.specs.Prelude.{◌≡◌, ◌+◌, ◌≤◌, true, All, IfOk, Some, drop, length};
+ghost use Rattle.std.specs.List.{AllZip, sum_by};
+ghost use Rattle.abc_live_text.specs.Pieces.{IsCarried, IsChain, steps_taken};
+ghost use Rattle.abc_live_text.specs.Chains.{header_steps};
+ghost use Rattle.abc_live_text.specs.Lead.{IsHeaderOpening, MayGoOn, header_among, lead_rows, lead_stretch, tunes_among};
+ghost use Rattle.abc_live_text.specs.NewParts.{ForSplice, IsLead, AreNewParts, view_of_new_parts};
+ghost use Rattle.abc_live_text.specs.KeptText.{fresh_cells_in};
+ghost use Rattle.abc_live_text.specs.ReusedTunes.{KnowsIfBegun};
+ghost use Rattle.abc_live_cost.specs.OldItems.{HasItemsOf};
+ghost use Rattle.abc_fold.specs.Work.{IsRaisedUpTo};
+
+use crate::blocks::{blocks_of, header_in, places_of};
+use crate::chains::{header_chain, tune_opening};
+use crate::kept_text::KeptText;
+use crate::new_parts::{NewParts, edited_rows};
+use crate::origin::{CarriedRow, item_at, rows_with_origins};
+use crate::refolded_tunes::refold_tunes;
+use crate::row::Row;
+use crate::stretch::{Lead, Stretch, lead_of};
+use abc_book::Block;
+use abc_fold::{Chain, Counts, Fold, Shared};
+use abc_tune_compiler::Compiler;
+use std::alloc::AllocError;
+
+/// A file header, if there is one, its chain, and the state in which the tunes after it begin.
+#[derive(Drop)]
+pub(crate) struct HeaderOpening<C: Compiler> {
+    pub(crate) header: Option<Block>,
+    pub(crate) first: Shared<Chain<C>>,
+    pub(crate) opening: C::State,
+}
+
+impl<C: Compiler> KeptText<C> {
+    /// The rows of the first lines of the text after an edit of them.
+    fn lead_rows(
+        &self,
+        lead: Lead,
+        at: usize,
+        removed: usize,
+        new: &[Row<C::Cell>],
+    ) -> Result<Vec<CarriedRow<C::Cell>>, AllocError>
+        requires lead { IsLead self.now.tunes (length self.now.lines.text) (at + removed) lead }
+        requires inside { at + removed ≤ length self.now.lines.text }
+        ensures { IfOk result (λ rows. rows.items ≡ lead_rows self.now lead at removed new.now) }
+    {
+        let alloc = self.lines.allocator();
+        let places = places_of(alloc, self.header, &self.tunes[..lead.behind])?;
+        let old = rows_with_origins(alloc, &self.rows, 0, lead.to, 0, &places)?;
+        edited_rows(alloc, &old, at, removed, new)
+    }
+
+    /// The file header of a text that begins with these rows, and how tunes begin after it.
+    fn header_opening(
+        &self,
+        rows: &[CarriedRow<C::Cell>],
+        work: &mut C::Work,
+    ) -> Result<HeaderOpening<C>, AllocError>
+        requires { All (IsCarried self.now.chains.items) rows.now }
+        ensures value { let c = self.now.compiler in
+            IfOk result (λ o. IsHeaderOpening (C.steps c) (C.rules c) rows.now o.header o.first o.opening) }
+        ensures counted { let c = self.now.compiler in
+            IsRaisedUpTo (header_steps (C.steps c) (C.rules c).header self.now.chains.items rows.now (header_among rows.now))
+            (C.Work.counts work.old) (C.Work.counts work.new) }
+    {
+        let alloc = self.lines.allocator();
+        let blocks = blocks_of(alloc, rows)?;
+        let header = header_in(&blocks);
+        let first = header_chain(alloc, &self.compiler, &self.chains, rows, header, work)?;
+        let opening = tune_opening(alloc, &self.compiler, header, first.get());
+        Ok(HeaderOpening {
+            header,
+            first,
+            opening,
+        })
+    }
+
+    /// Whether the tunes from `behind` on stay the same if tunes begin in this state.
+    fn may_go_on(&self, behind: usize, opening: &C::State) -> bool
+        ensures { let c = self.now.compiler in
+            result ≡ true → MayGoOn (C.steps c) (C.rules c) self.now behind opening.now }
+    {
+        if self.tunes.len() <= behind {
+            return true;
+        }
+        let alloc = self.lines.allocator();
+        let first = item_at(&self.chains, 0).get();
+        let was = tune_opening(alloc, &self.compiler, self.header, first);
+        C::same(&was, opening)
+    }
+
+    /// Folds the tunes of the first lines again, by the new file header and the new rows of these lines.
+    fn refold_lead(
+        &self,
+        lead: Lead,
+        header: HeaderOpening<C>,
+        rows: &[CarriedRow<C::Cell>],
+        work: &mut C::Work,
+    ) -> Result<NewParts<C>, AllocError>
+        requires { All (IsCarried self.now.chains.items) rows.now }
+        ensures stretch { IfOk result (λ r. r.stretch ≡ lead_stretch lead (length rows.now)) }
+        ensures header { IfOk result (λ r. r.header ≡ header.header) }
+        ensures first { IfOk result (λ r. r.first ≡ Some header.first) }
+        ensures tunes { IfOk result (λ r. r.folded.tunes.items ≡ tunes_among rows.now) }
+        ensures chains { let c = self.now.compiler in
+            IfOk result (λ r. AllZip (IsChain (C.steps c) header.opening rows.now)
+            r.folded.new_chains.items r.folded.tunes.items) }
+        ensures items { IfOk result (λ r. AllZip (HasItemsOf (drop 1 self.now.chains.items))
+            r.folded.new_chains.items r.folded.reused_tunes.items) }
+        ensures along { let c = self.now.compiler in (begun : C.State) →
+            IfOk result (λ r. KnowsIfBegun (C.steps c) self.now.chains.items begun rows.now
+            r.folded.new_chains.items r.folded.tunes.items r.folded.reused_tunes.items) }
+        ensures counted { let c = self.now.compiler in
+            IsRaisedUpTo (sum_by (steps_taken (C.steps c) header.opening self.now.chains.items rows.now)
+            (tunes_among rows.now)) (C.Work.counts work.old) (C.Work.counts work.new) }
+    {
+        let alloc = self.lines.allocator();
+        let HeaderOpening {
+            header,
+            first,
+            opening,
+        } = header;
+        let blocks = blocks_of(alloc, rows)?;
+        let folded = refold_tunes(&self.compiler, &opening, &self.chains, rows, &blocks, work)?;
+        Ok(NewParts {
+            stretch: Stretch {
+                front: 0,
+                behind: lead.behind,
+                from: 0,
+                to: lead.to,
+                came: rows.len(),
+            },
+            header,
+            first: Some(first),
+            folded,
+        })
+    }
+
+    /// Folds again what an edit changes if no tune begins before it: the file header, and the tunes up to the first
+    /// that begins after it. If the new file header changes how tunes begin, all tunes are folded again.
+    pub(crate) fn refold_from_start(
+        &self,
+        at: usize,
+        removed: usize,
+        new: &[Row<C::Cell>],
+        work: &mut C::Work,
+    ) -> Result<NewParts<C>, AllocError>
+        requires { at + removed ≤ length self.now.lines.text }
+        ensures new_parts { let c = self.now.compiler in ForSplice (C.rules c) at removed new.now (λ s.
+            IfOk result (λ r. AreNewParts (C.steps c) (C.rules c) self.now s (view_of_new_parts r))) }
+        ensures counted { let c = self.now.compiler in ForSplice (C.rules c) at removed new.now (λ s.
+            IsRaisedUpTo (fresh_cells_in (C.steps c) (C.rules c) self.now s) (C.Work.counts work.old) (C.Work.counts work.new)) }
+    {
+        let count = self.lines.len();
+        let lead = lead_of(&self.tunes, count, at + removed);
+        let rows = self.lead_rows(lead, at, removed, new)?;
+        let header = self.header_opening(&rows, work)?;
+        if self.may_go_on(lead.behind, &header.opening) {
+            return self.refold_lead(lead, header, &rows, work);
+        }
+        let whole = Lead {
+            behind: self.tunes.len(),
+            to: count,
+        };
+        let rows = self.lead_rows(whole, at, removed, new)?;
+        self.refold_lead(whole, header, &rows, work)
+    }
+}

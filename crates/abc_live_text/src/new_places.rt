@@ -1,0 +1,142 @@
+//! The places of a text's tunes after an edit, and how an edit commits them.
+
+ghost use Rattle.std.specs.Prelude.{◌≡◌, ◌+◌, ◌-◌, ◌≤◌, ◌++◌, All, IfOk, OnOk, drop, length, map, take};
+ghost use Rattle.abc_live_text.specs.Pieces.{LiesWithin};
+ghost use Rattle.abc_live_text.specs.NewPlaces.{MayReplaceTunes, tune_places_after};
+ghost use Rattle.abc_live_text.specs.KeptText.{LiesAfter, gone, block_after};
+ghost use Rattle.abc_lines.specs.declared.limits.TheConstants.{MOST_LINES};
+
+use crate::stretch::Stretch;
+use abc_book::Block;
+use std::alloc::{AllocError, Global};
+
+/// The places of a text's tunes after an edit.
+#[derive(Drop)]
+pub(crate) enum NewPlaces {
+    /// All places.
+    Whole(Vec<Block>),
+    /// As many came as went: those of the stretch replace the old ones, and those after it move.
+    Among,
+}
+
+/// The place after the edit of a tune that is after the stretch.
+fn block_after(block: Block, stretch: Stretch) -> Block
+    requires beyond { LiesAfter stretch block }
+    requires within { LiesWithin MOST_LINES block }
+    requires lines { stretch.from ≤ stretch.to }
+    requires numbers { stretch.came ≤ MOST_LINES }
+    ensures { result ≡ block_after stretch block }
+{
+    let gone = stretch.to - stretch.from;
+    Block {
+        kind: block.kind,
+        from: block.from - gone + stretch.came,
+        to: block.to - gone + stretch.came,
+    }
+}
+
+/// Appends the places after the edit of the tunes that are after the stretch.
+fn append_after(tunes: &mut Vec<Block>, old: &[Block], stretch: Stretch) -> Result<(), AllocError>
+    requires inside { stretch.behind ≤ length old.now }
+    requires beyond { All (LiesAfter stretch) (drop stretch.behind old.now) }
+    requires within { All (LiesWithin MOST_LINES) old.now }
+    requires lines { stretch.from ≤ stretch.to }
+    requires numbers { stretch.came ≤ MOST_LINES }
+    ensures { OnOk result (tunes.new.items ≡ tunes.old.items ++ map (block_after stretch) (drop stretch.behind old.now)) }
+{
+    for i in stretch.behind..old.len() {
+        tunes.push(block_after(old[i], stretch))?;
+    }
+    Ok(())
+}
+
+/// The places of all tunes of a text after an edit.
+fn all_places(
+    alloc: Global,
+    old: &[Block],
+    stretch: Stretch,
+    places: &[Block],
+) -> Result<Vec<Block>, AllocError>
+    requires order { stretch.front ≤ stretch.behind }
+    requires inside { stretch.behind ≤ length old.now }
+    requires beyond { All (LiesAfter stretch) (drop stretch.behind old.now) }
+    requires within { All (LiesWithin MOST_LINES) old.now }
+    requires lines { stretch.from ≤ stretch.to }
+    requires numbers { stretch.came ≤ MOST_LINES }
+    ensures { IfOk result (λ tunes. tunes.items ≡ take stretch.front old.now
+        ++ (places.now ++ map (block_after stretch) (drop stretch.behind old.now))) }
+{
+    let mut tunes = Vec::new(alloc);
+    tunes.extend_from_slice(&old[..stretch.front])?;
+    tunes.extend_from_slice(places)?;
+    append_after(&mut tunes, old, stretch)?;
+    Ok(tunes)
+}
+
+/// Replaces the places from index `front` on.
+fn replace_places(tunes: &mut Vec<Block>, front: usize, places: &[Block])
+    requires { front + length places.now ≤ length tunes.old.items }
+    ensures { tunes.new.items ≡ take front tunes.old.items ++ (places.now ++ drop (front + length places.now) tunes.old.items) }
+{
+    for i in 0..places.len() {
+        tunes[front + i] = places[i];
+    }
+}
+
+/// Moves the tunes after a stretch to their places after the edit.
+fn move_after(tunes: &mut Vec<Block>, stretch: Stretch)
+    requires inside { stretch.behind ≤ length tunes.old.items }
+    requires beyond { All (LiesAfter stretch) (drop stretch.behind tunes.old.items) }
+    requires within { All (LiesWithin MOST_LINES) (drop stretch.behind tunes.old.items) }
+    requires lines { stretch.from ≤ stretch.to }
+    requires numbers { stretch.came ≤ MOST_LINES }
+    ensures { tunes.new.items ≡ take stretch.behind tunes.old.items
+        ++ map (block_after stretch) (drop stretch.behind tunes.old.items) }
+{
+    if stretch.to - stretch.from == stretch.came {
+        return;
+    }
+    for i in stretch.behind..tunes.len() {
+        tunes[i] = block_after(tunes[i], stretch);
+    }
+}
+
+impl NewPlaces {
+    /// The places of a text's tunes after an edit. If as many came as went, those outside the stretch are not listed.
+    pub(crate) fn of(
+        alloc: Global,
+        old: &[Block],
+        stretch: Stretch,
+        places: &[Block],
+    ) -> Result<NewPlaces, AllocError>
+        requires order { stretch.front ≤ stretch.behind }
+        requires inside { stretch.behind ≤ length old.now }
+        requires beyond { All (LiesAfter stretch) (drop stretch.behind old.now) }
+        requires within { All (LiesWithin MOST_LINES) old.now }
+        requires lines { stretch.from ≤ stretch.to }
+        requires numbers { stretch.came ≤ MOST_LINES }
+        ensures after { IfOk result (λ tunes. tune_places_after tunes stretch old.now places.now ≡ take stretch.front old.now
+            ++ (places.now ++ map (block_after stretch) (drop stretch.behind old.now))) }
+        ensures put { IfOk result (λ tunes. MayReplaceTunes tunes stretch old.now places.now) }
+    {
+        if places.len() == stretch.behind - stretch.front {
+            return Ok(NewPlaces::Among);
+        }
+        let tunes = all_places(alloc, old, stretch, places)?;
+        Ok(NewPlaces::Whole(tunes))
+    }
+
+    /// Commits the places without allocating.
+    pub(crate) fn put_in_place(self, tunes: &mut Vec<Block>, stretch: Stretch, places: &[Block])
+        requires { MayReplaceTunes self stretch tunes.old.items places.now }
+        ensures { tunes.new.items ≡ tune_places_after self stretch tunes.old.items places.now }
+    {
+        match self {
+            NewPlaces::Whole(whole) => *tunes = whole,
+            NewPlaces::Among => {
+                replace_places(tunes, stretch.front, places);
+                move_after(tunes, stretch);
+            }
+        }
+    }
+}

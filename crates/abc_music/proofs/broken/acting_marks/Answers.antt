@@ -1,8 +1,0 @@
-use Rattle.abc_music.proofs.Acting.{marks_act, factors_act}
-use Rattle.abc_music.proofs.broken.acting_marks.Goals as goal
-
-pub returns-clause-marks : goal.returns-clause-marks
-returns-clause-marks c = marks_act
-
-pub returns-clause-factors : goal.returns-clause-factors
-returns-clause-factors c = factors_act

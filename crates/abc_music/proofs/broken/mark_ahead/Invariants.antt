@@ -1,7 +1,0 @@
-use Rattle.std.proofs.Common.{◌≡◌, drop}
-use Rattle.abc_music.specs.Broken.{mark_ahead}
-use Rattle.abc_music.proofs.broken.mark_ahead.Given as goal
-
--- the rest answers as the whole does
-abbrev pub invariant-loop-i : goal.invariant-loop-i
-invariant-loop-i l = mark_ahead (drop l.i l.tokens) ≡ mark_ahead l.tokens

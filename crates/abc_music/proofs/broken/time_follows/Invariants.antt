@@ -1,7 +1,0 @@
-use Rattle.std.proofs.Common.{◌≡◌, drop}
-use Rattle.abc_music.specs.Broken.{time_follows}
-use Rattle.abc_music.proofs.broken.time_follows.Given as goal
-
--- the rest answers as the whole does
-abbrev pub invariant-loop-token : goal.invariant-loop-token
-invariant-loop-token l = time_follows (drop l.token-index l.tokens) ≡ time_follows l.tokens

@@ -1,5 +1,0 @@
-use Rattle.abc_music.proofs.ChordFaults.{bad_lengths_at_notes}
-use Rattle.abc_music.proofs.chord_laws.bad_lengths_of_chords.Goals as goal
-
-pub returns : goal.returns
-returns c = bad_lengths_at_notes

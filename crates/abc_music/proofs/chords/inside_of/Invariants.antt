@@ -1,5 +1,0 @@
-use Rattle.abc_music.proofs.InsideLoop.{IsInsideSoFar}
-use Rattle.abc_music.proofs.chords.inside_of.Given as goal
-
-abbrev pub invariant-loop-at : goal.invariant-loop-at
-invariant-loop-at l = IsInsideSoFar l.settings l.broken l.outside l.parts l.at l.inside

@@ -1,5 +1,0 @@
-use Rattle.abc_music.proofs.LooseTies.{ties_behind_notes}
-use Rattle.abc_music.proofs.laws.loose_ties_of_chords.Goals as goal
-
-pub returns : goal.returns
-returns c = ties_behind_notes

@@ -1,8 +1,0 @@
-use Rattle.abc_music.proofs.ChordNotes.{chords_sound, big_at_the_seventeenth}
-use Rattle.abc_music.proofs.laws.notes_of_chords.Goals as goal
-
-pub returns-clause-sound : goal.returns-clause-sound
-returns-clause-sound c = chords_sound
-
-pub returns-clause-big : goal.returns-clause-big
-returns-clause-big c = big_at_the_seventeenth

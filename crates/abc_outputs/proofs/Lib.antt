@@ -1,9 +1,0 @@
-pub mod Building
-pub mod Faultless
-pub mod Following
-pub mod Fronts
-pub mod Keys
-pub mod Lists
-pub mod Places
-pub mod Placing
-pub mod Taking

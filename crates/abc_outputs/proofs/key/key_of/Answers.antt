@@ -1,7 +1,0 @@
-use Rattle.std.proofs.Common.{refl}
-use Rattle.abc_outputs.specs.Tunes.{lowered}
-use Rattle.abc_outputs.proofs.Keys.{seen_there}
-use Rattle.abc_outputs.proofs.key.key_of.Goals as goal
-
-pub returns : goal.returns
-returns g c = rw (c.in_ok-bytes.ensures, c.defaults_by-defaults.ensures, seen_there c.args.stretch.now.lines.now (lowered c.args.stretch.now.before c.args.place)) refl

@@ -1,5 +1,0 @@
-use Rattle.abc_outputs.proofs.Following.{has_cells}
-use Rattle.abc_outputs.proofs.laws.cells_follow.Goals as goal
-
-pub returns : goal.returns
-returns g c = λ steps read opening text before count chain place is lies inside. has_cells steps read opening text chain place is before count lies inside

@@ -1,7 +1,0 @@
-use Rattle.std.proofs.Common.{◌≡◌, drop, []}
-use Rattle.abc_tunebook.specs.Tune.{first_of}
-use Rattle.abc_outputs.proofs.output.title_of.Given as goal
-
--- the rest gives what the whole gives
-abbrev pub invariant-loop-one : goal.invariant-loop-one
-invariant-loop-one g l = first_of (g.C.Compiler.rules l.compiler).title [] (drop l.one-index l.items) ≡ first_of (g.C.Compiler.rules l.compiler).title [] l.items

@@ -1,6 +1,0 @@
--- What stays in front while more is put behind it. Our own.
-use Rattle.std.specs.Prelude.{◌≡◌, List, length, take}
-
--- The items of a list are the first ones of another.
-abbrev pub StayInFront : {X : Type 0} → List X → List X → Type 0
-StayInFront items longer = take (length items) longer ≡ items

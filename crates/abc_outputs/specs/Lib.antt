@@ -1,6 +1,0 @@
-pub mod Built
-pub mod Front
-pub mod Key
-pub mod Output
-pub mod Taken
-pub mod Tunes

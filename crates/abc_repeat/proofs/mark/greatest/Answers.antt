@@ -1,5 +1,0 @@
-use Rattle.abc_repeat.proofs.Greatest.{greatest_is}
-use Rattle.abc_repeat.proofs.mark.greatest.Goals as goal
-
-pub returns : goal.returns
-returns c = greatest_is c.args.numbers c.ranges.numbers.fits

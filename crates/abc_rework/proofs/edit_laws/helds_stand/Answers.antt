@@ -1,5 +1,0 @@
-use Rattle.abc_rework.proofs.Kept.{helds_stand}
-use Rattle.abc_rework.proofs.edit_laws.helds_stand.Goals as goal
-
-pub returns : goal.returns
-returns g c = helds_stand

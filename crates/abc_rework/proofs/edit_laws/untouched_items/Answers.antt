@@ -1,5 +1,0 @@
-use Rattle.abc_rework.proofs.Steps.{untouched_items}
-use Rattle.abc_rework.proofs.edit_laws.untouched_items.Goals as goal
-
-pub returns : goal.returns
-returns g c = untouched_items

@@ -1,5 +1,0 @@
-use Rattle.abc_rework.proofs.Steps.{pasts_name}
-use Rattle.abc_rework.proofs.laws.pasts_name.Goals as goal
-
-pub returns : goal.returns
-returns g c = pasts_name

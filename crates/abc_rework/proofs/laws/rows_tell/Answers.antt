@@ -1,5 +1,0 @@
-use Rattle.abc_rework.proofs.Rows.{rows_tell}
-use Rattle.abc_rework.proofs.laws.rows_tell.Goals as goal
-
-pub returns : goal.returns
-returns g c = rows_tell

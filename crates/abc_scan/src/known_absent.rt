@@ -1,0 +1,50 @@
+//! Bytes that close what another byte opened, and the memory of searches for them that failed.
+
+ghost use Rattle.std.specs.Prelude.{◌≡◌, ◌<◌, ℕ, List, IfSome, is_none, length, true};
+ghost use Rattle.abc_text.specs.Cut.{HasNoByte};
+ghost use Rattle.abc_scan.specs.KnownAbsent.{place_of, IsKnownAbsent};
+
+/// Which closing bytes are known to be absent from the rest of a text, so that a search that failed
+/// once is not made again. A `"` or `!` that finds no other needs no such flag: it is the last one.
+#[derive(Clone, Copy)]
+pub(crate) struct KnownAbsent {
+    pub(crate) brace: bool,
+    pub(crate) bracket: bool,
+}
+
+impl KnownAbsent {
+    /// Nothing is known yet.
+    pub(crate) fn none() -> Self
+        ensures { (text : List ℕ) → IsKnownAbsent result text }
+    {
+        KnownAbsent {
+            brace: false,
+            bracket: false,
+        }
+    }
+}
+
+/// The place of the first such byte in a text.
+pub(crate) fn place_of(closing: u8, text: &[u8]) -> Option<usize>
+    ensures value { result ≡ place_of closing text.now }
+    ensures inside { IfSome result (λ place. place < length text.now) }
+{
+    text.iter().position(|byte| *byte == closing)
+}
+
+/// The place of the first such byte in a text, unless it is known to be absent there. A search
+/// that fails is remembered.
+pub(crate) fn find(absent: &mut bool, closing: u8, text: &[u8]) -> Option<usize>
+    requires { absent.old ≡ true → HasNoByte closing text.now }
+    ensures value { result ≡ place_of closing text.now }
+    ensures inside { IfSome result (λ place. place < length text.now) }
+    ensures kept { absent.new ≡ true → HasNoByte closing text.now }
+    ensures remembered { absent.new ≡ is_none result }
+{
+    if *absent {
+        return None;
+    }
+    let place = place_of(closing, text);
+    *absent = place.is_none();
+    place
+}

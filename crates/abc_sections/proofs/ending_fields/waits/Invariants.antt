@@ -1,9 +1,0 @@
-use Rattle.std.proofs.Common.{◌≡◌, drop}
-use Rattle.abc_sections.specs.EndingFields.{nothing_waits}
-use Rattle.abc_sections.specs.declared.ending_fields.Region.TheVariants.{Common}
-use Rattle.abc_sections.specs.Stretches.{runs_of, items_in}
-use Rattle.abc_sections.proofs.ending_fields.waits.Given as goal
-
--- the rest says what all say
-abbrev pub invariant-loop-stretch : goal.invariant-loop-stretch
-invariant-loop-stretch l = nothing_waits l.region (items_in (runs_of (drop l.stretch-index l.stretches))) ≡ nothing_waits Common (items_in (runs_of l.stretches))

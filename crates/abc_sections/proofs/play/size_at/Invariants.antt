@@ -1,9 +1,0 @@
-use Rattle.std.proofs.Common.{◌≡◌, ◌-◌, ◌^◌, min, take, length}
-use Rattle.std.specs.List.{flat_map}
-use Rattle.abc_repeat.specs.Runs.{items_at}
-use Rattle.abc_sections.specs.Stretches.{runs_of}
-use Rattle.abc_sections.proofs.play.size_at.Given as goal
-
--- how many stand at the places that are passed
-abbrev pub invariant-loop-place : goal.invariant-loop-place
-invariant-loop-place l = l.size ≡ min (length (flat_map (items_at (runs_of l.stretches)) (take l.place-index l.places))) (2 ^ 64 - 1)

@@ -1,9 +1,0 @@
-pub mod EndingFields
-pub mod Items
-pub mod Owned
-pub mod Play
-pub mod PlayedSection
-pub mod Section
-pub mod Stage
-pub mod Step
-pub mod Stretches

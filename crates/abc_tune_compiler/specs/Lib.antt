@@ -1,0 +1,10 @@
+pub mod Book
+pub mod Fault
+pub mod Files
+pub mod Lawful
+pub mod Laws
+pub mod Placed
+pub mod Report
+pub mod Rules
+pub mod Sort
+pub mod Tune

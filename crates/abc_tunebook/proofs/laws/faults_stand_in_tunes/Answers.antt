@@ -1,5 +1,0 @@
-use Rattle.abc_tunebook.proofs.Within.{faults_in_lines}
-use Rattle.abc_tunebook.proofs.laws.faults_stand_in_tunes.Goals as goal
-
-pub returns : goal.returns
-returns g c = faults_in_lines

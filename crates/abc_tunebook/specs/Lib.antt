@@ -1,9 +1,0 @@
-pub mod Book
-pub mod Fault
-pub mod Files
-pub mod Laws
-pub mod Placed
-pub mod Report
-pub mod Rules
-pub mod Sorted
-pub mod Tune

@@ -1,0 +1,39 @@
+-- The steps of a voice by its name are those by whether it is the current one.
+use Rattle.std.proofs.Common.{◌≡◌, ℕ, Bool, true, false, List, [], ◌∷◌, refl, ap, ◌∙◌}
+use Rattle.std.specs.Prelude.{◌&&◌, if◌then◌else◌, bytes_eq}
+use Rattle.abc_bars_items.specs.declared.item.Item.{Item}
+use Rattle.abc_bars_items.specs.declared.item.Item.TheVariants as items
+use Rattle.abc_voices_sections.specs.OwnItems.{is_own_after, own_from}
+use Rattle.abc_voices_sections.specs.Section.{is_step, part_from, voice_after}
+
+own_is : (voice current : List ℕ) (item : Item) → is_own_after voice (bytes_eq current voice) item ≡ bytes_eq (voice_after current item) voice
+own_is voice current (items.Number number) = refl
+own_is voice current (items.Tone tones length) = refl
+own_is voice current (items.Rest length bar) = refl
+own_is voice current (items.Bar line) = refl
+own_is voice current (items.Ending numbers) = refl
+own_is voice current (items.Section letter) = refl
+own_is voice current (items.Tempo opening micros out) = refl
+own_is voice current (items.Meter opening meter) = refl
+own_is voice current (items.Key opening key) = refl
+own_is voice current (items.Voice true name) = refl
+own_is voice current (items.Voice false name) = refl
+own_is voice current (items.Title text) = refl
+own_is voice current (items.Order text) = refl
+own_is voice current (items.Program opening number) = refl
+
+both : (a b : Bool) → (a && b) ≡ (b && a)
+both true true = refl
+both true false = refl
+both false true = refl
+both false false = refl
+
+pub part_owned : (voice current : List ℕ) (steps : List Item)
+    → own_from voice (bytes_eq current voice) steps ≡ part_from voice current steps
+part_owned voice current [] = refl
+part_owned voice current (step ∷ steps) =
+    let rest = own_from voice (is_own_after voice (bytes_eq current voice) step) steps in
+    let same : rest ≡ part_from voice (voice_after current step) steps =
+    ap (λ own. own_from voice own steps) (own_is voice current step) ∙ part_owned voice (voice_after current step) steps in
+    ap (λ b. if b then step ∷ rest else rest) (both (bytes_eq current voice) (is_step step))
+    ∙ ap (λ l. if is_step step && bytes_eq current voice then step ∷ l else l) same

@@ -1,0 +1,9 @@
+pub mod EndingFields
+pub mod Items
+pub mod OwnItems
+pub mod Play
+pub mod PlayedSection
+pub mod Section
+pub mod Stage
+pub mod Step
+pub mod Stretches

@@ -1,0 +1,83 @@
+//! Steps of the fold over the cells of a tune.
+
+use crate::report::{call, done};
+use abc_bars::BarFold;
+use abc_bars_body::Entry;
+use abc_bars_items::Items;
+use abc_fold::{Fold, Work};
+use abc_scan::{Cell, scan};
+use std::alloc::{AllocError, Global};
+use std::rt::Runtime;
+
+/// A line as one cell.
+pub fn cell(alloc: Global, line: &[u8], work: &mut Work) -> Result<Cell, AllocError> {
+    let tokens = scan(alloc, line, work)?;
+    Cell::new(alloc, tokens)
+}
+
+/// What a line gives, and the state after it.
+fn step(
+    alloc: Global,
+    entry: &Entry,
+    line: &[u8],
+    work: &mut Work,
+) -> Result<(Entry, Items), AllocError> {
+    let cell = cell(alloc, line, work)?;
+    BarFold.step(alloc, entry, &cell, work)
+}
+
+/// The state after lines of a tune.
+pub fn entry_after(alloc: Global, lines: &[&[u8]], work: &mut Work) -> Result<Entry, AllocError> {
+    let mut entry = Entry::tune(alloc, None);
+    for line in lines {
+        (entry, _) = step(alloc, &entry, line, work)?;
+    }
+    Ok(entry)
+}
+
+/// The state in a body with two voices, where accidentals reach their octaves.
+fn body(alloc: Global, work: &mut Work) -> Result<Entry, AllocError> {
+    let lines: [&[u8]; 6] = [
+        b"X:1",
+        b"%%propagate-accidentals octave",
+        b"V:1",
+        b"K:C",
+        b"V:2",
+        b"^D",
+    ];
+    entry_after(alloc, &lines, work)
+}
+
+/// What a cell gives there.
+fn step_items(
+    alloc: Global,
+    entry: &Entry,
+    cell: &Cell,
+    work: &mut Work,
+) -> Result<Items, AllocError> {
+    let (_, items) = BarFold.step(alloc, entry, cell, work)?;
+    Ok(items)
+}
+
+/// A rest, a note, a chord, three notes of a tuplet, two of a broken rhythm and a bar rest; the rest's length, a byte in
+/// the chord, the bar rest and the quotation mark are faults.
+pub fn bar_of_music<R: Runtime>(rt: &R, alloc: Global) -> Result<bool, AllocError> {
+    let mut work = Work::mint(rt);
+    let entry = body(alloc, &mut work)?;
+    let cell = cell(alloc, b"z0^C-[Cc-e17z]2(3def A>>B !f!Z\"", &mut work)?;
+    call(rt, "BarFold::step, all sorts of music");
+    let items = step_items(alloc, &entry, &cell, &mut work)?;
+    done(rt);
+    Ok(items.items().len() == 9 && items.faults().len() == 4)
+}
+
+/// A third voice.
+pub fn third_voice<R: Runtime>(rt: &R, alloc: Global) -> Result<bool, AllocError> {
+    let mut work = Work::mint(rt);
+    let entry = body(alloc, &mut work)?;
+    let cell = cell(alloc, b"V:3", &mut work)?;
+    call(rt, "BarFold::step, another voice");
+    let items = step_items(alloc, &entry, &cell, &mut work)?;
+    done(rt);
+    Ok(items.items().len() == 1 && items.faults().is_empty())
+}

@@ -1,0 +1,135 @@
+//! The parts of a session: a text with its chains, and a book.
+
+ghost use Rattle.std.specs.Prelude.{◌≡◌, IfOk};
+
+use abc_fields::FaultCode;
+use abc_fold::{Shared, Work};
+use abc_lines::EditError;
+use abc_live_index::{KeptBook, NewTunes, Output};
+use abc_live_text::{KeptText, read_rows};
+use abc_text::Sequence;
+use abc_tune::Built;
+use abc_tune_compiler::Fault;
+use live_examples::toy::Toy;
+use out_of_memory_layers::lines_of;
+use out_of_memory_layers::report::{call, done, silent};
+use std::alloc::{AllocError, Global};
+use std::rt::Runtime;
+
+/// Two lines in the toy language, each with what it is and its cells.
+pub fn read_lines<R: Runtime>(rt: &R, alloc: Global) -> Result<bool, AllocError> {
+    let mut work = Work::mint(rt);
+    let lines = lines_of(alloc, &[b"D:5", b"c"])?;
+    call(rt, "read_rows");
+    let rows = read_rows(alloc, &Toy, &lines, &mut work)?;
+    done(rt);
+    Ok(rows.len() == 2 && rows[1].cells().len() == 1)
+}
+
+/// A text without lines.
+pub fn empty_text(rt: &impl Runtime, alloc: Global) -> Result<bool, AllocError> {
+    call(rt, "KeptText::new");
+    let text = KeptText::new(alloc, Toy)?;
+    done(rt);
+    Ok(text.lines().len() == 0)
+}
+
+/// A tune of three lines in the toy language for it.
+pub fn edited_text<R: Runtime>(rt: &R, alloc: Global) -> Result<bool, AllocError> {
+    let mut work = Work::mint(rt);
+    let lines = lines_of(alloc, &[b"X:1", b"D:5", b"c"])?;
+    let mut text = KeptText::new(alloc, Toy)?;
+    call(rt, "KeptText::prepare");
+    match text.prepare(0, 0, &lines, &mut work) {
+        Ok(patch) => {
+            done(rt);
+            silent(rt, "KeptText::commit");
+            text.commit(patch);
+            done(rt);
+            Ok(text.lines().len() == 3)
+        }
+        Err(EditError::OutOfMemory) => Err(AllocError),
+        Err(_) => Ok(false),
+    }
+}
+
+/// The same tune, which is given up.
+pub fn dropped_text<R: Runtime>(rt: &R, alloc: Global) -> Result<bool, AllocError> {
+    let mut work = Work::mint(rt);
+    let lines = lines_of(alloc, &[b"X:1", b"D:5", b"c"])?;
+    let text = KeptText::new(alloc, Toy)?;
+    match text.prepare(0, 0, &lines, &mut work) {
+        Ok(patch) => {
+            silent(rt, "KeptPatch::drop_patch");
+            patch.drop_patch();
+            done(rt);
+            Ok(text.lines().len() == 0)
+        }
+        Err(EditError::OutOfMemory) => Err(AllocError),
+        Err(_) => Ok(false),
+    }
+}
+
+/// What a tune of the number 1 gives, with a file of one byte.
+fn output(alloc: Global) -> Result<Shared<Output>, AllocError> {
+    let built = Built {
+        bytes: Some(Shared::new(alloc, Sequence::from_slice(alloc, b"M")?)?),
+        faults: Shared::new(alloc, Sequence::new(alloc))?,
+    };
+    let output = Output {
+        number: 1,
+        title: Sequence::new(alloc),
+        built,
+        faulty: true,
+    };
+    Shared::new(alloc, output)
+}
+
+/// The fault of that tune.
+const FAULT: Fault = Fault {
+    line: 1,
+    column: 1,
+    code: FaultCode::BadLength,
+};
+
+/// That tune instead of none.
+fn new_tune(alloc: Global) -> Result<NewTunes, AllocError>
+    ensures front { IfOk result (λ tunes. tunes.front ≡ 0) }
+    ensures behind { IfOk result (λ tunes. tunes.behind ≡ 0) }
+{
+    let mut outputs = Vec::new(alloc);
+    outputs.push(output(alloc)?)?;
+    Ok(NewTunes {
+        front: 0,
+        behind: 0,
+        outputs,
+        faults: Vec::from_slice(alloc, &[FAULT])?,
+        from: 0,
+        gone: 0,
+        came: 1,
+    })
+}
+
+/// That tune for a book of none.
+pub fn edited_book(rt: &impl Runtime, alloc: Global) -> Result<bool, AllocError> {
+    let tune = new_tune(alloc)?;
+    let mut book = KeptBook::new(alloc)?;
+    call(rt, "KeptBook::prepare");
+    let patch = book.prepare(alloc, tune)?;
+    done(rt);
+    silent(rt, "KeptBook::commit");
+    let report = book.commit(patch);
+    done(rt);
+    Ok(report.written.as_slice() == [1].as_slice() && book.faults().len() == 1)
+}
+
+/// The same tune, which is given up.
+pub fn dropped_book(rt: &impl Runtime, alloc: Global) -> Result<bool, AllocError> {
+    let tune = new_tune(alloc)?;
+    let book = KeptBook::new(alloc)?;
+    let patch = book.prepare(alloc, tune)?;
+    silent(rt, "BookPatch::drop_patch");
+    patch.drop_patch();
+    done(rt);
+    Ok(book.faults().is_empty())
+}

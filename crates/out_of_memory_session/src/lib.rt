@@ -1,0 +1,12 @@
+//! Calls of whole tunes, chains, the book and the session that allocate, each by itself; `out_of_memory_layers` has
+//! those of the lower layers. Each has its arguments and its expected result. Generic calls use the toy language.
+#![tactic(auto)]
+
+mod books;
+mod calls;
+mod chains;
+mod outputs;
+mod sessions;
+mod tunes;
+
+pub use calls::{CALLS, Call};

@@ -1,8 +1,0 @@
-use Rattle.std.proofs.Common.{All}
-use Rattle.abc_cells.specs.SameEntry.{bar_steps}
-use Rattle.abc_fold.specs.Piece.{IsKept}
-use Rattle.session_examples.proofs.bar_chains.tune.Given as goal
-
--- nothing is kept yet
-abbrev pub invariant-loop-line : goal.invariant-loop-line
-invariant-loop-line g l = All (IsKept bar_steps) l.pieces.items

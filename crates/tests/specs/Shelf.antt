@@ -1,0 +1,14 @@
+-- A store as what was put and removed. Not in ABC 2.1.
+use Rattle.std.specs.Prelude.{ℕ, List, [], ◌∷◌, Option, Some, None}
+use Rattle.std.specs.FinMap.{empty, insert, remove}
+use Rattle.abc2midi_live.specs.Streams.{Contents}
+
+-- contents, with these bytes under a name, or without it
+abbrev pub changed : Contents → List ℕ → Option (List ℕ) → Contents
+changed contents name None = remove contents name
+changed contents name (Some bytes) = insert contents name bytes
+
+-- what is contained after changes, the newest of which stands first
+abbrev pub contents_of : List (List ℕ × Option (List ℕ)) → Contents
+contents_of [] = empty
+contents_of (change ∷ older) = changed (contents_of older) change.0 change.1

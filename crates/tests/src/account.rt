@@ -1,0 +1,121 @@
+//! A plain account of what is to be seen of a publisher on two tunes, by their versions.
+
+/// A version of a tune: none, with `C`, with `D`; and of a file that is unknown.
+#[derive(Clone, Copy, PartialEq)]
+pub enum Version {
+    Absent,
+    WithC,
+    WithD,
+    Unknown,
+}
+
+/// The account of one number: what the book has, what the directory holds, and what a job carries.
+#[derive(Clone, Copy)]
+pub struct Side {
+    pub book: Version,
+    stored: Version,
+    carried: Option<Version>,
+}
+
+impl Side {
+    pub fn is_pending(self) -> bool {
+        self.stored != self.book
+    }
+
+    fn is_wanted(self) -> bool {
+        self.is_pending() && self.carried.is_none()
+    }
+
+    fn is_settled(self) -> bool {
+        !self.is_pending() && self.carried.is_none()
+    }
+
+    fn edited(self) -> Side {
+        let book = match self.book {
+            Version::Absent => Version::WithC,
+            Version::WithC => Version::WithD,
+            _ => Version::Absent,
+        };
+        Side { book, ..self }
+    }
+
+    fn taken(self) -> Side {
+        Side {
+            carried: Some(self.book),
+            ..self
+        }
+    }
+
+    fn ended(self, done: bool) -> Side {
+        let stored = match self.carried {
+            Some(carried) if done => carried,
+            _ => Version::Unknown,
+        };
+        Side {
+            stored,
+            carried: None,
+            ..self
+        }
+    }
+}
+
+/// A tune that is there, and nothing is written.
+const NEW: Side = Side {
+    book: Version::WithC,
+    stored: Version::Absent,
+    carried: None,
+};
+
+/// The account of both numbers.
+#[derive(Clone, Copy)]
+pub struct Account {
+    pub first: Side,
+    pub second: Side,
+}
+
+/// Both tunes are there, and nothing is written.
+pub const OPENING: Account = Account {
+    first: NEW,
+    second: NEW,
+};
+
+impl Account {
+    /// After an edit of a tune, which goes from none to `C` to `D` to none.
+    pub fn edited(self, number: u32) -> Account {
+        if number == 1 {
+            let first = self.first.edited();
+            Account { first, ..self }
+        } else {
+            let second = self.second.edited();
+            Account { second, ..self }
+        }
+    }
+
+    /// After the end of a number's job.
+    pub fn ended(self, number: u32, done: bool) -> Account {
+        if number == 1 {
+            let first = self.first.ended(done);
+            Account { first, ..self }
+        } else {
+            let second = self.second.ended(done);
+            Account { second, ..self }
+        }
+    }
+
+    /// The number of the next job and what it carries, and the account after it.
+    pub fn taken(self) -> (Option<(u32, Version)>, Account) {
+        if self.first.is_wanted() {
+            let first = self.first.taken();
+            return (Some((1, first.book)), Account { first, ..self });
+        }
+        if self.second.is_wanted() {
+            let second = self.second.taken();
+            return (Some((2, second.book)), Account { second, ..self });
+        }
+        (None, self)
+    }
+
+    pub fn is_settled(self) -> bool {
+        self.first.is_settled() && self.second.is_settled()
+    }
+}

@@ -1,0 +1,56 @@
+//! The tests: each calls public functions with ample memory, whose results no clause promises. They are in one crate,
+//! since each crate with tests reads and compiles all that these call. `gap_lists` has lists with a gap,
+//! `counted_chains` and `bar_chains` chains of a fold, `plays` a play that is written out, `sessions` a session, and
+//! one over a compiler of its own, `publishing` and `orders` a publisher on a session that is edited, `runs` streams
+//! and stores that fail, `readers` a reader that fails once, `memos` a memo of tunes in the toy language. The modules
+//! `refused_..` tell what `scripts/refused_calls` is to refuse memory, call by call; calls below edits, runs and jobs
+//! are made in the crates `out_of_memory_layers` and `out_of_memory_session`. What commands can show is in
+//! `tests/transcripts`. Expected values are worked by hand from the rules in `docs/protocol.md`.
+#![tactic(auto)]
+
+#[cfg(test)]
+mod account;
+#[cfg(test)]
+mod alike;
+#[cfg(test)]
+mod bar_chains;
+#[cfg(test)]
+mod costs;
+#[cfg(test)]
+mod counted_chains;
+#[cfg(test)]
+mod failing;
+#[cfg(test)]
+mod gap_lists;
+#[cfg(test)]
+mod kept_runs;
+#[cfg(test)]
+mod memos;
+#[cfg(test)]
+mod orders;
+#[cfg(test)]
+mod plays;
+#[cfg(test)]
+mod publishing;
+#[cfg(test)]
+mod readers;
+#[cfg(test)]
+mod refused_below;
+#[cfg(test)]
+mod refused_edits;
+#[cfg(test)]
+mod refused_jobs;
+#[cfg(test)]
+mod refused_runs;
+#[cfg(test)]
+mod runs;
+#[cfg(test)]
+mod sessions;
+#[cfg(test)]
+mod shelf;
+#[cfg(test)]
+mod streams;
+#[cfg(test)]
+mod taken;
+#[cfg(test)]
+mod texts;

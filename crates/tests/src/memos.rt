@@ -1,0 +1,100 @@
+//! The memo of built tunes: what is built once, and what is built again.
+
+ghost use Rattle.std.specs.Prelude.{◌≡◌, true};
+ghost use Rattle.abc_lines.specs.Text.{is_line};
+
+use abc_fold::Work;
+use live_examples::memo::ToyMemo;
+use std::alloc::Global;
+use std::process::Abort;
+
+/// The line of a number below 100.
+fn line_of(number: u8) -> [u8; 3]
+    ensures { is_line result ≡ true }
+{
+    [b'c', b'0' + number / 10 % 10, b'0' + number % 10]
+}
+
+/// Whether a memo gives the file of a tune of this line after a file header that sets this byte; nothing where it finds
+/// no memory.
+fn answered(
+    alloc: Global,
+    memo: &mut ToyMemo,
+    byte: u8,
+    number: u8,
+    work: &mut Work,
+) -> Option<bool> {
+    let line = line_of(number);
+    let built = memo.ask(alloc, byte, &line, work).ok()?;
+    let file = [byte, line[0], line[1], line[2]];
+    match &built.bytes {
+        Some(bytes) => Some(bytes.get().as_slice() == file.as_slice()),
+        None => Some(false),
+    }
+}
+
+/// The same without a refused request.
+fn gives(
+    rt: &impl Abort,
+    alloc: Global,
+    memo: &mut ToyMemo,
+    byte: u8,
+    number: u8,
+    work: &mut Work,
+) -> bool {
+    answered(alloc, memo, byte, number, work).expect(rt, "there is memory")
+}
+
+#[test]
+fn a_tune_is_built_once(rt: HostRuntime) {
+    let alloc = rt.alloc();
+    let mut memo = ToyMemo::new(alloc).expect(&rt, "there is memory");
+    let mut work = Work::mint(&rt);
+    assert!(rt; gives(&rt, alloc, &mut memo, b'0', 1, &mut work) && work.built() == 1);
+    assert!(rt; gives(&rt, alloc, &mut memo, b'0', 2, &mut work) && work.built() == 2);
+    assert!(rt; gives(&rt, alloc, &mut memo, b'0', 1, &mut work) && work.built() == 2);
+}
+
+#[test]
+fn the_same_bytes_under_other_defaults_are_built_too(rt: HostRuntime) {
+    let alloc = rt.alloc();
+    let mut memo = ToyMemo::new(alloc).expect(&rt, "there is memory");
+    let mut work = Work::mint(&rt);
+    assert!(rt; gives(&rt, alloc, &mut memo, b'0', 1, &mut work) && work.built() == 1);
+    assert!(rt; gives(&rt, alloc, &mut memo, b'1', 1, &mut work) && work.built() == 2);
+    assert!(rt; gives(&rt, alloc, &mut memo, b'0', 1, &mut work) && work.built() == 2);
+}
+
+// Of 65 tunes the one that was asked for longest ago goes.
+#[test]
+fn the_tune_last_asked_for_stays(rt: HostRuntime) {
+    let alloc = rt.alloc();
+    let mut memo = ToyMemo::new(alloc).expect(&rt, "there is memory");
+    let mut work = Work::mint(&rt);
+    for number in 1..65 {
+        assert!(rt; gives(&rt, alloc, &mut memo, b'0', number, &mut work));
+    }
+    assert!(rt; gives(&rt, alloc, &mut memo, b'0', 1, &mut work) && work.built() == 64);
+    assert!(rt; gives(&rt, alloc, &mut memo, b'0', 65, &mut work) && work.built() == 65);
+    assert!(rt; gives(&rt, alloc, &mut memo, b'0', 1, &mut work) && work.built() == 65);
+    assert!(rt; gives(&rt, alloc, &mut memo, b'0', 3, &mut work) && work.built() == 65);
+    assert!(rt; gives(&rt, alloc, &mut memo, b'0', 2, &mut work) && work.built() == 66);
+}
+
+// One request for memory is refused by `rt try --test --fail-alloc N`: then no answer is a wrong one, of any two calls one
+// has an answer, and the tune is built twice at most.
+#[test]
+fn no_answer_hangs_on_memory(rt: HostRuntime) {
+    let alloc = rt.alloc();
+    let Ok(mut memo) = ToyMemo::new(alloc) else {
+        return;
+    };
+    let mut work = Work::mint(&rt);
+    let first = answered(alloc, &mut memo, b'0', 1, &mut work);
+    let second = answered(alloc, &mut memo, b'0', 1, &mut work);
+    let third = answered(alloc, &mut memo, b'0', 1, &mut work);
+    assert!(rt; first.unwrap_or(true) && second.unwrap_or(true) && third.unwrap_or(true));
+    assert!(rt; first.is_some() || second.is_some() && third.is_some());
+    assert!(rt; second.is_some() || third.is_some());
+    assert!(rt; work.built() <= 2);
+}
