@@ -5,7 +5,7 @@ use Rattle.std.specs.Global.{Vec}
 use Rattle.std.proofs.lemmas.List.{map-append}
 use Rattle.std.proofs.lemmas.List.Splits.{slice_split_at, slice_split_none}
 use Rattle.abc_lines.specs.Text.{text_of}
-use Rattle.abc_text.specs.Cut.{Without}
+use Rattle.abc_text.specs.Cut.{HasNoByte}
 use Rattle.c_library.specs.Lines.{lines_in, whole_lines}
 
 abbrev is_feed : ℕ → Bool
@@ -16,7 +16,7 @@ not_true true e = cc
 not_true false e = refl
 
 -- no byte of a line is a line feed
-pub clean : (line : List ℕ) → Without 10 line → All (λ byte. is_feed byte ≡ false) line
+pub clean : (line : List ℕ) → HasNoByte 10 line → All (λ byte. is_feed byte ≡ false) line
 clean line without = λ k d below. not_true _ (without k d below)
 
 some_parts : (b : Bool) (x : ℕ) (parts : List (List ℕ)) → cond b ([] ∷ parts) (onto_first x parts) ≢ []
@@ -33,7 +33,7 @@ whole_lines-more line [] some = absurd (some refl)
 whole_lines-more line (next ∷ more) some = refl
 
 -- a line with its line feed, and the lines after it
-pub lines_in-more : (bytes line rest : List ℕ) → Without 10 line → bytes ≡ line ++ 10 ∷ rest → lines_in bytes ≡ line ∷ lines_in rest
+pub lines_in-more : (bytes line rest : List ℕ) → HasNoByte 10 line → bytes ≡ line ++ 10 ∷ rest → lines_in bytes ≡ line ∷ lines_in rest
 unfolding lines_in
 lines_in-more bytes line rest without e =
     ap lines_in e
@@ -41,7 +41,7 @@ lines_in-more bytes line rest without e =
     ∙ whole_lines-more line (slice_split is_feed rest) (split_some rest)
 
 -- the last line
-pub lines_in-last : (bytes : List ℕ) → Without 10 bytes → lines_in bytes ≡ whole_lines (bytes ∷ [])
+pub lines_in-last : (bytes : List ℕ) → HasNoByte 10 bytes → lines_in bytes ≡ whole_lines (bytes ∷ [])
 unfolding lines_in
 lines_in-last bytes without = ap whole_lines (slice_split_none is_feed bytes (clean bytes without))
 

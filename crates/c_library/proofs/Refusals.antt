@@ -1,5 +1,6 @@
 -- Laws of lines that cannot be in a text.
-use Rattle.std.proofs.Common.{◌≡◌, ◌≢◌, ℕ, ◌+◌, ◌-◌, ◌<◌, ◌≤◌, ◌&&◌, ◌==◌, Bool, true, false, not, cond, nat_le, List, [], ◌∷◌, ◌++◌, Option, Some, None, Ok, Err, inl, inr, length, take, drop, refl, sym, ap, ap₂, ◌∙◌, subst, arith, length-append, length-take}
+use Rattle.std.proofs.Common.{◌≡◌, ◌≢◌, ℕ, ◌+◌, ◌-◌, ◌<◌, ◌≤◌, ◌&&◌, ◌==◌, Bool, true, false, not, cond, nat_le, List, [], ◌∷◌, ◌++◌}
+use Rattle.std.proofs.Common.{Option, Some, None, Ok, Err, inl, inr, length, take, drop, refl, sym, ap, ap₂, ◌∙◌, subst, arith, length-append, length-take}
 use Rattle.std.specs.Option.{unwrap_or}
 use Rattle.std.specs.Prelude.{◌⊎◌}
 use Rattle.std.proofs.lemmas.List.{length-drop}
@@ -11,12 +12,12 @@ use Rattle.abc_lines.specs.Edits.{Refuses, edited, insertion, replaced, replacem
 use Rattle.abc_lines.specs.Text.{Splice, Text, is_line, spliced}
 use Rattle.abc_lines.specs.declared.edit_error.EditError.{EditError}
 use Rattle.abc_lines.specs.declared.edit_error.EditError.TheVariants.{BadLine, BadRange, OutOfMemory, TooLarge}
-use Rattle.abc_text.specs.Cut.{Without}
+use Rattle.abc_text.specs.Cut.{HasNoByte}
 use Rattle.c_library.specs.Lines.{whole_lines}
 use Rattle.c_library.specs.Refusal.{refused}
 use Rattle.c_library.proofs.LinesIn.{clean}
 
-short_line : (line : List ℕ) → Without 10 line → length line ≤ LONGEST_LINE → is_line line ≡ true
+short_line : (line : List ℕ) → HasNoByte 10 line → length line ≤ LONGEST_LINE → is_line line ≡ true
 short_line line without short =
     let fits : nat_le (length line) LONGEST_LINE ≡ true = grind (arith, nat_tests) in
     ap₂ (λ a b. a && not b) fits (list_any_none (λ b. b == 10) line (clean line without))
@@ -41,7 +42,7 @@ refused_long count line long =
     let some : 0 < length line = omega arith in
     ap (judged count) (last_line line some) ∙ ap (λ b. refused (b && true) (count + 1)) (long_line line long)
 
-pub refused_short : (count : ℕ) (line : List ℕ) → Without 10 line → 0 < length line → length line ≤ LONGEST_LINE
+pub refused_short : (count : ℕ) (line : List ℕ) → HasNoByte 10 line → 0 < length line → length line ≤ LONGEST_LINE
     → refused (list_all is_line (whole_lines (line ∷ []))) (count + length (whole_lines (line ∷ []))) ≡ refused true (count + 1)
 unfolding judged
 refused_short count line without some short =
@@ -53,7 +54,7 @@ unfolding refused judged
 refused_first_long count line more lines e long =
     ap (judged count) e ∙ ap (λ b. refused (b && list_all is_line more) (count + length (line ∷ more))) (long_line line long)
 
-pub refused_first_short : (count : ℕ) (line : List ℕ) (more lines : Text) → lines ≡ line ∷ more → Without 10 line → length line ≤ LONGEST_LINE
+pub refused_first_short : (count : ℕ) (line : List ℕ) (more lines : Text) → lines ≡ line ∷ more → HasNoByte 10 line → length line ≤ LONGEST_LINE
     → refused (list_all is_line lines) (count + length lines) ≡ refused (list_all is_line more) (count + 1 + length more)
 unfolding judged
 refused_first_short count line more lines e without short =
@@ -70,7 +71,8 @@ outside text s beyond =
     ap (λ b. cond (not b) (Err BadRange) (cond (not (list_all is_line s.lines)) (Err BadLine) (cond (not (nat_le (length (spliced text s)) MOST_LINES)) (Err TooLarge) (Ok (spliced text s))))) fails
 
 -- the reason by the two tests
-by_tests : (proper few : Bool) (text : Text) → Refuses (unwrap_or (cond (not proper) (Some BadLine) (cond (not few) (Some TooLarge) None)) OutOfMemory) (cond (not proper) (Err BadLine) (cond (not few) (Err TooLarge) (Ok text)))
+by_tests : (proper few : Bool) (text : Text)
+    → Refuses (unwrap_or (cond (not proper) (Some BadLine) (cond (not few) (Some TooLarge) None)) OutOfMemory) (cond (not proper) (Err BadLine) (cond (not few) (Err TooLarge) (Ok text)))
 by_tests false few text = inl refl
 by_tests true false text = inl refl
 by_tests true true text = inr (refl, refl)

@@ -35,7 +35,8 @@ pub record HasText (before : OpenSession) (wanted : Text) (after : OpenSession) 
 
 -- The text after an edit is that of the session, unless an allocation fails. An edit that is refused leaves the session as it was.
 abbrev pub EditsBy : Result Text EditError → OpenSession → ℕ → OpenSession → Type 0
-EditsBy (Ok text) before code after = ((code ≡ CODE_OK) × HasText before text after) ⊎ ((code ≡ CODE_OUT_OF_MEMORY) × (after ≡ before))
+EditsBy (Ok text) before code after =
+    ((code ≡ CODE_OK) × HasText before text after) ⊎ ((code ≡ CODE_OUT_OF_MEMORY) × (after ≡ before))
 EditsBy (Err error) before code after = (code ≡ code_of error) × (after ≡ before)
 
 -- A session is edited.

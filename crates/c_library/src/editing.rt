@@ -19,7 +19,7 @@ use std::alloc::Global;
 
 /// Edits the text of a session, and keeps the report.
 fn edit_session(held: &mut OpenSession, edit: &Edit, work: &mut Work) -> u32
-    ensures edited { Edits (splice_of edit.now) held.old result held.new }
+    ensures value { Edits (splice_of edit.now) held.old result held.new }
     ensures counted { MayCost (cost_of steps_of_abc rules_of_abc held.old.session.text (splice_of edit.now)) work.old work.new }
 {
     match held.session.apply(edit, work) {
@@ -33,7 +33,7 @@ fn edit_session(held: &mut OpenSession, edit: &Edit, work: &mut Work) -> u32
 
 /// Edits the text of the session in a slot.
 fn edit_slot(alloc: Global, slot: &mut SessionSlot, edit: &Edit, work: &mut Work) -> u32
-    ensures edited { EditsSlot (splice_of edit.now) (session_in slot.old) result (session_in slot.new) }
+    ensures value { EditsSlot (splice_of edit.now) (session_in slot.old) result (session_in slot.new) }
     ensures counted { CostsSlot (splice_of edit.now) (session_in slot.old) work.old work.new }
 {
     match slot.take(alloc) {
@@ -56,7 +56,7 @@ pub extern "C" fn abc_live_insert(
     text: &[u8],
     work: &mut Work,
 ) -> u32
-    ensures edited { EditsSlot (insertion at (lines_in text.now)) (session_in slot.old) result (session_in slot.new) }
+    ensures value { EditsSlot (insertion at (lines_in text.now)) (session_in slot.old) result (session_in slot.new) }
     ensures counted { CostsSlot (insertion at (lines_in text.now)) (session_in slot.old) work.old work.new }
 {
     match lines_of(alloc, text) {
@@ -76,7 +76,7 @@ pub extern "C" fn abc_live_replace(
     text: &[u8],
     work: &mut Work,
 ) -> u32
-    ensures edited { EditsSlot (replacement from to (lines_in text.now)) (session_in slot.old) result (session_in slot.new) }
+    ensures value { EditsSlot (replacement from to (lines_in text.now)) (session_in slot.old) result (session_in slot.new) }
     ensures counted { CostsSlot (replacement from to (lines_in text.now)) (session_in slot.old) work.old work.new }
 {
     match lines_of(alloc, text) {
@@ -94,7 +94,7 @@ pub extern "C" fn abc_live_delete(
     to: u32,
     work: &mut Work,
 ) -> u32
-    ensures edited { EditsSlot (deletion from to) (session_in slot.old) result (session_in slot.new) }
+    ensures value { EditsSlot (deletion from to) (session_in slot.old) result (session_in slot.new) }
     ensures counted { CostsSlot (deletion from to) (session_in slot.old) work.old work.new }
 {
     edit_slot(alloc, slot, &Edit::Delete { from, to }, work)

@@ -27,7 +27,7 @@ fn fresh(alloc: Global) -> Result<Box<OpenSession>, AllocError>
 /// Opens a session without lines in a slot that holds none.
 #[unsafe(no_mangle)]
 pub extern "C" fn abc_live_open(alloc: Global, slot: &mut SessionSlot) -> u32
-    ensures opened { IsOpened (session_in slot.old) result (session_in slot.new) }
+    ensures value { IsOpened (session_in slot.old) result (session_in slot.new) }
 {
     if slot.state == OPEN {
         return CODE_MISUSED;

@@ -4,7 +4,7 @@ ghost use Rattle.std.specs.Prelude.{◌≡◌, ◌≤◌, true, ◌∷◌, [], �
 ghost use Rattle.std.specs.List.{list_all};
 ghost use Rattle.abc_lines.specs.Text.{Splice, is_line};
 ghost use Rattle.abc_lines.specs.Edits.{Refuses, edited, insertion, replaced, replacement};
-ghost use Rattle.abc_text.specs.Cut.{Without};
+ghost use Rattle.abc_text.specs.Cut.{HasNoByte};
 ghost use Rattle.c_handle.specs.Slot.{session_in};
 ghost use Rattle.c_library.specs.Lines.{lines_in, whole_lines};
 ghost use Rattle.c_library.specs.Refusal.{refused};
@@ -31,7 +31,7 @@ fn fault_of_count(count: usize) -> Option<EditError>
 
 /// Why a last line without a line feed is refused after these lines, if it is.
 fn fault_of_last(count: usize, last: &[u8]) -> Option<EditError>
-    requires clean { Without 10 last.now }
+    requires clean { HasNoByte 10 last.now }
     requires room { count + 1 < 2 ^ 64 }
     ensures value { let lines = whole_lines (last.now ∷ []) in result ≡ refused (list_all is_line lines) (count + length lines) }
 {

@@ -40,7 +40,8 @@ fn copy_title(
     bytes: &mut [u8],
     count: &mut usize,
 ) -> u32
-    ensures value { (result, count.new, bytes.new) ≡ found (option_map (λ title. title.text) (slice_get titles.now index)) bytes.old }
+    ensures value { (result, count.new, bytes.new) ≡ found (option_map (λ title. title.text)
+        (slice_get titles.now index)) bytes.old }
     ensures number { number.new ≡ unwrap_or (option_map (λ title. title.number) (slice_get titles.now index)) 0 }
 {
     match titles.get(index) {
