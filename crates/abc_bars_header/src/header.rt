@@ -30,10 +30,21 @@ use std::alloc::{AllocError, Global};
 
 /// The state at a place of a tune's header: the values so far, else the file header's, and the declared voices, each with
 /// the parts of its shift that are set.
-#[derive(Clone, Drop)]
+#[derive(Drop)]
 pub struct Header {
     pub defaults: Defaults,
     pub voices: Voices<Shift>,
+}
+
+impl Clone for Header {
+    ghost is_clone = { λ header copy. copy ≡ header };
+
+    fn clone(&self) -> Result<Header, AllocError> {
+        Ok(Header {
+            defaults: self.defaults,
+            voices: self.voices.clone()?,
+        })
+    }
 }
 
 /// The result of a line of a header.

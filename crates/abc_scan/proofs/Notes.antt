@@ -143,7 +143,7 @@ plain_read b rest num size note is marks long written =
     record { byte = b; rest = rest; spelling = refl; letter = own; is_read = read ∙ ap (λ n. Some (n, 1 + size)) (sym is.plain) }
 
 pub letter_alone : (b : ℕ) (rest : List ℕ) (note : Note) → IsPlain b 1 note → ends_letter rest ≡ true → IsShort (b ∷ rest) (note, 1)
-letter_alone b rest note is ends = let unmatched = alone_before rest ends in plain_read b rest 1 0 note is alone.marks alone.size alone.value
+letter_alone b rest note is ends = let alone = alone_before rest ends in plain_read b rest 1 0 note is alone.marks alone.size alone.value
 
 pub letter_digit : (b d : ℕ) (rest : List ℕ) (note : Note) → IsPlain b (d - 48) note → is_factor d ≡ true → begins_length rest ≡ false → IsShort (b ∷ d ∷ rest) (note, 2)
 letter_digit b d rest note is factor none =

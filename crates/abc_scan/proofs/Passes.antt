@@ -53,12 +53,12 @@ more_bits IsPass bits range are order = record {
   bounded = or_lt 32 bits (range_bits range) are.bounded (mask_bounded range order);
   set = λ pass some.
       let mask = range_bits range in
-      let join_cells = bit_at_or bits mask (pass - 1) in
+      let joined = bit_at_or bits mask (pass - 1) in
       let one = either (bit_at bits (pass - 1)) (bit_at mask (pass - 1)) (bit_at-lt bits (pass - 1)) (bit_at-lt mask (pass - 1)) in
       let old = are.set pass some in
       let new = mask_set range pass order some in (
-        λ e. ⊎_elim (λ a. inl (old.0 a)) (λ b. inr (new.0 b)) (one.0 (sym join_cells ∙ e)),
-        λ h. join_cells ∙ one.1 (⊎_elim (λ a. inl (old.1 a)) (λ b. inr (new.1 b)) h),
+        λ e. ⊎_elim (λ a. inl (old.0 a)) (λ b. inr (new.0 b)) (one.0 (sym joined ∙ e)),
+        λ h. joined ∙ one.1 (⊎_elim (λ a. inl (old.1 a)) (λ b. inr (new.1 b)) h),
       );
 }
 

@@ -106,7 +106,7 @@ token-alone (b ∷ bs) = byte-alone b
 -- of every cutting
 pub record Laid (at : ℕ) (tokens : List (Spanned TokenKind)) (end len : ℕ) : Type 0 where
   pub spans : All (IsSpan len) tokens
-  pub join_cells : JoinFromTo at tokens end
+  pub joined : JoinFromTo at tokens end
   pub lengths : All (λ t. HasLength t.kind) tokens
 
 laid_cut : (after_bar : Bool) (at : ℕ) (text : List ℕ) (tokens : List (Spanned TokenKind)) (len : ℕ) → IsCuttingFrom line_grammar after_bar at text tokens → at + length text ≤ len
@@ -144,19 +144,19 @@ directive-laid text len is fits =
     let some : 0 < length text = omega (arith, ap length first.1) in
     subst (λ o. Laid 0 (directive_token o (length text)) (length text) len) (sym (directive-read text is.0 is.1)) (record {
       spans = All-cons (IsSpan len) _ [] (some, fits) (All-nil (IsSpan len));
-      join_cells = (refl, refl);
+      joined = (refl, refl);
       lengths = All-cons (λ t. HasLength t.kind) _ [] tt (All-nil (λ t. HasLength t.kind));
     })
 
 laid_in : (line : List ℕ) (class : LineClass) → class_of line ≡ class → Laid 0 (tokens_in class (without_return line)) (covered_in class (without_return line)) (length line)
-laid_in line classes.Blank e = record { spans = All-nil (IsSpan (length line)); join_cells = refl; lengths = All-nil (λ t. HasLength t.kind) }
-laid_in line classes.Comment e = record { spans = All-nil (IsSpan (length line)); join_cells = refl; lengths = All-nil (λ t. HasLength t.kind) }
+laid_in line classes.Blank e = record { spans = All-nil (IsSpan (length line)); joined = refl; lengths = All-nil (λ t. HasLength t.kind) }
+laid_in line classes.Comment e = record { spans = All-nil (IsSpan (length line)); joined = refl; lengths = All-nil (λ t. HasLength t.kind) }
 laid_in line (classes.Field letter) e =
     let field = ((laws (without_return line) (class_of line) refl).field letter).0 e in
     let some = field_some (without_return line) letter field in
     record {
       spans = All-cons (IsSpan (length line)) _ [] (some, read-le line) (All-nil (IsSpan (length line)));
-      join_cells = (refl, refl);
+      joined = (refl, refl);
       lengths = All-cons (λ t. HasLength t.kind) _ [] tt (All-nil (λ t. HasLength t.kind));
     }
 laid_in line classes.Directive e =
@@ -169,7 +169,7 @@ laid_in line classes.Music e =
     let l = laid_cut false 0 text (cutting_of text) (length line) is (omega (arith, short)) in
     record {
       spans = l.0;
-      join_cells = subst (JoinFromTo 0 (cutting_of text)) sum l.1;
+      joined = subst (JoinFromTo 0 (cutting_of text)) sum l.1;
       lengths = cut-all line_kinds Spells HasLength token-range token-alone false 0 text (cutting_of text) is;
     }
 

@@ -7,6 +7,7 @@ use std::rt::Runtime;
 
 /// A call, by the name of the function that makes it.
 pub enum Call {
+    RoomForPieces,
     Piece,
     FollowingPiece,
     KeptPiece,
@@ -35,7 +36,8 @@ pub enum Call {
 }
 
 /// All of them.
-pub const CALLS: [Call; 25] = [
+pub const CALLS: [Call; 26] = [
+    Call::RoomForPieces,
     Call::Piece,
     Call::FollowingPiece,
     Call::KeptPiece,
@@ -66,6 +68,7 @@ pub const CALLS: [Call; 25] = [
 impl Trial for Call {
     fn attempt<R: Runtime>(&self, rt: &R, alloc: Global) -> Result<bool, AllocError> {
         match self {
+            Call::RoomForPieces => chains::room_for_pieces(rt, alloc),
             Call::Piece => chains::piece(rt, alloc),
             Call::FollowingPiece => chains::following_piece(rt, alloc),
             Call::KeptPiece => chains::kept_piece(rt, alloc),

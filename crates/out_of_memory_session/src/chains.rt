@@ -48,6 +48,15 @@ fn chain(alloc: Global, work: &mut Work) -> Result<Chain<Toy>, AllocError>
     chain_of(alloc, b"D:5", b"c", work)
 }
 
+/// Room for two pieces, and one of them.
+pub fn room_for_pieces(rt: &impl Runtime, alloc: Global) -> Result<bool, AllocError> {
+    call(rt, "Pieces::with_room");
+    let mut pieces: Pieces<Toy> = Pieces::with_room(alloc, 2)?;
+    done(rt);
+    pieces.push(Piece::New(Sequence::new(alloc)))?;
+    Ok(pieces.as_slice().len() == 1)
+}
+
 /// An empty cell, which allocates nothing itself.
 pub fn piece(rt: &impl Runtime, alloc: Global) -> Result<bool, AllocError> {
     let mut pieces: Pieces<Toy> = Pieces::new(alloc);

@@ -227,8 +227,8 @@ module _ (values : Defaults) (fields : List HeaderLine) (key : Key) (before : Li
   here-there : here body ≡ voice_state_at there.opening there.before
   here-there = here_found values fields key before
 
-  here-mentioned : here (after_mention body) ≡ voice_state_at there.opening there.before
-  here-mentioned = after_mention-in body body.current ∙ here-there
+  here-after_mention : here (after_mention body) ≡ voice_state_at there.opening there.before
+  here-after_mention = after_mention-in body body.current ∙ here-there
 
   here-by-chord : (b : Bool) → here (after_chord_mention b body) ≡ voice_state_at there.opening there.before
   here-by-chord true = here-after_mention

@@ -184,8 +184,8 @@ module _ (place : CellPlace) (now : List Element) (is : now ≡ before_place pla
   here-there : here body ≡ state_there place
   here-there = ap (λ l. here (body_at (opening place) l)) is ∙ here_found place.values place.fields place.key (before_place place)
 
-  here-mentioned : here (after_mention body) ≡ state_there place
-  here-mentioned = after_mention-in body body.current ∙ here-there
+  here-after_mention : here (after_mention body) ≡ state_there place
+  here-after_mention = after_mention-in body body.current ∙ here-there
 
   here-by-chord : (b : Bool) → here (after_chord_mention b body) ≡ state_there place
   here-by-chord true = here-after_mention

@@ -190,7 +190,7 @@ of-order : (header : Header) (value : List ℕ) (order : Result (Unit {0}) Fault
 of-order header value (Ok reading) = refl
 of-order header value (Err fault) = refl
 
-of-declared : (header : Header) (name : List ℕ) (voices : List (List ℕ × Shift)) (fault : Option FaultCode)
+of-declare : (header : Header) (name : List ℕ) (voices : List (List ℕ × Shift)) (fault : Option FaultCode)
     → Later (option_to_list (declare_result header name (voices, fault)).item) ≡ []
 of-declare header name voices None = refl
 of-declare header name voices (Some fault) = refl

@@ -44,7 +44,7 @@ same-here names (Some place) placed known unnamed another =
     (sym (ap (λ (o : Option VoiceState). unwrap_or o another) (at-by known names place placed))))
     ∙ sym (cond-true _ _ _ there)
 
-same-mentioned : (names : List (List ℕ)) (current : Option ℕ) → IsPlaced names current → (known : ℕ → VoiceState) (unnamed another : VoiceState)
+same-after_mention : (names : List (List ℕ)) (current : Option ℕ) → IsPlaced names current → (known : ℕ → VoiceState) (unnamed another : VoiceState)
     → after_mention (held names current known unnamed another)
     ≡ with_here (after_mention (held names current known unnamed another)) (here (after_mention (held names current known unnamed another)))
 same-after_mention names None placed known unnamed another = refl

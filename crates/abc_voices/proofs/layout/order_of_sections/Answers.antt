@@ -13,18 +13,18 @@ pub returns-in-Ok-clause-few : goal.returns-in-Ok-clause-few
 returns-in-Ok-clause-few c =
     let same = same_length _ _ _ _ c.order_of.ensures (c.deref.ensures.value ∙ c.in_ok-found.ensures) in
     let refuted : MOST_SECTIONS < length (sections_of (option_copied c.order_of.result) c.deref.result.now) → ⊥ =
-    λ more. let false = (c.in-Ok.ensures.too_long (has_unknown (option_copied c.order_of.result) c.deref.result.now)).1 (more, refl) in cc in
+    λ more. let false = (c.in-Ok.ensures.refused (has_unknown (option_copied c.order_of.result) c.deref.result.now)).1 (more, refl) in cc in
     subst (λ (n : ℕ). n ≤ MOST_SECTIONS) same (not_above _ MOST_SECTIONS refuted)
 
 pub returns-in-Err-TooLong-clause-too_long : goal.returns-in-Err-TooLong-clause-too_long
 returns-in-Err-TooLong-clause-too_long c = λ unknown e.
     let same = same_length _ _ _ _ c.order_of.ensures (c.deref.ensures.value ∙ c.in_ok-found.ensures) in
-    let above = (c.in-Err-TooLong.ensures.too_long c.in-Err-TooLong.unknown).0 (ap Err c.in-Err-TooLong.field-0-is) in
+    let above = (c.in-Err-TooLong.ensures.refused c.in-Err-TooLong.unknown).0 (ap Err c.in-Err-TooLong.field-0-is) in
     subst (λ (n : ℕ). MOST_SECTIONS < n) same above.0
 
 pub returns-in-Err-TooLong-clause-too_long_unknown : goal.returns-in-Err-TooLong-clause-too_long_unknown
 returns-in-Err-TooLong-clause-too_long_unknown c = λ unknown e.
     let same = same_unknown _ _ _ _ c.order_of.ensures (c.deref.ensures.value ∙ c.in_ok-found.ensures) in
-    let above = (c.in-Err-TooLong.ensures.too_long c.in-Err-TooLong.unknown).0 (ap Err c.in-Err-TooLong.field-0-is) in
+    let above = (c.in-Err-TooLong.ensures.refused c.in-Err-TooLong.unknown).0 (ap Err c.in-Err-TooLong.field-0-is) in
     let own : unknown ≡ c.in-Err-TooLong.unknown = cc in
     own ∙ above.1 ∙ same
