@@ -11,7 +11,7 @@ lines-preserved c =
     let behind = c.in-Some.behind.now in
     let more = lines_in-more c.lines.rest.now line behind c.in-Some.ensures.cut.first c.in-Some.ensures.cut.spelling in
     let pushed = text_of-push c.lines.lines c.push.new.self c.in_ok-from_slice-in-Some.field-0 c.in_ok-push-in-Some.ensures.items
-        ∙ ap (λ l. text_of c.lines.lines ++ l ∷ []) c.in_ok-from_slice-in-Some.ensures.items in
+    ∙ ap (λ l. text_of c.lines.lines ++ l ∷ []) c.in_ok-from_slice-in-Some.ensures.items in
     ap (λ ls. ls ++ lines_in behind) pushed ∙ append_assoc (text_of c.lines.lines) (line ∷ []) (lines_in behind) ∙ ap (λ ls. text_of c.lines.lines ++ ls) (sym more) ∙ c.lines.invariant
 
 pub returns-in-None : goal.returns-in-None
