@@ -1,0 +1,155 @@
+/*
+ * abc2midi_live: a session over the text of a tune book in ABC notation. It keeps the MIDI file of each tune current, edit by edit.
+ *
+ *     abc_live_session session = {0};
+ *     abc_live_work work = {0};
+ *     abc_live_open(&session);
+ *     abc_live_insert(&session, 1, (const uint8_t *)"X:1\nK:C\nCDEF|\n", 14, &work);
+ *     abc_live_output(&session, 1, bytes, sizeof bytes, &size);
+ *     abc_live_close(&session);
+ *
+ * Compile with: cc program.c $(pkg-config --cflags --libs abc2midi_live)
+ *
+ * Rules for all calls
+ * - Give each session zeros before its first call, as `= {0}` does.
+ * - You may move a session: copy its bytes and zero the old place. Never use two copies of one session, and never change its bytes.
+ * - A session stays on the thread that opened it, and is in one call at a time. Two sessions are independent: each may be on a
+ *   thread of its own. Make no call from a signal handler, or in the child of a fork of a process with threads.
+ * - Pointers are valid and do not overlap. A pointer to text or to a buffer may be null if its length is 0; no other may.
+ * - The library keeps no pointer of yours after a call, has no global state, and never ends the process. It takes memory from
+ *   `malloc`, `realloc` and `free` alone. The memory of a session is freed by `abc_live_close`.
+ * - A call on a session that is not open answers ABC_LIVE_MISUSED and does nothing, but that it sets what it tells to 0.
+ *
+ * Buffers
+ * A call that copies takes a buffer, its room in items, and a count. It sets `*count` to the number of items that there are. If
+ * they fit, it copies them and answers ABC_LIVE_OK; what lies after them in the buffer stays. If not, it copies none and answers
+ * ABC_LIVE_SHORT_BUFFER: so a call with a room of 0 asks for the count. Nothing ends with a zero byte.
+ */
+#ifndef ABC2MIDI_LIVE_H
+#define ABC2MIDI_LIVE_H
+
+#include <stddef.h>
+#include <stdint.h>
+
+#ifdef __cplusplus
+extern "C" {
+#endif
+
+/* The version of this header. `abc_live_version` tells that of the library. */
+#define ABC_LIVE_VERSION "1.0.0"
+#define ABC_LIVE_VERSION_NUMBER 1000000
+
+/* A session. Its fields belong to the library. All zero: not open. */
+typedef struct abc_live_session {
+    void *at;
+    uint8_t state;
+} abc_live_session;
+
+/*
+ * Counters of work: lines scanned, steps folded, tunes built. They are yours: set them to zeros, and each edit raises them. A
+ * counter that comes to UINT64_MAX stays there. One of them may serve several sessions.
+ */
+typedef struct abc_live_work {
+    uint64_t scanned;
+    uint64_t folded;
+    uint64_t built;
+} abc_live_work;
+
+/* A fault of the text: its line and its byte in the line, both from 1, and the number of its code. */
+typedef struct abc_live_fault {
+    uint32_t line;
+    uint32_t column;
+    uint32_t code;
+} abc_live_fault;
+
+/* What calls answer. An edit that is refused is answered the first of 2 to 5 that applies. */
+typedef uint32_t abc_live_code;
+enum {
+    ABC_LIVE_OK = 0,
+    ABC_LIVE_MISUSED = 1,       /* The session is not open, or `abc_live_open` was called on an open one. */
+    ABC_LIVE_BAD_RANGE = 2,     /* The lines of the edit are not in the text. */
+    ABC_LIVE_BAD_LINE = 3,      /* A line has more than 65,535 bytes. */
+    ABC_LIVE_TOO_LARGE = 4,     /* The text would have more than 1,048,576 lines. */
+    ABC_LIVE_OUT_OF_MEMORY = 5, /* An allocation failed. The session is as it was before the call. */
+    ABC_LIVE_NOT_FOUND = 6,     /* There is no such number, line, title or fault code. */
+    ABC_LIVE_SHORT_BUFFER = 7   /* The items do not fit into the buffer. */
+};
+
+/* Returns the version of the library: millions are its major number, thousands its minor one. It is ABC_LIVE_VERSION_NUMBER of the
+ * header that the library was built with. */
+uint32_t abc_live_version(void);
+
+/*
+ * Opens a session with no lines. The session is zeros: not open yet, or closed.
+ * Answers ABC_LIVE_OK, ABC_LIVE_OUT_OF_MEMORY (the session is not open), or ABC_LIVE_MISUSED (it is open already, and stays so).
+ */
+abc_live_code abc_live_open(abc_live_session *session);
+
+/*
+ * Closes a session and frees its memory. Afterwards it may be opened again.
+ * Answers ABC_LIVE_OK, or ABC_LIVE_MISUSED if it is not open: to close twice is harmless.
+ */
+abc_live_code abc_live_close(abc_live_session *session);
+
+/*
+ * Edits. Lines are counted from 1. A text is cut into lines at its line feeds; bytes after the last line feed are a line, too,
+ * if there are any. So "A\nB" and "A\nB\n" are two lines, "\n" is one empty line, and a text of 0 bytes is no line. A carriage
+ * return before a line feed stays in its line, and has no effect there. The bytes EF BB BF that some files begin with are not
+ * skipped: leave them out.
+ *
+ * An edit answers ABC_LIVE_OK, and the report of the session tells which files changed; or it answers why it is refused, and
+ * text, files and report stay as they were.
+ */
+
+/* Puts the lines of a text before line `at`, from 1 to the count of lines plus one. */
+abc_live_code abc_live_insert(abc_live_session *session, uint32_t at, const uint8_t *text, size_t bytes, abc_live_work *work);
+
+/* Puts the lines of a text in the place of the lines `from` to `to`, both included: at least one line. */
+abc_live_code abc_live_replace(abc_live_session *session, uint32_t from, uint32_t to, const uint8_t *text, size_t bytes,
+                               abc_live_work *work);
+
+/* Takes the lines `from` to `to` out, both included: at least one line. */
+abc_live_code abc_live_delete(abc_live_session *session, uint32_t from, uint32_t to, abc_live_work *work);
+
+/*
+ * The report of the last edit that was answered ABC_LIVE_OK: the tune numbers whose files it wrote (new, or with other bytes),
+ * and those whose files it removed. Both lists rise, and are empty before the first edit.
+ */
+abc_live_code abc_live_written(abc_live_session *session, uint32_t *numbers, size_t room, size_t *count);
+abc_live_code abc_live_removed(abc_live_session *session, uint32_t *numbers, size_t room, size_t *count);
+
+/* Copies the tune numbers that have a MIDI file. They rise. */
+abc_live_code abc_live_numbers(abc_live_session *session, uint32_t *numbers, size_t room, size_t *count);
+
+/* Copies the bytes of the MIDI file of a tune number, or answers ABC_LIVE_NOT_FOUND if it has none. */
+abc_live_code abc_live_output(abc_live_session *session, uint32_t number, uint8_t *bytes, size_t room, size_t *count);
+
+/* Tells how many tunes the text has. Each has a title, which may be empty. */
+abc_live_code abc_live_title_count(abc_live_session *session, size_t *count);
+
+/*
+ * Tells the number of the tune at an index, and copies the bytes of its title. The index is from 0, in the order of the text. The
+ * number is set also if the buffer is too short. Answers ABC_LIVE_NOT_FOUND, with the number 0, if there is no such tune.
+ */
+abc_live_code abc_live_title(abc_live_session *session, size_t index, uint32_t *number, uint8_t *bytes, size_t room, size_t *count);
+
+/* Copies the faults of the text, by line, then by column, then by the number of the code; none comes twice. */
+abc_live_code abc_live_faults(abc_live_session *session, abc_live_fault *faults, size_t room, size_t *count);
+
+/*
+ * Copies the name of a fault code, as `BadMeter`: the word that the program prints, and the key of its sentences in faults.json.
+ * It needs no session. Answers ABC_LIVE_NOT_FOUND if no code has the number.
+ */
+abc_live_code abc_live_fault_name(uint32_t code, uint8_t *bytes, size_t room, size_t *count);
+
+/* Tells how many lines the text has. */
+abc_live_code abc_live_line_count(abc_live_session *session, uint32_t *count);
+
+/* Copies the bytes of a line, without its line feed, or answers ABC_LIVE_NOT_FOUND if there is no such line. */
+abc_live_code abc_live_line(abc_live_session *session, uint32_t number, uint8_t *bytes, size_t room, size_t *count);
+
+#ifdef __cplusplus
+}
+#endif
+
+#endif

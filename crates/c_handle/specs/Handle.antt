@@ -1,0 +1,17 @@
+-- What a handle owns: the box of its session, if it has one.
+use base.Fml.{Fml, ftrue}
+use base.Stored.{Coded}
+use denote.RawPtr.{Ptr}
+use Rattle.std.specs.Prelude.{Option, None, Some}
+use Rattle.std.specs.Box.Ownership.{box_owns}
+use Rattle.std.specs.Coded.{coded_option}
+use Rattle.std.specs.Global.{Global}
+use Rattle.std_heap.specs.contracts.GlobalAllocator.TheImpl.{ghosts}
+use Rattle.c_handle.specs.contracts.open_session.OpenSession.{the_row}
+
+abbrev pub handle_owns : Global → Ptr → Option (the_row.Denot) → Fml
+handle_owns alloc at None = ftrue
+handle_owns alloc at (Some session) = box_owns (ghosts.dealloc_token alloc) the_row at session
+
+abbrev pub held_coded : Coded (Option (the_row.Denot))
+held_coded = coded_option the_row.coded

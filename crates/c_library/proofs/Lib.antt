@@ -1,0 +1,5 @@
+pub mod FaultNames
+pub mod LinesIn
+pub mod Puts
+pub mod Refusals
+pub mod Sessions
