@@ -11,7 +11,7 @@ put_track-requires-clause-before_end c =
     let score = c.args.score.now in
     let events : c.in_ok-changes.changes.items ≡ conductor_events score.title score.conductor =
     c.in_ok-changes.ensures ∙ ap (λ t. conductor_events t c.as_slice-2.result.now) c.as_slice.ensures ∙ ap (conductor_events score.title) c.as_slice-2.ensures in
-    subst (λ (t : ℕ). EndBy t c.in_ok-changes.changes.items) (sym c.tick_of-end.ensures.exact)
+    subst (λ (t : ℕ). EndBy t c.in_ok-changes.changes.items) (sym c.tick_of-end.ensures.value)
     (subst (EndBy (tick_at score.end.0)) (sym events) (conductor_ticks score.end score.title score.conductor c.requires.changes))
 
 pub put_track-requires-clause-length : goal.put_track-requires-clause-length
@@ -29,4 +29,4 @@ loop-place-init c =
     let events : c.in_ok-changes.changes.items ≡ conductor_events score.title score.conductor =
     c.in_ok-changes.ensures ∙ ap (λ t. conductor_events t c.as_slice-2.result.now) c.as_slice.ensures ∙ ap (conductor_events score.title) c.as_slice-2.ensures in
     opened score c.in_ok-file.file.items _ _ c.len.result c.tick_of-end.result c.in_ok-changes.changes.items
-    c.in_ok-file.ensures.items c.len.ensures c.in_ok-put_header.ensures c.tick_of-end.ensures.exact events c.in_ok-put_track.ensures
+    c.in_ok-file.ensures.items c.len.ensures c.in_ok-put_header.ensures c.tick_of-end.ensures.value events c.in_ok-put_track.ensures
