@@ -2,13 +2,17 @@
 
 import sys
 from collections.abc import Callable
+from contextlib import suppress
 from typing import Optional, TypeVar
+
+from abc2midi_live import ClosedError, ProgramEnded, ProgramMissing
+from abc2midi_live.lines import without_empty_end
 
 from .changes import Change, Position
 from .hints import Finder, number_is_used
 from .messages import REQUEST_FAILED, Failure, Json
 from .places import from_utf16, utf8, utf16
-from .program import LiveBook, ProgramEnded, ProgramMissing, Tune, files_of, held
+from .program import LiveBook, Tune, files_of
 
 Answer = TypeVar("Answer")
 
@@ -35,7 +39,7 @@ class Document:
         """What the program answers."""
         try:
             return question(self.book)
-        except ProgramEnded as ended:
+        except (ProgramEnded, ClosedError) as ended:
             print(f"language_server: {ended}; restarting it", file=sys.stderr)
         self.close()
         try:
@@ -56,10 +60,8 @@ class Document:
         lines = text.split("\n")
         self.lines[start:stop] = lines
         told = [utf8(line) for line in lines]
-        try:
-            self.book.replace(start, min(stop, len(self.book.lines)), held(told) if at_end else told)
-        except ProgramEnded:
-            self.close()
+        with suppress(ProgramEnded, ClosedError):  # the next question starts another one
+            self.book.replace(start, min(stop, len(self.book.lines)), without_empty_end(told) if at_end else told)
 
     def change(self, change: Change) -> None:
         """Changes a range of the text, or the whole."""

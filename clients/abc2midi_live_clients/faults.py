@@ -1,9 +1,10 @@
 """What each fault means, in sentences."""
 
 import json
+from pathlib import Path
 from typing import NamedTuple
 
-from .program import PACKAGE
+FILE = Path(__file__).resolve().parent / "faults.json"
 
 
 class FaultMeaning(NamedTuple):
@@ -20,7 +21,7 @@ class FaultMeaning(NamedTuple):
 
 def meanings() -> list[FaultMeaning]:
     """The meaning of each fault, in the order in which faults at one place are listed."""
-    return [FaultMeaning(**row) for row in json.loads((PACKAGE / "faults.json").read_text("utf-8"))]
+    return [FaultMeaning(**row) for row in json.loads(FILE.read_text("utf-8"))]
 
 
 def sentence_pairs() -> dict[str, tuple[str, str]]:

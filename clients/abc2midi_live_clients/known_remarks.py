@@ -3,9 +3,9 @@
 from collections import Counter
 from typing import Generic, TypeVar, Union
 
-from .edits import Lines
+from abc2midi_live import Fault
+
 from .hints import Hint
-from .program import Fault
 
 Remark = TypeVar("Remark", Fault, Hint)
 Item = TypeVar("Item")
@@ -18,7 +18,7 @@ class KnownRemarks(Generic[Remark]):
         self.places: list[tuple[bytes, int, str]] = []  # of each: its line, its column and its name
         self.sentences: list[str] = []  # of each hint
 
-    def marked(self, remarks: list[Remark], lines: Lines) -> list[tuple[Remark, bool]]:
+    def marked(self, remarks: list[Remark], lines: list[bytes]) -> list[tuple[Remark, bool]]:
         """Remarks, each with whether it is new: no line of the same text had it before. A hint in a changed line is not new
         either if its sentence stays, for many are about a whole tune."""
         places = [(lines[remark.line - 1], remark.column, remark.name) for remark in remarks]

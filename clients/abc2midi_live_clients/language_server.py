@@ -9,6 +9,8 @@ import tempfile
 from collections.abc import Callable
 from typing import Any, Optional
 
+from abc2midi_live import ProgramEnded, ProgramMissing
+
 from .assistance import completion, hover, quick_fixes, symbols
 from .changes import BadChange, Change, changes_of, position_of, range_of
 from .document import Document, title_of
@@ -31,7 +33,7 @@ from .messages import (
     write_message,
 )
 from .players import Player
-from .program import ProgramEnded, ProgramMissing, add_common_options, find_program
+from .program import add_common_options, find_program
 from .remarks import diagnostic, remarks
 from .signals import when_told_to_end
 

@@ -9,6 +9,8 @@ from contextlib import suppress
 from pathlib import Path
 from typing import Any
 
+import abc2midi_live
+
 ENDED = (EOFError, OSError, ValueError, pickle.UnpicklingError)  # one of these is raised if the process ended
 
 
@@ -17,7 +19,7 @@ class OwnProcess:
 
     def __init__(self, module: str, **environment: str) -> None:
         start = f"from abc2midi_live_clients.{module} import serve; serve()"
-        path = str(Path(__file__).resolve().parent.parent)
+        path = os.pathsep.join(str(Path(file).resolve().parent.parent) for file in (abc2midi_live.__file__, __file__))
         self.process = subprocess.Popen(
             [sys.executable, "-c", start], stdin=subprocess.PIPE, stdout=subprocess.PIPE, start_new_session=True,
             env={**os.environ, "PYTHONPATH": path, "PYTHONDONTWRITEBYTECODE": "1", **environment},

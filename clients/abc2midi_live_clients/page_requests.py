@@ -11,7 +11,8 @@ from collections.abc import Callable
 from http.server import BaseHTTPRequestHandler
 from typing import TYPE_CHECKING, Any, Optional
 
-from .program import ProgramEnded, ProgramMissing
+from abc2midi_live import ProgramEnded, ProgramMissing
+
 from .rows import Json
 from .shared_book import Refused
 

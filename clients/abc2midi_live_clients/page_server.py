@@ -13,13 +13,15 @@ from http.server import ThreadingHTTPServer
 from pathlib import Path
 from typing import Any
 
+from abc2midi_live import ProgramEnded, ProgramMissing
+
 from .connections import Connections
 from .faults import sentence_pairs
 from .hint_process import HintProcess
 from .own_process import ENDED
 from .page_requests import Request
 from .printing import printable
-from .program import ProgramEnded, ProgramMissing, add_common_options, find_program
+from .program import add_common_options, find_program
 from .proofs import book_key, proof
 from .scorer import Scorer
 from .shared_book import SharedBook

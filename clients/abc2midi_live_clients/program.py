@@ -1,39 +1,18 @@
-"""The program: finding it, starting it, and asking it."""
+"""A tune book in a running program, as the clients need it, and the options that all clients have."""
 
 import argparse
 import os
-import subprocess
 from bisect import bisect_left
-from collections.abc import Sequence
-from pathlib import Path
 from typing import Any, NamedTuple, Optional
 
-from .edits import Edit, Lines, edits, joined
+import abc2midi_live
+from abc2midi_live import Built, Edit, Fault, ProcessSession, ProgramMissing, Report, Title
+from abc2midi_live.edits import edits, join_edits
+from abc2midi_live.lines import MOST_BYTES, MOST_LINES
+
 from .places import is_inside_character, text_of
 
-PACKAGE = Path(__file__).resolve().parent
-TOP = PACKAGE.parent.parent  # of the checkout; in an installation the folder `share`
-INSTALLED = PACKAGE.parent / "version"  # only an installation has this file
-MOST_BYTES = 65_535  # of a line that the program takes
-MOST_LINES = 1_048_576  # of a text that the program takes
-MOST_EDITS = 1_000  # for one change of the text
 LEFT_OUT = b"%"  # sent instead of a longer line: a comment has no effect
-
-
-class ProgramMissing(Exception):
-    """There is no program to start."""
-
-
-class ProgramEnded(Exception):
-    """The program ended, or gave an answer that it never gives."""
-
-
-class Fault(NamedTuple):
-    """A fault of the text: its line and its column, counted from 1, columns in bytes, and its name."""
-
-    line: int
-    column: int
-    name: str
 
 
 class Tune(NamedTuple):
@@ -47,50 +26,24 @@ class Tune(NamedTuple):
 class Known(NamedTuple):
     """What is known of the tunes: the titles as the program sent them, the lines that begin tunes, and the tunes."""
 
-    titles: list[bytes]
+    titles: list[Title]
     starts: list[int]
     tunes: list[Tune]
 
 
-class Built(NamedTuple):
-    """What a build wrote and removed: numbers of files; and the number at which it failed."""
-
-    written: list[int]
-    removed: list[int]
-    failed: Optional[int]
-
-
 def find_program() -> str:
-    """The installed program, or in a checkout the build of the present sources, as `./abc2midi_live` looks for it."""
-    if INSTALLED.is_file():
-        program = TOP.parent / "bin/abc2midi_live"
-        if not os.access(program, os.X_OK):
-            raise ProgramMissing(f"{program} is missing; install it again, or name a program by --program")
-        return str(program)
-    program = TOP / "crates/program/out/program"
+    """The program to start without the option `--program`. Raises ProgramMissing."""
     try:
-        built = Path(f"{program}.digest").read_text().strip()
-        asked = subprocess.run([TOP / "scripts/digest_of_sources"], capture_output=True, text=True, check=True)
-        present = asked.stdout.strip()
-    except (OSError, subprocess.CalledProcessError):
-        built = present = ""
-    if not built or built != present or not os.access(program, os.X_OK):
-        raise ProgramMissing("there is no build of these sources; run ./build, or name a program by --program")
-    return str(program)
-
-
-def version() -> str:
-    """The version of the installation, or of the checkout."""
-    if INSTALLED.is_file():
-        return INSTALLED.read_text().strip()
-    return subprocess.run([TOP / "scripts/version"], capture_output=True, text=True, check=True).stdout.strip()
+        return abc2midi_live.find_program()
+    except ProgramMissing as missing:
+        raise ProgramMissing(f"{missing} by --program") from missing
 
 
 class ShowVersion(argparse.Action):
     """The option `--version`."""
 
     def __call__(self, parser: argparse.ArgumentParser, *_: Any) -> None:
-        print(f"{parser.prog} {version()}")
+        print(f"{parser.prog} {abc2midi_live.version()}")
         parser.exit()
 
 
@@ -101,71 +54,41 @@ def add_common_options(parser: argparse.ArgumentParser) -> None:
 
 
 class LiveBook:
-    """A text that a running program holds. Ctrl-C does not reach the program. It ends by `close`, or when the client ends,
-    because its input ends then."""
+    """A text that a running program holds. Lines that the program would refuse are comments there, and faults here."""
 
     def __init__(self, program: str, directory: str):
-        self.lines: Lines = []
+        self.lines: list[bytes] = []
         self.starts: list[int] = []  # the lines that begin tunes, counted from 0
         self.left_out: list[int] = []  # the lines that are too long, counted from 0
         self.known = Known([], [], [])
-        self.reported: dict[int, bool] = {}  # the numbers that the last replacement changed: whether they have a file
+        self.report = Report((), ())  # of the last replacement
         self.directory = directory
-        try:
-            self.process = subprocess.Popen(
-                [program, "--dir", directory], stdin=subprocess.PIPE, stdout=subprocess.PIPE, start_new_session=True
-            )
-        except OSError as error:
-            raise ProgramMissing(f"{program}: {error.strerror}") from error
-        assert self.process.stdin and self.process.stdout
-        self.commands, self.answers = self.process.stdin, self.process.stdout
+        self.session = ProcessSession(program, directory)
+        self.process = self.session.process
 
     def close(self) -> int:
         """Ends the program after its present command, and returns its exit status."""
-        self.process.communicate()
+        self.session.close()
         return self.process.returncode
 
-    def replace(self, start: int, stop: int, lines: Lines) -> list[Edit]:
-        """Replaces the lines from `start` to `stop`, counted from 0 and without `stop`, by few edits, and returns them.
-        Lines that the program would refuse are left out in the program, and are faults."""
+    def replace(self, start: int, stop: int, lines: list[bytes]) -> list[Edit]:
+        """Replaces the lines from `start` to `stop`, counted from 0 and without `stop`, by few edits, and returns them."""
         old, new = self.lines, self.lines[:start] + lines + self.lines[stop:]
         if max(len(old), len(new)) <= MOST_LINES:
-            sent = [Edit(start + a, start + b, put) for a, b, put in edits(old[start:stop], lines)]
+            found = [Edit(start + a, start + b, put) for a, b, put in edits(old[start:stop], lines)]
         else:
-            sent = edits(old[:MOST_LINES], new[:MOST_LINES])
-        on_the_way = len(old) + sum(len(edit.lines) for edit in sent)
-        sent = joined(sent, old, MOST_EDITS if on_the_way <= MOST_LINES else 1)
-        self.reported = {}
-        for edit in reversed(sent):
-            self._send(edit)
+            found = edits(old[:MOST_LINES], new[:MOST_LINES])
+        sent = join_edits(found, old)
+        self.report = self.session.apply([Edit(a, b, [line_to_send(line) for line in put]) for a, b, put in sent])
         self.lines = new
         starts, left_out = places_in(lines)
         self.starts = spliced(self.starts, start, stop, starts, len(lines))
         self.left_out = spliced(self.left_out, start, stop, left_out, len(lines))
         return sent
 
-    def _send(self, edit: Edit) -> None:
-        """Sends one edit."""
-        lines = [line if len(line) <= MOST_BYTES else LEFT_OUT for line in edit.lines]
-        if edit.start == edit.stop:
-            answer = self._ask(f"insert {edit.start + 1} {len(lines)}", lines)
-        elif lines:
-            answer = self._ask(f"replace {edit.start + 1} {edit.stop} {len(lines)}", lines)
-        else:
-            answer = self._ask(f"delete {edit.start + 1} {edit.stop}")
-        if not answer.startswith(b"ok "):
-            raise ProgramEnded(f"the program answered an edit by '{text_of(answer)}'")
-        written, _, removed = answer[len(b"ok written") :].partition(b" removed")
-        self.reported.update(dict.fromkeys(map(int, written.split()), True))
-        self.reported.update(dict.fromkeys(map(int, removed.split()), False))
-
     def build(self) -> Built:
         """Brings the folder up to date."""
-        numbers: dict[str, list[int]] = {"written": [], "removed": [], "failed": []}
-        for line in self._list("build"):
-            what, name = line.decode().split()
-            numbers[what].append(int(name.partition(".")[0]))
-        return Built(numbers["written"], numbers["removed"], numbers["failed"][0] if numbers["failed"] else None)
+        return self.session.build()
 
     def faults(self) -> list[Fault]:
         """The faults of the text in order, and of the lines that are left out. Of `BadByte` at each byte of a character only
@@ -173,60 +96,35 @@ class LiveBook:
         found = [Fault(n + 1, MOST_BYTES + 1, "BadLine") for n in self.left_out]
         if len(self.lines) > MOST_LINES:
             found.append(Fault(MOST_LINES + 1, 1, "TooLarge"))
-        for answer in self._list("faults"):
-            place, name = answer.decode().split()
-            line, column = map(int, place.split(":"))
-            if name != "BadByte" or not is_inside_character(self.lines[line - 1], column):
-                found.append(Fault(line, column, name))
+        for fault in self.session.faults:
+            if fault.name != "BadByte" or not is_inside_character(self.lines[fault.line - 1], fault.column):
+                found.append(fault)
         return sorted(found, key=lambda fault: fault[:2])
 
     def tunes(self) -> list[Tune]:
         """The tunes of the text in order: each `X:` line begins one. If no title and no place changed, they are those of the
         last time."""
-        titles = self._list("titles")
+        titles = self.session.titles
         if titles != self.known.titles or self.starts != self.known.starts:
-            answers = (line.partition(b" ") for line in titles)
-            tunes = [Tune(int(number), text_of(title), n + 1) for (number, _, title), n in zip(answers, self.starts)]
+            tunes = [Tune(number, text_of(title), n + 1) for (number, title), n in zip(titles, self.starts)]
             self.known = Known(titles, self.starts, tunes)
         return list(self.known.tunes)
 
     def midi(self, number: int) -> Optional[bytes]:
         """The bytes of the MIDI file of a number, without a build."""
-        answer = self._ask(f"hex {number}").decode()
-        return None if answer == "none" else bytes.fromhex(answer)
+        return self.session.output(number)
 
     def path(self, number: int) -> str:
         """The MIDI file of a number."""
         return os.path.join(self.directory, f"{number}.mid")
 
-    def _ask(self, command: str, lines: Sequence[bytes] = ()) -> bytes:
-        """The line that answers a command. The command says how many lines follow it, so none is read as a command."""
-        if self.commands.closed:
-            raise ProgramEnded(f"the program ended with status {self.process.returncode}")
-        try:
-            self.commands.write(b"\n".join([command.encode(), *lines, b""]))
-            self.commands.flush()
-        except BrokenPipeError:
-            pass
-        return self._answer()
 
-    def _list(self, command: str) -> list[bytes]:
-        """The lines that answer a command, up to `end`."""
-        first = self._ask(command)
-        return [] if first == b"end" else [first, *map(self._whole, iter(self.answers.readline, b"end\n"))]
-
-    def _answer(self) -> bytes:
-        """The next line of the answers."""
-        return self._whole(self.answers.readline())
-
-    def _whole(self, line: bytes) -> bytes:
-        """A line of the answers without its end; only a program that ended leaves one without."""
-        if not line.endswith(b"\n"):
-            raise ProgramEnded(f"the program ended with status {self.process.wait()}")
-        return line[:-1]
+def line_to_send(line: bytes) -> bytes:
+    """A line as the program gets it."""
+    return line if len(line) <= MOST_BYTES else LEFT_OUT
 
 
-def places_in(lines: Lines) -> tuple[list[int], list[int]]:
+def places_in(lines: list[bytes]) -> tuple[list[int], list[int]]:
     """The lines that begin tunes, and those that are too long, counted from 0."""
     left_out = [n for n, line in enumerate(lines) if len(line) > MOST_BYTES]
     return [n for n, line in enumerate(lines) if line.startswith(b"X:") and len(line) <= MOST_BYTES], left_out
@@ -246,13 +144,3 @@ def files_of(tunes: list[Tune], faults: list[Fault]) -> dict[int, Tune]:
         if tune.line not in too_long:
             found.setdefault(tune.number, tune)
     return found
-
-
-def lines_of(book: bytes) -> Lines:
-    """The lines of a tune book as the program cuts them: without a mark at its start, at line feeds."""
-    return held(book[3 if book.startswith(b"\xef\xbb\xbf") else 0 :].split(b"\n"))
-
-
-def held(lines: Lines) -> Lines:
-    """The lines that the program holds of a text's: an empty last line does not count."""
-    return lines if lines[-1] else lines[:-1]

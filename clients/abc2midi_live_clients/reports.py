@@ -4,9 +4,10 @@ import json
 from collections.abc import Callable
 from typing import NamedTuple, Optional, Protocol
 
+from abc2midi_live import Fault
+
 from .hints import Hint
 from .printing import counted, listed, printable
-from .program import Fault
 
 Write = Callable[[str], object]
 MOST_HINTS = 20  # that are printed when the book is opened

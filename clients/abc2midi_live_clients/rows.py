@@ -4,7 +4,8 @@ from collections.abc import Sequence
 from itertools import groupby
 from typing import Any, NamedTuple
 
-from .edits import common_front
+from abc2midi_live.edits import common_front
+
 from .places import LinePlaces
 from .texts import Text
 

@@ -9,12 +9,14 @@ from collections.abc import Iterator
 from contextlib import contextmanager, suppress
 from typing import Any, NamedTuple, Optional
 
+from abc2midi_live import ClosedError, Edit, Fault, ProgramEnded, ProgramMissing
+from abc2midi_live.lines import without_empty_end
+
 from .book_file import BookFile
 from .copies import BadName, copy_path, save_copy
-from .edits import Edit
 from .hint_process import HintRow, Question
 from .printing import printable
-from .program import Fault, LiveBook, ProgramEnded, ProgramMissing, Tune, files_of, held
+from .program import LiveBook, Tune, files_of
 from .rows import NOTHING_FOUND, Json, Rows, difference, moved, shown_rows
 from .saving import BookChanged, NotSaved, digest, digest_of, read_book, save_book
 from .texts import Text, bytes_of, edits_of, with_ends
@@ -83,7 +85,7 @@ class SharedBook:
     def begin(self) -> None:
         """Starts the program with the present text."""
         self.book = LiveBook(self.program, self.directory)
-        self.book.replace(0, 0, held(self.text.lines))
+        self.book.replace(0, 0, without_empty_end(self.text.lines))
         self.rows = self.ask()
 
     def ask(self) -> Rows:
@@ -101,7 +103,7 @@ class SharedBook:
         self.asked_since = time.monotonic()
         try:
             yield
-        except ProgramEnded as error:
+        except (ProgramEnded, ClosedError) as error:
             if self.is_ended:
                 raise
             self.end_program()
@@ -247,7 +249,7 @@ class SharedBook:
         if edit.stop < len(self.text.lines):
             self.book.replace(*edit)
         else:
-            told = held(text.lines)
+            told = without_empty_end(text.lines)
             start = min(edit.start, len(told), len(self.book.lines))
             self.book.replace(start, len(self.book.lines), told[start:])
 
@@ -263,8 +265,8 @@ class SharedBook:
             changes[-1] |= {
                 "faults": {**found, "put": shown_rows(version.text, found["put"])},
                 "tunes": difference(tunes, version.rows.tunes),
-                "written": sorted(number for number, has_file in self.book.reported.items() if has_file),
-                "removed": sorted(number for number, has_file in self.book.reported.items() if not has_file),
+                "written": list(self.book.report.written),
+                "removed": list(self.book.report.removed),
             }
         with self.moved:
             self.text, self.rows, self.disk = version
@@ -343,7 +345,7 @@ class SharedBook:
         since = time.perf_counter()
         text = Text.of(data)
         with self.asking():
-            self.book.replace(0, len(self.book.lines), held(text.lines))
+            self.book.replace(0, len(self.book.lines), without_empty_end(text.lines))
             rows = self.ask()
         made = [
             {"start": start, "stop": stop, "lines": [text.shown(line) for line in lines]}

@@ -2,7 +2,7 @@
 
 from typing import NamedTuple
 
-from .edits import Edit, Lines, edits, joined
+from abc2midi_live.edits import Edit, edits, joined
 
 MARK = b"\xef\xbb\xbf"
 MOST_EDITS = 20  # that one writing of another program becomes
@@ -15,7 +15,7 @@ class Text(NamedTuple):
     empty if the text ends with a line feed."""
 
     mark: bytes
-    lines: Lines
+    lines: list[bytes]
     returns: bool
 
     @classmethod

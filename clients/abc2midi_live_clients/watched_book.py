@@ -6,12 +6,15 @@ from collections.abc import Callable
 from contextlib import suppress
 from typing import Optional
 
+from abc2midi_live import Built, Fault, ProgramEnded, ProgramMissing
+from abc2midi_live.lines import lines_of_book
+
 from .book_file import BookFile
 from .hints import Finder, Hint
 from .known_remarks import KnownRemarks
 from .midi_folder import MidiFolder
 from .players import Player
-from .program import Built, Fault, LiveBook, ProgramEnded, ProgramMissing, Tune, files_of, lines_of
+from .program import LiveBook, Tune, files_of
 from .reports import Change, File, Report
 
 FAILED, HAS_FAULTS = 1, 3  # exit statuses
@@ -106,7 +109,7 @@ class WatchedBook:
         with suppress(OSError, ValueError):
             self.book.close()
         self.book = self.start()
-        self.book.replace(0, 0, lines_of(self.built or b""))
+        self.book.replace(0, 0, lines_of_book(self.built or b""))
         self.book.build()
         self.is_down = False
 
@@ -115,7 +118,7 @@ class WatchedBook:
         if not os.path.isdir(self.folder.path):  # somebody removed it
             with suppress(OSError):
                 prepare(self.folder, self.report)
-        self.book.replace(0, len(self.book.lines), lines_of(data))
+        self.book.replace(0, len(self.book.lines), lines_of_book(data))
         built = self.book.build()
         faults, tunes = self.book.faults(), self.book.tunes()
         files = files_of(tunes, faults)

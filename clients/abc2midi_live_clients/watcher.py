@@ -11,13 +11,15 @@ import threading
 import time
 from typing import Any
 
+from abc2midi_live import ProgramMissing
+
 from .book_file import BookFile
 from .faults import sentences
 from .hints import Finder
 from .midi_folder import FolderTaken, MidiFolder
 from .players import Player
 from .printing import printable
-from .program import LiveBook, ProgramMissing, add_common_options, find_program
+from .program import LiveBook, add_common_options, find_program
 from .reports import JsonReport, Report, TextReport
 from .signals import when_told_to_end
 from .watched_book import FAILED, WatchedBook, prepare

@@ -7,7 +7,7 @@ from typing import NamedTuple
 import trial
 from abc2midi_live_clients.faults import sentences
 from abc2midi_live_clients.hints import NAMES, Finder, Hint, hints
-from abc2midi_live_clients.program import TOP, LiveBook, Tune
+from abc2midi_live_clients.program import LiveBook, Tune
 
 NO_EXAMPLE = "ManyTunes"  # its text is too long for an example
 
@@ -22,7 +22,7 @@ class Example(NamedTuple):
 
 def examples() -> list:
     """The examples of the file."""
-    text = (TOP / "tests/clients/hints.txt").read_text("utf-8")
+    text = (trial.TOP / "tests/clients/hints.txt").read_text("utf-8")
     return [example(part) for part in text.split("\n### ")[1:]]
 
 
@@ -65,7 +65,7 @@ class Examples(trial.Folder):
 
     def test_description(self):
         """The page has a row for each hint in the order of the list, with the text of its first example."""
-        rows = re.findall(r"^\| `(\w+)` \| (.+?) \| ", (TOP / "docs/hints.md").read_text("utf-8"), re.M)
+        rows = re.findall(r"^\| `(\w+)` \| (.+?) \| ", (trial.TOP / "docs/hints.md").read_text("utf-8"), re.M)
         self.assertEqual([name for name, _ in rows], list(NAMES))
         first = {}
         for name, wanted, _ in examples():

@@ -10,7 +10,7 @@ import sys
 import trial
 from abc2midi_live_clients import changes, document
 from abc2midi_live_clients.faults import sentences
-from abc2midi_live_clients.program import lines_of
+from abc2midi_live.lines import lines_of_book
 
 URI = "file:///book.abc"
 BOOK = "X:1\nT:Kesh\nK:G\nGABc &\n\nX:2\nK:C\nCDE -\n"
@@ -528,7 +528,7 @@ class Documents(trial.Folder):
             place = changes.Range(changes.Position(*place_of(text, start)), changes.Position(*place_of(text, end)))
             book.change(changes.Change(place, put))
             text = text[:start] + put + text[end:]
-            self.assertEqual(book.book.lines, lines_of(text.encode()))
+            self.assertEqual(book.book.lines, lines_of_book(text.encode()))
 
 
 class Protocol(Editor):

@@ -1,16 +1,16 @@
 """The program, started and asked; places, players and sentences."""
 
-import os
 import random
 import re
 import stat
 from pathlib import Path
+from unittest import mock
 
 import trial
+from abc2midi_live import Built, ClosedError, Edit, Fault, ProgramEnded, ProgramMissing, Report, edits
 from abc2midi_live_clients import places, players, program
-from abc2midi_live_clients.edits import Edit
 from abc2midi_live_clients.faults import sentences
-from abc2midi_live_clients.program import Built, Fault, LiveBook, ProgramEnded, ProgramMissing, Tune
+from abc2midi_live_clients.program import LiveBook, Tune
 
 
 def lines(text: str) -> list:
@@ -18,12 +18,6 @@ def lines(text: str) -> list:
 
 
 class Texts(trial.Folder):
-    def test_lines_of_a_book(self):
-        self.assertEqual(program.lines_of(b""), [])
-        self.assertEqual(program.lines_of(b"\n"), [b""])
-        self.assertEqual(program.lines_of(b"a\r\n\nb"), [b"a\r", b"", b"b"])
-        self.assertEqual(program.lines_of(b"\xef\xbb\xbf\xef\xbb\xbfa\n"), [b"\xef\xbb\xbfa"])
-
     def test_bytes_and_characters(self):
         line = "aé𝄞\ud83dz€"
         wanted = [n for n, character in enumerate(line) for _ in places.utf8(character)]
@@ -35,7 +29,7 @@ class Texts(trial.Folder):
         self.assertEqual([places.text_of(b"caf\xe9"), places.text_of("café".encode())], ["café", "café"])
 
     def test_each_fault_has_a_sentence(self):
-        source = Path(program.TOP, "crates/abc_fields/src/fault.rt").read_text("utf-8")
+        source = Path(trial.TOP, "crates/abc_fields/src/fault.rt").read_text("utf-8")
         names = re.findall(r'=> "(\w+)"', source)
         self.assertGreater(len(names), 20)
         found = sentences()
@@ -120,16 +114,23 @@ class Program(trial.Folder):
 
     def test_a_text_of_too_many_lines(self):
         """The program never holds more lines than it takes, which are ten here."""
-        most, program.MOST_LINES = program.MOST_LINES, 10
-        self.addCleanup(setattr, program, "MOST_LINES", most)
+        for module in (program, edits):
+            patched = mock.patch.object(module, "MOST_LINES", 10)
+            patched.start()
+            self.addCleanup(patched.stop)
         book = self.book()
-        held, send = [], book._send
+        held = []
 
-        def sent(edit: Edit):
-            held.append((held or [0])[-1] + len(edit.lines) - (edit.stop - edit.start))
-            send(edit)
+        def counted(edit):
+            def follow(*words):
+                edit(*words)
+                held.append(book.session.line_count)
+                return Report((), ())
 
-        book._send = sent
+            return follow
+
+        for name in ("insert", "replace", "delete"):
+            setattr(book.session, name, counted(getattr(book.session, name)))
         text = [b"X:1", b"K:C", *lines("CDEFGAB"), b"last"]
         book.replace(0, 0, text)
         book.replace(0, 10, [b"last", *text[:-1]])
@@ -162,28 +163,18 @@ class Program(trial.Folder):
         self.addCleanup(book.process.stdout.close)
         with self.assertRaisesRegex(ProgramEnded, "status 3"):
             book.faults()
-        self.assertEqual(book.close(), 3)
         with self.assertRaisesRegex(ProgramEnded, "status 3"):
             book.replace(0, 0, [b"C"])
+        self.assertEqual(book.close(), 3)
+        with self.assertRaises(ClosedError):
+            book.faults()
         with self.assertRaises(ProgramMissing):
             LiveBook(str(self.folder / "none"), str(self.files))
 
-    def test_the_program_that_is_found(self):
-        top, program.TOP = program.TOP, self.folder
-        self.addCleanup(setattr, program, "TOP", top)
-        built = self.folder / "crates/program/out/program"
-        digest = self.folder / "scripts/digest_of_sources"
-        for path, text in (built, ""), (digest, "#!/bin/sh\necho now\n"), (Path(f"{built}.digest"), "now\n"):
-            path.parent.mkdir(parents=True, exist_ok=True)
-            path.write_text(text)
-            os.chmod(path, 0o755)
-        self.assertEqual(program.find_program(), str(built))
-        Path(f"{built}.digest").write_text("before\n")
-        with self.assertRaises(ProgramMissing):
-            program.find_program()
-        os.remove(digest)
-        with self.assertRaises(ProgramMissing):
-            program.find_program()
+    def test_what_to_do_without_a_program(self):
+        with mock.patch("abc2midi_live.find_program", side_effect=ProgramMissing("run ./build, or name a program")):
+            with self.assertRaisesRegex(ProgramMissing, "^run ./build, or name a program by --program$"):
+                program.find_program()
 
 
 HEAD = "X:1\nM:4/4\nK:C\n"

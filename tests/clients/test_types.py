@@ -1,5 +1,6 @@
 """The types of the clients. The test is skipped if `mypy` is not installed."""
 
+import os
 import shutil
 import subprocess
 import unittest
@@ -14,5 +15,7 @@ class Types(unittest.TestCase):
     @unittest.skipIf(not MYPY, "mypy is not installed")
     def test_types(self):
         words = [MYPY, "--strict", "--scripts-are-modules", "--python-version", "3.9", "--cache-dir", "/dev/null"]
-        asked = subprocess.run([*words, "abc2midi_live_clients", *COMMANDS], cwd=trial.CLIENTS, capture_output=True, text=True)
+        path = {**os.environ, "MYPYPATH": str(trial.TOP / "python")}
+        names = ["abc2midi_live_clients", *COMMANDS]
+        asked = subprocess.run([*words, *names], cwd=trial.CLIENTS, env=path, capture_output=True, text=True)
         self.assertEqual(asked.returncode, 0, asked.stdout + asked.stderr)

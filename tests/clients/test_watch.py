@@ -9,7 +9,8 @@ import trial
 from abc2midi_live_clients import book_file
 from abc2midi_live_clients.faults import sentences
 from abc2midi_live_clients.hints import Finder
-from abc2midi_live_clients.program import LiveBook, ProgramMissing
+from abc2midi_live_clients.program import LiveBook
+from abc2midi_live import ProgramMissing
 from watching import OTHER, TUNE, Looks, Process
 
 

@@ -12,9 +12,10 @@ from contextlib import contextmanager
 from pathlib import Path
 from typing import NamedTuple
 
-CLIENTS = Path(__file__).resolve().parent.parent.parent / "clients"
+TOP = Path(__file__).resolve().parent.parent.parent
+CLIENTS = TOP / "clients"
 SECONDS = 300  # that a process may take, on a slow machine too
-sys.path.insert(0, str(CLIENTS))
+sys.path[:0] = [str(CLIENTS), str(TOP / "python")]
 
 program = ""
 oracle = []  # the command of the program that says what is wanted

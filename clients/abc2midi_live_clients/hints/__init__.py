@@ -6,7 +6,9 @@ from __future__ import annotations
 
 from collections.abc import Sequence
 
-from ..program import Fault, Tune
+from abc2midi_live import Fault
+
+from ..program import Tune
 from .book import number_is_used
 from .finder import Finder
 from .hint import Hint

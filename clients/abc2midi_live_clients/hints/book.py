@@ -5,7 +5,9 @@ from __future__ import annotations
 import re
 from collections.abc import Iterator, Sequence
 
-from ..program import Fault, Tune
+from abc2midi_live import Fault
+
+from ..program import Tune
 from .hint import Hint, TuneHint, counted
 from .lines import BLANK, COMMENT, DIRECTIVE, FIELD, MUSIC, content, kind_of
 from .reading import Place

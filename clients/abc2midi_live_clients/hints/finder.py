@@ -8,7 +8,10 @@ from functools import lru_cache
 from itertools import chain
 from typing import NamedTuple
 
-from ..program import MOST_BYTES, Fault, Tune
+from abc2midi_live import Fault
+from abc2midi_live.lines import MOST_BYTES
+
+from ..program import Tune
 from .bars import bars, short_tuplets
 from .book import free_music, lone_returns, no_tune, same_numbers
 from .directives import midi_lines, programs_without_voice

@@ -4,7 +4,7 @@ from __future__ import annotations
 
 import re
 
-from ..program import MOST_BYTES
+from abc2midi_live.lines import MOST_BYTES
 
 BLANK, COMMENT, DIRECTIVE, FIELD, MUSIC = "blank", "comment", "directive", "field", "music"
 

@@ -1,16 +1,18 @@
 """The differences between two texts."""
 
 import random
+from unittest import mock
 
-import trial
-from abc2midi_live_clients.edits import Edit, edits, joined
+import setting
+from abc2midi_live import edits as edits_module
+from abc2midi_live.edits import Edit, edits, few_edits, joined
 
 
 def lines(text: str) -> list:
     return [letter.encode() for letter in text]
 
 
-class Edits(trial.Folder):
+class Edits(setting.Room):
     def check(self, old: list, new: list) -> list:
         """The edits of two texts, which must make the one of the other, and leave a line between any two."""
         found = edits(old, new)
@@ -33,7 +35,7 @@ class Edits(trial.Folder):
         self.assertEqual(self.check(lines("abcdef"), lines("Xbcdef")[:4] + lines("Yf")), [Edit(0, 1, [b"X"]), Edit(4, 5, [b"Y"])])
 
     def test_random_texts(self):
-        chance = random.Random(trial.seed)
+        chance = random.Random(setting.seed)
         for _ in range(400):
             old = [bytes([chance.choice(b"abcdefgh")]) for _ in range(chance.randrange(20))]
             new = list(old)
@@ -62,3 +64,14 @@ class Edits(trial.Folder):
         self.assertEqual(joined([], old, 1), [])
         found = self.check(old, [line for line in old if line != b"X:"])
         self.assertEqual((len(found), joined(found, old, 9)), (3, [Edit(1, 12, lines("cdefgijk"))]))
+
+    def test_a_text_that_is_nearly_too_large(self):
+        """Several edits, made one after another, could have too many lines on the way; one has not."""
+        old, new = (
+            [b"X:" if line == b"T" else line for line in lines(text)] for text in ("abTcdTefgh", "abXYTcdTZ")
+        )
+        self.assertEqual(len(few_edits(old, new)), 2)
+        with mock.patch.object(edits_module, "MOST_LINES", 12):
+            self.assertEqual(few_edits(old, new), [Edit(2, 10, new[2:])])
+        with mock.patch.object(edits_module, "MOST_LINES", 13):
+            self.assertEqual(len(few_edits(old, new)), 2)

@@ -6,7 +6,9 @@ from collections import Counter
 from collections.abc import Sequence
 from typing import NamedTuple, Optional
 
-Lines = list[bytes]
+from .lines import MOST_LINES
+
+MOST_EDITS = 1_000  # for one change of the text
 LONGEST_SEARCH = 2_000  # lines; longer runs without a unique line are replaced as a whole
 
 
@@ -15,10 +17,22 @@ class Edit(NamedTuple):
 
     start: int
     stop: int
-    lines: Lines
+    lines: list[bytes]
 
 
-def edits(old: Lines, new: Lines) -> list[Edit]:
+def few_edits(old: list[bytes], new: list[bytes]) -> list[Edit]:
+    """Few edits that make `new` of `old`, at most one for each tune, rising, with places of `old`. On the way from the last
+    edit to the first the text never has too many lines if `old` and `new` have not."""
+    return join_edits(edits(old, new), old)
+
+
+def join_edits(found: list[Edit], old: list[bytes]) -> list[Edit]:
+    """Edits of a text joined to few, and to one if the text could have too many lines on the way."""
+    on_the_way = len(old) + sum(len(edit.lines) for edit in found)
+    return joined(found, old, MOST_EDITS if on_the_way <= MOST_LINES else 1)
+
+
+def edits(old: list[bytes], new: list[bytes]) -> list[Edit]:
     """Edits that make `new` of `old`, rising, with places of `old`. At least one unchanged line is between any two."""
     front = common_front(old, new)
     back = common_front(old[front:][::-1], new[front:][::-1])
@@ -32,7 +46,7 @@ def edits(old: Lines, new: Lines) -> list[Edit]:
     return found
 
 
-def changes(old: Lines, new: Lines) -> list[tuple[int, int, int, int]]:
+def changes(old: list[bytes], new: list[bytes]) -> list[tuple[int, int, int, int]]:
     """Where two lists differ: start and stop in the old one, start and stop in the new one."""
     if max(len(old), len(new)) > LONGEST_SEARCH:
         return [(0, len(old), 0, len(new))]
@@ -45,7 +59,7 @@ def common_front(old: Sequence[object], new: Sequence[object]) -> int:
     return next((n for n, (a, b) in enumerate(zip(old, new)) if a != b), min(len(old), len(new)))
 
 
-def anchors(old: Lines, new: Lines) -> list[tuple[int, int]]:
+def anchors(old: list[bytes], new: list[bytes]) -> list[tuple[int, int]]:
     """Pairs of places of lines that each list has just once, rising in both. `difflib` searches only between them: over
     thousands of tunes that change in several places it would take seconds."""
     places = places_of_single(new)
@@ -53,7 +67,7 @@ def anchors(old: Lines, new: Lines) -> list[tuple[int, int]]:
     return [pairs[n] for n in longest_rise([place for _, place in pairs])]
 
 
-def places_of_single(lines: Lines) -> dict[bytes, int]:
+def places_of_single(lines: list[bytes]) -> dict[bytes, int]:
     """The place of each line that occurs just once."""
     times = Counter(lines)
     return {line: place for place, line in enumerate(lines) if times[line] == 1}
@@ -77,7 +91,7 @@ def longest_rise(numbers: list[int]) -> list[int]:
     return chosen[::-1]
 
 
-def joined(found: list[Edit], old: Lines, most: int) -> list[Edit]:
+def joined(found: list[Edit], old: list[bytes], most: int) -> list[Edit]:
     """The same change in at most `most` edits, and in one for each tune. An edit costs about half of opening its tune, so
     two in one tune cost as much as the whole tune. Far edits stay apart: unchanged lines between joined ones are sent too."""
     gaps = [
@@ -90,9 +104,9 @@ def joined(found: list[Edit], old: Lines, most: int) -> list[Edit]:
     return [as_one(found[a:b], old) for a, b in zip(cuts, cuts[1:])] if found else []
 
 
-def as_one(found: list[Edit], old: Lines) -> Edit:
+def as_one(found: list[Edit], old: list[bytes]) -> Edit:
     """One edit that does the same as these."""
-    lines: Lines = []
+    lines: list[bytes] = []
     at = found[0].start
     for edit in found:
         lines += old[at : edit.start] + edit.lines

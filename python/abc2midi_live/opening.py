@@ -1,0 +1,52 @@
+"""How a session begins."""
+
+from pathlib import Path
+from typing import Optional
+
+from .errors import LibraryMissing, ProgramMissing
+from .finding import PathName
+from .lines import MARK
+from .process import ProcessSession
+from .session import Session
+
+
+def open(path: Optional[PathName] = None, *, library: Optional[PathName] = None, program: Optional[PathName] = None) -> Session:
+    """Opens a session over the text of a tune book, or over an empty text.
+
+    The session runs over the C library if that is found, and else in a process of the program. `library` or `program` names
+    one, which is used and no other. The file is read once and never written. Raises OSError if it cannot be read,
+    `BadLine` or `TooLarge` if it is no text that a session takes, and `LibraryMissing` or `ProgramMissing`."""
+    book = Path(path).read_bytes() if path is not None else b""
+    session = new_session(library, program)
+    try:
+        session.insert(1, book.removeprefix(MARK))
+    except BaseException:
+        session.close()
+        raise
+    return session
+
+
+def new_session(library: Optional[PathName], program: Optional[PathName]) -> Session:
+    """A session with an empty text over what is named, or over what is found."""
+    if library is not None and program is not None:
+        raise ValueError("name a library or a program, not both")
+    if program is not None:
+        return ProcessSession(program)
+    if library is not None:
+        return library_session(library)
+    try:
+        return library_session(None)
+    except LibraryMissing as missing:
+        try:
+            return ProcessSession()
+        except ProgramMissing as also:
+            raise ProgramMissing(f"{missing}; {also}") from also
+
+
+def library_session(library: Optional[PathName]) -> Session:
+    """A session over the C library. Some installations of Python have no `ctypes`."""
+    try:
+        from .library import LibrarySession
+    except ImportError as error:
+        raise LibraryMissing(f"this Python cannot load a library: {error}") from error
+    return LibrarySession(library)

@@ -1,0 +1,232 @@
+"""What a session is, whichever way it is run."""
+
+from __future__ import annotations
+
+from abc import ABC, abstractmethod
+from collections.abc import Iterator, Sequence
+from contextlib import contextmanager
+from operator import index
+from types import TracebackType
+from typing import NamedTuple, Optional, TypeVar
+
+from .edits import Edit, few_edits
+from .errors import BadLine, BadRange, ClosedError, EditError, TooLarge, refusal
+from .lines import MOST_BYTES, MOST_LINES, Lines, Text, lines_of, lines_of_book
+
+Self = TypeVar("Self", bound="Session")
+
+
+class Report(NamedTuple):
+    """What an edit changed: the numbers of tunes, rising, whose MIDI file is new or has other bytes, and of those that have no
+    file any more."""
+
+    written: tuple[int, ...]
+    removed: tuple[int, ...]
+
+
+class Title(NamedTuple):
+    """A tune of the text: its number and its title, as it is written, without blanks at its ends."""
+
+    number: int
+    text: bytes
+
+
+class Fault(NamedTuple):
+    """A fault of the text: its line and its column, both counted from 1, columns in bytes, and its name, as `BadMeter`."""
+
+    line: int
+    column: int
+    name: str
+
+
+class Work(NamedTuple):
+    """What all edits of a session cost so far: lines scanned, pieces of music folded, and files built."""
+
+    scanned: int
+    folded: int
+    built: int
+
+
+class Session(ABC):
+    """The text of a tune book under edits. At any time it has the MIDI files, titles and faults of the whole present text.
+
+    Lines are counted from 1. A line is bytes without a line feed, since the text of an ABC file may be any bytes; a str is
+    written in UTF-8. Edits take a text, which is cut at its line feeds, or an iterable of lines. An edit is refused by the
+    first of these that applies, and then the session is as it was: `BadRange`, `BadLine`, `TooLarge`, `OutOfMemory`.
+
+    A session is a context manager that closes itself. Every call but `close` raises `ClosedError` after that."""
+
+    def __init__(self) -> None:
+        self._lines: list[bytes] = []
+        self._is_closed = False
+
+    # ---- edits
+
+    def insert(self, at: int, lines: Lines) -> Report:
+        """Inserts lines before line `at`, which is from 1 to `line_count + 1`."""
+        self._check_open()
+        at, put = index(at), lines_of(lines)
+        with self._whole_edit():
+            report = self._insert(at, put)
+            self._lines[at - 1 : at - 1] = put
+        return report
+
+    def replace(self, from_line: int, to_line: int, lines: Lines) -> Report:
+        """Replaces the lines from `from_line` to `to_line`, both included, by any number of lines."""
+        self._check_open()
+        from_line, to_line, put = index(from_line), index(to_line), lines_of(lines)
+        with self._whole_edit():
+            report = self._replace(from_line, to_line, put)
+            self._lines[from_line - 1 : to_line] = put
+        return report
+
+    def delete(self, from_line: int, to_line: int) -> Report:
+        """Deletes the lines from `from_line` to `to_line`, both included."""
+        self._check_open()
+        from_line, to_line = index(from_line), index(to_line)
+        with self._whole_edit():
+            report = self._delete(from_line, to_line)
+            del self._lines[from_line - 1 : to_line]
+        return report
+
+    def set_text(self, text: Text) -> Report:
+        """Makes the text that of a tune book, by few edits. A byte order mark at its start is dropped.
+
+        All edits are one report. If one edit changes a file and another one changes it back, its number is in `written`.
+        If an allocation fails between two edits, those before it stay: `lines` has the text so far, and the same call made
+        again goes on from there."""
+        self._check_open()
+        return self.apply(few_edits(self._lines, lines_of_book(text)))
+
+    def apply(self, edits: Sequence[Edit]) -> Report:
+        """Makes edits, which rise and do not overlap. Their places are those of the present text. Returns one report, as
+        `set_text` does. If one would be refused, nothing is changed, but for allocations that fail between two edits."""
+        self._check_open()
+        self._check_edits(edits)
+        if len(edits) == 1:
+            return self._apply_one(edits[0])
+        had = set(self.numbers)
+        has_file: dict[int, bool] = {}
+        for edit in reversed(edits):
+            report = self._apply_one(edit)
+            has_file.update(dict.fromkeys(report.written, True))
+            has_file.update(dict.fromkeys(report.removed, False))
+        written = sorted(number for number, has in has_file.items() if has)
+        return Report(tuple(written), tuple(sorted(had.intersection(has_file).difference(written))))
+
+    @contextmanager
+    def _whole_edit(self) -> Iterator[None]:
+        """An edit and its lines here. One that Ctrl-C interrupts may be made or not."""
+        try:
+            yield
+        except EditError:
+            raise
+        except BaseException:
+            self._recover()
+            raise
+
+    def _apply_one(self, edit: Edit) -> Report:
+        """Makes one edit."""
+        if edit.start == edit.stop:
+            return self.insert(edit.start + 1, edit.lines)
+        if edit.lines:
+            return self.replace(edit.start + 1, edit.stop, edit.lines)
+        return self.delete(edit.start + 1, edit.stop)
+
+    def _check_edits(self, edits: Sequence[Edit]) -> None:
+        """Raises what refuses edits together."""
+        ends = [0, *(end for edit in edits for end in edit[:2]), len(self._lines)]
+        if any(before > after for before, after in zip(ends, ends[1:])):
+            raise refusal(BadRange)
+        if any(len(line) > MOST_BYTES for edit in edits for line in edit.lines):
+            raise refusal(BadLine)
+        sizes = [len(self._lines)]
+        for edit in reversed(edits):
+            sizes.append(sizes[-1] + len(edit.lines) - (edit.stop - edit.start))
+        if max(sizes) > MOST_LINES:
+            raise refusal(TooLarge)
+
+    # ---- what the text has
+
+    def line(self, number: int) -> bytes:
+        """A line of the text, without a line feed. Raises IndexError if there is none of that number."""
+        self._check_open()
+        if not 1 <= index(number) <= len(self._lines):
+            raise IndexError(f"there is no line {number} in a text of {len(self._lines)} lines")
+        return self._lines[number - 1]
+
+    @property
+    def lines(self) -> list[bytes]:
+        """All lines of the text; the list is the caller's."""
+        self._check_open()
+        return self._lines.copy()
+
+    @property
+    def line_count(self) -> int:
+        """How many lines the text has."""
+        self._check_open()
+        return len(self._lines)
+
+    @abstractmethod
+    def output(self, number: int) -> Optional[bytes]:
+        """The bytes of the MIDI file of a number, or None if no tune of that number has one."""
+
+    @property
+    @abstractmethod
+    def numbers(self) -> list[int]:
+        """The numbers that have a MIDI file, rising."""
+
+    @property
+    @abstractmethod
+    def titles(self) -> list[Title]:
+        """The number and the title of each tune, in the order of the text. Of tunes of one number the first one that is not
+        too long has the file."""
+
+    @property
+    @abstractmethod
+    def faults(self) -> list[Fault]:
+        """The faults of the text, in the order of their places."""
+
+    @property
+    @abstractmethod
+    def work(self) -> Optional[Work]:
+        """What all edits cost so far, or None over a process, which does not count."""
+
+    # ---- the end
+
+    def close(self) -> None:
+        """Ends the session. Twice is harmless."""
+        if not self._is_closed:
+            self._is_closed = True
+            self._lines = []
+            self._close()
+
+    def __enter__(self: Self) -> Self:
+        self._check_open()
+        return self
+
+    def __exit__(
+        self, kind: Optional[type[BaseException]], error: Optional[BaseException], trace: Optional[TracebackType]
+    ) -> None:
+        self.close()
+
+    def _check_open(self) -> None:
+        """Raises ClosedError after `close`."""
+        if self._is_closed:
+            raise ClosedError("the session is closed")
+
+    @abstractmethod
+    def _insert(self, at: int, lines: list[bytes]) -> Report: ...
+
+    @abstractmethod
+    def _replace(self, from_line: int, to_line: int, lines: list[bytes]) -> Report: ...
+
+    @abstractmethod
+    def _delete(self, from_line: int, to_line: int) -> Report: ...
+
+    @abstractmethod
+    def _recover(self) -> None:
+        """Makes the lines here those of the session again, or ends the session."""
+
+    @abstractmethod
+    def _close(self) -> None: ...
