@@ -63,7 +63,7 @@ Left start changes signature letter =
     ⊎ (HasNoneOf letter changes × (alteration signature letter ≡ alteration start letter))
 
 -- the same for changes of any form
-module _ {T : Type 0} (step : Signature → T → Signature) (of : T → Change) (is : (s : Signature) (t : T) → step s t ≡ altered s (of t).1 (semitones (of t).0)) where
+module _ {T : Type 0} (step : Signature → T → Signature) (of : T → Change) (is : (s : Signature) (t : T) → step s t ≡ altered_signature s (of t).1 (semitones (of t).0)) where
   left : (start : Signature) (changes : List T) (letter : Letter) → Left start (map of changes) (fold step start changes) letter
   left start [] letter = inr (All-nil (λ change. change.1 ≢ letter), refl)
   left start (t ∷ ts) letter = ⊎_elim
