@@ -59,7 +59,7 @@ line_ended before after d begun piece line begun' stored text goes_on clean clea
     ∙ ap (λ l. before extent l (stored ++ later)) (input_lines-line (is_whole extent) (begun ++ piece) rest (All-append (λ b. (b == 10) ≡ false) begun piece clean clean_piece))
     ∙ ap (λ l. before extent (l ∷ input_lines (is_whole extent) rest) (stored ++ later)) (sym e)
     ∙ served extent (input_lines (is_whole extent) rest) later
-    ∙ ap (λ t. behind text (if goes_on then t else nothing_more d later)) (sym next)
+    ∙ ap (λ t. with_text_before text (if goes_on then t else nothing_more d later)) (sym next)
 
 -- what is answered to a line that a piece ends, where nothing comes after it
 line_alone : (future : OfLines) (begun piece line : List ℕ) (extent : Extent) (stored : List StoreAnswer) → IsClean begun → IsClean piece → line ≡ take most_kept (begun ++ piece)
