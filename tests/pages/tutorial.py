@@ -33,6 +33,7 @@ class Reader:
         """Starts the watcher, without a player."""
         self.stop()
         options = re.sub(r" --play \S+", "", words.removeprefix(WATCH)).split()
+        signal.signal(signal.SIGINT, signal.default_int_handler)  # the watcher ignores Ctrl-C if it inherits that
         command = [sys.executable, "-B", str(TOP / "clients/watch"), *options, "--program", self.program]
         self.watcher = subprocess.Popen(command, cwd=self.folder, stdout=subprocess.PIPE, text=True, encoding="utf-8")
         threading.Thread(target=self.read, args=(self.watcher,), daemon=True).start()
