@@ -311,7 +311,7 @@ last_line before before' d d' begun line old new same same' e clean some short (
   subst (λ d. Follows old.store new.store stored d t.directory) same' follows,
 )
 
--- the last line, where the machine ends with it
+-- the last line, if the machine ends with it
 pub last_served : (before before' after : OfLines) (d d' e : Directory) (begun line : List ℕ) (old new : Outlets) → before' ≡ before
     → d' ≡ d → line ≡ begun → IsClean begun → 0 < length begun → length begun ≤ most_kept
     → Served before' after d' e line old new false → Tells d (future_of_bytes before begun Whole []) old new

@@ -43,7 +43,7 @@ long_line line long =
     let fails : nat_le (length line) LONGEST_LINE ≡ false = grind (arith, nat_tests) in
     ap (λ a. a && not (list_any (λ b. b == 10) line)) fails
 
--- a last line that is not empty, after so many others
+-- a last line that is not empty, after other lines
 last_line : (line : List ℕ) → 0 < length line → whole_lines true (line ∷ []) ≡ line ∷ []
 last_line line some =
     let there : nat_le 1 (length line) ≡ true = grind (arith, nat_tests) in

@@ -35,7 +35,7 @@ answers_both before mid after d e a b first second text text' goes_on one two ex
 pub answers_none : {X : Type 0} (before after : Future X) (d : Directory) → after ≡ before → Answers (future_change before after d) [] [] [] true
 answers_none before after d same extent rest later = ap (λ f. f extent rest later) (sym same) ∙ sym (behind_none (after extent rest later))
 
--- what is answered to all of a piece, where the machine ends with it
+-- what is answered to all of a piece, if the machine ends with it
 pub ended_with : {X : Type 0} (before after : Future X) (d : Directory) (piece : List X) (stored : List StoreAnswer) (text : List ℕ) (extent : Extent) (rest : List X)
     → Answers (future_change before after d) piece stored text false → before extent (piece ++ rest) stored ≡ Some (run_output text d)
 ended_with before after d piece stored text extent rest h =

@@ -35,7 +35,7 @@ abbrev pub between : {X : Type 0} → MachineState X → MachineState X → Futu
 between before after = future_change before.future after.future after.directory
 
 -- Whatever comes after a piece, and whatever the store answers after these answers: what was to be written before it is
--- the text, and then, where the machine goes on, what is to be written after it.
+-- the text, and then, if the machine goes on, what is to be written after it.
 abbrev pub Answers : {X : Type 0} → FutureChange X → List X → List StoreAnswer → List ℕ → Bool → Type 0
 Answers {X} t piece now text goes_on =
     (extent : Extent) (rest : List X) (later : List StoreAnswer)
@@ -72,10 +72,10 @@ IsClean bytes = All (λ b. (b == line_feed) ≡ false) bytes
 abbrev pub EndsOneAtMost : List ℕ → Type 0
 EndsOneAtMost bytes = (line : List ℕ) × IsClean line × ((bytes ≡ line) ⊎ (bytes ≡ line ++ line_feed ∷ []))
 
--- what is answered to bytes, where the beginning of a line has come before them
+-- what is answered to bytes, if the beginning of a line has come before them
 unfoldable pub future_of_bytes : Future (List ℕ) → List ℕ → Future ℕ
 future_of_bytes future begun extent bytes answers = future extent (input_lines (is_whole extent) (begun ++ bytes)) answers
 
--- how a machine stands towards bytes, where the beginning of a line has come before them
+-- how a machine stands towards bytes, if the beginning of a line has come before them
 abbrev pub state_before_bytes : Future (List ℕ) → List ℕ → Directory → MachineState ℕ
 state_before_bytes future begun directory = machine_state (future_of_bytes future begun) directory

@@ -29,7 +29,7 @@ abbrev pub texts_of : WrittenLength → Option WrittenLength → List (Option Ra
 texts_of own None = written_ratio own ∷ []
 texts_of own (Some outer) = written_ratio own ∷ written_ratio outer ∷ []
 
--- The ratios, if none is wanting.
+-- The ratios, if all of them are there.
 abbrev pub all_ratios : List (Option Ratio) → Option (List Ratio)
 all_ratios [] = Some []
 all_ratios (None ∷ rest) = None

@@ -17,7 +17,7 @@ use Rattle.abc_fields.specs.Letters.{Played, nothing_played, count_or_once, lett
 use Rattle.abc_fields.proofs.LetterLaws.{plays_letter, plays_open, plays_close, plays_digit}
 use Rattle.abc_fields.proofs.Orders.{order_lost, begins_too, positive_step, guarded, guarded_digit, branches, accepts}
 
--- the count after an item has so many digits, of which one is not 0 where it is positive
+-- the number of digits of the count after an item; one digit is not 0 if the count is positive
 abbrev CountFits : LastItem → Option ℕ → Type 0
 CountFits Nothing None = Unit {0}
 CountFits Nothing (Some n) = ⊥

@@ -70,7 +70,7 @@ module _ {State Cell Items : Type 0} (steps : Steps State Cell Items) (laws : Is
   other_tail (x ∷ front) tail old [] all same = all
   other_tail (x ∷ front) tail old (y ∷ whole) all same = (all.0, other_tail front tail old whole all.1 same)
 
-  -- The state that was kept after a cell, where the cell is entered in a state alike to the kept one.
+  -- The state that was kept after a cell, if the cell is entered in a state alike to the kept one.
   pub taken_state : (state entered left own : State) (cell : Cell) (given : Items) → IsAlike steps entered state → IsStep steps cell entered left given → own ≡ left
       → IsAlike steps own (steps.next state cell)
   taken_state state entered left own cell given same kept is =

@@ -20,7 +20,7 @@ use Rattle.abc_tune_compiler.specs.declared.fault.Fault.{Fault}
 use Rattle.abc_tune_compiler.proofs.Moves.{tunes_move}
 use Rattle.abc_tune_compiler.proofs.Within.{faults_in_lines}
 
--- A fault is in one of the lines from this index on, and not after so many.
+-- A fault is in one of the lines after the number `from`, up to the number `to`.
 abbrev pub StandsIn : ℕ → ℕ → Fault → Type 0
 StandsIn from to fault = (from < fault.line) × (fault.line ≤ to)
 

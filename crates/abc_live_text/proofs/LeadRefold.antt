@@ -78,7 +78,7 @@ place_ended : (line : ℕ) (header : Option Block) → (header_place header).to 
 place_ended line None within = λ block e. absurd (cc)
 place_ended line (Some own) within = λ block e. let same : own ≡ block = cc in subst (λ (b : Block). b.to ≤ line) same within
 
--- The chains after the first lines, where the tunes begin in states that are alike.
+-- The chains after the first lines, if the tunes begin in states that are alike.
 chains_behind : {State Cell Items : Type 0} (steps : Steps State Cell Items) (read : List ℕ → List Cell) (was now : State)
     (text new : Text) (gone came : ℕ) (chains : List (Chained State Cell Items)) (blocks : List Block)
     → IsResumable steps → IsAlike steps was now → drop (0 + came) new ≡ drop (0 + gone) text → All (StartsFrom (0 + gone)) blocks
