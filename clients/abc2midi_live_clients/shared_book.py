@@ -362,7 +362,7 @@ class SharedBook:
                 self.moved.notify_all()
 
     def remind(self) -> None:
-        """Lets those who wait for news look again, if time alone may have made some."""
+        """Wakes those who wait for news, since time alone may have brought some."""
         if self.asked_since is not None or self.windows.asked:
             with self.moved:
                 self.moved.notify_all()

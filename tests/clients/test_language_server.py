@@ -358,7 +358,7 @@ class Session(Editor):
         self.finish()
 
     def test_a_saved_text(self):
-        """The text of a save is taken if it is another one than that which is known."""
+        """The text of a save is taken if it differs from the known one."""
         self.open("X:1\nK:C\n&\n")
         for text, is_lost in ("X:1\nK:C\n&\n", False), ("X:1\nK:C\n-\n", False), ("X:1\nK:C\n-\n", True), ("X:1\nK:C\nC&\n", True):
             if is_lost:

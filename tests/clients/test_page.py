@@ -98,7 +98,7 @@ class Page(trial.Folder):
 
     @contextmanager
     def window(self, name="window"):
-        """What a window is told, one after another, while it is open."""
+        """The messages to a window, one after another, while it is open."""
         head = f"GET /{self.token}/events/0/{name} HTTP/1.1\r\nHost: 127.0.0.1:{self.port}\r\n\r\n".encode()
         with socket.create_connection(("127.0.0.1", self.port), trial.SECONDS) as connection:
             connection.sendall(head)
@@ -279,7 +279,7 @@ class Requests(Page):
             self.finish()
 
     def test_a_program_that_hangs(self):
-        """That is told soon; the book can be saved, the program be started again, and the server be ended."""
+        """The page says so soon; the book can be saved, the program be started again, and the server be ended."""
         self.edit(3, 4, "G")
         with self.window() as news:
             hung = int((self.folder / "pid").read_text())

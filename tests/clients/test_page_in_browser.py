@@ -100,7 +100,7 @@ class Kept(unittest.TestResult):
 
     def __init__(self):
         super().__init__()
-        self.wrong = []  # how it is told, and the error
+        self.wrong = []  # where it is shown, and the error
 
     def addError(self, _, error):
         self.wrong.append(("addError", error))

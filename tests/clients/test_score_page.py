@@ -106,7 +106,7 @@ class Requests(Programs, test_page.Page):
         self.assertEqual(self.ask("score", {})["status"], 400)
 
     def test_a_program_that_hangs(self):
-        """Other requests are answered meanwhile, and a server that is told to end leaves nothing."""
+        """Other requests are answered meanwhile, and a server that is asked to end leaves nothing."""
         question = {"header": [], "tune": ["X:1", "K:C", "C"], "width": 600}
         self.assertIn("took too long", self.ask("score", question)["why"])
         self.finish()

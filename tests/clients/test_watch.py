@@ -45,7 +45,7 @@ class Saves(Looks):
         self.assertEqual([one[0], one[1].split(": ")[:2]], ["written 1.mid (Kesh); 22 faults, 1 new", ["/book.abc:9:3", "LooseTie"]])
 
     def test_dynamics_and_programs(self):
-        """What a file says of loudness and sound is a change of it; a program that there is not is told."""
+        """Loudness and sound in a file count as a change of it; a missing program is reported."""
         self.save(TUNE)
         self.assertEqual(self.save(TUNE.replace(b"GAB", b"G!p!AB")), ["written 1.mid (Kesh)"])
         self.assertEqual(self.save(TUNE.replace(b"GAB", b"G!trill!AB")), ["written 1.mid (Kesh)"])

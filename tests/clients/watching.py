@@ -1,4 +1,4 @@
-"""What the tests of the watcher share: a watcher in this process, which looks when it is told, and one as a process."""
+"""What the tests of the watcher share: a watcher in this process, which looks on request, and one as a process."""
 
 import os
 import re
@@ -20,7 +20,7 @@ OTHER = b"\nX:2\nK:C\nCDE\n"
 
 
 class Looks(trial.Folder):
-    """A watcher that looks when it is told."""
+    """A watcher that looks on request."""
 
     in_full = clean = False
     finder = None  # what makes one that finds hints

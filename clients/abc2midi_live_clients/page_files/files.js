@@ -15,7 +15,7 @@ export class Files {
     return Boolean(doubt);
   }
 
-  /** Saves the book, or hands it out if no book was named. */
+  /** Saves the book, or offers it as a download if no book was named. */
   async save(over) {
     const { book, link, questions } = this;
     if (this.isAsked()) return;

@@ -12,7 +12,7 @@ use Rattle.abc2midi_live.specs.Storing.{StoreAnswer, StoreSeen, Follows, Done, F
 use Rattle.abc2midi_live.specs.RunOutput.{RequestOutcome, Extent, Stopped, request_outcome, dialogue_view, line_before}
 use Rattle.abc2midi_live.specs.RunOutput.{outcome_if_stopped}
 
--- so many numbers, rising, the first of which is this one
+-- `count` rising numbers from `first`
 unfoldable pub numbers_from : ℕ → ℕ → List ℕ
 numbers_from first zero = []
 numbers_from first (suc count) = first ∷ numbers_from (first + 1) count

@@ -79,7 +79,7 @@ unfoldable pub command_of_words : List (List ℕ) → Command
 command_of_words [] = Unknown
 command_of_words (name ∷ words) = with_numbers words (command_named name)
 
--- The words of a line are what stands between its spaces.
+-- The words of a line are the parts between its spaces.
 unfoldable pub words_of : List ℕ → List (List ℕ)
 words_of line = slice_split (λ b. b == space) line
 

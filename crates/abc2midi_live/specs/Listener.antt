@@ -1,4 +1,4 @@
--- How a listener stands towards the bytes that still come. Not in ABC 2.1.
+-- What a listener does with the bytes that still come. Not in ABC 2.1.
 use Rattle.std.specs.Prelude.{ℕ, List}
 use Rattle.abc2midi_live.specs.Machine.{MachineState, state_before_bytes}
 use Rattle.abc2midi_live.specs.declared.listener.Listener.{Listener}

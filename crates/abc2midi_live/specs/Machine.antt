@@ -22,7 +22,7 @@ pub record FutureChange (X : Type 0) : Type 0 where
 abbrev pub future_change : {X : Type 0} → Future X → Future X → Directory → FutureChange X
 future_change before after directory = record { before = before; after = after; directory = directory }
 
--- How a machine stands: what it tells to what comes, and what the directory is known to hold.
+-- The state of a machine: what it answers to each input, and what the directory is known to hold.
 pub record MachineState (X : Type 0) : Type 0 where
   pub future : Future X
   pub directory : Directory
@@ -76,6 +76,6 @@ EndsOneAtMost bytes = (line : List ℕ) × IsClean line × ((bytes ≡ line) ⊎
 unfoldable pub future_of_bytes : Future (List ℕ) → List ℕ → Future ℕ
 future_of_bytes future begun extent bytes answers = future extent (input_lines (is_whole extent) (begun ++ bytes)) answers
 
--- how a machine stands towards bytes, if the beginning of a line has come before them
+-- the state of a machine that reads bytes, after the beginning of a line
 abbrev pub state_before_bytes : Future (List ℕ) → List ℕ → Directory → MachineState ℕ
 state_before_bytes future begun directory = machine_state (future_of_bytes future begun) directory

@@ -189,7 +189,7 @@ abbrev pub TurnsOrFails : MachineState ℕ → MachineState ℕ → RunEnds → 
 TurnsOrFails before after old new result =
     MatchResult result (Turn before.directory (between before after) old new) (Leaves before.directory before.future old new)
 
--- All of an input is answered by a machine that stands so at first, or what a fault leaves of that.
+-- A machine in this state answers all of an input, or a fault leaves a part of the answers.
 abbrev pub AnswersAll : {T : Type 0} → MachineState (List ℕ) → RunEnds → RunEnds → Result T RunFault → Type 0
 AnswersAll before old new result =
     MatchResult result (λ _. AnswersInput before.directory

@@ -4,7 +4,7 @@ use Rattle.abc_lines.specs.Text.{Text}
 use Rattle.abc_publish.specs.Publisher.{Directory}
 use Rattle.abc2midi_live.specs.Storing.{StoreAnswer}
 
--- How much of what a run is given has come.
+-- How much of the input of a run has come.
 pub data Extent : Type 0 where
   Whole : Extent  -- all of it
   SoFar : Extent  -- more may come

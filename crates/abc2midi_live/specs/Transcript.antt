@@ -22,7 +22,7 @@ use Rattle.abc2midi_live.specs.declared.command.Command.{Command}
 use Rattle.abc2midi_live.specs.declared.command.Command.TheVariants.{Insert, Replace, Delete, Faults, Titles, Hex, Build, Quit}
 use Rattle.abc2midi_live.specs.declared.command.Command.TheVariants.{Unknown}
 
--- The parts of an input between line feeds are its lines. After the last line feed stands a line only if it is not
+-- The parts of an input between line feeds are its lines. The part after the last line feed is a line only if it is not
 -- empty and the input has ended; before that, more of it may come.
 abbrev pub whole_lines : Bool → List (List ℕ) → List (List ℕ)
 whole_lines ended [] = []

@@ -1,5 +1,5 @@
--- Why nothing is written before a line comes, and nothing is asked for before a store answers. It stands here and not
--- among the proofs since the laws `waits` and `unasked` of the machine name it, and a law names nothing of those.
+-- Why nothing is written before a line comes, and nothing is asked for before a store answers. These lemmas are here and
+-- not among the proofs, since the laws `waits` and `unasked` of the machine name them, and a law names no proof.
 use Rattle.std.specs.Prelude.{◌≡◌, ℕ, ◌-◌, Bool, true, false, nat_le, cond, List, [], ◌∷◌, ◌++◌, length, take, Option, Some, None}
 use Rattle.std.specs.Prelude.{option_and_then, refl}
 use Rattle.std.specs.Result.{result_unwrap_or}
@@ -85,7 +85,7 @@ request_unasked h Misspelled = (request_outcome unknown_line h [], refl, refl, r
 request_unasked h CutOff = (request_outcome [] h [], refl, refl, refl)
 request_unasked h Ends = (request_outcome [] h [], refl, refl, refl)
 
--- what is written after an answer, where nothing is asked for after it
+-- what is written after an answer, if nothing is asked for after it
 behind_unasked : (text : List ℕ) (d : Directory) (b : Bool) (rest : List StoreAnswer → Option RunOutput) → AsksNothing d rest
     → (t : RunOutput) × (with_text_before text (cond b (rest []) (nothing_more d [])) ≡ Some t) × (t.directory ≡ d)
 behind_unasked text d true rest (t, is, same) = (run_output (text ++ t.text) t.directory, ap (with_text_before text) is, same)

@@ -25,7 +25,7 @@ here_in body (At at) = unwrap_or (voice_at body.voices at) body.another
 abbrev pub here : Body → VoiceState
 here body = here_in body body.current
 
--- The body with another state of its current voice, which is given.
+-- The body with another state of its current voice.
 abbrev pub with_here_in : Body → Current → VoiceState → Body
 with_here_in body (Unnamed old) state = record body { current = Unnamed state }
 with_here_in body (At at) state =

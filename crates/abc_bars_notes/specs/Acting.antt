@@ -32,7 +32,7 @@ IsFreeAt cell place =
 abbrev pub AreFreeBetween : List (Spanned TokenKind) → ℕ → ℕ → Type 0
 AreFreeBetween cell low high = (k : ℕ) → low < k → k < high → IsFreeAt cell k
 
--- A mark acts on the last time token before it and on the next one after it in its cell, where nothing
+-- A mark acts on the last time token before it and on the next one after it in its cell, if nothing
 -- that hinders is between. Not in ABC 2.1.
 pub record IsActing (cell : List (Spanned TokenKind)) (mark : BrokenRhythm) (first place second : ℕ) : Type 0 where
   pub mark_is : IsMarkAt cell place mark

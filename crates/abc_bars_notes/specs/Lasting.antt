@@ -102,7 +102,7 @@ pub record Lasts (state : VoiceState) (cell : List (Spanned
   pub exact : IsLength state.unit (own_factor ∷ outer_factor ∷ tuplet_factor ∷ before_factor ∷ behind_factor ∷ []) g
   pub short : g ≤ grains_of_the_longest_length
 
--- A length as it is given: the one that the rule says, else that of one unit, which is not in ABC 2.1.
+-- The length of a note: the one of the rule, else that of one unit, which is not in ABC 2.1.
 pub record IsGiven (Lasting : ℕ → Type 0) (unit : Ratio) (length : Grains) : Type 0 where
   pub accepted : (g : ℕ) → Lasting g → length.0 ≡ g
   pub refused : ((g : ℕ) → ¬ Lasting g) → IsLength unit [] length.0

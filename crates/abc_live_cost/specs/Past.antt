@@ -79,7 +79,7 @@ past_at rows line nth = flat_option (slice_get (row_at rows line) nth)
 abbrev pub entry_of_past : {State : Type 0} → Option (Past State) → Option State
 entry_of_past past = option_map (λ was. was.entered) past
 
--- The head of a list and the rest, where there may be none.
+-- The head of a list and the rest; the list may be empty.
 abbrev pub first_past : {A : Type 0} → List (Option A) → Option A
 first_past [] = None
 first_past (a ∷ others) = a

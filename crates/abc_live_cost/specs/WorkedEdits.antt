@@ -91,7 +91,7 @@ pub record WorkedEdits : Type 0 where
   pub header_longer : Costs with_header (splice 1 0 (codes "T:x" ∷ [])) 1 0
   -- another meter is before one that stays: that one is entered in another state, and the tune as before
   pub meter_before : Costs (codes "M:2" ∷ codes "M:3" ∷ [] ∷ short_tune) (splice 0 1 (codes "M:4" ∷ [])) 2 0
-  -- it reaches as far as the next meter, which stands inside a line
+  -- it reaches as far as the next meter, which is inside a line
   pub inside_a_line : Costs (codes "M:2" ∷ codes "X:1" ∷ codes "K:C" ∷ codes "C|M:3|D" ∷ []) (splice 0 1 (codes "M:4" ∷ [])) 5 1
   -- the file header becomes free text: each cell of the tune is entered in another state
   pub header_goes : Costs with_header (splice 0 0 ([] ∷ codes "C" ∷ [] ∷ [])) 3 1

@@ -12,6 +12,6 @@ changed_number_by before owners place output =
     then (if option_eq bytes_eq (bytes_at before place) output.built.bytes then None else Some output.number)
     else None
 
--- The number that the tune at a place owns before and after, where its bytes differ.
+-- The number that the tune at a place owns before and after, if its bytes differ.
 abbrev pub changed_number_at : List Output → List Output → Owners → ℕ → Option ℕ
 changed_number_at before after owners place = option_and_then (changed_number_by before owners place) (slice_get after place)

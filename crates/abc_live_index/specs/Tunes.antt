@@ -13,11 +13,11 @@ use Rattle.abc_tune_compiler.specs.Rules.{Rules}
 use Rattle.abc_tune_compiler.specs.Tune.{Tune, fault_of_tune, faults_along, lines_in, tune_of}
 use Rattle.abc_tune_compiler.specs.declared.fault.Fault.{Fault}
 
--- A place in a text among the lines that are left where so many are taken away before them.
+-- A place in a text, after `before` earlier lines are deleted.
 abbrev pub lowered_place : ℕ → Block → Block
 lowered_place before place = record { kind = place.kind; from = place.from - before; to = place.to - before }
 
--- A place of a text lies among so many lines that have so many before them.
+-- A place of a text lies among `count` lines at index `before`.
 pub record LiesAmong (before count : ℕ) (place : Block) : Type 0 where
   pub behind : before ≤ place.from
   pub order : place.from ≤ place.to
@@ -46,15 +46,15 @@ pub record IsTuneAt {State Cell Items Defaults : Type 0} (steps : Steps State Ce
 abbrev pub counts_in : ℕ → List ℕ → Block → List ℕ
 counts_in before counts place = take (place.to - before - (place.from - before)) (drop (place.from - before) counts)
 
--- A place lies among lines with so many cells, which have so many lines before them, and a chain has the cells and what
--- each gives.
+-- A place lies among the lines at index `before`, which have `counts` cells, and a chain has the cells and the items of
+-- each.
 pub record HasCells {State Cell Items : Type 0} (before : ℕ) (counts : List ℕ) (chain : Chained State Cell Items)
     (place : Block) : Type 0 where
   pub lies : LiesAmong before (length counts) place
   pub shape : length chain.items ≡ length chain.cells
   pub all : sum_by (λ count. count) (counts_in before counts place) ≤ length chain.cells
 
--- The faults of the cells of a chain where they stand, of which the lines of its place have so many.
+-- The faults of the cells of a chain, each at its line; the lines of the place have `counts` cells.
 abbrev pub cell_faults_by : {State Cell Items Defaults : Type 0} → Rules State Cell Items Defaults → ℕ → List ℕ
     → Chained State Cell Items → Block → List Fault
 cell_faults_by rules before counts chain place =
@@ -74,7 +74,7 @@ faults_by rules before counts (chain ∷ chains) [] = []
 faults_by rules before counts (chain ∷ chains) (place ∷ places) = tune_faults_by rules before counts chain place
     ++ faults_by rules before counts chains places
 
--- How many cells each of so many lines of a text has that have so many before them.
+-- How many cells each of `count` lines of a text at index `before` has.
 abbrev pub counts_among : {Cell : Type 0} → (List ℕ → List Cell) → Text → ℕ → ℕ → List ℕ
 counts_among read text before count = take count (drop before (counts_of read text))
 

@@ -23,8 +23,8 @@ pub record AreRows {State Cell Items Defaults : Type 0} (rules : Rules State Cel
   pub classes : map row_class rows ≡ map rules.class text
   pub cells : map row_cells rows ≡ map rules.cells text
 
--- What is kept of a text beside its lines: its rows, where its file header and its tunes lie, and their chains, that of
--- the file header first.
+-- What is kept of a text beside its lines: its rows, the places of its file header and its tunes, and their chains, that
+-- of the file header first.
 pub record Parts (State Cell Items : Type 0) : Type 0 where
   pub rows : List (Row Cell)
   pub header : Option Block
@@ -44,8 +44,8 @@ pub record ArePartsOf {State Cell Items Defaults : Type 0} (steps : Steps State 
   pub tunes_are : kept.tunes ≡ tunes_in (blocks_in rules text)
   pub chains_are : AreChains steps rules text kept.chains
 
--- A compiler, a text with its room, and what is kept of the text: its rows, where its file header and its tunes lie, and
--- their chains.
+-- A compiler, a text with its room, and what is kept of the text: its rows, the places of its file header and its tunes,
+-- and their chains.
 pub record KeptTextView (C State Cell Items : Type 0) : Type 0 where
   pub compiler : C
   pub lines : Lines
@@ -191,8 +191,8 @@ abbrev pub kept_numbers : ℕ → ℕ → List (Option ℕ)
 kept_numbers first zero = []
 kept_numbers first (suc count) = Some first ∷ kept_numbers (first + 1) count
 
--- For each tune of the text after an edit the old one that has its items, if one is known: those outside the stretch
--- stay, of so many that were there.
+-- For each tune of the text after an edit the old one that has its items, if one is known. Of the `tunes` old ones those
+-- outside the stretch stay.
 abbrev pub reused_tunes_after : Stretch → ℕ → List (Option ℕ) → List (Option ℕ)
 reused_tunes_after stretch tunes reused_tunes = kept_numbers 0 stretch.front
     ++ (reused_tunes ++ kept_numbers stretch.behind (tunes - stretch.behind))

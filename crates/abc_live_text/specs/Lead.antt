@@ -24,7 +24,7 @@ abbrev pub lead_rows : {C State Cell Items : Type 0} → KeptTextView C State Ce
     → List (CarriedRow Cell)
 lead_rows on lead at removed new = edited_rows at removed new (old_lead_rows on lead)
 
--- The stretch of such an edit, which has so many lines then.
+-- The stretch of such an edit, which has `came` lines after it.
 abbrev pub lead_stretch : Lead → ℕ → Stretch
 lead_stretch lead came = record { front = 0; behind = lead.behind; from = 0; to = lead.to; came = came }
 

@@ -14,7 +14,7 @@ rows_along source first (row ∷ rows) = at_origin (Some (record { source = sour
 abbrev pub rows_between : {Cell : Type 0} → List (CarriedRow Cell) → ℕ → ℕ → List (CarriedRow Cell)
 rows_between rows from to = take (to - from) (drop from rows)
 
--- The lines of a text from one up to another, where chains of these numbers hold them.
+-- The lines of a text from one up to another, with the chains, numbered from `source`, that hold them.
 abbrev pub rows_until : {Cell : Type 0} → List (CarriedRow Cell) → ℕ → ℕ → ℕ → List Block → List (CarriedRow Cell)
 rows_until rows at to source [] = map (at_origin None) (rows_between rows at to)
 rows_until rows at to source (block ∷ blocks) =

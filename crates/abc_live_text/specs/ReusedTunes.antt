@@ -19,7 +19,7 @@ is_origin source place (Some origin) = (origin.source == source) && (origin.firs
 abbrev pub continues : {Cell : Type 0} → ℕ → ℕ → CarriedRow Cell → Bool
 continues source place row = if length row.cells == 0 then true else is_origin source place row.origin
 
--- Whether the cells of lines are those of the old chain of a number, from a place to the end of so many.
+-- Whether the cells of lines are those of the old chain `source`, from `place` to its end at `count`.
 abbrev pub is_along : {Cell : Type 0} → ℕ → ℕ → ℕ → List (CarriedRow Cell) → Bool
 is_along source count place [] = place == count
 is_along source count place (row ∷ rows) = continues source place row && is_along source count (place + length row.cells) rows

@@ -13,7 +13,7 @@ abbrev pub CurrentIsSettled : Type 0
 CurrentIsSettled = (p : Publishing) (files : Files) → ((n : ℕ) → n < 2 ^ 32 → is_pending p.directory files n ≡ false)
     → ((n : ℕ) → p.jobs n ≡ None) → IsSettled p files
 
--- A number whose job has begun is given no second one.
+-- A number whose job has begun gets no second one.
 abbrev pub JobOnce : Type 0
 JobOnce = (p : Publishing) (files : Files) (number : ℕ) (bytes : Option (List ℕ))
     → is_wanted (with_job p number bytes) files number ≡ false

@@ -47,7 +47,7 @@ abbrev pub stored_of : Option SlotView → Option Stored
 stored_of None = None
 stored_of (Some slot) = slot.stored
 
--- What the job carries that a slot has under way.
+-- What the job of a slot carries.
 abbrev pub job_bytes_of : Option SlotView → Option (Option (List ℕ))
 job_bytes_of None = None
 job_bytes_of (Some slot) = slot.job_bytes

@@ -44,8 +44,8 @@ endings_size strain zero = 0
 endings_size strain (suc passes) =
     endings_size strain passes + length (first_ending (suc passes) (length strain.common) strain.endings)
 
--- How many of its passes a strain is played through, whose common part plays so many places: where it
--- plays none, passes beyond the 32nd play nothing.
+-- How many of its passes a strain is played through, if its common part plays `common` places: if that
+-- is none, passes beyond the 32nd play nothing.
 abbrev pub rounds_of : ℕ → ℕ → ℕ
 rounds_of common passes = if common == 0 then min passes LAST_PASS else passes
 

@@ -1,6 +1,6 @@
 -- The play of a section in the words of the rules, apart from the definitions by which it is computed. ABC 2.1 sections 4.8 to
 -- 4.10.
--- What is a double bar, where strains and endings begin and end, and how often a strain is passed are not in ABC 2.1.
+-- ABC 2.1 does not say what a double bar is, where strains and endings begin and end, and how often a strain is passed.
 use Rattle.std.specs.Prelude.{◌≡◌, ℕ, ◌+◌, ◌-◌, ◌/◌, ◌%◌, ◌^◌, ◌<◌, ◌≤◌, ◌⊎◌, Bool, true, ⊤, List, [], ◌∷◌, ◌++◌, length, All}
 use Rattle.std.specs.Prelude.{Option, Some, None}
 use Rattle.std.specs.List.{Contains}
@@ -34,8 +34,8 @@ IsEndBar m = IsRepeatBar m ⊎ IsDoubleBar m
 abbrev pub EndsEnding : Mark → Type 0
 EndsEnding m = IsSign m ⊎ IsEndBar m
 
--- A bar that ends the common part of a strain. The bar before the strain has so many colons after it; the strain is opened if there
--- are any, and then a double bar does not end its common part. Not in ABC 2.1.
+-- A bar that ends the common part of a strain. The bar before the strain has `before` colons after it; the strain is opened if
+-- there are any, and then a double bar does not end its common part. Not in ABC 2.1.
 abbrev pub IsCommonBar : ℕ → Mark → Type 0
 IsCommonBar before m = IsRepeatBar m ⊎ (IsDoubleBar m × (before ≡ 0))
 
@@ -126,10 +126,9 @@ pub record IsStrainPlay (at : ℕ) (text common : List Mark) (endings : List Pla
   pub count : IsPassCount text passes
   pub played : PlaysPasses (turns_from at common) endings passes play
 
--- The play of marks from the beginning of a strain to the section's end. The bar before them has so many colons after it; the first
--- of them is at this place. The next strain begins after a bar that ends the common part; or after a bar that ends an ending, if it
--- has
--- colons after it or no sign comes. Not in ABC 2.1.
+-- The play of marks from the beginning of a strain to the section's end. The bar before them has `before` colons after it; the
+-- first of them is at place `at`. The next strain begins after a bar that ends the common part; or after a bar that ends an
+-- ending, if it has colons after it or no sign comes. Not in ABC 2.1.
 pub data IsPlayFrom : ℕ → ℕ → List Mark → List ℕ → Type 0 where
   ends_in_common : (before at : ℕ) (common : List Mark) (play : List ℕ) → All (λ m. ¬ EndsCommon before m) common
       → IsStrainPlay at common common [] play

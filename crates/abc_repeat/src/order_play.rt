@@ -108,7 +108,7 @@ impl OrderPlay {
     }
 }
 
-/// The opening section and the sections that the letters of an order play, with room for so many.
+/// Returns the opening section and the sections that the letters of an order play, in a list with room for `room`.
 pub(crate) fn put_order(
     alloc: Global,
     order: &[u8],

@@ -12,7 +12,7 @@ unfoldable pub is_power_up_to : ℕ → ℕ → Bool
 is_power_up_to zero n = n == 1
 is_power_up_to (suc most) n = (n == 2 ^ suc most) || is_power_up_to most n
 
--- The number, where it is two to a power of at most this.
+-- The number, if it is two to a power of at most `most`.
 abbrev pub power_up_to : ℕ → Option ℕ → Option ℕ
 power_up_to most None = None
 power_up_to most (Some n) = if is_power_up_to most n then Some n else None

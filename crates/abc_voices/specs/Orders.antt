@@ -1,4 +1,4 @@
--- In which order the parts of a tune are played: that which its header says last. Not in ABC 2.1.
+-- In which order the parts of a tune are played: the last order in its header. Not in ABC 2.1.
 use Rattle.std.specs.Prelude.{◌≡◌, ℕ, List, length, filter_map, slice_get, Option, Some, None}
 use Rattle.abc_bars_items.specs.declared.item.Item.{Item}
 use Rattle.abc_bars_items.specs.declared.item.Item.TheVariants as items

@@ -45,8 +45,8 @@ abbrev pub opening_voice : List Item → List ℕ
 opening_voice [] = []
 opening_voice (step ∷ tune) = declared_or (opening_voice tune) step
 
--- The sections of what is after these steps of a section, which this voice began, where another is the
--- current one: each with the voice that is the current one where it begins.
+-- The sections of the items after `held`, the steps so far of a section that began in the voice `opening`, while `voice`
+-- is the current one: each section with the voice in which it begins.
 abbrev pub sections_from : List ℕ → List Item → List ℕ → List Item → List (List ℕ × List Item)
 sections_from opening held voice [] = (opening, held) ∷ []
 sections_from opening held voice (step ∷ tune) =

@@ -1,4 +1,4 @@
--- Items that are copied into a buffer of the caller: all of them if they fit, else none. Their count is told in both cases.
+-- Items that are copied into a buffer of the caller: all of them if they fit, else none. The call reports their count either way.
 use Rattle.std.specs.Prelude.{ℕ, if◌then◌else◌, List, ◌++◌, drop, length, nat_le, Option, None, Some}
 use Rattle.c_library.specs.declared.codes.TheConstants.{CODE_OK, CODE_MISUSED, CODE_NOT_FOUND, CODE_SHORT_BUFFER}
 

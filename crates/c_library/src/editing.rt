@@ -65,7 +65,7 @@ pub extern "C" fn abc_live_insert(
     }
 }
 
-/// Puts the lines of a text in the place of the lines from one to another.
+/// Replaces the lines from one to another by the lines of a text.
 #[tactic(auto, using(crate::proofs::Sessions::unworked_slot))]
 #[unsafe(no_mangle)]
 pub extern "C" fn abc_live_replace(

@@ -65,7 +65,7 @@ fn fault_of_lines(others: usize, text: &[u8]) -> Option<EditError>
     }
 }
 
-/// Why a text is not put in the place of lines of a session, the first reason first.
+/// Returns why a text cannot replace lines of a session; the first reason counts.
 fn reason(session: &Session, at: u32, removed: u32, text: &[u8]) -> EditError
     ensures value { let splice : Splice = record { at = at; removed = removed; lines = lines_in text.now } in
         Refuses result (replaced session.now.text splice) }

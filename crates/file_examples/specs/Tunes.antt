@@ -9,7 +9,7 @@ use Rattle.abc_voices_score.specs.declared.score.ChangeKind.TheVariants as kinds
 use Rattle.abc_voices_score.specs.declared.score.ProgramChange.{ProgramChange}
 use Rattle.abc_voices_score.specs.declared.score.Sounding.{Sounding}
 
--- A tone of a key, or a silent one, of so many grains, that is tied or not, with a velocity, and one with that of a tune
+-- A tone with its velocity, key (None: silent), length in grains and tie, and one with the velocity of a tune
 -- without dynamics.
 abbrev pub tone_with : ℕ → Option ℕ → ℕ → Bool → Tone
 tone_with velocity key grains tied = record { key = key; length = record { 0 = grains }; tied = tied; velocity = velocity }
@@ -138,11 +138,11 @@ key_change at = record { at = record { 0 = at }; what = kinds.Key (pos 0) false 
 abbrev pub program_change : ℕ → ℕ → ProgramChange
 program_change at number = record { at = record { 0 = at }; number = number }
 
--- Parts that are played in the order `BAB`, of which `A` stands twice.
+-- Parts that are played in the order `BAB`; the part `A` is there twice.
 abbrev pub ordered_parts : List Item
 ordered_parts = items.Order (66 ∷ 65 ∷ 66 ∷ []) ∷ part_a ∷ note 60 ∷ part_b ∷ note 62 ∷ part_a ∷ note 64 ∷ []
 
--- `|:A|1B:|[Q:]|2F||`, where a tempo is between two endings, and `|:A|1B::[Q:]|2F||`, where it is in a strain of its own.
+-- `|:A|1B:|[Q:]|2F||`, with a tempo between two endings, and `|:A|1B::[Q:]|2F||`, with the tempo in a strain of its own.
 abbrev pub tempo_between_endings : List Item
 tempo_between_endings = opening ∷ note 69 ∷ single ∷ first ∷ note 71 ∷ closing ∷ tempo 1000000 ∷ single ∷ second ∷ note 66 ∷ double
     ∷ []

@@ -26,7 +26,7 @@ program_at tick number = record { at = at_tick tick; number = number }
 abbrev pub change_at : ℕ → ChangeKind → Change
 change_at tick what = record { at = at_tick tick; what = what }
 
--- The note of this key that sounds for the seventh part of 960 ticks, after so many others.
+-- The note of this key that sounds for the seventh part of 960 ticks, after `before` others.
 abbrev pub seventh : ℕ → ℕ → Sounding
 seventh key before =
     record {

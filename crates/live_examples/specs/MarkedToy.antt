@@ -1,4 +1,4 @@
--- The toy language with states that count the cells before them, where nothing reads it. Not in ABC 2.1.
+-- The toy language with states that count the cells before them; nothing reads the count. Not in ABC 2.1.
 use Rattle.std.specs.Prelude.{ℕ, ◌+◌, ◌-◌, ◌^◌, Bool, ◌==◌, List, min, refl, unwrap_or}
 use Rattle.std.proofs.Common.{sym, ap, ◌∙◌}
 use Rattle.std.proofs.lemmas.Bool.{eqb-true, eq-eqb}

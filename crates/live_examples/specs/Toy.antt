@@ -28,7 +28,7 @@ value_of line = drop 2 line
 abbrev pub first_of_value : List ℕ → ℕ
 first_of_value line = slice_index line 2
 
--- The cells of a line of this class: the line, where it is neither blank nor a comment.
+-- The cells of a line of this class: the line, if it is neither blank nor a comment.
 abbrev pub cells_of_class : LineClass → List ℕ → List (List ℕ)
 cells_of_class Blank line = []
 cells_of_class Comment line = []

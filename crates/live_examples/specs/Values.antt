@@ -13,7 +13,7 @@ four_lines = codes "a" ∷ codes "b" ∷ codes "c" ∷ codes "d" ∷ []
 abbrev pub faulty_blocks : Text
 faulty_blocks = codes "D:5" ∷ codes "!" ∷ [] ∷ codes "X:2" ∷ codes "!" ∷ codes "a" ∷ codes "b" ∷ codes "c" ∷ []
 
--- faults in no order, of which one stands twice
+-- faults in no order, one of them twice
 abbrev pub faults_in_no_order : List Fault
 faults_in_no_order =
     fault_in 2 (1, BadByte) ∷ fault_in 1 (9, BadByte) ∷ fault_in 1 (2, BadByte) ∷ fault_in 1 (2, BadReference)

@@ -1,5 +1,5 @@
-//! A compiler of the toy language that counts in its states, where nothing reads it: they are never equal and often the
-//! same.
+//! A compiler of the toy language that counts in its states; nothing reads the count. So states are never equal and often
+//! the same.
 
 ghost use Rattle.live_examples.specs.MarkedToy.{marked_steps, marked_rules, marked_resumable, marked_lawful};
 ghost use Rattle.live_examples.specs.ToyLaws.{toy_eq_is_sound};

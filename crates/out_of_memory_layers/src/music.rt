@@ -35,7 +35,7 @@ pub fn entry_after(alloc: Global, lines: &[&[u8]], work: &mut Work) -> Result<En
     Ok(entry)
 }
 
-/// The state in a body with two voices, where accidentals reach their octaves.
+/// Returns the state in a body with two voices, in which accidentals reach their octaves.
 fn body(alloc: Global, work: &mut Work) -> Result<Entry, AllocError> {
     let lines: [&[u8]; 6] = [
         b"X:1",

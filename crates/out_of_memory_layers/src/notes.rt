@@ -114,7 +114,7 @@ fn is_before(state: &VoiceState) -> bool {
         && in_octave(&state.accidentals, HIGH).is_none()
 }
 
-/// Whether the tuplet is over, so many notes are tied, and the high octave has this accidental.
+/// Whether the tuplet is over, `tied` notes are tied, and the high octave has this accidental.
 fn is_after(state: &VoiceState, tied: usize, high: Option<i8>) -> bool {
     state.tuplet.is_none()
         && state.tied.as_slice().len() == tied

@@ -87,7 +87,7 @@ impl<'a, R: Runtime + AllocGlobal> Directory<'a, R> {
         }
     }
 
-    /// Writes a new file, and renames it to another path, where it replaces the old one.
+    /// Writes a new file, and renames it to another path, so that it replaces the old one.
     fn fill(&self, mut file: R::File, bytes: &[u8], beside: &str, path: &str) -> io::Result<()> {
         file.write_all(bytes)?;
         drop(file);

@@ -1,4 +1,4 @@
-//! A chain over a tune of a hundred lines is made, and what it keeps is taken up and copied.
+//! A chain over a tune of a hundred lines is made, and its pieces are reused and copied.
 
 ghost use Rattle.std.specs.Prelude.{◌<◌, All, length};
 ghost use Rattle.abc_bars_body.specs.SameEntry.{bar_steps};

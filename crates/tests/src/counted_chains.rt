@@ -1,4 +1,4 @@
-//! A chain of a fold is made, and what it keeps is taken up.
+//! A chain of a fold is made, and its pieces are reused.
 
 use crate::kept_runs::append_kept;
 use abc_fold::{Chain, Piece, Work};

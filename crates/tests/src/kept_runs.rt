@@ -1,4 +1,4 @@
-//! What a chain keeps from one place to another, to be taken up.
+//! The pieces that a chain keeps from one place to another, to be reused.
 
 ghost use Rattle.std.specs.Prelude.{◌≤◌, All, length};
 ghost use Rattle.abc_fold.specs.Chain.{Folds};

@@ -124,7 +124,7 @@ fn input_in_pieces(rt: HostRuntime) {
     }
 }
 
-/// Whether a run that reads a byte at a time, and whose reads fail so after so many bytes, answers what was read whole.
+/// Whether a run that reads a byte at a time, and whose reads fail after `read` bytes, answers all complete commands.
 fn stops_reading<R: Runtime + Abort>(
     rt: &R,
     alloc: Global,

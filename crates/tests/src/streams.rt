@@ -49,7 +49,7 @@ impl Source for Pieces<'_> {
     }
 }
 
-/// A sink that keeps what it is given, and fails at some of its calls.
+/// A sink that keeps the bytes that it gets, and fails at some of its calls.
 #[derive(Drop)]
 pub struct Kept {
     bytes: Vec<u8>,

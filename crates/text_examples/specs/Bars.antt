@@ -52,7 +52,7 @@ in_body state = Body (record { voices = []; current = Unnamed state; another = s
 abbrev pub with_unnamed_voice : VoiceState → VoiceState → Entry
 with_unnamed_voice state another = Body (record { voices = ([], state) ∷ []; current = At 0; another = another })
 
--- In 4/4, in 6/8 and in free meter, where the unit is an eighth.
+-- In 4/4, in 6/8 and in free meter, with a unit of an eighth.
 abbrev pub in_common : Entry
 in_common = in_body (voice_state_in (Of 4 4) (ratio 1 8) Pitch)
 

@@ -92,7 +92,7 @@ abbrev pub naming_at : Body → List Element → Naming
 naming_at opening [] = opening_naming opening
 naming_at opening (element ∷ before) = naming_behind (naming_at opening before) (owner_of element.kind) (mentions element.kind)
 
--- Whether a token is the voice's of this name, where another or the same is the current one.
+-- Whether a token belongs to the voice `name` while `current` is the current voice.
 abbrev pub is_owned_by : List ℕ → List ℕ → Owner → Bool
 is_owned_by name current (Named owner) = bytes_eq name owner
 is_owned_by name current Everyone = true

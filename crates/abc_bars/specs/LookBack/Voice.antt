@@ -251,7 +251,7 @@ tuplet_from opening passed (element ∷ before) =
     tuplet_or (tuplet_said (meter_at opening before) element.kind) passed
     (tuplet_from opening (passing (is_time_token element.kind) passed) before)
 
--- The tuplet that is open at a place: the last accepted mark's, where fewer time tokens are after the
+-- The tuplet that is open at a place: the last accepted mark's, if fewer time tokens are after the
 -- mark than it takes. ABC 2.1 section 4.13.
 unfoldable pub tuplet_at : Meter → List Element → Option OpenTuplet
 tuplet_at opening before = tuplet_from opening 0 before
