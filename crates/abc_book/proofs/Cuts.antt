@@ -12,6 +12,7 @@ use Rattle.abc_book.specs.declared.pass.OpenBlock.TheVariants.{Nothing, Inside, 
 use Rattle.abc_book.specs.Block.{letter_x, is_x_line, blocks_of}
 use Rattle.abc_book.specs.Pass.{one_line, with_line, after_line, last_block, block_ended_by, blocks_from}
 use Rattle.abc_book.specs.Laws.{moved, AnXLineCuts}
+use Rattle.abc_book.specs.Stretch.{blocks_at}
 use Rattle.abc_book.proofs.OnePass.{one_pass}
 
 cut_from : (before : OpenBlock) (at : ℕ) (front behind : List LineClass)
@@ -30,18 +31,15 @@ moved_before n Ended = Ended
 
 last_moved : (n : ℕ) (before : OpenBlock) → last_block (moved_before n before) ≡ map (moved n) (last_block before)
 last_moved n Nothing = refl
-last_moved n (Inside block) = refl
-last_moved n Ended = refl
+last_moved n _ = refl
 
 ended_moved : (n : ℕ) (before : OpenBlock) (class : LineClass) → block_ended_by (moved_before n before) class ≡ map (moved n) (block_ended_by before class)
 ended_moved n before Blank = last_moved n before
-ended_moved n before Comment = refl
 ended_moved n before (Field letter) = ⊎_elim
     (λ (e : (letter == letter_x) ≡ true). simp e (last_moved n before))
     (λ (e : (letter == letter_x) ≡ false). simp e)
     (cases_Bool (letter == letter_x))
-ended_moved n before Directive = refl
-ended_moved n before Music = refl
+ended_moved n before _ = refl
 
 one_moved : (n at : ℕ) (kind : BlockKind) → one_line kind (at + n) ≡ moved n (one_line kind at)
 one_moved n at kind = let end : at + n + 1 ≡ at + 1 + n = omega arith in λ i. record { kind = kind; from = at + n; to = end i }
@@ -53,8 +51,7 @@ line_moved n at kind Ended = one_moved n at Free
 
 blank_moved : (n at : ℕ) (before : OpenBlock) → after_line (moved_before n before) (at + n) Blank ≡ moved_before n (after_line before at Blank)
 blank_moved n at Nothing = refl
-blank_moved n at (Inside block) = refl
-blank_moved n at Ended = refl
+blank_moved n at _ = refl
 
 after_moved : (n at : ℕ) (before : OpenBlock) (class : LineClass) → after_line (moved_before n before) (at + n) class ≡ moved_before n (after_line before at class)
 after_moved n at before Blank = blank_moved n at before
@@ -75,13 +72,16 @@ blocks_moved n at before (class ∷ classes) =
     ∙ ap (λ l. map (moved n) (block_ended_by before class) ++ l) (blocks_moved n (at + 1) (after_line before at class) classes)
     ∙ sym (map-append (moved n) (block_ended_by before class) (blocks_from (after_line before at class) (at + 1) classes))
 
+-- the blocks of lines that begin further down
+pub blocks_there : (first : ℕ) (classes : List LineClass) → blocks_from Nothing first classes ≡ blocks_at first classes
+blocks_there first classes =
+    let here : first ≡ 0 + first = omega arith in
+    ap (λ at. blocks_from Nothing at classes) here ∙ blocks_moved first 0 Nothing classes ∙ ap (map (moved first)) (sym (one_pass classes))
+
 -- a line that begins a tune is a field X:
 pub is_field_x : (x : LineClass) → IsTrue (is_x_line x) → x ≡ Field letter_x
-is_field_x Blank h = absurd (cc)
-is_field_x Comment h = absurd (cc)
 is_field_x (Field letter) h = ap (λ l. Field l) (eqb-true letter letter_x h)
-is_field_x Directive h = absurd (cc)
-is_field_x Music h = absurd (cc)
+is_field_x _ h = absurd (cc)
 
 cuts_at : (front behind : List LineClass) → blocks_of (front ++ Field letter_x ∷ behind) ≡ blocks_of front ++ map (moved (length front)) (blocks_of (Field letter_x ∷ behind))
 cuts_at front behind =

@@ -1,10 +1,10 @@
 -- Every line that counts lies in one block, and a blank line in none.
-use Rattle.std.proofs.Common.{◌≡◌, ℕ, zero, suc, ◌+◌, ◌<◌, ◌≤◌, true, false, cond, Some, List, [], ◌∷◌, ◌++◌, refl, sym, ap, ◌∙◌, subst, arith, zero-add}
+use Rattle.std.proofs.Common.{◌≡◌, ℕ, zero, suc, ◌+◌, ◌<◌, ◌≤◌, true, false, cond, Some, List, [], ◌∷◌, ◌++◌, length, refl, sym, ap, ◌∙◌, subst, arith, zero-add}
 use Rattle.std.specs.Prelude.{count_by, slice_get}
 use Rattle.std.proofs.lemmas.Bool.Decides.{nat_tests}
 use Rattle.std.proofs.lemmas.List.Sums.{sum_by-append}
 use Rattle.abc_scan.specs.declared.class.LineClass.{LineClass}
-use Rattle.abc_scan.specs.declared.class.LineClass.TheVariants.{Blank, Comment, Field, Directive, Music}
+use Rattle.abc_scan.specs.declared.class.LineClass.TheVariants.{Blank, Comment}
 use Rattle.abc_book.specs.declared.block.Block.{Block}
 use Rattle.abc_book.specs.declared.block.BlockKind.{BlockKind}
 use Rattle.abc_book.specs.declared.block.BlockKind.TheVariants.{Tune}
@@ -12,9 +12,9 @@ use Rattle.abc_book.specs.declared.pass.OpenBlock.{OpenBlock}
 use Rattle.abc_book.specs.declared.pass.OpenBlock.TheVariants.{Nothing, Inside, Ended}
 use Rattle.abc_book.specs.Block.{blocks_of}
 use Rattle.abc_book.specs.Pass.{one_line, with_line, after_blank, last_block, blocks_from}
-use Rattle.abc_book.specs.Laws.{holds, EachLineInOneBlock, NoBlankInABlock}
+use Rattle.abc_book.specs.Laws.{holds, RiseFromTo, EachLineInOneBlock, NoBlankInABlock}
 use Rattle.abc_book.proofs.OnePass.{one_pass}
-use Rattle.abc_book.proofs.Rising.{Stands, later_stands, blank_stands, line_stands}
+use Rattle.abc_book.proofs.Rising.{Stands, later_stands, blank_stands, tune_stands, line_stands, rises}
 use Rattle.abc_book.proofs.Cases.{by_class}
 
 -- in how many of the blocks a line lies
@@ -34,48 +34,16 @@ closed : (line m n at : ℕ) (before after : OpenBlock) (classes : List LineClas
     → lies line (last_block before ++ blocks_from after at classes) ≡ m + n
 closed line m n at before after classes hx hy = sum_by-append (λ x. cond (holds line x) 1 0) (last_block before) (blocks_from after at classes) ∙ (λ i. hx i + hy i)
 
--- the line stands before all that the next lines add to
-abbrev Missed : ℕ → ℕ → OpenBlock → Type 0
-Missed line at Nothing = line < at
-Missed line at (Inside block) = (line < block.from) × (line < at)
-Missed line at Ended = line < at
+-- no line before the first block lies in one
+none_before : (line first last : ℕ) (blocks : List Block) → line < first → RiseFromTo first blocks last → lies line blocks ≡ 0
+none_before line first last [] before h = refl
+none_before line first last (block ∷ blocks) before h =
+    let here = not_yet line block (omega (arith, h.0)) in
+    let later = none_before line block.to last blocks (omega (arith, h.0, h.1)) h.2 in
+    sum_by-append (λ x. cond (holds line x) 1 0) (block ∷ []) blocks ∙ (λ i. here i + later i)
 
-missed_last : (line at : ℕ) (before : OpenBlock) → Missed line at before → lies line (last_block before) ≡ 0
-missed_last line at Nothing h = refl
-missed_last line at (Inside block) h = not_yet line block h.0
-missed_last line at Ended h = refl
-
-missed_later : (line at : ℕ) (before : OpenBlock) → Missed line at before → Missed line (at + 1) before
-missed_later line at Nothing h = omega arith
-missed_later line at (Inside block) h = (h.0, omega (arith, h.1))
-missed_later line at Ended h = omega arith
-
-missed_blank : (line at : ℕ) (before : OpenBlock) → line ≤ at → Missed line (at + 1) (after_blank before)
-missed_blank line at Nothing h = omega arith
-missed_blank line at (Inside block) h = omega arith
-missed_blank line at Ended h = omega arith
-
-missed_at : (line at : ℕ) (before : OpenBlock) → Missed line at before → line < at
-missed_at line at Nothing h = h
-missed_at line at (Inside block) h = h.1
-missed_at line at Ended h = h
-
-missed_line : (line at : ℕ) (kind : BlockKind) (before : OpenBlock) → Missed line at before → Missed line (at + 1) (Inside (with_line kind before at))
-missed_line line at kind Nothing h = (h, omega arith)
-missed_line line at kind (Inside block) h = (h.0, omega (arith, h.1))
-missed_line line at kind Ended h = (h, omega arith)
-
-never : (line at : ℕ) (before : OpenBlock) (classes : List LineClass) → Missed line at before → lies line (blocks_from before at classes) ≡ 0
-never line at before [] h = missed_last line at before h
-never line at before (class ∷ classes) h =
-    let past : line < at = missed_at line at before h in
-    by_class (λ ended after. lies line (ended ++ blocks_from after (at + 1) classes) ≡ 0) before at class (record {
-      comment = λ e. never line (at + 1) before classes (missed_later line at before h);
-      blank = λ e. closed line 0 0 (at + 1) before (after_blank before) classes (missed_last line at before h) (never line (at + 1) (after_blank before) classes
-          (missed_blank line at before (omega arith)));
-      x_line = λ e. closed line 0 0 (at + 1) before (Inside (one_line Tune at)) classes (missed_last line at before h) (never line (at + 1) (Inside (one_line Tune at)) classes (past, omega arith));
-      other = λ kind k e b. never line (at + 1) (Inside (with_line kind before at)) classes (missed_line line at kind before h);
-    })
+never : (line at : ℕ) (before : OpenBlock) (classes : List LineClass) → Stands (line + 1) at before → lies line (blocks_from before at classes) ≡ 0
+never line at before classes h = none_before line (line + 1) (at + length classes) (blocks_from before at classes) (omega arith) (rises (line + 1) at (at + length classes) before classes refl h)
 
 once : (line at : ℕ) (block : Block) (classes : List LineClass) → block.from ≤ line → line < block.to → block.to ≤ at → lies line (blocks_from (Inside block) at classes) ≡ 1
 once line at block [] from to end = held line block from to
@@ -83,47 +51,40 @@ once line at block (class ∷ classes) from to end =
     by_class (λ ended after. lies line (ended ++ blocks_from after (at + 1) classes) ≡ 1) (Inside block) at class (record {
       comment = λ e. once line (at + 1) block classes from to (omega arith);
       blank = λ e. closed line 1 0 (at + 1) (Inside block) Ended classes (held line block from to) (never line (at + 1) Ended classes (omega arith));
-      x_line = λ e. closed line 1 0 (at + 1) (Inside block) (Inside (one_line Tune at)) classes (held line block from to) (never line (at + 1) (Inside (one_line Tune at)) classes
-          (omega arith, omega arith));
+      x_line = λ e. closed line 1 0 (at + 1) (Inside block) (Inside (one_line Tune at)) classes (held line block from to)
+          (never line (at + 1) (Inside (one_line Tune at)) classes (tune_stands (line + 1) at (omega arith)));
       other = λ kind k e b. once line (at + 1) (with_line kind (Inside block) at) classes from (omega arith) (omega arith);
     })
 
 past_last : (line at : ℕ) (before : OpenBlock) → Stands 0 at before → at ≤ line → lies line (last_block before) ≡ 0
-past_last line at Nothing h past = refl
 past_last line at (Inside block) h past = no_more line block (omega (arith, h.2))
-past_last line at Ended h past = refl
+past_last line at _ h past = refl
 
 line_from : (line at : ℕ) (kind : BlockKind) (before : OpenBlock) → Stands 0 at before → at ≤ line → (with_line kind before at).from ≤ line
-line_from line at kind Nothing h past = past
 line_from line at kind (Inside block) h past = omega (arith, h.1, h.2)
-line_from line at kind Ended h past = past
+line_from line at kind _ h past = past
 
 line_to : (at : ℕ) (kind : BlockKind) (before : OpenBlock) → (with_line kind before at).to ≡ at + 1
 line_to at kind Nothing = refl
-line_to at kind (Inside block) = refl
-line_to at kind Ended = refl
+line_to at kind _ = refl
 
 -- in how many blocks a line of a class lies that is no comment
 abbrev due : LineClass → ℕ
 due Blank = 0
 due Comment = 0
-due (Field letter) = 1
-due Directive = 1
-due Music = 1
+due _ = 1
 
 due_one : (class : LineClass) → (class ≡ Blank → ⊥) → (class ≡ Comment → ⊥) → due class ≡ 1
 due_one Blank b c = absurd (b refl)
 due_one Comment b c = absurd (c refl)
-due_one (Field letter) b c = refl
-due_one Directive b c = refl
-due_one Music b c = refl
+due_one _ b c = refl
 
 lies_here : (line at : ℕ) (before : OpenBlock) (class : LineClass) (classes : List LineClass) → line ≡ at → (class ≡ Comment → ⊥) → Stands 0 at before
     → lies line (blocks_from before at (class ∷ classes)) ≡ due class
 lies_here line at before class classes here c h = by_class (λ ended after. lies line (ended ++ blocks_from after (at + 1) classes) ≡ due class) before at class (record {
   comment = λ e. absurd (c e);
   blank = λ e. closed line 0 0 (at + 1) before (after_blank before) classes (past_last line at before h (omega arith)) (never line (at + 1) (after_blank before) classes
-      (missed_blank line at before (omega arith))) ∙ sym (ap due e);
+      (blank_stands (line + 1) (at + 1) before (omega arith))) ∙ sym (ap due e);
   x_line = λ e. closed line 0 1 (at + 1) before (Inside (one_line Tune at)) classes (past_last line at before h (omega arith)) (once line (at + 1) (one_line Tune at) classes (omega arith)
       (omega arith) (omega arith)) ∙ sym (ap due e);
   other = λ kind k e b.
@@ -143,9 +104,9 @@ lies_due line at (suc k) before class (first ∷ classes) found here c h =
     by_class (λ ended after. lies line (ended ++ blocks_from after (at + 1) classes) ≡ due class) before at first (record {
       comment = λ e. lies_due line (at + 1) k before class classes found next c (later_stands 0 at before h);
       blank = λ e. closed line 0 (due class) (at + 1) before (after_blank before) classes (past_last line at before h past) (lies_due line (at + 1) k (after_blank before) class classes found next c
-          (blank_stands 0 at before (omega arith))) ∙ zero-add (due class);
+          (blank_stands 0 (at + 1) before (omega arith))) ∙ zero-add (due class);
       x_line = λ e. closed line 0 (due class) (at + 1) before (Inside (one_line Tune at)) classes (past_last line at before h past) (lies_due line (at + 1) k (Inside (one_line Tune at)) class classes
-          found next c (omega arith, omega arith, omega arith)) ∙ zero-add (due class);
+          found next c (tune_stands 0 at (omega arith))) ∙ zero-add (due class);
       other = λ kind j e b. lies_due line (at + 1) k (Inside (with_line kind before at)) class classes found next c (line_stands 0 at kind before h);
     })
 

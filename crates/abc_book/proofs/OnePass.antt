@@ -3,12 +3,12 @@ use Rattle.std.proofs.Common.{◌≡◌, ℕ, ◌+◌, false, List, [], ◌∷�
 use Rattle.std.specs.List.{flat_map}
 use Rattle.std.proofs.lemmas.Bool.{cases_Bool, eqb-true}
 use Rattle.abc_scan.specs.declared.class.LineClass.{LineClass}
-use Rattle.abc_scan.specs.declared.class.LineClass.TheVariants.{Blank, Comment, Field, Directive, Music}
+use Rattle.abc_scan.specs.declared.class.LineClass.TheVariants.{Blank, Comment, Field}
 use Rattle.abc_book.specs.declared.block.Block.{Block}
 use Rattle.abc_book.specs.declared.block.BlockKind.TheVariants.{FileHeader, Tune, Free}
 use Rattle.abc_book.specs.declared.pass.OpenBlock.TheVariants.{Nothing, Inside, Ended}
 use Rattle.abc_book.specs.Block.{Line, letter_x, numbered, without_comments, first_piece, other_pieces, cut_at_blanks, cut_before_x, has_lines, pieces_of, end_after, later_blocks, blocks_of_runs}
-use Rattle.abc_book.specs.Block.{blocks_of}
+use Rattle.abc_book.specs.Block.{blocks_of, opening_kind}
 use Rattle.abc_book.specs.Pass.{one_line, blocks_from}
 use Rattle.abc_book.specs.Laws.{OnePass}
 
@@ -62,23 +62,16 @@ passes at (Blank ∷ classes) =
     record { inside = λ block. ap (λ l. block ∷ l) later.ended; ended = later.ended; nothing = later.nothing }
 passes at (Comment ∷ classes) =
     let later = passes (at + 1) classes in record { inside = later.inside; ended = later.ended; nothing = later.nothing }
-passes at (Directive ∷ classes) =
-    let later = passes (at + 1) classes in
-    record {
-      inside = λ block. later.inside (record block { to = at + 1 });
-      ended = later.inside (one_line Free at);
-      nothing = later.inside (one_line FileHeader at);
-    }
-passes at (Music ∷ classes) =
-    let later = passes (at + 1) classes in
-    record {
-      inside = λ block. later.inside (record block { to = at + 1 });
-      ended = later.inside (one_line Free at);
-      nothing = later.inside (one_line Free at);
-    }
 passes at (Field letter ∷ classes) =
     let later = passes (at + 1) classes in
     ⊎_elim (λ e. passes_x at letter classes (eqb-true letter letter_x e) later) (λ e. passes_field at letter classes e later) (cases_Bool (letter == letter_x))
+passes at (class ∷ classes) =
+    let later = passes (at + 1) classes in
+    record {
+      inside = λ block. later.inside (record block { to = at + 1 });
+      ended = later.inside (one_line Free at);
+      nothing = later.inside (one_line (opening_kind class) at);
+    }
 
 pub one_pass : OnePass
 unfolding blocks_of runs_at

@@ -22,30 +22,28 @@ Stands first at (Inside block) = (first ≤ block.from) × (block.from < block.t
 Stands first at Ended = first ≤ at
 
 pub later_stands : (first at : ℕ) (before : OpenBlock) → Stands first at before → Stands first (at + 1) before
-later_stands first at Nothing h = omega arith
 later_stands first at (Inside block) h = (h.0, h.1, omega (arith, h.2))
-later_stands first at Ended h = omega arith
+later_stands first at _ h = omega arith
 
-pub blank_stands : (first at : ℕ) (before : OpenBlock) → first ≤ at → Stands first (at + 1) (after_blank before)
-blank_stands first at Nothing h = omega arith
-blank_stands first at (Inside block) h = omega arith
-blank_stands first at Ended h = omega arith
+pub blank_stands : (first at : ℕ) (before : OpenBlock) → first ≤ at → Stands first at (after_blank before)
+blank_stands first at Nothing h = h
+blank_stands first at _ h = h
+
+pub tune_stands : (first at : ℕ) → first ≤ at → Stands first (at + 1) (Inside (one_line Tune at))
+tune_stands first at h = (h, omega arith, omega arith)
 
 pub line_stands : (first at : ℕ) (kind : BlockKind) (before : OpenBlock) → Stands first at before → Stands first (at + 1) (Inside (with_line kind before at))
-line_stands first at kind Nothing h = (h, omega arith, omega arith)
 line_stands first at kind (Inside block) h = (h.0, omega (arith, h.1, h.2), omega arith)
-line_stands first at kind Ended h = (h, omega arith, omega arith)
+line_stands first at kind _ h = (h, omega arith, omega arith)
 
 closed_rises : (first at last : ℕ) (before : OpenBlock) (blocks : List Block) → Stands first at before → ((next : ℕ) → next ≤ at → RiseFromTo next blocks last)
     → RiseFromTo first (last_block before ++ blocks) last
-closed_rises first at last Nothing blocks h rest = rest first h
 closed_rises first at last (Inside block) blocks h rest = (h.0, h.1, rest block.to h.2)
-closed_rises first at last Ended blocks h rest = rest first h
+closed_rises first at last _ blocks h rest = rest first h
 
 last_rises : (first at : ℕ) (before : OpenBlock) → Stands first at before → RiseFromTo first (last_block before) at
 last_rises first at Nothing h = h
-last_rises first at (Inside block) h = h
-last_rises first at Ended h = h
+last_rises first at _ h = h
 
 pub rises : (first at last : ℕ) (before : OpenBlock) (classes : List LineClass) → at + length classes ≡ last → Stands first at before → RiseFromTo first (blocks_from before at classes) last
 rises first at last before [] end h = let here : at ≡ last = omega arith in subst (RiseFromTo first (last_block before)) here (last_rises first at before h)
@@ -53,8 +51,8 @@ rises first at last before (class ∷ classes) end h =
     let more : at + 1 + length classes ≡ last = omega arith in
     by_class (λ ended after. RiseFromTo first (ended ++ blocks_from after (at + 1) classes) last) before at class (record {
       comment = λ e. rises first (at + 1) last before classes more (later_stands first at before h);
-      blank = λ e. closed_rises first at last before _ h (λ next le. rises next (at + 1) last (after_blank before) classes more (blank_stands next at before le));
-      x_line = λ e. closed_rises first at last before _ h (λ next le. rises next (at + 1) last (Inside (one_line Tune at)) classes more (le, omega arith, omega arith));
+      blank = λ e. closed_rises first at last before _ h (λ next le. rises next (at + 1) last (after_blank before) classes more (blank_stands next (at + 1) before (omega arith)));
+      x_line = λ e. closed_rises first at last before _ h (λ next le. rises next (at + 1) last (Inside (one_line Tune at)) classes more (tune_stands next at le));
       other = λ kind k e b. rises first (at + 1) last (Inside (with_line kind before at)) classes more (line_stands first at kind before h);
     })
 
@@ -70,8 +68,7 @@ IsRightBefore whole before = All (IsRight whole) (last_block before)
 
 blank_right : (whole : List LineClass) (before : OpenBlock) → IsRightBefore whole (after_blank before)
 blank_right whole Nothing = All-nil (IsRight whole)
-blank_right whole (Inside block) = All-nil (IsRight whole)
-blank_right whole Ended = All-nil (IsRight whole)
+blank_right whole _ = All-nil (IsRight whole)
 
 one_right : (whole : List LineClass) (block : Block) → IsRight whole block → All (IsRight whole) (block ∷ [])
 one_right whole block h = All-cons (IsRight whole) block [] h (All-nil (IsRight whole))

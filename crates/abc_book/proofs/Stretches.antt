@@ -49,35 +49,31 @@ rise_on : (first last : ℕ) (blocks : List Block) → RiseFromTo first blocks l
 rise_on first last [] h = h
 rise_on first last (block ∷ blocks) h = omega (arith, h.0, h.1, rise_on block.to last blocks h.2)
 
+rise_moved : (n first last : ℕ) (blocks : List Block) → RiseFromTo first blocks last → RiseFromTo (first + n) (map (moved n) blocks) (last + n)
+rise_moved n first last [] h = omega arith
+rise_moved n first last (block ∷ blocks) h = (omega (arith, h.0), omega (arith, h.1), rise_moved n block.to last blocks h.2)
+
+rising : (n : ℕ) (classes : List LineClass) → RiseFromTo (0 + n) (blocks_at n classes) (length classes + n)
+rising n classes = rise_moved n 0 (length classes) (blocks_of classes) (blocks_rise classes)
+
+-- blocks before a line, and blocks from it on
 module _ (line : ℕ) where
-  before_kept : (first last : ℕ) (blocks : List Block) → RiseFromTo first blocks last → last ≤ line → blocks_before line blocks ≡ blocks
-  before_kept first last [] h le = refl
-  before_kept first last (block ∷ blocks) h le =
-      let e : nat_lt block.from line ≡ true = lt-ltb block.from line (omega (arith, h.1, rise_on block.to last blocks h.2)) in
-      simp e (ap (λ l. block ∷ l) (before_kept block.to last blocks h.2 le))
+  below : (first last : ℕ) (blocks : List Block) → RiseFromTo first blocks last → last ≤ line → (blocks_before line blocks ≡ blocks) × (blocks_behind line blocks ≡ [])
+  below first last [] h le = (refl, refl)
+  below first last (block ∷ blocks) h le =
+      let within = rise_on block.to last blocks h.2 in
+      let before : nat_lt block.from line ≡ true = lt-ltb block.from line (omega (arith, h.1)) in
+      let behind : nat_le line block.from ≡ false = lt-leb line block.from (omega (arith, h.1)) in
+      let later = below block.to last blocks h.2 le in
+      (simp before (ap (λ l. block ∷ l) later.0), simp behind later.1)
 
-  behind_gone : (first last : ℕ) (blocks : List Block) → RiseFromTo first blocks last → last ≤ line → blocks_behind line blocks ≡ []
-  behind_gone first last [] h le = refl
-  behind_gone first last (block ∷ blocks) h le =
-      let e : nat_le line block.from ≡ false = lt-leb line block.from (omega (arith, h.1, rise_on block.to last blocks h.2)) in
-      simp e (behind_gone block.to last blocks h.2 le)
-
-  moved_gone : (n first last : ℕ) (blocks : List Block) → RiseFromTo first blocks last → last + n ≤ line → blocks_behind line (map (moved n) blocks) ≡ []
-  moved_gone n first last [] h le = refl
-  moved_gone n first last (block ∷ blocks) h le =
-      let e : nat_le line (block.from + n) ≡ false = lt-leb line (block.from + n) (omega (arith, h.1, rise_on block.to last blocks h.2)) in
-      simp e (moved_gone n block.to last blocks h.2 le)
-
-  before_gone : (n : ℕ) (blocks : List Block) → line ≤ n → blocks_before line (map (moved n) blocks) ≡ []
-  before_gone n [] le = refl
-  before_gone n (block ∷ blocks) le =
-      let e : nat_lt (block.from + n) line ≡ false = le-ltb (block.from + n) line (omega arith) in simp e (before_gone n blocks le)
-
-  behind_kept : (n : ℕ) (blocks : List Block) → line ≤ n → blocks_behind line (map (moved n) blocks) ≡ map (moved n) blocks
-  behind_kept n [] le = refl
-  behind_kept n (block ∷ blocks) le =
-      let e : nat_le line (block.from + n) ≡ true = le-leb line (block.from + n) (omega arith) in
-      simp e (ap (λ l. moved n block ∷ l) (behind_kept n blocks le))
+  above : (first last : ℕ) (blocks : List Block) → RiseFromTo first blocks last → line ≤ first → (blocks_before line blocks ≡ []) × (blocks_behind line blocks ≡ blocks)
+  above first last [] h le = (refl, refl)
+  above first last (block ∷ blocks) h le =
+      let before : nat_lt block.from line ≡ false = le-ltb block.from line (omega (arith, h.0)) in
+      let behind : nat_le line block.from ≡ true = le-leb line block.from (omega (arith, h.0)) in
+      let later = above block.to last blocks h.2 (omega (arith, h.0, h.1)) in
+      (simp before later.0, simp behind (ap (λ l. block ∷ l) later.1))
 
 shifts : (n went came : ℕ) (blocks : List Block) → map (shifted went came) (map (moved (n + went)) blocks) ≡ map (moved (n + came)) blocks
 shifts n went came [] = refl
@@ -100,18 +96,20 @@ module _ (before old behind : List LineClass) (cut : IsCut before old) (tune : B
   stay =
       ap (blocks_before n) (in_three before old behind cut tune)
       ∙ filter-append (λ (b : Block). nat_lt b.from n) (blocks_of before) (blocks_at n old ++ blocks_at (n + k) behind)
-      ∙ (λ i. before_kept n 0 n (blocks_of before) (blocks_rise before) (omega arith) i
+      ∙ (λ i. (below n 0 n (blocks_of before) (blocks_rise before) (omega arith)).0 i
       ++ (filter-append (λ (b : Block). nat_lt b.from n) (blocks_at n old) (blocks_at (n + k) behind)
-      ∙ (λ j. before_gone n n (blocks_of old) (omega arith) j ++ before_gone n (n + k) (blocks_of behind) (omega arith) j)) i)
+      ∙ (λ j. (above n (0 + n) (k + n) (blocks_at n old) (rising n old) (omega arith)).0 j
+      ++ (above n (0 + (n + k)) (length behind + (n + k)) (blocks_at (n + k) behind) (rising (n + k) behind) (omega arith)).0 j)) i)
       ∙ append-nil (blocks_of before)
 
   rest : blocks_behind (n + k) there ≡ blocks_at (n + k) behind
   rest =
       ap (blocks_behind (n + k)) (in_three before old behind cut tune)
       ∙ filter-append (λ (b : Block). nat_le (n + k) b.from) (blocks_of before) (blocks_at n old ++ blocks_at (n + k) behind)
-      ∙ (λ i. behind_gone (n + k) 0 n (blocks_of before) (blocks_rise before) (omega arith) i
+      ∙ (λ i. (below (n + k) 0 n (blocks_of before) (blocks_rise before) (omega arith)).1 i
       ++ (filter-append (λ (b : Block). nat_le (n + k) b.from) (blocks_at n old) (blocks_at (n + k) behind)
-      ∙ (λ j. moved_gone (n + k) n 0 k (blocks_of old) (blocks_rise old) (omega arith) j ++ behind_kept (n + k) (n + k) (blocks_of behind) (omega arith) j)) i)
+      ∙ (λ j. (below (n + k) (0 + n) (k + n) (blocks_at n old) (rising n old) (omega arith)).1 j
+      ++ (above (n + k) (0 + (n + k)) (length behind + (n + k)) (blocks_at (n + k) behind) (rising (n + k) behind) (omega arith)).1 j)) i)
 
 pub stretch_is_enough : AStretchIsEnough
 stretch_is_enough before old new behind cut cut_new tune =

@@ -118,6 +118,7 @@ fn blocks_from(alloc: Global, first: usize, classes: &[LineClass]) -> Result<Vec
 
 /// The blocks of a text, in order, by the classes of its lines (ABC 2.1 section 2.2). An error says that an
 /// allocation failed.
+#[tactic(auto, using(crate::proofs::OnePass::one_pass))]
 pub fn blocks(alloc: Global, classes: &[LineClass]) -> Result<Vec<Block>, AllocError>
     ensures value { IfOk result (λ blocks. blocks.items ≡ blocks_of classes.now) }
 {
@@ -126,6 +127,7 @@ pub fn blocks(alloc: Global, classes: &[LineClass]) -> Result<Vec<Block>, AllocE
 
 /// The blocks of a stretch of a text from line `first` on, by the classes of its own lines alone, with their places
 /// in the text. What they have to do with the blocks of the text is `a_stretch_is_enough`.
+#[tactic(auto, using(crate::proofs::Cuts::blocks_there))]
 pub fn stretch_blocks(
     alloc: Global,
     first: usize,

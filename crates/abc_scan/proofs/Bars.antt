@@ -1,18 +1,18 @@
 -- The bar line at the front of a text is the longest one that the grammar has there.
 use Rattle.std.proofs.Common.{◌≡◌, ℕ, zero, suc, ◌+◌, ◌-◌, ◌<◌, ◌≤◌, Bool, true, false, cond, Some, List, [], ◌∷◌, ◌++◌, length, take, drop, replicate, refl, sym, ap, ◌∙◌, subst, inl, inr, ⊎_elim}
-use Rattle.std.proofs.Common.{arith, append_assoc, length-append, length-drop, length-take-le, add-zero}
-use Rattle.std.specs.Prelude.{◌==◌, ◌&&◌, ◌||◌, nat_lt}
+use Rattle.std.proofs.Common.{arith, append_assoc, length-append, length-drop, length-take-le}
+use Rattle.std.specs.Prelude.{IfSome, ◌==◌, ◌&&◌, ◌||◌, nat_lt}
 use Rattle.std.specs.List.{AllPass}
-use Rattle.std.proofs.lemmas.Bool.{cond-true, cond-false, cases_Bool, cases_eq, cases_lt, eqb-false, eq-eqb, ne_eqb, or_from, and_left, and_right, ltb-false, le-ltb}
+use Rattle.std.proofs.lemmas.Bool.{cond-true, cond-false, cond_both, cases_Bool, cases_eq, cases_lt, eqb-false, eq-eqb, ne_eqb, or_from, and_left, and_right, ltb-false, le-ltb}
 use Rattle.std.proofs.lemmas.List.{length-replicate}
 use Rattle.std.proofs.lemmas.List.Sums.{prefix_len-le-length}
 use Rattle.abc_scan.specs.declared.bar.BarLine.{BarLine}
 use Rattle.abc_scan.specs.Byte.{colon}
 use Rattle.abc_scan.specs.Note.{begins_with_byte}
 use Rattle.abc_scan.specs.Bar.{Strokes, strokes_text, middle_text, is_double, HasStrokes, HasColons, IsBar, colons, goes_on, middle_from, middle_size, bar_of_colons, with_middle, bar_behind, bar_at}
-use Rattle.abc_scan.proofs.Marks.{one_more, some_where_false, cut_in_three, all_same, same_pass}
-use Rattle.abc_text.proofs.Fronts.{front_passes, front_append, front_exact, take_exact, drop_exact}
-use Rattle.abc_scan.proofs.Readings.{Finds, IsFront}
+use Rattle.abc_scan.proofs.Marks.{take_one_more, cut_in_three, same_text, same_pass, same_covers}
+use Rattle.abc_text.proofs.Fronts.{front_append, front_exact, take_exact, drop_exact}
+use Rattle.abc_scan.proofs.Readings.{Finds, Covers, IsSpelled, covers_both}
 
 abbrev closing : Bool → List ℕ
 closing closed = cond closed (93 ∷ []) []
@@ -77,70 +77,56 @@ bar_from text behind closes count cut = let e : drop (colons text) text ≡ behi
 bar_some : (closes : ℕ) (behind : List ℕ) → 0 < middle_size behind → bar_behind closes behind ≡ Some (with_middle closes (middle_size behind) behind)
 bar_some closes behind some = cond-false _ _ _ (ne_eqb (middle_size behind) 0 (λ e. absurd (omega arith)))
 
--- a middle and the colons that open
-record Opens (middle : List ℕ) (opens : ℕ) (behind : List ℕ) : Type 0 where
-  pub some : 0 < middle_size behind
-  pub long : length middle + opens ≤ middle_size behind + colons (drop (middle_size behind) behind)
-  pub middle_same : length middle + opens ≡ middle_size behind + colons (drop (middle_size behind) behind) → take (middle_size behind) behind ≡ middle
-  pub opens_same : length middle + opens ≡ middle_size behind + colons (drop (middle_size behind) behind) → opens ≡ colons (drop (middle_size behind) behind)
+-- a middle ends before the colons that open
+middle_ends : (opens last : ℕ) (rest : List ℕ) → 0 < length {A = ℕ} (replicate opens 58) → middle_from last (replicate opens 58 ++ rest) ≡ 0
+middle_ends zero last rest some = absurd (omega arith)
+middle_ends (suc opens) last rest some = refl
 
-opens_of : (middle rest : List ℕ) (opens : ℕ) → 0 < length middle → Counts 32 middle (replicate opens 58 ++ rest) → Opens middle opens (middle ++ (replicate opens 58 ++ rest))
-opens_of middle rest zero some (last, count) =
-    let behind = middle ++ rest in
-    record {
-      some = omega (arith, count);
-      long = omega (arith, count);
-      middle_same = λ e. take_exact (middle_size behind) middle rest (omega (arith, count, e));
-      opens_same = λ e. omega (arith, count, e);
-    }
-opens_of middle rest (suc opens) some (last, count) =
-    let tail = replicate (suc opens) 58 ++ rest in
-    let behind = middle ++ tail in
-    let size : middle_size behind ≡ length middle = count ∙ add-zero (length middle) in
-    let after : drop (middle_size behind) behind ≡ tail = drop_exact (middle_size behind) middle tail size in
-    let colons_are : colons (drop (middle_size behind) behind) ≡ suc opens + colons rest =
-    ap colons after ∙ front_append (λ b. b == colon) (replicate (suc opens) 58) rest (same_pass (suc opens) 58) ∙ ap (λ n. n + colons rest) (length-replicate (suc opens) 58) in
-    record {
-      some = omega (arith, size);
-      long = omega (arith, size, colons_are);
-      middle_same = λ e. take_exact (middle_size behind) middle tail size;
-      opens_same = λ e. omega (arith, size, e);
-    }
-
-strokes_longest : (text front rest : List ℕ) (bar : BarLine) → text ≡ front ++ rest → HasStrokes front bar → Finds (bar_at text) front bar
-strokes_longest text front rest bar cut is =
+strokes_longest : (front rest : List ℕ) (bar : BarLine) → HasStrokes front bar → Finds (bar_at (front ++ rest)) front bar
+strokes_longest front rest bar is =
     let middle = middle_text is.groups in
     let closing_colons = replicate bar.closes 58 in
     let opening_colons = replicate bar.opens 58 in
     let behind = middle ++ (opening_colons ++ rest) in
+    let size = middle_size behind in
+    let after = drop size behind in
     let first = middle_first is.groups (opening_colons ++ rest) is.some in
-    let parts : text ≡ closing_colons ++ behind =
-    cut ∙ ap (λ l. l ++ rest) is.spelling ∙ append_assoc closing_colons (middle ++ opening_colons) rest ∙ ap (λ l. closing_colons ++ l) (append_assoc middle opening_colons rest) in
-    let count : colons text ≡ bar.closes = ap colons parts ∙ front_exact (λ b. b == colon) closing_colons behind (same_pass bar.closes 58) first.0 ∙ length-replicate bar.closes 58 in
-    let after : drop bar.closes text ≡ behind = ap (drop bar.closes) parts ∙ drop_exact bar.closes closing_colons behind (sym (length-replicate bar.closes 58)) in
-    let opens = opens_of middle rest bar.opens first.1 (counts_middle is.groups 32 (opening_colons ++ rest)) in
-    let found : BarLine × ℕ = with_middle bar.closes (middle_size behind) behind in
-    let long : length front ≡ bar.closes + (length middle + bar.opens) =
-    ap length is.spelling ∙ length-append closing_colons (middle ++ opening_colons) ∙ (λ i. length-replicate bar.closes colon i + length-append middle opening_colons i) ∙ ap (λ n. bar.closes +
-    (length middle + n)) (length-replicate bar.opens colon) in
+    let whole = append_assoc closing_colons (middle ++ opening_colons) rest ∙ ap (λ l. closing_colons ++ l) (append_assoc middle opening_colons rest) in
+    let text = closing_colons ++ behind in
+    let parts : front ++ rest ≡ text = ap (λ l. l ++ rest) is.spelling ∙ whole in
+    let count : colons text ≡ bar.closes = front_exact (λ b. b == colon) closing_colons behind (same_pass bar.closes 58) first.0 ∙ length-replicate bar.closes 58 in
+    let cut : drop bar.closes text ≡ behind = drop_exact bar.closes closing_colons behind (sym (length-replicate bar.closes 58)) in
+    let (last, counts) = counts_middle is.groups 32 (opening_colons ++ rest) in
+    let covers = covers_both (take size behind, size) (colons after, colons after) middle opening_colons middle bar.opens
+    (omega (arith, counts), λ e. sym (take_exact size middle (opening_colons ++ rest) (sym e)))
+    (λ exact. subst (λ l. Covers (colons l, colons l) opening_colons bar.opens) (sym (drop_exact size middle (opening_colons ++ rest) (sym exact))) (same_covers 58 bar.opens rest))
+    (λ some. omega (arith, counts, middle_ends bar.opens last rest some)) in
+    let found : BarLine × ℕ = with_middle bar.closes size behind in
+    let long = ap length is.spelling ∙ length-append closing_colons (middle ++ opening_colons) in
+    let closes : length closing_colons ≡ bar.closes = length-replicate bar.closes 58 in
     record {
       found = found.0;
       size = found.1;
-      is_read = bar_from text behind bar.closes count after ∙ bar_some bar.closes behind opens.some;
-      long = omega (arith, long, opens.long);
+      is_read = ap bar_at parts ∙ bar_from text behind bar.closes count cut ∙ bar_some bar.closes behind (omega (arith, counts, first.1));
+      long = omega (arith, long, closes, covers.0);
       same = λ e.
-          let tails : length middle + bar.opens ≡ middle_size behind + colons (drop (middle_size behind) behind) = omega (arith, long, e) in
-          let double : bar.double ≡ is_double (take (middle_size behind) behind) = is.double_is ∙ ap is_double (sym (opens.middle_same tails)) in
-          λ i. record { closes = bar.closes; opens = opens.opens_same tails i; double = double i };
+          let same = covers.1 (omega (arith, long, closes, e)) in
+          let double : bar.double ≡ is_double (take size behind) = is.double_is ∙ (λ i. is_double (same i).0) in
+          λ i. record { closes = bar.closes; opens = (same i).1; double = double i };
     }
 
 -- colons alone
 alone_some : (count : ℕ) → 2 ≤ count → bar_of_colons count ≡ Some (record { closes = count - 1; opens = count - 1; double = true }, count)
 alone_some count several = cond-false _ _ _ (le-ltb count 2 several)
 
-colons_found : (text front : List ℕ) (bar : BarLine) (behind : List ℕ) (count : ℕ) → HasColons front bar → bar_at text ≡ bar_behind count behind → length front ≤ count → Finds (bar_at text) front bar
-colons_found text front bar behind count is read long =
+colons_longest : (front rest : List ℕ) (bar : BarLine) → HasColons front bar → Finds (bar_at (front ++ rest)) front bar
+colons_longest front rest bar is =
+    let text = front ++ rest in
+    let count = colons text in
+    let behind = drop count text in
     let size : length front ≡ is.count = ap length is.spelling ∙ length-replicate is.count 58 in
+    let long : count ≡ length front + colons rest = front_append (λ b. b == colon) front rest (subst (AllPass (λ b. b == colon)) (sym is.spelling) (same_pass is.count 58)) in
+    let read = bar_from text behind count refl refl in
     ⊎_elim
     (λ some. record {
       found = (with_middle count (middle_size behind) behind).0;
@@ -152,22 +138,16 @@ colons_found text front bar behind count is read long =
     (λ none. record {
       found = record { closes = count - 1; opens = count - 1; double = true };
       size = count;
-      is_read = read ∙ cond-true _ _ _ (eq-eqb (middle_size behind) 0 (omega arith)) ∙ alone_some count (omega (arith, size, is.several));
-      long = long;
+      is_read = read ∙ cond-true _ _ _ (eq-eqb (middle_size behind) 0 (omega arith)) ∙ alone_some count (omega (arith, size, long, is.several));
+      long = omega (arith, long);
       same = λ e.
           let k : is.count ≡ count = sym size ∙ e in
           λ i. record { closes = (is.closes_is ∙ ap (λ n. n - 1) k) i; opens = (is.opens_is ∙ ap (λ n. n - 1) k) i; double = is.double_is i };
     })
     (cases_lt 0 (middle_size behind))
 
-colons_longest : (text front rest : List ℕ) (bar : BarLine) → text ≡ front ++ rest → HasColons front bar → Finds (bar_at text) front bar
-colons_longest text front rest bar cut is =
-    let count : colons text ≡ length front + colons rest =
-    ap colons cut ∙ front_append (λ b. b == colon) front rest (subst (AllPass (λ b. b == colon)) (sym is.spelling) (same_pass is.count 58)) in
-    colons_found text front bar (drop (colons text) text) (colons text) is (bar_from text (drop (colons text) text) (colons text) refl refl) (omega (arith, count))
-
-pub bar_longest : (text front rest : List ℕ) (bar : BarLine) → text ≡ front ++ rest → IsBar front bar → Finds (bar_at text) front bar
-bar_longest text front rest bar cut is = ⊎_elim (λ strokes. strokes_longest text front rest bar cut strokes) (λ alone. colons_longest text front rest bar cut alone) is
+pub bar_longest : (front rest : List ℕ) (bar : BarLine) → IsBar front bar → Finds (bar_at (front ++ rest)) front bar
+bar_longest front rest bar is = ⊎_elim (λ strokes. strokes_longest front rest bar strokes) (λ alone. colons_longest front rest bar alone) is
 
 -- what is counted as a middle is one
 record Inner (text : List ℕ) : Type 0 where
@@ -179,9 +159,6 @@ record Inner (text : List ℕ) : Type 0 where
 record Outer (before : ℕ) (text : List ℕ) : Type 0 where
   pub groups : List Strokes
   pub spelling : take (middle_from before text) text ≡ middle_text groups
-
-take_one_more : (n b : ℕ) (bs : List ℕ) → take (1 + n) (b ∷ bs) ≡ b ∷ take n bs
-take_one_more n b bs = ap (λ k. take k (b ∷ bs)) (one_more n)
 
 group_first : (opened : Bool) (more : ℕ) (closed : Bool) (groups : List Strokes) → opening opened ++ (124 ∷
     (replicate more 124 ++ (closing closed ++ middle_text groups))) ≡ middle_text ((let s : Strokes = record { opened = opened; more = more; closed = closed } in s) ∷ groups)
@@ -272,56 +249,44 @@ middle_from-le before (b ∷ bs) = ⊎_elim
     (λ fails. let count = cond-false _ (1 + middle_from b bs) 0 fails in omega (arith, count))
     (cases_Bool (goes_on before b bs))
 
-colons_text : (text : List ℕ) → take (colons text) text ≡ replicate (colons text) 58
-colons_text text =
-    let long : length (take (colons text) text) ≡ colons text = (let inside = prefix_len-le-length (λ b. b == colon) text in length-take-le (colons text) text inside) in
-    all_same 58 (take (colons text) text) (front_passes (λ b. b == colon) text) ∙ ap (λ n. replicate n 58) long
-
 groups_some : (groups : List Strokes) → 0 < length (middle_text groups) → 0 < length groups
 groups_some [] some = absurd (omega arith)
 groups_some (g ∷ gs) some = omega arith
 
-strokes_sound : (text : List ℕ) → 0 < middle_size (drop (colons text) text) → IsFront text (with_middle (colons text) (middle_size (drop (colons text) text)) (drop (colons text) text)).1 × IsBar (take (with_middle (colons text) (middle_size (drop (colons text) text)) (drop (colons text) text)).1 text) (with_middle (colons text) (middle_size (drop (colons text) text)) (drop (colons text) text)).0
-strokes_sound text some =
-    let behind = drop (colons text) text in
+strokes_sound : (text behind : List ℕ) → behind ≡ drop (colons text) text → 0 < middle_size behind → IsSpelled IsBar text (with_middle (colons text) (middle_size behind) behind)
+strokes_sound text behind cut some =
     let middle = middle_size behind in
     let after = drop middle behind in
     let closes_in = prefix_len-le-length (λ b. b == colon) text in
     let opens_in = prefix_len-le-length (λ b. b == colon) after in
     let middle_in = middle_from-le 32 behind in
     let groups = (middle_is behind).1 32 (λ e. absurd (omega arith)) in
-    let size : length (middle_text groups.groups) ≡ middle = ap length (sym groups.spelling) ∙ length-take-le middle behind middle_in in (
-      record { some = omega (arith, some); inside = omega (arith, closes_in, opens_in, middle_in, length-drop (colons text) text, length-drop middle behind) },
+    let size : length (middle_text groups.groups) ≡ middle = ap length (sym groups.spelling) ∙ length-take-le middle behind middle_in in
+    let whole = cut_in_three (colons text) middle (colons after) text ∙ (λ i. take (colons text) text ++ (take middle (sym cut i) ++ take (colons after) (drop middle (sym cut i)))) in (
+      record { some = omega (arith, some); inside = omega (arith, closes_in, opens_in, middle_in, ap length cut, length-drop (colons text) text, length-drop middle behind) },
       inl (record {
         groups = groups.groups;
         some = groups_some groups.groups (omega (arith, size, some));
-        spelling = cut_in_three (colons text) middle (colons after) text ∙ (λ i. colons_text text i ++ (groups.spelling i ++ colons_text after i));
+        spelling = whole ∙ (λ i. same_text 58 text i ++ (groups.spelling i ++ same_text 58 after i));
         double_is = ap is_double groups.spelling;
       }),
     )
 
-alone_sound : (text : List ℕ) (bar : BarLine) (size : ℕ) → bar_of_colons (colons text) ≡ Some (bar, size) → IsFront text size × IsBar (take size text) bar
-alone_sound text bar size e =
+alone_sound : (text : List ℕ) → IfSome (bar_of_colons (colons text)) (IsSpelled IsBar text)
+alone_sound text =
     let count = colons text in
-    let alone : BarLine = record { closes = count - 1; opens = count - 1; double = true } in
-    let chosen = some_where_false (nat_lt count 2) (alone, count) (bar, size) e in
-    let several = ltb-false count 2 chosen.0 in
-    let inside = prefix_len-le-length (λ b. b == colon) text in
-    subst (λ (x : BarLine × ℕ). IsFront text x.1 × IsBar (take x.1 text) x.0) chosen.1 (
-      record { some = omega (arith, several); inside = inside },
-      inr (record { count = count; several = several; spelling = colons_text text; closes_is = refl; opens_is = refl; double_is = refl }),
-    )
+    cond_both (nat_lt count 2) _ _ (λ o. IfSome o (IsSpelled IsBar text))
+    (λ _. tt)
+    (λ more.
+    let several = ltb-false count 2 more in (
+      record { some = omega (arith, several); inside = prefix_len-le-length (λ b. b == colon) text },
+      inr (record { count = count; several = several; spelling = same_text 58 text; closes_is = refl; opens_is = refl; double_is = refl }),
+    ))
 
-pub bar_sound : (text : List ℕ) (bar : BarLine) (size : ℕ) → bar_at text ≡ Some (bar, size) → IsFront text size × IsBar (take size text) bar
+pub bar_sound : (text : List ℕ) → IfSome (bar_at text) (IsSpelled IsBar text)
 unfolding bar_at
-bar_sound text bar size e =
+bar_sound text =
     let behind = drop (colons text) text in
-    let middle = middle_size behind in
-    ⊎_elim
-    (λ none. alone_sound text bar size (sym (cond-true _ _ _ none) ∙ e))
-    (λ some.
-    let chosen : Some (with_middle (colons text) middle behind) ≡ Some (bar, size) = sym (cond-false _ _ _ some) ∙ e in
-    let same : with_middle (colons text) middle behind ≡ (bar, size) = cc in
-    let positive = eqb-false middle 0 some in
-    subst (λ (x : BarLine × ℕ). IsFront text x.1 × IsBar (take x.1 text) x.0) same (strokes_sound text (omega (arith, positive))))
-    (cases_Bool (middle == 0))
+    cond_both (middle_size behind == 0) _ _ (λ o. IfSome o (IsSpelled IsBar text))
+    (λ _. alone_sound text)
+    (λ fails. let some = eqb-false (middle_size behind) 0 fails in strokes_sound text behind refl (omega (arith, some)))

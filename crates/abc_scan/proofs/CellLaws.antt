@@ -1,16 +1,18 @@
 -- The cells of a line are its tokens, cut after each bar line and nowhere else.
-use Rattle.std.proofs.Common.{◌≡◌, ℕ, suc, ◌+◌, ◌-◌, ◌<◌, ◌≤◌, true, false, List, [], ◌∷◌, ◌++◌, length, take, drop, get_or, refl, sym, ap, ◌∙◌, subst, ⊎_elim, arith, append_assoc, append-nil}
+use Rattle.std.proofs.Common.{◌≡◌, ℕ, Bool, cond, suc, ◌+◌, ◌-◌, ◌<◌, true, false, List, [], ◌∷◌, ◌++◌, length, take, drop, refl, sym, ap, ◌∙◌, subst, arith, append_assoc, append-nil}
 use Rattle.std.specs.Prelude.{All, ◌==◌}
-use Rattle.std.proofs.Math.Seq.{drop-cons}
-use Rattle.std.proofs.lemmas.Bool.{cond-true, cond-false, cond_both, cases_Bool, eqb-true, false≢true}
-use Rattle.std.proofs.lemmas.List.{drop_all, take_all}
+use Rattle.std.proofs.lemmas.Bool.{cond-true, cond-false, cond_both, eqb-true, false≢true}
 use Rattle.std.proofs.lemmas.List.Elements.{All-nil, All-cons, All-head, All-tail, All-append}
 use Rattle.abc_scan.specs.declared.class.LineClass.{LineClass}
 use Rattle.abc_scan.specs.declared.class.LineClass.TheVariants as classes
 use Rattle.abc_scan.specs.declared.spanned.Spanned.{Spanned}
 use Rattle.abc_scan.specs.declared.token.TokenKind.{TokenKind}
 use Rattle.abc_scan.specs.Cell.{ends_cell, IsCell, EndsWithBar, but_last, AreCells, put_first, cells_of, first_size, HasNoBar, GoOnWith}
+use Rattle.abc_scan.specs.Cutting.{part_at, cutting_from}
+use Rattle.abc_scan.specs.Front.{IsFront}
 use Rattle.abc_scan.specs.Line.{has_tokens, tokens_in}
+use Rattle.abc_scan.specs.Token.{is_bar, line_reader, next_token}
+use Rattle.abc_scan.proofs.Cuttings.{cut_more}
 
 abbrev pub Tokens : Type 0
 Tokens = List (Spanned TokenKind)
@@ -73,51 +75,23 @@ bar_cells t tokens (next ∷ cells) bar are =
 
 pub are_cells : (tokens : Tokens) → AreCells tokens (cells_of tokens)
 are_cells [] = record { whole = refl; each = All-nil IsCell; closed = All-nil EndsWithBar }
-are_cells (t ∷ ts) = ⊎_elim
-    (λ bar. subst (AreCells (t ∷ ts)) (sym (cond-true (ends_cell t) ((t ∷ []) ∷ cells_of ts) (put_first t (cells_of ts)) bar)) (bar_cells t ts (cells_of ts) bar (are_cells ts)))
-    (λ plain. subst (AreCells (t ∷ ts)) (sym (cond-false (ends_cell t) ((t ∷ []) ∷ cells_of ts) (put_first t (cells_of ts)) plain)) (put_cells t ts (cells_of ts) plain (are_cells ts)))
-    (cases_Bool (ends_cell t))
+are_cells (t ∷ ts) = cond_both (ends_cell t) ((t ∷ []) ∷ cells_of ts) (put_first t (cells_of ts)) (AreCells (t ∷ ts))
+    (λ bar. bar_cells t ts (cells_of ts) bar (are_cells ts))
+    (λ plain. put_cells t ts (cells_of ts) plain (are_cells ts))
 
 -- the first cell, and those of what follows it
-first-bar : (t : Spanned TokenKind) (ts : Tokens) → ends_cell t ≡ true → first_size (t ∷ ts) ≡ 1
-first-bar t ts bar = cond-true (ends_cell t) 1 (suc (first_size ts)) bar
-
-first-plain : (t : Spanned TokenKind) (ts : Tokens) → ends_cell t ≡ false → first_size (t ∷ ts) ≡ suc (first_size ts)
-first-plain t ts plain = cond-false (ends_cell t) 1 (suc (first_size ts)) plain
-
-put_front : (t : Spanned TokenKind) (ts : Tokens) → cells_of ts ≡ take (first_size ts) ts ∷ cells_of (drop (first_size ts) ts)
-    → put_first t (cells_of ts) ≡ take (suc (first_size ts)) (t ∷ ts) ∷ cells_of (drop (suc (first_size ts)) (t ∷ ts))
-put_front t ts e = ap (put_first t) e
-
-either_cell : (t : Spanned TokenKind) (ts : Tokens) → put_first t (cells_of ts) ≡ take (suc (first_size ts)) (t ∷ ts) ∷ cells_of (drop (suc (first_size ts)) (t ∷ ts))
-    → cells_of (t ∷ ts) ≡ take (first_size (t ∷ ts)) (t ∷ ts) ∷ cells_of (drop (first_size (t ∷ ts)) (t ∷ ts))
-either_cell t ts more = ⊎_elim
-    (λ bar.
-    cond-true (ends_cell t) ((t ∷ []) ∷ cells_of ts) (put_first t (cells_of ts)) bar
-    ∙ (λ i. take (sym (first-bar t ts bar) i) (t ∷ ts) ∷ cells_of (drop (sym (first-bar t ts bar) i) (t ∷ ts))))
-    (λ plain.
-    cond-false (ends_cell t) ((t ∷ []) ∷ cells_of ts) (put_first t (cells_of ts)) plain
-    ∙ more
-    ∙ (λ i. take (sym (first-plain t ts plain) i) (t ∷ ts) ∷ cells_of (drop (sym (first-plain t ts plain) i) (t ∷ ts))))
-    (cases_Bool (ends_cell t))
+either_cell : (bar : Bool) (t : Spanned TokenKind) (ts : Tokens) → put_first t (cells_of ts) ≡ take (suc (first_size ts)) (t ∷ ts) ∷ cells_of (drop (suc (first_size ts)) (t ∷ ts))
+    → cond bar ((t ∷ []) ∷ cells_of ts) (put_first t (cells_of ts)) ≡ take (cond bar 1 (suc (first_size ts))) (t ∷ ts) ∷ cells_of (drop (cond bar 1 (suc (first_size ts))) (t ∷ ts))
+either_cell true t ts more = refl
+either_cell false t ts more = more
 
 first_cell : (t : Spanned TokenKind) (ts : Tokens) → cells_of (t ∷ ts) ≡ take (first_size (t ∷ ts)) (t ∷ ts) ∷ cells_of (drop (first_size (t ∷ ts)) (t ∷ ts))
-first_cell t [] = either_cell t [] refl
-first_cell t (u ∷ us) = either_cell t (u ∷ us) (put_front t (u ∷ us) (first_cell u us))
-
--- a line without a bar line before its last token is one cell
-pub one_cell : (ts : Tokens) → (length ts == 0) ≡ false → length ts ≤ first_size ts → cells_of ts ≡ ts ∷ []
-one_cell [] some whole = cc
-one_cell (t ∷ ts) some whole =
-    let all = t ∷ ts in
-    first_cell t ts ∙ (λ i. take_all (first_size all) all whole i ∷ cells_of (drop_all (first_size all) all whole i))
+first_cell t [] = either_cell (ends_cell t) t [] refl
+first_cell t (u ∷ us) = either_cell (ends_cell t) t (u ∷ us) (ap (put_first t) (first_cell u us))
 
 pub first-some : (ts : Tokens) → 0 < length ts → 0 < first_size ts
 first-some [] h = absurd (omega arith)
-first-some (t ∷ ts) h = ⊎_elim
-    (λ bar. omega (arith, first-bar t ts bar))
-    (λ plain. omega (arith, first-plain t ts plain))
-    (cases_Bool (ends_cell t))
+first-some (t ∷ ts) h = cond_both (ends_cell t) 1 (suc (first_size ts)) (λ n. 0 < n) (λ _. omega arith) (λ _. omega arith)
 
 pub is_some : (ts : Tokens) → (length ts == 0) ≡ false → 0 < length ts
 is_some [] e = cc
@@ -133,21 +107,6 @@ next_cell done all (t ∷ ts) h e =
 pub no_more : (done all : List Tokens) (rest : Tokens) → (length rest == 0) ≡ true → done ++ cells_of rest ≡ all → done ≡ all
 no_more done all [] none e = sym (append-nil done) ∙ e
 no_more done all (t ∷ ts) none e = let n = eqb-true (length (t ∷ ts)) 0 none in absurd (omega (arith, n))
-
--- one token more of the first cell
-token_is : (tokens : Tokens) (i : ℕ) (t : Spanned TokenKind) → i < length tokens → t ≡ get_or tokens i t → drop i tokens ≡ t ∷ drop (i + 1) tokens
-token_is tokens i t inside is =
-    let n : suc i ≡ i + 1 = omega arith in
-    drop-cons tokens i t inside ∙ (λ k. sym is k ∷ drop (n k) tokens)
-
-pub at-bar : (tokens : Tokens) (i : ℕ) (t : Spanned TokenKind) → i < length tokens → t ≡ get_or tokens i t → ends_cell t ≡ true → first_size (drop i tokens) ≡ 1
-at-bar tokens i t inside is bar = ap first_size (token_is tokens i t inside is) ∙ first-bar t (drop (i + 1) tokens) bar
-
-pub at-plain : (tokens : Tokens) (i : ℕ) (t : Spanned TokenKind) → i < length tokens → t ≡ get_or tokens i t → ends_cell t ≡ false → first_size (drop i tokens) ≡ suc (first_size (drop (i + 1) tokens))
-at-plain tokens i t inside is plain = ap first_size (token_is tokens i t inside is) ∙ first-plain t (drop (i + 1) tokens) plain
-
-pub at-end : (tokens : Tokens) (i : ℕ) → length tokens ≤ i → first_size (drop i tokens) ≡ 0
-at-end tokens i past = ap first_size (drop_all i tokens past)
 
 -- a bar line ends the cell of tokens without one
 bar_ends : (front : Tokens) (bar : Spanned TokenKind) (rest : Tokens) → HasNoBar front → ends_cell bar ≡ true → cells_of (front ++ bar ∷ rest) ≡ (front ++ bar ∷ []) ∷ cells_of rest
@@ -190,6 +149,18 @@ is_closed token cells all begun more plain bar e none rest =
 pub none_in : (class : LineClass) (text : List ℕ) → has_tokens class ≡ false → tokens_in class text ≡ []
 none_in classes.Blank text none = refl
 none_in classes.Comment text none = refl
-none_in (classes.Field letter) text none = absurd (false≢true (sym none))
-none_in classes.Directive text none = absurd (false≢true (sym none))
-none_in classes.Music text none = absurd (false≢true (sym none))
+none_in _ text none = absurd (false≢true (sym none))
+
+-- one turn of a loop that cuts cells
+pub cells_more : (text : List ℕ) (after_bar : Bool) (at : ℕ) (cells more_cells all : List Tokens) (begun more_begun : Tokens) (token : Spanned TokenKind) (r : TokenKind × ℕ) → at < length text
+    → IsFront (take (length text - at) (drop at text)) r.1 → r ≡ next_token after_bar (take (length text - at) (drop at text)) → token ≡ part_at at r → GoOnWith token cells begun more_cells more_begun
+    → cells ++ cells_of (begun ++ cutting_from line_reader after_bar at 0 (drop at text)) ≡ all
+    → more_cells ++ cells_of (more_begun ++ cutting_from line_reader (is_bar r.0) (at + r.1) 0 (drop (at + r.1) text)) ≡ all
+cells_more text after_bar at cells more_cells all begun more_begun token r inside some read is on before =
+    let rest = cutting_from line_reader (is_bar r.0) (at + r.1) 0 (drop (at + r.1) text) in
+    let first : part_at at r ∷ rest ≡ cutting_from line_reader after_bar at 0 (drop at text) = cut_more line_reader after_bar text [] (part_at at r ∷ []) _ at (at + r.1) at r (λ i. at +
+    r.1) inside some read refl refl in
+    on rest
+    ∙ ap (λ t. cells ++ cells_of (begun ++ t ∷ rest)) is
+    ∙ ap (λ l. cells ++ cells_of (begun ++ l)) first
+    ∙ before

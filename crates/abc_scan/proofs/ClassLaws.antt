@@ -1,8 +1,8 @@
 -- Each class stands exactly where its words hold.
 use Rattle.std.proofs.Common.{◌≡◌, ℕ, Bool, true, false, cond, not, ◌&&◌, Option, Some, None, List, [], ◌∷◌, ◌++◌, refl, sym, ap, ◌∙◌, subst, ⊎_elim, IsTrue}
-use Rattle.std.specs.Prelude.{◌↔◌, ◌==◌}
+use Rattle.std.specs.Prelude.{IfSome, ◌↔◌, ◌==◌}
 use Rattle.std.proofs.lemmas.Bool.{eqb-true, eq-eqb, eqb-false, and_parts, and_from, or_from, cases_Bool, both_ways, not_from_true, not_from_false, false_from_ne_true, not-true, cond-true, cond-false}
-use Rattle.std.proofs.lemmas.Bool.{false≢true}
+use Rattle.std.proofs.lemmas.Bool.{cond_both, false≢true}
 use Rattle.std.proofs.lemmas.List.Elements.{All-nil, All-cons, All-head, All-tail}
 use Rattle.abc_scan.specs.declared.class.LineClass.{LineClass}
 use Rattle.abc_scan.specs.declared.class.LineClass.TheVariants.{Blank, Comment, Field, Directive, Music}
@@ -19,49 +19,45 @@ visible_here : (b : ℕ) (bs : List ℕ) → is_blank b ≡ false → first_visi
 visible_here b bs e = cond-true _ _ _ (not_from_false _ e)
 
 -- nothing is visible exactly in a line of blanks
-pub blank_from : (text : List ℕ) → first_visible text ≡ None → AreBlanks text
+blank_from : (text : List ℕ) → first_visible text ≡ None → AreBlanks text
 blank_from [] e = All-nil _
 blank_from (b ∷ bs) e = ⊎_elim
     (λ blank. All-cons (λ x. IsTrue (is_blank x)) b bs blank (blank_from bs (sym (visible_later b bs blank) ∙ e)))
     (λ seen. let k = visible_here b bs seen in cc)
     (cases_Bool (is_blank b))
 
-pub blank_to : (text : List ℕ) → AreBlanks text → first_visible text ≡ None
+blank_to : (text : List ℕ) → AreBlanks text → first_visible text ≡ None
 blank_to [] h = refl
 blank_to (b ∷ bs) h = visible_later b bs (All-head (λ b. IsTrue (is_blank b)) b bs h) ∙ blank_to bs (All-tail (λ b. IsTrue (is_blank b)) b bs h)
 
-pub comment_from : (text : List ℕ) → first_visible text ≡ Some 37 → BeginsWithPercent text
+comment_from : (text : List ℕ) → first_visible text ≡ Some 37 → BeginsWithPercent text
 comment_from [] e = cc
 comment_from (b ∷ bs) e = ⊎_elim
     (λ blank. let h = comment_from bs (sym (visible_later b bs blank) ∙ e) in (b ∷ h.0, h.1, All-cons (λ x. IsTrue (is_blank x)) b h.0 blank h.2, ap (λ l. b ∷ l) h.3))
     (λ seen. let k = visible_here b bs seen in let is_percent : b ≡ 37 = cc in ([], bs, All-nil _, ap (λ x. x ∷ bs) is_percent))
     (cases_Bool (is_blank b))
 
-pub comment_to : (blanks rest : List ℕ) → AreBlanks blanks → first_visible (blanks ++ 37 ∷ rest) ≡ Some 37
+comment_to : (blanks rest : List ℕ) → AreBlanks blanks → first_visible (blanks ++ 37 ∷ rest) ≡ Some 37
 comment_to [] rest h = refl
 comment_to (b ∷ bs) rest h = visible_later b (bs ++ 37 ∷ rest) (All-head (λ b. IsTrue (is_blank b)) b bs h) ∙ comment_to bs rest (All-tail (λ b. IsTrue (is_blank b)) b bs h)
 
 -- the test of a field, as its words
-field_at : (a b : ℕ) (rest : List ℕ) (letter : ℕ) → (t : Bool) → t ≡ (names_field a && (b == 58) && not (is_music_letter a && begins_bar rest)) → cond t (Some a) None ≡ Some letter
-    → IsFieldLine (a ∷ b ∷ rest) letter
-field_at a b rest letter false s e = cc
-field_at a b rest letter true s e =
-    let same : a ≡ letter = cc in
-    let parts = and_parts _ _ (sym s) in
+field-sound : (text : List ℕ) → IfSome (field_letter text) (IsFieldLine text)
+field-sound [] = tt
+field-sound (a ∷ []) = tt
+field-sound (a ∷ b ∷ rest) = cond_both (names_field a && (b == 58) && not (is_music_letter a && begins_bar rest)) (Some a) None (λ o. IfSome o (IsFieldLine (a ∷ b ∷ rest)))
+    (λ yes.
+    let parts = and_parts _ _ yes in
     let fronts = and_parts _ _ parts.0 in
-    subst (IsFieldLine (a ∷ b ∷ rest)) same (record {
+    record {
       value = rest;
       spelling = ap (λ x. a ∷ x ∷ rest) (eqb-true b 58 fronts.1);
       named = fronts.0;
       no_repeat = λ music bar. both_ways _ (not-true _ parts.1) (and_from _ _ music bar);
     })
+    (λ _. tt)
 
-pub field_from : (text : List ℕ) (letter : ℕ) → field_letter text ≡ Some letter → IsFieldLine text letter
-field_from [] letter e = cc
-field_from (a ∷ []) letter e = cc
-field_from (a ∷ b ∷ rest) letter e = field_at a b rest letter _ refl e
-
-pub field_to : (text : List ℕ) (letter : ℕ) → IsFieldLine text letter → field_letter text ≡ Some letter
+field_to : (text : List ℕ) (letter : ℕ) → IsFieldLine text letter → field_letter text ≡ Some letter
 field_to text letter h =
     let no_bar = false_from_ne_true (is_music_letter letter && begins_bar h.value) (λ both. let p = and_parts _ _ both in h.no_repeat p.0 p.1) in
     ap field_letter h.spelling ∙ cond-true _ _ _ (and_from _ _ (and_from _ _ h.named refl) (not_from_false _ no_bar))
@@ -100,7 +96,7 @@ told text = record {
   directive_is = directive-line text;
   is_directive = line-directive text;
   directive_seen = λ h. let p = directive-percent text h in ap first_visible p.1;
-  field_is = field_from text;
+  field_is = λ l e. subst (λ o. IfSome o (IsFieldLine text)) e (field-sound text);
   is_field = field_to text;
   is_seen = field_visible text;
 }

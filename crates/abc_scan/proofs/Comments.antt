@@ -1,7 +1,7 @@
 -- What is read of a line: no carriage return at its end, and no comment.
-use Rattle.std.proofs.Common.{◌≡◌, ℕ, true, false, List, [], ◌∷◌, ◌++◌, refl, sym, ap, ◌∙◌, subst, inl, inr, ⊎_elim}
+use Rattle.std.proofs.Common.{◌≡◌, ℕ, true, false, List, [], ◌∷◌, ◌++◌, refl, sym, ap, ◌∙◌, inl, inr, ⊎_elim}
 use Rattle.std.specs.Prelude.{◌==◌, ◌&&◌, not}
-use Rattle.std.proofs.lemmas.Bool.{cond-true, cond-false, cases_Bool, eqb-true, eqb-false, and_parts, and_cases, or_parts, not-true, not-false}
+use Rattle.std.proofs.lemmas.Bool.{cond-false, cond_both, eqb-true, eqb-false, and_parts, and_cases, or_parts, not-true, not-false}
 use Rattle.std.specs.List.{list_any}
 use Rattle.abc_scan.specs.Text.{before_comment, last_or, IsRead, CutsComments}
 
@@ -41,10 +41,8 @@ comment_later before b bs read test later = record {
 
 reads : (before : ℕ) (text : List ℕ) → IsRead before text (before_comment before text)
 reads before [] = record { comment = []; spelling = refl; escaped = nothing_escaped before; begins = inl refl }
-reads before (b ∷ bs) = ⊎_elim
-    (λ test. subst (IsRead before (b ∷ bs)) (sym (cond-true ((b == 37) && not (before == 92)) [] (b ∷ before_comment b bs) test)) (comment_here before b bs test))
-    (λ test. subst (IsRead before (b ∷ bs)) (sym (cond-false ((b == 37) && not (before == 92)) [] (b ∷ before_comment b bs) test)) (comment_later before b bs (before_comment b bs) test (reads b bs)))
-    (cases_Bool ((b == 37) && not (before == 92)))
+reads before (b ∷ bs) = cond_both ((b == 37) && not (before == 92)) [] (b ∷ before_comment b bs) (IsRead before (b ∷ bs)) (comment_here before b bs)
+    (λ test. comment_later before b bs (before_comment b bs) test (reads b bs))
 
 pub cuts_comments : CutsComments
 cuts_comments text = reads 32 text

@@ -1,16 +1,20 @@
--- The token between delimiters at the front of a text is the one that the grammar has there.
-use Rattle.std.proofs.Common.{◌≡◌, ℕ, suc, ◌+◌, true, Option, Some, None, List, [], ◌∷◌, ◌++◌, length, take, drop, refl, sym, ap, ◌∙◌, subst, inl, inr, ⊎_elim, arith, append_assoc, length-append}
-use Rattle.std.proofs.Common.{length-take-le}
-use Rattle.std.specs.Prelude.{◌==◌}
+-- The token between delimiters, or the inline field, at the front of a text is the one that the grammar has there.
+use Rattle.std.proofs.Common.{◌≡◌, ℕ, suc, ◌+◌, Some, None, List, [], ◌∷◌, ◌++◌, length, take, refl, sym, ap, ◌∙◌, inl, inr, ⊎_elim, arith, append_assoc, length-append, zero, true}
+use Rattle.std.specs.Prelude.{IfSome}
 use Rattle.std.specs.Option.{option_map}
-use Rattle.std.proofs.Math.Seq.{take-append-add}
-use Rattle.std.proofs.lemmas.Bool.{cond-true, cond-false, cases_Bool, eqb-true}
 use Rattle.abc_text.specs.Cut.{HasNoByte}
-use Rattle.abc_scan.specs.Byte.{quote, exclamation, opening_brace, closing_brace}
+use Rattle.abc_scan.specs.Byte.{quote, exclamation, opening_brace, closing_brace, opening_bracket, closing_bracket, colon}
 use Rattle.abc_scan.specs.KnownAbsent.{place_of}
 use Rattle.abc_scan.specs.Delimited.{AreDelimiters, IsDelimited, closed_by, delimited_at}
-use Rattle.abc_scan.proofs.Closings.{IsFirst, place-first, place-sound}
-use Rattle.abc_scan.proofs.Readings.{IsFront}
+use Rattle.abc_scan.proofs.Closings.{IsFirst, place-first, place-sound, closed_front, is_other}
+use Rattle.abc_scan.proofs.Readings.{IsSized, mapped, byte_first, Finds, IsSpelled, byte_and}
+use Rattle.std.specs.Char.{is_ascii_alphabetic}
+use Rattle.std.proofs.lemmas.Bool.{cond-true, eqb-true, ne_eqb, and_parts, and_from, not_from_false, false≢true}
+use Rattle.std.proofs.lemmas.List.Elements.{All-cons, All-tail}
+use Rattle.abc_scan.specs.declared.field.Field.{Field}
+use Rattle.abc_scan.specs.Field.{begins_field, field_of}
+use Rattle.abc_scan.specs.InlineField.{IsInlineField, closed_field, inline_field_at}
+use Rattle.abc_text.proofs.Fronts.{take_exact}
 
 closed_read : (closing : ℕ) (inside rest : List ℕ) → HasNoByte closing inside → closed_by closing (inside ++ closing ∷ rest) ≡ Some (length inside + 2)
 closed_read closing inside rest lacks = ap (option_map (λ place. place + 2)) (place-first closing inside rest lacks)
@@ -26,54 +30,109 @@ opened_read opening closing rest is = ⊎_elim
     is
 
 -- a front between delimiters is read, whatever follows it: no text has two of them
-pub delimited_longest : (text front rest : List ℕ) → text ≡ front ++ rest → IsDelimited front → delimited_at text ≡ Some (length front)
-delimited_longest text front rest cut is =
-    let parts : text ≡ is.opening ∷ (is.inside ++ is.closing ∷ rest) =
-    cut ∙ ap (λ l. l ++ rest) is.spelling ∙ ap (λ l. is.opening ∷ l) (append_assoc is.inside (is.closing ∷ []) rest) in
+pub delimited_longest : (front rest : List ℕ) → IsDelimited front → delimited_at (front ++ rest) ≡ Some (length front)
+delimited_longest front rest is =
     let long : length is.inside + 2 ≡ length front = omega (arith, ap length is.spelling, length-append is.inside (is.closing ∷ [])) in
-    ap delimited_at parts ∙ opened_read is.opening is.closing (is.inside ++ is.closing ∷ rest) is.delimiters ∙ closed_read is.closing is.inside rest is.first_closing ∙ ap Some long
+    ap (λ l. delimited_at (l ++ rest)) is.spelling
+    ∙ ap (λ l. delimited_at (is.opening ∷ l)) (append_assoc is.inside (is.closing ∷ []) rest)
+    ∙ opened_read is.opening is.closing (is.inside ++ is.closing ∷ rest) is.delimiters
+    ∙ closed_read is.closing is.inside rest is.first_closing
+    ∙ ap Some long
 
 -- what is read is such a token
-closed_here : (opening closing : ℕ) (rest : List ℕ) (place : ℕ) → AreDelimiters opening closing → IsFirst closing rest place
-    → IsFront (opening ∷ rest) (place + 2) × IsDelimited (take (place + 2) (opening ∷ rest))
+closed_here : (opening closing : ℕ) (rest : List ℕ) (place : ℕ) → AreDelimiters opening closing → IsFirst closing rest place → IsSized IsDelimited (opening ∷ rest) (place + 2)
 closed_here opening closing rest place delimiters first =
-    let sum : place + 2 ≡ suc (place + 1) = omega arith in
-    let long : length (take place rest) ≡ place = length-take-le place rest (omega (arith, first.inside)) in
-    let front : take (place + 1) rest ≡ take place rest ++ closing ∷ [] =
-    (λ i. take (sym long i + 1) (first.cut i)) ∙ take-append-add (take place rest) (closing ∷ drop (suc place) rest) 1 in (
-      record { some = omega arith; inside = omega (arith, first.inside) },
+    let closed = closed_front closing rest place first in
+    let sum : place + 2 ≡ suc (place + 1) = omega arith in (
+      record { some = omega arith; inside = omega (arith, closed.0) },
       record {
         opening = opening;
         inside = take place rest;
         closing = closing;
-        spelling = ap (λ n. take n (opening ∷ rest)) sum ∙ ap (λ l. opening ∷ l) front;
+        spelling = ap (λ n. take n (opening ∷ rest)) sum ∙ ap (λ l. opening ∷ l) closed.1;
         delimiters = delimiters;
         first_closing = first.lacks;
       },
     )
 
-closed_known : (opening closing : ℕ) (rest : List ℕ) (o : Option ℕ) (size : ℕ) → AreDelimiters opening closing → place_of closing rest ≡ o → option_map (λ place. place + 2) o ≡ Some size
-    → IsFront (opening ∷ rest) size × IsDelimited (take size (opening ∷ rest))
-closed_known opening closing rest None size delimiters known e = cc
-closed_known opening closing rest (Some place) size delimiters known e =
-    let same : place + 2 ≡ size = cc in
-    subst (λ n. IsFront (opening ∷ rest) n × IsDelimited (take n (opening ∷ rest))) same (closed_here opening closing rest place delimiters (place-sound closing rest place known))
+closed_sound : (opening closing : ℕ) (rest : List ℕ) → AreDelimiters opening closing → IfSome (closed_by closing rest) (IsSized IsDelimited (opening ∷ rest))
+closed_sound opening closing rest delimiters =
+    mapped (IsFirst closing rest) (IsSized IsDelimited (opening ∷ rest)) (λ place. place + 2) (place_of closing rest) (λ place first. closed_here opening closing rest place delimiters first)
+    (place-sound closing rest)
 
-closed_sound : (b opening closing : ℕ) (rest : List ℕ) (size : ℕ) → (b == opening) ≡ true → AreDelimiters opening closing → closed_by closing rest ≡ Some size
-    → IsFront (b ∷ rest) size × IsDelimited (take size (b ∷ rest))
-closed_sound b opening closing rest size is delimiters e =
-    subst (λ x. IsFront (x ∷ rest) size × IsDelimited (take size (x ∷ rest))) (sym (eqb-true b opening is)) (closed_known opening closing rest (place_of closing rest) size delimiters refl e)
-
-pub delimited_sound : (text : List ℕ) (size : ℕ) → delimited_at text ≡ Some size → IsFront text size × IsDelimited (take size text)
+pub delimited_sound : (text : List ℕ) → IfSome (delimited_at text) (IsSized IsDelimited text)
 unfolding delimited_at
-delimited_sound [] size e = cc
-delimited_sound (b ∷ rest) size e = ⊎_elim
-    (λ yes. closed_sound b quote quote rest size yes (inl (refl, refl)) (sym (cond-true _ _ _ yes) ∙ e))
-    (λ no_quote. ⊎_elim
-    (λ yes. closed_sound b exclamation exclamation rest size yes (inr (inl (refl, refl))) (sym (cond-false _ _ _ no_quote ∙ cond-true _ _ _ yes) ∙ e))
-    (λ no_mark. ⊎_elim
-    (λ yes. closed_sound b opening_brace closing_brace rest size yes (inr (inr (refl, refl))) (sym (cond-false _ _ _ no_quote ∙ cond-false _ _ _ no_mark ∙ cond-true _ _ _ yes) ∙ e))
-    (λ no_brace. let none : None ≡ Some size = sym (cond-false _ _ _ no_quote ∙ cond-false _ _ _ no_mark ∙ cond-false _ _ _ no_brace) ∙ e in cc)
-    (cases_Bool (b == opening_brace)))
-    (cases_Bool (b == exclamation)))
-    (cases_Bool (b == quote))
+delimited_sound [] = tt
+delimited_sound (b ∷ rest) =
+    byte_first (IsSized IsDelimited) quote b rest (closed_by quote rest) _ (closed_sound quote quote rest (inl (refl, refl)))
+    (byte_first (IsSized IsDelimited) exclamation b rest (closed_by exclamation rest) _ (closed_sound exclamation exclamation rest (inr (inl (refl, refl))))
+    (byte_first (IsSized IsDelimited) opening_brace b rest (closed_by closing_brace rest) None (closed_sound opening_brace closing_brace rest (inr (inr (refl, refl)))) tt))
+
+-- a letter is no bracket
+letter_other : (letter : ℕ) → is_ascii_alphabetic letter ≡ true → is_other closing_bracket letter ≡ true
+letter_other letter h = not_from_false _ (ne_eqb letter closing_bracket (λ e. false≢true (sym (ap is_ascii_alphabetic e) ∙ h)))
+
+field_lacks : (letter : ℕ) (behind : List ℕ) → is_ascii_alphabetic letter ≡ true → HasNoByte closing_bracket behind → HasNoByte closing_bracket (letter ∷ colon ∷ behind)
+field_lacks letter behind h lacks =
+    All-cons (λ b. is_other closing_bracket b ≡ true) letter (colon ∷ behind) (letter_other letter h) (All-cons (λ b. is_other closing_bracket b ≡ true) colon behind refl lacks)
+
+inline_read : (letter : ℕ) (behind rest : List ℕ) → is_ascii_alphabetic letter ≡ true → HasNoByte closing_bracket behind
+    → inline_field_at (opening_bracket ∷ letter ∷ colon ∷ (behind ++ closing_bracket ∷ rest)) ≡ Some (field_of (letter ∷ colon ∷ behind), length behind + 4)
+unfolding inline_field_at
+inline_read letter behind rest h lacks =
+    let own = letter ∷ colon ∷ behind in
+    let found : place_of closing_bracket (own ++ closing_bracket ∷ rest) ≡ Some (length own) = place-first closing_bracket own rest (field_lacks letter behind h lacks) in
+    let text : take (length own) (own ++ closing_bracket ∷ rest) ≡ own = take_exact (length own) own (closing_bracket ∷ rest) refl in
+    let size : length own + 2 ≡ length behind + 4 = omega arith in
+    cond-true _ _ _ (and_from _ _ refl (and_from _ _ h refl))
+    ∙ ap (option_map (λ place. (field_of (take place (own ++ closing_bracket ∷ rest)), place + 2))) found
+    ∙ (λ i. Some (field_of (text i), size i))
+
+pub inline_field_longest : (front rest : List ℕ) (field : Field) → IsInlineField front field → Finds (inline_field_at (front ++ rest)) front field
+inline_field_longest front rest field is =
+    let parts = ap (λ l. l ++ rest) is.spelling ∙ ap (λ l. opening_bracket ∷ field.letter ∷ colon ∷ l) (append_assoc is.behind (closing_bracket ∷ []) rest) in
+    record {
+      found = field_of (field.letter ∷ colon ∷ is.behind);
+      size = length is.behind + 4;
+      is_read = ap inline_field_at parts ∙ inline_read field.letter is.behind rest is.letter_is is.first_closing;
+      long = omega (arith, ap length is.spelling, length-append is.behind (closing_bracket ∷ []));
+      same = λ _. (λ i. record { letter = field.letter; value = is.value_is i });
+    }
+
+-- what is read is such a field
+inline_here : (letter sign : ℕ) (rest : List ℕ) (place : ℕ) → is_ascii_alphabetic letter ≡ true → sign ≡ colon → IsFirst closing_bracket (letter ∷ sign ∷ rest) place
+    → IsSpelled IsInlineField (opening_bracket ∷ letter ∷ sign ∷ rest) (field_of (take place (letter ∷ sign ∷ rest)), place + 2)
+inline_here letter sign rest zero alphabetic is_colon first =
+    let e : letter ≡ closing_bracket = (let cut : letter ∷ sign ∷ rest ≡ closing_bracket ∷ first.behind = first.cut in cc) in
+    absurd (false≢true (sym (ap is_ascii_alphabetic e) ∙ alphabetic))
+inline_here letter sign rest (suc zero) alphabetic is_colon first =
+    let e : sign ≡ closing_bracket = (let cut : letter ∷ sign ∷ rest ≡ letter ∷ closing_bracket ∷ first.behind = first.cut in cc) in
+    absurd (omega arith)
+inline_here letter sign rest (suc (suc k)) alphabetic is_colon first =
+    let text = letter ∷ sign ∷ rest in
+    let closed = closed_front closing_bracket text (suc (suc k)) first in
+    let sum : suc (suc k) + 2 ≡ suc (suc (suc k) + 1) = omega arith in (
+      record { some = omega arith; inside = omega (arith, closed.0) },
+      record {
+        behind = take k rest;
+        spelling = ap (λ n. take n (opening_bracket ∷ text)) sum ∙ ap (λ l. opening_bracket ∷ l) closed.1 ∙ ap (λ x. opening_bracket ∷ letter ∷ x ∷ (take k rest ++ closing_bracket ∷ [])) is_colon;
+        letter_is = alphabetic;
+        first_closing = All-tail (λ b. is_other closing_bracket b ≡ true) sign (take k rest) (All-tail (λ b. is_other closing_bracket b ≡ true) letter (sign ∷ take k rest) first.lacks);
+        value_is = refl;
+      },
+    )
+
+inline_begun : (inside : List ℕ) → begins_field inside ≡ true → IfSome (closed_field inside) (IsSpelled IsInlineField (opening_bracket ∷ inside))
+inline_begun [] begins = cc
+inline_begun (letter ∷ []) begins = cc
+inline_begun (letter ∷ sign ∷ rest) begins =
+    let text = letter ∷ sign ∷ rest in
+    let parts = and_parts _ _ begins in
+    mapped (IsFirst closing_bracket text) (IsSpelled IsInlineField (opening_bracket ∷ text)) (λ place. (field_of (take place text), place + 2)) (place_of closing_bracket text)
+    (λ place first. inline_here letter sign rest place parts.0 (eqb-true sign colon parts.1) first)
+    (place-sound closing_bracket text)
+
+pub inline_field_sound : (text : List ℕ) → IfSome (inline_field_at text) (IsSpelled IsInlineField text)
+unfolding inline_field_at
+inline_field_sound [] = tt
+inline_field_sound (b ∷ inside) = byte_and (IsSpelled IsInlineField) opening_bracket b inside (begins_field inside) (closed_field inside) (λ begins. inline_begun inside begins)

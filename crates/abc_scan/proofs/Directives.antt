@@ -1,9 +1,9 @@
 -- What is read of a line is the directive that it spells.
 use Rattle.std.proofs.Common.{◌≡◌, ℕ, ◌≤◌, true, false, cond, Option, Some, None, List, [], ◌∷◌, ◌++◌, codes, length, take, drop, refl, sym, ap, ◌∙◌, subst, inl, inr, ⊎_elim, arith, length-take-le}
 use Rattle.std.proofs.Common.{take-append-drop}
-use Rattle.std.specs.Prelude.{◌⊎◌, ◌==◌, is_some}
+use Rattle.std.specs.Prelude.{IfSome, ◌⊎◌, ◌==◌, is_some}
 use Rattle.std.specs.List.{prefix_len, AllPass}
-use Rattle.std.proofs.lemmas.Bool.{cond-true, cond-false, cases_Bool, eqb-true, eqb-false, ne_eqb, or_from, or_cases}
+use Rattle.std.proofs.lemmas.Bool.{cond-true, cond-false, cond_both, eqb-true, eqb-false, ne_eqb, or_from, or_cases}
 use Rattle.std.proofs.lemmas.List.Elements.{All-head}
 use Rattle.std.proofs.lemmas.List.Sums.{prefix_len-le-length}
 use Rattle.std.proofs.lemmas.Slice.Eq.{bytes_eq-Decides}
@@ -21,6 +21,7 @@ use Rattle.abc_scan.specs.Directive.{IsGap, IsEnd, IsProgramLine, name_of, IsRea
 use Rattle.abc_scan.specs.Directive.{program_directive, midi_directive, reach_directive, directive_of, is_directive, ReadsDirectives}
 use Rattle.abc_scan.specs.Number.{number_at}
 use Rattle.abc_scan.proofs.Numbers.{number_exact, number_sound}
+use Rattle.abc_scan.proofs.Readings.{IsSpelled}
 
 -- blanks between two words
 gap-read : (reading : List ℕ → Option Directive) (gap text : List ℕ) → IsGap gap → leading_blanks text ≡ 0 → after_gap reading (gap ++ text) ≡ reading text
@@ -29,22 +30,24 @@ gap-read reading gap text is none =
     cond-false _ _ _ (ne_eqb (leading_blanks (gap ++ text)) 0 (λ e. absurd (omega (arith, e, count, is.0))))
     ∙ ap reading (drop_exact (leading_blanks (gap ++ text)) gap text count)
 
-gap-sound : (reading : List ℕ → Option Directive) (text : List ℕ) (found : Directive) → after_gap reading text ≡ Some found
-    → IsGap (take (leading_blanks text) text) × (reading (drop (leading_blanks text) text) ≡ Some found)
-gap-sound reading text found e =
+gap-sound : (reading : List ℕ → Option Directive) (P : Directive → Type 0) (text : List ℕ)
+    → (IsGap (take (leading_blanks text) text) → IfSome (reading (drop (leading_blanks text) text)) P) → IfSome (after_gap reading text) P
+gap-sound reading P text later =
     let n = leading_blanks text in
-    ⊎_elim
-    (λ none. let k : None ≡ Some found = sym (cond-true (n == 0) None (reading (drop n text)) none) ∙ e in cc)
+    cond_both (n == 0) None (reading (drop n text)) (λ o. IfSome o P)
+    (λ _. tt)
     (λ some.
     let long = length-take-le n text (prefix_len-le-length is_blank text) in
     let differs = eqb-false n 0 some in
-    ((omega (arith, long, differs), front_passes is_blank text), sym (cond-false (n == 0) None (reading (drop n text)) some) ∙ e))
-    (cases_Bool (n == 0))
+    later (omega (arith, long, differs), front_passes is_blank text))
 
 -- a word in front
-word-sound : (word text : List ℕ) → begins_with word text ≡ true → text ≡ word ++ drop (length word) text
-word-sound word text e =
-    sym (take-append-drop (length word) text) ∙ ap (λ l. l ++ drop (length word) text) ((bytes_eq-Decides (take (length word) text) word).0 e)
+word-sound : (word : List ℕ) (P : Directive → Type 0) (text : List ℕ) (o other : Option Directive) → (text ≡ word ++ drop (length word) text → IfSome o P) → IfSome other P
+    → IfSome (cond (begins_with word text) o other) P
+word-sound word P text o other later more =
+    cond_both (begins_with word text) o other (λ x. IfSome x P)
+    (λ yes. later (sym (take-append-drop (length word) text) ∙ ap (λ l. l ++ drop (length word) text) ((bytes_eq-Decides (take (length word) text) word).0 yes)))
+    (λ _. more)
 
 -- what follows
 comment-blanks : (comment : List ℕ) → (comment ≡ []) ⊎ ((rest : List ℕ) × (comment ≡ 37 ∷ rest)) → (leading_blanks comment ≡ 0) × (is_comment_or_none comment ≡ true)
@@ -64,24 +67,18 @@ comment-sound : (text : List ℕ) → is_comment_or_none text ≡ true → (text
 comment-sound [] e = inl refl
 comment-sound (b ∷ bs) e = inr (bs, ap (λ x. x ∷ bs) (eqb-true b 37 e))
 
-end-sound : (directive : Directive) (end : List ℕ) (found : Directive) → directive_at_end directive end ≡ Some found → (directive ≡ found) × IsEnd end
-end-sound directive end found e =
+end-sound : (P : Directive → Type 0) (directive : Directive) (end : List ℕ) → (IsEnd end → P directive) → IfSome (directive_at_end directive end) P
+end-sound P directive end later =
     let n = leading_blanks end in
-    ⊎_elim
-    (λ yes.
-    let chosen : Some directive ≡ Some found = sym (cond-true _ _ _ yes) ∙ e in
-    let same : directive ≡ found = cc in (
-      same,
-      record {
-        blanks = take n end;
-        comment = drop n end;
-        spelling = sym (take-append-drop n end);
-        blanks_are = front_passes is_blank end;
-        comment_is = comment-sound (drop n end) yes;
-      },
-    ))
-    (λ fails. let k : None ≡ Some found = sym (cond-false _ _ _ fails) ∙ e in cc)
-    (cases_Bool (is_comment_or_none (drop n end)))
+    cond_both (is_comment_or_none (drop n end)) (Some directive) None (λ o. IfSome o P)
+    (λ yes. later (record {
+      blanks = take n end;
+      comment = drop n end;
+      spelling = sym (take-append-drop n end);
+      blanks_are = front_passes is_blank end;
+      comment_is = comment-sound (drop n end) yes;
+    }))
+    (λ _. tt)
 
 -- a number is no blank, and what may stand after it no digit
 digit-no_blank : (d : ℕ) → is_digit d ≡ true → is_blank d ≡ false
@@ -156,117 +153,74 @@ pub directive-read : (text : List ℕ) (directive : Directive) → IsDirective t
 directive-read text (directives.Program number) is = program-read text number is
 directive-read text (directives.Reach reach) is = reach-read text reach is
 
--- what is read is spelled so: a number
-record IsNumbered (text : List ℕ) (found : Directive) : Type 0 where
-  number : ℕ
-  digits : List ℕ
-  end : List ℕ
-  spelling : text ≡ digits ++ end
-  number_is : IsNumber digits number
-  end_is : IsEnd end
-  same : directives.Program number ≡ found
+-- what is read is spelled so: a program
+number-sound : (P : Directive → Type 0) (text : List ℕ) (o : Option (ℕ × ℕ)) → IfSome o (IsSpelled IsNumber text)
+    → ((number : ℕ × ℕ) → IsNumber (take number.1 text) number.0 → IsEnd (drop number.1 text) → P (directives.Program number.0)) → IfSome (program_by text o) P
+number-sound P text None is later = tt
+number-sound P text (Some number) is later = end-sound P (directives.Program number.0) (drop number.1 text) (λ end. later number is.1 end)
 
-program_directive-by-sound : (text : List ℕ) (o : Option (ℕ × ℕ)) (found : Directive) → number_at text ≡ o → program_by text o ≡ Some found → IsNumbered text found
-program_directive-by-sound text None found read e = cc
-program_directive-by-sound text (Some number) found read e =
-    let sound = number_sound text number.0 number.1 read in
-    let behind = end-sound (directives.Program number.0) (drop number.1 text) found e in
-    record {
-      number = number.0;
-      digits = take number.1 text;
-      end = drop number.1 text;
-      spelling = sym (take-append-drop number.1 text);
-      number_is = sound.1;
-      end_is = behind.1;
-      same = behind.0;
-    }
-
--- a program
-program-sound : (text behind : List ℕ) (found : Directive) → text ≡ codes "%%MIDI" ++ behind → after_gap midi_directive behind ≡ Some found → IsDirective text found
-program-sound text behind found cut e =
+program-sound : (text behind : List ℕ) → text ≡ codes "%%MIDI" ++ behind → IfSome (after_gap midi_directive behind) (IsDirective text)
+program-sound text behind cut =
     let n = leading_blanks behind in
-    let first = gap-sound midi_directive behind found e in
     let after = drop n behind in
-    ⊎_elim
-    (λ yes.
     let later = drop 7 after in
-    let word : after ≡ codes "program" ++ later = word-sound (codes "program") after yes in
-    let second = gap-sound program_directive later found (sym (cond-true _ _ _ yes) ∙ first.1) in
     let m = leading_blanks later in
-    let number = program_directive-by-sound (drop m later) (number_at (drop m later)) found refl second.1 in
-    let whole : later ≡ take m later ++ (number.digits ++ number.end) = sym (take-append-drop m later) ∙ ap (λ l. take m later ++ l) number.spelling in
-    let all : behind ≡ take n behind ++ (codes "program" ++ (take m later ++ (number.digits ++ number.end))) =
-    sym (take-append-drop n behind) ∙ ap (λ l. take n behind ++ l) (word ∙ ap (λ l. codes "program" ++ l) whole) in
-    subst (IsDirective text) number.same (record {
+    let digits = drop m later in
+    gap-sound midi_directive (IsDirective text) behind
+    (λ gap. word-sound (codes "program") (IsDirective text) after (after_gap program_directive later) None
+    (λ word. gap-sound program_directive (IsDirective text) later
+    (λ second. number-sound (IsDirective text) digits (number_at digits) (number_sound digits) (λ number number_is end. record {
       gap = take n behind;
       second_gap = take m later;
-      digits = number.digits;
-      end = number.end;
-      spelling = cut ∙ ap (λ l. codes "%%MIDI" ++ l) all;
-      gap_is = first.0;
-      second_gap_is = second.0;
-      number_is = number.number_is;
-      end_is = number.end_is;
-    }))
-    (λ fails. let k : None ≡ Some found = sym (cond-false _ _ _ fails) ∙ first.1 in cc)
-    (cases_Bool (begins_with (codes "program") after))
+      digits = take number.1 digits;
+      end = drop number.1 digits;
+      spelling = cut ∙ ap (λ l. codes "%%MIDI" ++ l) (sym (take-append-drop n behind) ∙ ap (λ l. take n behind ++ l)
+          (word ∙ ap (λ l. codes "program" ++ l) (sym (take-append-drop m later) ∙ ap (λ l. take m later ++ l) (sym (take-append-drop number.1 digits)))));
+      gap_is = gap;
+      second_gap_is = second;
+      number_is = number_is;
+      end_is = end;
+    })))
+    tt)
 
--- a reach
-record IsReaching (text : List ℕ) (found : Directive) : Type 0 where
-  reach : Reach
-  end : List ℕ
-  spelling : text ≡ name_of reach ++ end
-  end_is : IsEnd end
-  same : directives.Reach reach ≡ found
+-- how far accidentals reach
+name-sound : (P : Directive → Type 0) (reach : Reach) (text : List ℕ) (other : Option Directive)
+    → ((reach : Reach) (end : List ℕ) → text ≡ name_of reach ++ end → IsEnd end → P (directives.Reach reach))
+    → IfSome other P → IfSome (cond (begins_with (name_of reach) text) (directive_at_end (directives.Reach reach) (drop (length (name_of reach)) text)) other) P
+name-sound P reach text other later more =
+    let end = drop (length (name_of reach)) text in
+    word-sound (name_of reach) P text (directive_at_end (directives.Reach reach) end) other (λ word. end-sound P (directives.Reach reach) end (λ is. later reach end word is)) more
 
-one-reach : (reach : Reach) (text : List ℕ) (other : Option Directive) (found : Directive) → (other ≡ Some found → IsReaching text found)
-    → cond (begins_with (name_of reach) text) (directive_at_end (directives.Reach reach) (drop (length (name_of reach)) text)) other ≡ Some found → IsReaching text found
-one-reach reach text other found more e =
-    let size = length (name_of reach) in
-    ⊎_elim
-    (λ yes.
-    let behind = end-sound (directives.Reach reach) (drop size text) found (sym (cond-true _ _ _ yes) ∙ e) in
-    record { reach = reach; end = drop size text; spelling = word-sound (name_of reach) text yes; end_is = behind.1; same = behind.0 })
-    (λ fails. more (sym (cond-false _ _ _ fails) ∙ e))
-    (cases_Bool (begins_with (name_of reach) text))
-
-reach_directive-sound : (text : List ℕ) (found : Directive) → reach_directive text ≡ Some found → IsReaching text found
-reach_directive-sound text found e = one-reach Not text _ found (one-reach Octave text _ found (one-reach Pitch text None found (λ none. cc))) e
-
-reach-sound : (text behind : List ℕ) (found : Directive) → text ≡ codes "%%propagate-accidentals" ++ behind → after_gap reach_directive behind ≡ Some found → IsDirective text found
-reach-sound text behind found cut e =
+reach-sound : (text behind : List ℕ) → text ≡ codes "%%propagate-accidentals" ++ behind → IfSome (after_gap reach_directive behind) (IsDirective text)
+reach-sound text behind cut =
     let n = leading_blanks behind in
-    let first = gap-sound reach_directive behind found e in
-    let is = reach_directive-sound (drop n behind) found first.1 in
-    let all : behind ≡ take n behind ++ (name_of is.reach ++ is.end) = sym (take-append-drop n behind) ∙ ap (λ l. take n behind ++ l) is.spelling in
-    subst (IsDirective text) is.same (record {
+    let P = IsDirective text in
+    gap-sound reach_directive P behind (λ gap.
+    let later : (reach : Reach) (end : List ℕ) → drop n behind ≡ name_of reach ++ end → IsEnd end → IsDirective text (directives.Reach reach) = λ reach end word is. record {
       gap = take n behind;
-      end = is.end;
-      spelling = cut ∙ ap (λ l. codes "%%propagate-accidentals" ++ l) all;
-      gap_is = first.0;
-      end_is = is.end_is;
-    })
+      end = end;
+      spelling = cut ∙ ap (λ l. codes "%%propagate-accidentals" ++ l) (sym (take-append-drop n behind) ∙ ap (λ l. take n behind ++ l) word);
+      gap_is = gap;
+      end_is = is;
+    } in
+    name-sound P Not (drop n behind) _ later (name-sound P Octave (drop n behind) _ later (name-sound P Pitch (drop n behind) None later tt)))
 
-pub directive-sound : (text : List ℕ) (found : Directive) → directive_of text ≡ Some found → IsDirective text found
+pub directive-sound : (text : List ℕ) → IfSome (directive_of text) (IsDirective text)
 unfolding directive_of
-directive-sound text found e = ⊎_elim
-    (λ yes. program-sound text (drop 6 text) found (word-sound (codes "%%MIDI") text yes) (sym (cond-true _ _ _ yes) ∙ e))
-    (λ no_midi. ⊎_elim
-    (λ yes. reach-sound text (drop 23 text) found (word-sound (codes "%%propagate-accidentals") text yes) (sym (cond-false _ _ _ no_midi ∙ cond-true _ _ _ yes) ∙ e))
-    (λ fails. let k : None ≡ Some found = sym (cond-false _ _ _ no_midi ∙ cond-false _ _ _ fails) ∙ e in cc)
-    (cases_Bool (begins_with (codes "%%propagate-accidentals") text)))
-    (cases_Bool (begins_with (codes "%%MIDI") text))
+directive-sound text =
+    word-sound (codes "%%MIDI") (IsDirective text) text (after_gap midi_directive (drop 6 text)) _ (λ word. program-sound text (drop 6 text) word)
+    (word-sound (codes "%%propagate-accidentals") (IsDirective text) text (after_gap reach_directive (drop 23 text)) None (λ word. reach-sound text (drop 23 text) word) tt)
 
-pub reads-directives : ReadsDirectives
-reads-directives text directive = (directive-sound text directive, directive-read text directive)
+pub reads_directives : ReadsDirectives
+reads_directives text directive = (λ e. subst (λ o. IfSome o (IsDirective text)) e (directive-sound text), directive-read text directive)
 
 -- a line of which a directive is read
-line-by : (text : List ℕ) (o : Option Directive) → directive_of text ≡ o → is_some o ≡ true → IsDirectiveLine text
-line-by text None e some = cc
-line-by text (Some directive) e some = (directive, directive-sound text directive e)
+line-by : (text : List ℕ) (o : Option Directive) → IfSome o (IsDirective text) → is_some o ≡ true → IsDirectiveLine text
+line-by text None is some = cc
+line-by text (Some directive) is some = (directive, is)
 
 pub directive-line : (text : List ℕ) → is_directive text ≡ true → IsDirectiveLine text
-directive-line text e = line-by text (directive_of text) refl e
+directive-line text e = line-by text (directive_of text) (directive-sound text) e
 
 pub line-directive : (text : List ℕ) → IsDirectiveLine text → is_directive text ≡ true
 line-directive text is = ap is_some (directive-read text is.0 is.1)

@@ -1,11 +1,10 @@
 pub mod Readings
-pub mod Wraps
 pub mod Cuttings
 pub mod Lengths
 pub mod Notes
 pub mod Marks
 pub mod Numbers
-pub mod BarRests
+pub mod Rests
 pub mod Brokens
 pub mod Bars
 pub mod Tuplets
@@ -16,14 +15,11 @@ pub mod Comments
 pub mod Closings
 pub mod Delimiters
 pub mod Dynamics
-pub mod InlineFields
 pub mod Frames
 pub mod Directives
 pub mod ClassLaws
 pub mod Starts
-pub mod Firsts
 pub mod Chords
 pub mod TokenLaws
 pub mod Spans
 pub mod CellLaws
-pub mod CellCuts

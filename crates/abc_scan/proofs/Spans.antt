@@ -18,6 +18,7 @@ use Rattle.abc_scan.specs.declared.token.TokenKind.TheVariants as kinds
 use Rattle.abc_scan.specs.Class.{class_of, IsFieldLine}
 use Rattle.abc_scan.specs.Length.{number_or, factor, written_length, IsLength, HasFactor}
 use Rattle.abc_scan.specs.Directive.{IsDirectiveLine, directive_of}
+use Rattle.abc_scan.specs.Field.{field_of}
 use Rattle.abc_scan.specs.Text.{before_comment, without_comment}
 use Rattle.abc_scan.specs.Chord.{SpellsPart, part_kinds, inside_of, IsChord}
 use Rattle.abc_scan.specs.Cutting.{unmatched_at, IsCuttingFrom, IsSpan, JoinFromTo}
@@ -63,9 +64,7 @@ length-range text value is = subst HasFactor (sym is.value_is) (written-range is
 
 part-range : (after_bar : Bool) (text : List ℕ) (kind : ChordPartKind) → SpellsPart after_bar text kind → HasPartLength kind
 part-range after_bar text (parts.Note note) is = length-range is.written note.length is.length_is
-part-range after_bar text parts.Tie is = tt
-part-range after_bar text parts.NoEffect is = tt
-part-range after_bar text parts.BadByte is = tt
+part-range after_bar text _ is = tt
 
 part-alone : (text : List ℕ) → HasPartLength (unmatched_at part_kinds text)
 part-alone [] = tt
@@ -80,21 +79,8 @@ chord-range text chord is = (
 token-range : (after_bar : Bool) (text : List ℕ) (kind : TokenKind) → Spells after_bar text kind → HasLength kind
 token-range after_bar text (kinds.Note note) is = length-range is.written note.length is.length_is
 token-range after_bar text (kinds.Rest value) is = length-range is.written value is.length_is
-token-range after_bar text (kinds.BarRest bars) is = tt
 token-range after_bar text (kinds.Chord chord) is = chord-range text chord is
-token-range after_bar text (kinds.InlineField field) is = tt
-token-range after_bar text (kinds.Bar bar) is = tt
-token-range after_bar text (kinds.Ending passes) is = tt
-token-range after_bar text (kinds.Tuplet tuplet) is = tt
-token-range after_bar text (kinds.Broken broken) is = tt
-token-range after_bar text kinds.Tie is = tt
-token-range after_bar text kinds.Blank is = tt
-token-range after_bar text (kinds.Dynamic dynamic) is = tt
-token-range after_bar text kinds.NoEffect is = tt
-token-range after_bar text (kinds.Field field) is = tt
-token-range after_bar text (kinds.Directive directive) is = tt
-token-range after_bar text kinds.Unclosed is = tt
-token-range after_bar text kinds.BadByte is = tt
+token-range after_bar text _ is = tt
 
 byte-alone : (b : ℕ) → HasLength (unmatched_byte b)
 byte-alone b = cond_both (opens b) kinds.Unclosed kinds.BadByte HasLength (λ _. tt) (λ _. tt)
@@ -137,28 +123,28 @@ field_some text letter is =
     let kept : without_comment text ≡ letter ∷ before_comment letter (58 ∷ is.value) = ap without_comment is.spelling ∙ cond-false _ _ _ (and_left (letter == 37) (not (32 == 92)) seen.1) in
     subst (λ l. 0 < length l) (sym kept) (omega arith)
 
--- a directive is one token, and not empty
+-- no token, and one token that is not empty and has no length
+none_laid : (len : ℕ) → Laid 0 [] 0 len
+none_laid len = record { spans = All-nil (IsSpan len); joined = refl; lengths = All-nil (λ t. HasLength t.kind) }
+
+one_laid : (kind : TokenKind) (size len : ℕ) → 0 < size → size ≤ len → HasLength kind → Laid 0 (record { kind = kind; from = 0; to = size } ∷ []) size len
+one_laid kind size len some fits has = record {
+  spans = All-cons (IsSpan len) _ [] (some, fits) (All-nil (IsSpan len));
+  joined = (refl, refl);
+  lengths = All-cons (λ t. HasLength t.kind) _ [] has (All-nil (λ t. HasLength t.kind));
+}
+
 directive-laid : (text : List ℕ) (len : ℕ) → IsDirectiveLine text → length text ≤ len → Laid 0 (directive_token (directive_of text) (length text)) (length text) len
 directive-laid text len is fits =
     let first = directive-percent text is in
-    let some : 0 < length text = omega (arith, ap length first.1) in
-    subst (λ o. Laid 0 (directive_token o (length text)) (length text) len) (sym (directive-read text is.0 is.1)) (record {
-      spans = All-cons (IsSpan len) _ [] (some, fits) (All-nil (IsSpan len));
-      joined = (refl, refl);
-      lengths = All-cons (λ t. HasLength t.kind) _ [] tt (All-nil (λ t. HasLength t.kind));
-    })
+    subst (λ o. Laid 0 (directive_token o (length text)) (length text) len) (sym (directive-read text is.0 is.1))
+    (one_laid (kinds.Directive is.0) (length text) len (omega (arith, ap length first.1)) fits tt)
 
 laid_in : (line : List ℕ) (class : LineClass) → class_of line ≡ class → Laid 0 (tokens_in class (without_return line)) (covered_in class (without_return line)) (length line)
-laid_in line classes.Blank e = record { spans = All-nil (IsSpan (length line)); joined = refl; lengths = All-nil (λ t. HasLength t.kind) }
-laid_in line classes.Comment e = record { spans = All-nil (IsSpan (length line)); joined = refl; lengths = All-nil (λ t. HasLength t.kind) }
 laid_in line (classes.Field letter) e =
-    let field = ((laws (without_return line) (class_of line) refl).field letter).0 e in
-    let some = field_some (without_return line) letter field in
-    record {
-      spans = All-cons (IsSpan (length line)) _ [] (some, read-le line) (All-nil (IsSpan (length line)));
-      joined = (refl, refl);
-      lengths = All-cons (λ t. HasLength t.kind) _ [] tt (All-nil (λ t. HasLength t.kind));
-    }
+    let text = without_return line in
+    let field = ((laws text (class_of line) refl).field letter).0 e in
+    one_laid (kinds.Field (field_of (without_comment text))) (length (without_comment text)) (length line) (field_some text letter field) (read-le line) tt
 laid_in line classes.Directive e =
     directive-laid (without_return line) (length line) ((laws (without_return line) (class_of line) refl).directive.0 e) (without_return-le line)
 laid_in line classes.Music e =
@@ -172,6 +158,7 @@ laid_in line classes.Music e =
       joined = subst (JoinFromTo 0 (cutting_of text)) sum l.1;
       lengths = cut-all line_kinds Spells HasLength token-range token-alone false 0 text (cutting_of text) is;
     }
+laid_in line _ e = none_laid (length line)
 
 pub laid : (line : List ℕ) → Laid 0 (tokens_of line) (covered_of line) (length line)
 unfolding tokens_of covered_of

@@ -1,6 +1,7 @@
 -- Each text of a line has one cutting.
-use Rattle.std.proofs.Common.{◌≡◌, ℕ, zero, suc, ◌<◌, ◌≤◌, Bool, true, false, Option, Some, None, List, [], ◌∷◌, ◌++◌, length, take, drop, refl, sym, ap, ◌∙◌, subst, inl, inr, ⊎_elim, arith}
-use Rattle.std.proofs.Common.{length-append, length-take-le}
+use Rattle.std.proofs.Common.{◌≡◌, ℕ, zero, suc, ◌<◌, ◌≤◌, Bool, true, Option, Some, None, List, [], ◌∷◌, ◌++◌, length, take, drop, refl, sym, ap, ◌∙◌, subst, inl, inr, ⊎_elim, arith, length-append}
+use Rattle.std.proofs.Common.{length-take-le}
+use Rattle.std.specs.Prelude.{IfSome, false}
 use Rattle.std.specs.List.{AllPass}
 use Rattle.std.specs.Option.{option_map}
 use Rattle.std.proofs.Math.Seq.{drop-append_seam}
@@ -14,53 +15,39 @@ use Rattle.abc_scan.specs.declared.start.Start.TheVariants as starts
 use Rattle.abc_scan.specs.declared.token.TokenKind.{TokenKind}
 use Rattle.abc_scan.specs.declared.token.TokenKind.TheVariants as kinds
 use Rattle.abc_scan.specs.declared.tuplet.Tuplet.{Tuplet}
-use Rattle.abc_scan.specs.Bar.{bar_at}
-use Rattle.abc_scan.specs.BarRest.{bar_rest_at}
-use Rattle.abc_scan.specs.Broken.{broken_at}
+use Rattle.abc_scan.specs.Bar.{IsBar, bar_at}
+use Rattle.abc_scan.specs.BarRest.{IsBarRest, bar_rest_at}
+use Rattle.abc_scan.specs.Broken.{IsBroken, broken_at}
 use Rattle.abc_scan.specs.Chord.{IsChord, chord_at}
 use Rattle.abc_scan.specs.Cutting.{as_kind}
 use Rattle.abc_scan.specs.Delimited.{IsDelimited, delimited_at}
 use Rattle.abc_scan.specs.Dynamic.{IsDynamic, dynamic_of}
 use Rattle.abc_scan.specs.Ending.{IsEnding, ending_at}
-use Rattle.abc_scan.specs.InlineField.{inline_field_at}
+use Rattle.abc_scan.specs.InlineField.{IsInlineField, inline_field_at}
 use Rattle.abc_scan.specs.Line.{CutsEachText, CutsOnce}
-use Rattle.abc_scan.specs.NoEffect.{IsExtraSpace, IsSingle, HasNoEffect, extra_space_at}
-use Rattle.abc_scan.specs.Note.{note_at, rest_at}
+use Rattle.abc_scan.specs.NoEffect.{IsExtraSpace, extra_space_at}
+use Rattle.abc_scan.specs.Note.{IsNote, IsRest, note_at, rest_at}
 use Rattle.abc_scan.specs.Start.{start_of}
 use Rattle.abc_scan.specs.Token.{Spells, line_kinds, or_else, dynamic_or_ignored, enclosed_token, reading_by, reading_at}
-use Rattle.abc_scan.specs.Tuplet.{tuplet_at}
-use Rattle.abc_scan.proofs.BarRests.{bar_rest_longest, bar_rest_sound, extra_space_longest, extra_space_sound}
+use Rattle.abc_scan.specs.Tuplet.{IsTuplet, tuplet_at}
 use Rattle.abc_scan.proofs.Bars.{bar_longest, bar_sound}
 use Rattle.abc_scan.proofs.Brokens.{broken_longest, broken_sound}
 use Rattle.abc_scan.proofs.Chords.{chord_longest, chord_sound}
 use Rattle.abc_scan.proofs.Cuttings.{Reads, cuts_from, only_cutting}
-use Rattle.abc_scan.proofs.Delimiters.{delimited_longest, delimited_sound}
+use Rattle.abc_scan.proofs.Delimiters.{delimited_longest, delimited_sound, inline_field_longest, inline_field_sound}
 use Rattle.abc_scan.proofs.Dynamics.{dynamic-sound, dynamic-read, dynamic-none, dynamic-delimited, byte-no_dynamic, space-no_dynamic}
-use Rattle.abc_scan.proofs.Endings.{is_range_byte, ending_bytes, ending_longest, ending_sound}
+use Rattle.abc_scan.proofs.Endings.{is_range_byte, ranges_text, ending_longest, ending_sound}
 use Rattle.abc_text.proofs.Fronts.{take_exact}
-use Rattle.abc_scan.proofs.InlineFields.{inline_field_longest, inline_field_sound}
-use Rattle.abc_scan.proofs.Notes.{note_longest, note_sound, rest_longest, rest_sound}
-use Rattle.abc_scan.proofs.Readings.{Finds, IsFront, one_front}
-use Rattle.abc_scan.proofs.Starts.{note_starts, rest_starts, bar_rest_starts, bar_starts, field_starts, chord_starts, ending_starts, tuplet_starts, broken_starts, tie_starts, blank_starts}
-use Rattle.abc_scan.proofs.Starts.{delimited_starts, space_starts, single_start, Known, start_known}
+use Rattle.abc_scan.proofs.Notes.{note_longest, note_sound}
+use Rattle.abc_scan.proofs.Readings.{Finds, IsSpelled, IsSized, one_front, mapped, finds-wrapped, finds-one, wrapped-sound, sized-sound}
+use Rattle.abc_scan.proofs.Rests.{rest_longest, rest_sound, bar_rest_longest, bar_rest_sound, extra_space_longest, extra_space_sound}
+use Rattle.abc_scan.proofs.Starts.{by_start, note_starts, rest_starts, bar_rest_starts, bar_starts, field_starts, chord_starts, ending_starts, tuplet_starts, broken_starts, tie_starts, blank_starts}
+use Rattle.abc_scan.proofs.Starts.{delimited_starts, silent_by, Known, start_known}
 use Rattle.abc_scan.proofs.Tuplets.{tuplet_longest, tuplet_sound}
-use Rattle.abc_scan.proofs.Wraps.{finds-wrapped, finds-sized, finds-one, wrapped-sound, sized-sound, one-sound}
-
--- what is read by the first bytes is read
-by_start : (start : Start) (after_bar : Bool) (text front : List ℕ) (kind : TokenKind) → start_of text ≡ start → Finds (reading_by start after_bar text) front kind
-    → Finds (reading_at after_bar text) front kind
-unfolding reading_at
-by_start start after_bar text front kind e found = subst (λ s. Finds (reading_by s after_bar text) front kind) (sym e) found
 
 -- the first of two readings
 finds-first : (o other : Option (TokenKind × ℕ)) (front : List ℕ) (kind : TokenKind) → Finds o front kind → Finds (or_else o other) front kind
-finds-first o other front kind f = record {
-  found = f.found;
-  size = f.size;
-  is_read = ap (λ x. or_else x other) f.is_read;
-  long = f.long;
-  same = f.same;
-}
+finds-first o other front kind f = record { found = f.found; size = f.size; is_read = ap (λ x. or_else x other) f.is_read; long = f.long; same = f.same }
 
 -- a chord that begins as an ending is longer
 behind_first : (size : ℕ) (written : List ℕ) → AllPass is_range_byte written → AllPass is_range_byte (drop 1 (take size (91 ∷ written)))
@@ -75,211 +62,151 @@ too_short written rest inside behind size bytes short spelled =
     (inside ++ 93 ∷ behind) all) in
     false≢true (All-head (λ b. is_range_byte b ≡ true) 93 behind last)
 
-chord_longer : (text front rest written : List ℕ) (chord : Chord) (size : ℕ) → text ≡ front ++ rest → front ≡ 91 ∷ written → AllPass is_range_byte written → IsChord (take size text) chord
-    → length front < size
-chord_longer text front rest written chord size cut spelled bytes is = ⊎_elim
+chord_longer : (front rest written : List ℕ) (chord : Chord) (size : ℕ) → front ≡ 91 ∷ written → AllPass is_range_byte written → IsChord (take size (front ++ rest)) chord → length front < size
+chord_longer front rest written chord size spelled bytes is = ⊎_elim
     (λ longer. longer)
     (λ short.
-    let chord_text : take size ((91 ∷ written) ++ rest) ≡ 91 ∷ (is.framed.inside ++ 93 ∷ is.framed.written) =
-    sym (ap (take size) (cut ∙ ap (λ l. l ++ rest) spelled)) ∙ is.framed.spelling in
+    let chord_text : take size ((91 ∷ written) ++ rest) ≡ 91 ∷ (is.framed.inside ++ 93 ∷ is.framed.written) = sym (ap (λ l. take size (l ++ rest)) spelled) ∙ is.framed.spelling in
     absurd (too_short written rest is.framed.inside is.framed.written size bytes (omega (arith, short, ap length spelled)) chord_text))
     (cases_lt (length front) size)
 
 -- an ending that begins with `[` is read where no chord is
-bracket_finds : (after_bar : Bool) (text front rest written : List ℕ) (passes : Option ℕ) (o : Option (Chord × ℕ)) → chord_at text ≡ o → text ≡ front ++ rest → front ≡ 91 ∷ written
-    → AllPass is_range_byte written → Finds (ending_at after_bar text) front passes
-    → Finds (or_else (as_kind (λ c. kinds.Chord c) o) (as_kind (λ p. kinds.Ending p) (ending_at after_bar text))) front (kinds.Ending passes)
-bracket_finds after_bar text front rest written passes None read cut spelled bytes f = finds-wrapped (λ p. kinds.Ending p) (ending_at after_bar text) front passes f
-bracket_finds after_bar text front rest written passes (Some r) read cut spelled bytes f =
-    let longer = chord_longer text front rest written r.0 r.1 cut spelled bytes (chord_sound text r.0 r.1 read).1 in
-    record {
-      found = kinds.Chord r.0;
-      size = r.1;
-      is_read = refl;
-      long = omega (arith, longer);
-      same = λ e. absurd (omega (arith, longer, e));
-    }
-
-ending_finds : (after_bar : Bool) (text front rest : List ℕ) (passes : Option ℕ) → text ≡ front ++ rest → IsEnding after_bar front passes
-    → Finds (reading_at after_bar text) front (kinds.Ending passes)
-ending_finds after_bar text front rest passes cut is =
-    let f = ending_longest after_bar text front rest passes cut is in
-    ⊎_elim
-    (λ (b : (front ≡ 91 ∷ is.written) × (start_of text ≡ starts.Bracket)). by_start starts.Bracket after_bar text front (kinds.Ending passes) b.1
-    (bracket_finds after_bar text front rest is.written passes (chord_at text) refl cut b.0 (ending_bytes after_bar front passes is) f))
-    (λ (d : start_of text ≡ starts.Digit). by_start starts.Digit after_bar text front (kinds.Ending passes) d (finds-wrapped (λ p. kinds.Ending p) (ending_at after_bar text) front passes f))
-    (ending_starts after_bar text front rest passes cut is)
+bracket_finds : (after_bar : Bool) (front rest written : List ℕ) (passes : Option ℕ) (o : Option (Chord × ℕ)) → IfSome o (IsSpelled IsChord (front ++ rest)) → front ≡ 91 ∷ written
+    → AllPass is_range_byte written → Finds (ending_at after_bar (front ++ rest)) front passes
+    → Finds (or_else (as_kind kinds.Chord o) (as_kind kinds.Ending (ending_at after_bar (front ++ rest)))) front (kinds.Ending passes)
+bracket_finds after_bar front rest written passes None chord spelled bytes f = finds-wrapped kinds.Ending (ending_at after_bar (front ++ rest)) front passes f
+bracket_finds after_bar front rest written passes (Some r) chord spelled bytes f =
+    let longer = chord_longer front rest written r.0 r.1 spelled bytes chord.1 in
+    record { found = kinds.Chord r.0; size = r.1; is_read = refl; long = omega (arith, longer); same = λ e. absurd (omega (arith, longer, e)) }
 
 -- a tuplet is longer than its `(`
-tuplet_two : (text : List ℕ) (tuplet : Tuplet) (size : ℕ) → tuplet_at text ≡ Some (tuplet, size) → 2 ≤ size
-tuplet_two text tuplet size read =
-    let sound = tuplet_sound text tuplet size read in
-    let is = sound.1 in
-    let p = is.p_is.some in
-    omega (arith, p, length-take-le size text sound.0.inside, ap length is.spelling, length-append is.p_text (is.q_text ++ is.r_text))
+parenthesis_finds : (text front : List ℕ) (o : Option (Tuplet × ℕ)) → IfSome o (IsSpelled IsTuplet text) → length front ≡ 1
+    → Finds (or_else (as_kind kinds.Tuplet o) (Some (kinds.NoEffect, 1))) front kinds.NoEffect
+parenthesis_finds text front None is one = finds-one kinds.NoEffect front one
+parenthesis_finds text front (Some r) is one =
+    let p = is.1.p_is.some in
+    let long = length-append is.1.p_text (is.1.q_text ++ is.1.r_text) in
+    let two : 2 ≤ r.1 = omega (arith, p, length-take-le r.1 text is.0.inside, ap length is.1.spelling, long) in
+    record { found = kinds.Tuplet r.0; size = r.1; is_read = refl; long = omega (arith, two, one); same = λ e. absurd (omega (arith, two, one, e)) }
 
-parenthesis_finds : (text front : List ℕ) (o : Option (Tuplet × ℕ)) → tuplet_at text ≡ o → length front ≡ 1
-    → Finds (or_else (as_kind (λ t. kinds.Tuplet t) o) (Some (kinds.NoEffect, 1))) front kinds.NoEffect
-parenthesis_finds text front None read one = finds-one kinds.NoEffect front one
-parenthesis_finds text front (Some r) read one =
-    let two = tuplet_two text r.0 r.1 read in
-    record {
-      found = kinds.Tuplet r.0;
-      size = r.1;
-      is_read = refl;
-      long = omega (arith, two, one);
-      same = λ e. absurd (omega (arith, two, one, e));
-    }
+-- what is read is the longest token
+module _ (after_bar : Bool) (front rest : List ℕ) where
+  abbrev text : List ℕ
+  text = front ++ rest
 
--- what stands between delimiters
-enclosed_read : (text : List ℕ) (size : ℕ) → delimited_at text ≡ Some size → option_map (enclosed_token text) (delimited_at text) ≡ Some (enclosed_token text size)
-enclosed_read text size read = ap (option_map (enclosed_token text)) read
+  abbrev by : Start → Option (TokenKind × ℕ)
+  by start = reading_by start after_bar text
 
-enclosed_finds : (after_bar : Bool) (text front rest : List ℕ) (kind : TokenKind) → text ≡ front ++ rest → IsDelimited front → dynamic_or_ignored (dynamic_of front) ≡ kind
-    → Finds (reading_at after_bar text) front kind
-enclosed_finds after_bar text front rest kind cut d is =
-    let size = length front in
-    let own : take size text ≡ front = ap (take size) cut ∙ take_exact size front rest refl in
-    by_start starts.Delimited after_bar text front kind (delimited_starts text front rest cut d) (record {
-      found = kind;
-      size = size;
-      is_read = enclosed_read text size (delimited_longest text front rest cut d) ∙ (λ i. Some ((ap (λ l. dynamic_or_ignored (dynamic_of l)) own ∙ is) i, size));
-      long = omega arith;
-      same = λ _. refl;
-    })
+  wrapped : {V : Type 0} (start : Start) (wrap : V → TokenKind) (o : Option (V × ℕ)) (value : V) → by start ≡ as_kind wrap o → start_of text ≡ start → Finds o front value
+      → Finds (by (start_of text)) front (wrap value)
+  wrapped start wrap o value read begins f =
+      by_start by text front (wrap value) start begins (subst (λ x. Finds x front (wrap value)) (sym read) (finds-wrapped wrap o front value f))
 
-silent_finds : (after_bar : Bool) (text front rest : List ℕ) → text ≡ front ++ rest → HasNoEffect front → ((dynamic : Dynamic) → IsDynamic front dynamic → ⊥)
-    → Finds (reading_at after_bar text) front kinds.NoEffect
-silent_finds after_bar text front rest cut is none = ⊎_elim
-    (λ (d : IsDelimited front). enclosed_finds after_bar text front rest kinds.NoEffect cut d (ap dynamic_or_ignored (dynamic-none front none)))
-    (λ other. ⊎_elim
-    (λ (s : IsExtraSpace front). let l = extra_space_longest text front rest cut s in by_start starts.Space after_bar text front kinds.NoEffect (space_starts text front rest cut s)
-    (finds-sized kinds.NoEffect (extra_space_at text) front l.size l.is_read l.long))
-    (λ (one : IsSingle front).
-    let long : length front ≡ 1 = ap length one.spelling in
-    ⊎_elim
-    (λ e. by_start starts.Parenthesis after_bar text front kinds.NoEffect e (parenthesis_finds text front (tuplet_at text) refl long))
-    (λ e. by_start starts.Single after_bar text front kinds.NoEffect e (finds-one kinds.NoEffect front long))
-    (single_start text front rest cut one))
-    other)
-    is
+  ending_finds : (passes : Option ℕ) → IsEnding after_bar front passes → Finds (by (start_of text)) front (kinds.Ending passes)
+  ending_finds passes is =
+      let f = ending_longest after_bar front rest passes is in
+      ⊎_elim
+      (λ (b : (front ≡ 91 ∷ is.written) × (start_of text ≡ starts.Bracket)). by_start by text front (kinds.Ending passes) starts.Bracket b.1
+      (bracket_finds after_bar front rest is.written passes (chord_at text) (chord_sound text) b.0 (ranges_text is.ranges is.written is.ranges_are).0 f))
+      (λ (d : start_of text ≡ starts.Digit). wrapped starts.Digit kinds.Ending (ending_at after_bar text) passes refl d f)
+      (ending_starts after_bar front rest passes is)
 
-token_longest : (after_bar : Bool) (text front rest : List ℕ) (kind : TokenKind) → text ≡ front ++ rest → Spells after_bar front kind → Finds (reading_at after_bar text) front kind
-token_longest after_bar text front rest (kinds.Note note) cut is =
-    by_start starts.Note after_bar text front (kinds.Note note) (note_starts text front rest note cut is) (finds-wrapped (λ x. kinds.Note x) (note_at text) front note
-    (note_longest text front rest note cut is))
-token_longest after_bar text front rest (kinds.Rest value) cut is =
-    by_start starts.Rest after_bar text front (kinds.Rest value) (rest_starts text front rest value cut is) (finds-wrapped (λ x. kinds.Rest x) (rest_at text) front value
-    (rest_longest text front rest value cut is))
-token_longest after_bar text front rest (kinds.BarRest bars) cut is =
-    by_start starts.BarRest after_bar text front (kinds.BarRest bars) (bar_rest_starts text front rest bars cut is) (finds-wrapped (λ x. kinds.BarRest x) (bar_rest_at text) front bars
-    (bar_rest_longest text front rest bars cut is))
-token_longest after_bar text front rest (kinds.Chord chord) cut is =
-    by_start starts.Bracket after_bar text front (kinds.Chord chord) (chord_starts text front rest is.frame cut is.framed)
-    (finds-first (as_kind (λ x. kinds.Chord x) (chord_at text)) (as_kind (λ x. kinds.Ending x) (ending_at after_bar text)) front (kinds.Chord chord)
-    (finds-wrapped (λ x. kinds.Chord x) (chord_at text) front chord (chord_longest text front rest chord cut is)))
-token_longest after_bar text front rest (kinds.InlineField field) cut is =
-    by_start starts.InlineField after_bar text front (kinds.InlineField field) (field_starts text front rest field cut is) (finds-wrapped (λ x. kinds.InlineField x) (inline_field_at text) front field
-    (inline_field_longest text front rest field cut is))
-token_longest after_bar text front rest (kinds.Bar bar) cut is =
-    by_start starts.BarLine after_bar text front (kinds.Bar bar) (bar_starts text front rest bar cut is) (finds-wrapped (λ x. kinds.Bar x) (bar_at text) front bar
-    (bar_longest text front rest bar cut is))
-token_longest after_bar text front rest (kinds.Ending passes) cut is = ending_finds after_bar text front rest passes cut is
-token_longest after_bar text front rest (kinds.Tuplet tuplet) cut is =
-    by_start starts.Parenthesis after_bar text front (kinds.Tuplet tuplet) (tuplet_starts text front rest tuplet cut is)
-    (finds-first (as_kind (λ x. kinds.Tuplet x) (tuplet_at text)) (Some (kinds.NoEffect, 1)) front (kinds.Tuplet tuplet)
-    (finds-wrapped (λ x. kinds.Tuplet x) (tuplet_at text) front tuplet (tuplet_longest text front rest tuplet cut is)))
-token_longest after_bar text front rest (kinds.Broken broken) cut is =
-    by_start starts.Broken after_bar text front (kinds.Broken broken) (broken_starts text front rest broken cut is) (finds-wrapped (λ x. kinds.Broken x) (broken_at text) front broken
-    (broken_longest text front rest broken cut is))
-token_longest after_bar text front rest kinds.Tie cut is =
-    by_start starts.Tie after_bar text front kinds.Tie (tie_starts text front rest cut is) (finds-one kinds.Tie front (ap length is))
-token_longest after_bar text front rest kinds.Blank cut is =
-    by_start starts.Blank after_bar text front kinds.Blank (blank_starts text front rest cut is) (finds-one kinds.Blank front (ap length is.spelling))
-token_longest after_bar text front rest (kinds.Dynamic dynamic) cut is =
-    enclosed_finds after_bar text front rest (kinds.Dynamic dynamic) cut (dynamic-delimited front dynamic is) (ap dynamic_or_ignored (dynamic-read front dynamic is))
-token_longest after_bar text front rest kinds.NoEffect cut is = silent_finds after_bar text front rest cut is.0 is.1
-token_longest after_bar text front rest (kinds.Field field) cut is = absurd is
-token_longest after_bar text front rest (kinds.Directive directive) cut is = absurd is
-token_longest after_bar text front rest kinds.Unclosed cut is = absurd is
-token_longest after_bar text front rest kinds.BadByte cut is = absurd is
+  -- what stands between delimiters
+  enclosed_finds : (kind : TokenKind) → IsDelimited front → dynamic_or_ignored (dynamic_of front) ≡ kind → Finds (by starts.Delimited) front kind
+  enclosed_finds kind d is =
+      let size = length front in
+      let own : take size text ≡ front = take_exact size front rest refl in
+      record {
+        found = kind;
+        size = size;
+        is_read = ap (option_map (enclosed_token text)) (delimited_longest front rest d) ∙ (λ i. Some ((ap (λ l. dynamic_or_ignored (dynamic_of l)) own ∙ is) i, size));
+        long = omega arith;
+        same = λ _. refl;
+      }
+
+  token_finds : (kind : TokenKind) → Spells after_bar front kind → Finds (by (start_of text)) front kind
+  token_finds (kinds.Note note) is = wrapped starts.Note kinds.Note (note_at text) note refl (note_starts front rest note is) (note_longest front rest note is)
+  token_finds (kinds.Rest value) is = wrapped starts.Rest kinds.Rest (rest_at text) value refl (rest_starts front rest value is) (rest_longest front rest value is)
+  token_finds (kinds.BarRest bars) is = wrapped starts.BarRest kinds.BarRest (bar_rest_at text) bars refl (bar_rest_starts front rest bars is) (bar_rest_longest front rest bars is)
+  token_finds (kinds.Chord chord) is =
+      by_start by text front (kinds.Chord chord) starts.Bracket (chord_starts front rest is.frame is.framed)
+      (finds-first (as_kind kinds.Chord (chord_at text)) (as_kind kinds.Ending (ending_at after_bar text)) front (kinds.Chord chord)
+      (finds-wrapped kinds.Chord (chord_at text) front chord (chord_longest front rest chord is)))
+  token_finds (kinds.InlineField field) is =
+      wrapped starts.InlineField kinds.InlineField (inline_field_at text) field refl (field_starts front rest field is) (inline_field_longest front rest field is)
+  token_finds (kinds.Bar bar) is = wrapped starts.BarLine kinds.Bar (bar_at text) bar refl (bar_starts front rest bar is) (bar_longest front rest bar is)
+  token_finds (kinds.Ending passes) is = ending_finds passes is
+  token_finds (kinds.Tuplet tuplet) is =
+      by_start by text front (kinds.Tuplet tuplet) starts.Parenthesis (tuplet_starts front rest tuplet is)
+      (finds-first (as_kind kinds.Tuplet (tuplet_at text)) (Some (kinds.NoEffect, 1)) front (kinds.Tuplet tuplet)
+      (finds-wrapped kinds.Tuplet (tuplet_at text) front tuplet (tuplet_longest front rest tuplet is)))
+  token_finds (kinds.Broken broken) is = wrapped starts.Broken kinds.Broken (broken_at text) broken refl (broken_starts front rest broken is) (broken_longest front rest broken is)
+  token_finds kinds.Tie is = by_start by text front kinds.Tie starts.Tie (tie_starts front rest is) (finds-one kinds.Tie front (ap length is))
+  token_finds kinds.Blank is = by_start by text front kinds.Blank starts.Blank (blank_starts front rest is) (finds-one kinds.Blank front (ap length is.spelling))
+  token_finds (kinds.Dynamic dynamic) is =
+      let d = dynamic-delimited front dynamic is in
+      by_start by text front (kinds.Dynamic dynamic) starts.Delimited (delimited_starts front rest d)
+      (enclosed_finds (kinds.Dynamic dynamic) d (ap dynamic_or_ignored (dynamic-read front dynamic is)))
+  token_finds kinds.NoEffect is = silent_by by front rest kinds.NoEffect is.0
+      (λ d. enclosed_finds kinds.NoEffect d (ap dynamic_or_ignored (dynamic-none front is.1)))
+      (λ s. extra_space_longest kinds.NoEffect front rest s)
+      (λ one. parenthesis_finds text front (tuplet_at text) (tuplet_sound text) one)
+      (λ one. finds-one kinds.NoEffect front one)
+  token_finds _ is = absurd is
+
+token_longest : (after_bar : Bool) (front rest : List ℕ) (kind : TokenKind) → Spells after_bar front kind → Finds (reading_at after_bar (front ++ rest)) front kind
+unfolding reading_at
+token_longest after_bar front rest kind is = token_finds after_bar front rest kind is
 
 -- what is read is a token
-abbrev IsToken : Bool → List ℕ → TokenKind → ℕ → Type 0
-IsToken after_bar text kind size = IsFront text size × Spells after_bar (take size text) kind
+spells_enclosed : (after_bar : Bool) (front : List ℕ) (o : Option Dynamic) → dynamic_of front ≡ o → IfSome o (IsDynamic front) → IsDelimited front → Spells after_bar front (dynamic_or_ignored o)
+spells_enclosed after_bar front None e is d = (inl d, λ dynamic is. let k : None ≡ Some dynamic = sym e ∙ dynamic-read front dynamic is in cc)
+spells_enclosed after_bar front (Some dynamic) e is d = is
 
-bracket_sound : (after_bar : Bool) (text : List ℕ) (o : Option (Chord × ℕ)) (kind : TokenKind) (size : ℕ) → chord_at text ≡ o
-    → or_else (as_kind (λ c. kinds.Chord c) o) (as_kind (λ p. kinds.Ending p) (ending_at after_bar text)) ≡ Some (kind, size) → IsToken after_bar text kind size
-bracket_sound after_bar text None kind size read e =
-    wrapped-sound (λ p. kinds.Ending p) (IsToken after_bar text) (ending_at after_bar text) kind size (λ x n found. ending_sound after_bar text x n found) e
-bracket_sound after_bar text (Some r) kind size read e =
-    wrapped-sound (λ c. kinds.Chord c) (IsToken after_bar text) (Some r) kind size (λ x n found. chord_sound text x n (read ∙ found)) e
+module _ (after_bar : Bool) (b : ℕ) (rest : List ℕ) where
+  abbrev here : List ℕ
+  here = b ∷ rest
 
-parenthesis_sound : (after_bar : Bool) (b : ℕ) (rest : List ℕ) (o : Option (Tuplet × ℕ)) (kind : TokenKind) (size : ℕ) → b ≡ 40 → tuplet_at (b ∷ rest) ≡ o
-    → or_else (as_kind (λ t. kinds.Tuplet t) o) (Some (kinds.NoEffect, 1)) ≡ Some (kind, size) → IsToken after_bar (b ∷ rest) kind size
-parenthesis_sound after_bar b rest None kind size known read e =
-    one-sound kinds.NoEffect (IsToken after_bar (b ∷ rest)) kind size (
-      one_front b rest,
-      (
-        inr (inr (record {
-          byte =
-              40;
-          spelling = ap (λ x. x ∷ []) known;
-          silent = refl;
-        })),
-        byte-no_dynamic (b ∷ []) refl,
-      ),
-    ) e
-parenthesis_sound after_bar b rest (Some r) kind size known read e =
-    wrapped-sound (λ t. kinds.Tuplet t) (IsToken after_bar (b ∷ rest)) (Some r) kind size (λ x n found. tuplet_sound (b ∷ rest) x n (read ∙ found)) e
+  abbrev AreTokens : Option (TokenKind × ℕ) → Type 0
+  AreTokens o = IfSome o (IsSpelled (Spells after_bar) here)
 
-spells_enclosed : (after_bar : Bool) (front : List ℕ) (o : Option Dynamic) → dynamic_of front ≡ o → IsDelimited front → Spells after_bar front (dynamic_or_ignored o)
-spells_enclosed after_bar front None e d = (inl d, λ dynamic is. let k : None ≡ Some dynamic = sym e ∙ dynamic-read front dynamic is in cc)
-spells_enclosed after_bar front (Some dynamic) e d = dynamic-sound front dynamic e
+  is_kind : {V : Type 0} (Is : List ℕ → V → Type 0) (wrap : V → TokenKind) (o : Option (V × ℕ)) → ((own : List ℕ) (x : V) → Is own x → Spells after_bar own (wrap x)) → IfSome o (IsSpelled Is here)
+      → AreTokens (as_kind wrap o)
+  is_kind Is wrap o spelled h = wrapped-sound Is (Spells after_bar) wrap here o spelled h
 
-enclosed_sound : (after_bar : Bool) (text : List ℕ) (o : Option ℕ) (kind : TokenKind) (size : ℕ) → delimited_at text ≡ o → option_map (enclosed_token text) o ≡ Some (kind, size)
-    → IsToken after_bar text kind size
-enclosed_sound after_bar text None kind size read e = cc
-enclosed_sound after_bar text (Some n) kind size read e =
-    let same : enclosed_token text n ≡ (kind, size) = cc in
-    let s = delimited_sound text n read in
-    subst (λ (x : TokenKind × ℕ). IsToken after_bar text x.0 x.1) same (s.0, spells_enclosed after_bar (take n text) (dynamic_of (take n text)) refl s.1)
+  bracket_sound : (o : Option (Chord × ℕ)) → IfSome o (IsSpelled IsChord here) → AreTokens (or_else (as_kind kinds.Chord o) (as_kind kinds.Ending (ending_at after_bar here)))
+  bracket_sound None is = is_kind (IsEnding after_bar) kinds.Ending (ending_at after_bar here) (λ own x h. h) (ending_sound after_bar here)
+  bracket_sound (Some chord) is = is
 
-read_sound : (start : Start) (after_bar : Bool) (b : ℕ) (rest : List ℕ) (kind : TokenKind) (size : ℕ) → Known b start → reading_by start after_bar (b ∷ rest) ≡ Some (kind, size)
-    → IsToken after_bar (b ∷ rest) kind size
-read_sound starts.Note after_bar b rest kind size known e =
-    wrapped-sound (λ x. kinds.Note x) (IsToken after_bar (b ∷ rest)) (note_at (b ∷ rest)) kind size (λ x n read. note_sound (b ∷ rest) x n read) e
-read_sound starts.Rest after_bar b rest kind size known e =
-    wrapped-sound (λ x. kinds.Rest x) (IsToken after_bar (b ∷ rest)) (rest_at (b ∷ rest)) kind size (λ x n read. rest_sound (b ∷ rest) x n read) e
-read_sound starts.BarRest after_bar b rest kind size known e =
-    wrapped-sound (λ x. kinds.BarRest x) (IsToken after_bar (b ∷ rest)) (bar_rest_at (b ∷ rest)) kind size (λ x n read. bar_rest_sound (b ∷ rest) x n read) e
-read_sound starts.BarLine after_bar b rest kind size known e =
-    wrapped-sound (λ x. kinds.Bar x) (IsToken after_bar (b ∷ rest)) (bar_at (b ∷ rest)) kind size (λ x n read. bar_sound (b ∷ rest) x n read) e
-read_sound starts.InlineField after_bar b rest kind size known e =
-    wrapped-sound (λ x. kinds.InlineField x) (IsToken after_bar (b ∷ rest)) (inline_field_at (b ∷ rest)) kind size (λ x n read. inline_field_sound (b ∷ rest) x n read) e
-read_sound starts.Bracket after_bar b rest kind size known e = bracket_sound after_bar (b ∷ rest) (chord_at (b ∷ rest)) kind size refl e
-read_sound starts.Digit after_bar b rest kind size known e =
-    wrapped-sound (λ x. kinds.Ending x) (IsToken after_bar (b ∷ rest)) (ending_at after_bar (b ∷ rest)) kind size (λ x n read. ending_sound after_bar (b ∷ rest) x n read) e
-read_sound starts.Parenthesis after_bar b rest kind size known e = parenthesis_sound after_bar b rest (tuplet_at (b ∷ rest)) kind size known refl e
-read_sound starts.Broken after_bar b rest kind size known e =
-    wrapped-sound (λ x. kinds.Broken x) (IsToken after_bar (b ∷ rest)) (broken_at (b ∷ rest)) kind size (λ x n read. broken_sound (b ∷ rest) x n read) e
-read_sound starts.Tie after_bar b rest kind size known e =
-    one-sound kinds.Tie (IsToken after_bar (b ∷ rest)) kind size (one_front b rest, ap (λ x. x ∷ []) known) e
-read_sound starts.Blank after_bar b rest kind size known e =
-    one-sound kinds.Blank (IsToken after_bar (b ∷ rest)) kind size (one_front b rest, record { byte = b; spelling = refl; blank = known }) e
-read_sound starts.Delimited after_bar b rest kind size known e =
-    enclosed_sound after_bar (b ∷ rest) (delimited_at (b ∷ rest)) kind size refl e
-read_sound starts.Space after_bar b rest kind size known e =
-    sized-sound kinds.NoEffect (IsToken after_bar (b ∷ rest)) (extra_space_at (b ∷ rest)) kind size (λ n read. let s = extra_space_sound (b ∷ rest) n read in
-    (s.0, (inr (inl s.1), space-no_dynamic (take n (b ∷ rest)) s.1.written s.1.spelling))) e
-read_sound starts.Single after_bar b rest kind size known e =
-    one-sound kinds.NoEffect (IsToken after_bar (b ∷ rest)) kind size (one_front b rest, (inr (inr (record { byte = b; spelling = refl; silent = known })), byte-no_dynamic (b ∷ []) refl)) e
-read_sound starts.Nothing after_bar b rest kind size known e = cc
+  parenthesis_sound : (o : Option (Tuplet × ℕ)) → b ≡ 40 → IfSome o (IsSpelled IsTuplet here) → AreTokens (or_else (as_kind kinds.Tuplet o) (Some (kinds.NoEffect, 1)))
+  parenthesis_sound None known is = (one_front b rest, (inr (inr (record { byte = 40; spelling = ap (λ x. x ∷ []) known; silent = refl })), byte-no_dynamic (b ∷ []) refl))
+  parenthesis_sound (Some tuplet) known is = is
 
-token_sound : (after_bar : Bool) (text : List ℕ) (kind : TokenKind) (size : ℕ) → reading_at after_bar text ≡ Some (kind, size) → IsFront text size × Spells after_bar (take size text) kind
+  read_sound : (start : Start) → Known b start → AreTokens (reading_by start after_bar here)
+  read_sound starts.Note known = is_kind IsNote kinds.Note (note_at here) (λ own x h. h) (note_sound here)
+  read_sound starts.Rest known = is_kind IsRest kinds.Rest (rest_at here) (λ own x h. h) (rest_sound here)
+  read_sound starts.BarRest known = is_kind IsBarRest kinds.BarRest (bar_rest_at here) (λ own x h. h) (bar_rest_sound here)
+  read_sound starts.BarLine known = is_kind IsBar kinds.Bar (bar_at here) (λ own x h. h) (bar_sound here)
+  read_sound starts.InlineField known = is_kind IsInlineField kinds.InlineField (inline_field_at here) (λ own x h. h) (inline_field_sound here)
+  read_sound starts.Bracket known = bracket_sound (chord_at here) (chord_sound here)
+  read_sound starts.Digit known = is_kind (IsEnding after_bar) kinds.Ending (ending_at after_bar here) (λ own x h. h) (ending_sound after_bar here)
+  read_sound starts.Parenthesis known = parenthesis_sound (tuplet_at here) known (tuplet_sound here)
+  read_sound starts.Broken known = is_kind IsBroken kinds.Broken (broken_at here) (λ own x h. h) (broken_sound here)
+  read_sound starts.Tie known = (one_front b rest, ap (λ x. x ∷ []) known)
+  read_sound starts.Blank known = (one_front b rest, record { byte = b; spelling = refl; blank = known })
+  read_sound starts.Delimited known =
+      mapped (IsSized IsDelimited here) (IsSpelled (Spells after_bar) here) (enclosed_token here) (delimited_at here)
+      (λ n is. (is.0, spells_enclosed after_bar (take n here) (dynamic_of (take n here)) refl (dynamic-sound (take n here)) is.1))
+      (delimited_sound here)
+  read_sound starts.Space known =
+      sized-sound IsExtraSpace (Spells after_bar) kinds.NoEffect here (extra_space_at here) (λ own is. (inr (inl is), space-no_dynamic own is.written is.spelling)) (extra_space_sound here)
+  read_sound starts.Single known = (one_front b rest, (inr (inr (record { byte = b; spelling = refl; silent = known })), byte-no_dynamic (b ∷ []) refl))
+  read_sound starts.Nothing known = tt
+
+token_sound : (after_bar : Bool) (text : List ℕ) → IfSome (reading_at after_bar text) (IsSpelled (Spells after_bar) text)
 unfolding reading_at
-token_sound after_bar [] kind size e = cc
-token_sound after_bar (b ∷ rest) kind size e = read_sound (start_of (b ∷ rest)) after_bar b rest kind size (start_known b rest) e
+token_sound after_bar [] = tt
+token_sound after_bar (b ∷ rest) = read_sound after_bar b rest (start_of (b ∷ rest)) (start_known b rest)
 
 pub reads_tokens : Reads Spells reading_at
 reads_tokens = record { longest = token_longest; sound = token_sound }

@@ -1,5 +1,6 @@
 -- Rests of whole bars. ABC 2.1 section 4.5.
-use Rattle.std.specs.Prelude.{◌≡◌, ◌⊎◌, ℕ, ◌+◌, Bool, ◌||◌, Option, Some, None, List, [], ◌∷◌, if◌then◌else◌, ◌==◌}
+use Rattle.std.specs.Prelude.{◌≡◌, ◌⊎◌, ℕ, Bool, ◌||◌, Option, Some, None, List, [], ◌∷◌, if◌then◌else◌, ◌==◌}
+use Rattle.abc_scan.specs.Front.{after_byte}
 use Rattle.abc_scan.specs.Number.{IsOptionalNumber, optional_number_at}
 
 -- `Z` or `X`, and how many bars it rests, if that is written.
@@ -17,5 +18,4 @@ is_bar_rest_letter b = (b == 90) || (b == 88)
 -- The longest rest of bars at the front of a text, and how many bytes it takes.
 unfoldable pub bar_rest_at : List ℕ → Option (Option ℕ × ℕ)
 bar_rest_at [] = None
-bar_rest_at (b ∷ rest) =
-    if is_bar_rest_letter b then Some ((optional_number_at rest).0, 1 + (optional_number_at rest).1) else None
+bar_rest_at (b ∷ rest) = if is_bar_rest_letter b then Some (after_byte (optional_number_at rest)) else None

@@ -7,6 +7,7 @@ use Rattle.abc_text.specs.Number.{IsNumber}
 use Rattle.abc_scan.specs.declared.ending.PassRange.{PassRange}
 use Rattle.abc_text.specs.declared.passes.TheConstants.{LAST_PASS}
 use Rattle.abc_scan.specs.Byte.{minus_sign, comma, opening_bracket}
+use Rattle.abc_scan.specs.Front.{after_byte}
 use Rattle.abc_scan.specs.Number.{number_at}
 
 -- One number, the only pass of its range.
@@ -103,14 +104,10 @@ range_behind text first = range_of first.0 first.1 (last_at (drop first.1 text))
 unfoldable pub range_at : List ℕ → Option (PassRange × ℕ)
 range_at text = option_map (range_behind text) (number_at text)
 
--- After a comma, one byte more.
-abbrev pub with_comma : PassRange × ℕ → PassRange × ℕ
-with_comma range = (range.0, 1 + range.1)
-
 -- A comma and the longest range after it at the front of a text, and how many bytes both take.
 abbrev pub next_range : List ℕ → Option (PassRange × ℕ)
 next_range [] = None
-next_range (b ∷ bs) = if b == comma then option_map with_comma (range_at bs) else None
+next_range (b ∷ bs) = if b == comma then option_map after_byte (range_at bs) else None
 
 -- How many bytes a range takes, if there is one.
 abbrev pub range_size : Option (PassRange × ℕ) → ℕ
@@ -146,12 +143,8 @@ as_passes ranges = (passes_of ranges.0, ranges.1)
 unfoldable pub passes_at : List ℕ → Option (Option ℕ × ℕ)
 passes_at text = option_map as_passes (ranges_at text)
 
--- After a `[`, one byte more.
-abbrev pub with_bracket : Option ℕ × ℕ → Option ℕ × ℕ
-with_bracket ending = (ending.0, 1 + ending.1)
-
 -- The longest ending mark at the front of a text, and how many bytes it takes.
 unfoldable pub ending_at : Bool → List ℕ → Option (Option ℕ × ℕ)
 ending_at after_bar [] = None
 ending_at after_bar (b ∷ bs) =
-    if b == opening_bracket then option_map with_bracket (passes_at bs) else (if after_bar then passes_at (b ∷ bs) else None)
+    if b == opening_bracket then option_map after_byte (passes_at bs) else (if after_bar then passes_at (b ∷ bs) else None)

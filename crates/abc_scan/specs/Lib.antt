@@ -1,4 +1,5 @@
 pub mod Byte
+pub mod Front
 pub mod Text
 pub mod Number
 pub mod Directive

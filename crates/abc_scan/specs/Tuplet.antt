@@ -4,6 +4,7 @@ use Rattle.std.specs.Option.{option_map}
 use Rattle.abc_text.specs.Number.{IsNumber}
 use Rattle.abc_scan.specs.declared.tuplet.Tuplet.{Tuplet}
 use Rattle.abc_scan.specs.Byte.{open_parenthesis, colon}
+use Rattle.abc_scan.specs.Front.{after_byte}
 use Rattle.abc_scan.specs.Number.{IsOptionalNumber, number_at, optional_number_at}
 
 -- A colon, and a number or none.
@@ -31,19 +32,14 @@ pub record IsTuplet (text : List ℕ) (tuplet : Tuplet) : Type 0 where
 -- The longest further number at the front of a text, and how many bytes it takes.
 abbrev pub further_at : List ℕ → Option ℕ × ℕ
 further_at [] = (None, 0)
-further_at (b ∷ bs) =
-    if b == colon then ((optional_number_at bs).0, 1 + (optional_number_at bs).1) else (None, 0)
+further_at (b ∷ bs) = if b == colon then after_byte (optional_number_at bs) else (None, 0)
 
--- The longest mark of p and what follows it, and how many bytes it takes.
-abbrev pub tuplet_of : ℕ → ℕ → List ℕ → Tuplet × ℕ
-tuplet_of p size behind =
-    let q = further_at behind in
-    let r = further_at (drop q.1 behind) in
-    (record { p = p; q = q.0; r = r.0 }, 1 + size + q.1 + r.1)
-
--- The longest mark of what follows its parenthesis, which begins with p.
+-- The longest mark of what follows its parenthesis, which begins with p, and how many bytes it takes.
 abbrev pub tuplet_behind : List ℕ → ℕ × ℕ → Tuplet × ℕ
-tuplet_behind rest p = tuplet_of p.0 p.1 (drop p.1 rest)
+tuplet_behind rest p =
+    let q = further_at (drop p.1 rest) in
+    let r = further_at (drop q.1 (drop p.1 rest)) in
+    (record { p = p.0; q = q.0; r = r.0 }, 1 + p.1 + q.1 + r.1)
 
 -- The longest tuplet mark at the front of a text, and how many bytes it takes.
 unfoldable pub tuplet_at : List ℕ → Option (Tuplet × ℕ)

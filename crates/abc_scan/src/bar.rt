@@ -1,6 +1,7 @@
 //! Bar lines.
 
 ghost use Rattle.std.specs.Prelude.{◌≡◌, ◌≤◌, ◌<◌, ◌^◌, length, IfSome};
+ghost use Rattle.abc_scan.specs.Front.{IsFront};
 ghost use Rattle.abc_scan.specs.Bar.{goes_on, middle_size, is_double, bar_of_colons, bar_at};
 
 use crate::run::run_of;
@@ -72,8 +73,7 @@ fn bar_of_colons(count: usize) -> Option<(BarLine, usize)>
 pub(crate) fn bar_at(text: &[u8]) -> Option<(BarLine, usize)>
     requires { length text.now < 2 ^ 31 }
     ensures value { result ≡ bar_at text.now }
-    ensures some { IfSome result (λ r. 0 < r.1) }
-    ensures inside { IfSome result (λ r. r.1 ≤ length text.now) }
+    ensures front { IfSome result (λ r. IsFront text.now r.1) }
 {
     let closes = run_of(b':', text);
     let behind = &text[closes..];

@@ -1,6 +1,7 @@
 //! Rests of whole bars.
 
-ghost use Rattle.std.specs.Prelude.{◌≡◌, ◌≤◌, ◌<◌, length, IfSome};
+ghost use Rattle.std.specs.Prelude.{◌≡◌, IfSome};
+ghost use Rattle.abc_scan.specs.Front.{IsFront};
 ghost use Rattle.abc_scan.specs.BarRest.{bar_rest_at};
 
 use crate::number::optional_number_at;
@@ -10,8 +11,7 @@ use crate::number::optional_number_at;
 #[tactic(auto, unfolding(crate::specs::BarRest::bar_rest_at))]
 pub(crate) fn bar_rest_at(text: &[u8]) -> Option<(Option<u32>, usize)>
     ensures value { result ≡ bar_rest_at text.now }
-    ensures some { IfSome result (λ r. 0 < r.1) }
-    ensures inside { IfSome result (λ r. r.1 ≤ length text.now) }
+    ensures front { IfSome result (λ r. IsFront text.now r.1) }
 {
     match text {
         [b'Z' | b'X', behind @ ..] => {

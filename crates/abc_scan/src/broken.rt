@@ -1,6 +1,7 @@
 //! Broken rhythm: one note longer, its neighbour shorter by as much.
 
-ghost use Rattle.std.specs.Prelude.{◌≡◌, ◌≤◌, ◌<◌, length, IfSome};
+ghost use Rattle.std.specs.Prelude.{◌≡◌, ◌≤◌, length, IfSome};
+ghost use Rattle.abc_scan.specs.Front.{IsFront};
 ghost use Rattle.abc_scan.specs.Broken.{direction_of, marks_at, broken_at};
 
 use crate::run::run_of;
@@ -46,8 +47,7 @@ fn marks_at(mark: u8, text: &[u8]) -> usize
 #[tactic(auto, unfolding(crate::specs::Broken::broken_at))]
 pub(crate) fn broken_at(text: &[u8]) -> Option<(BrokenRhythm, usize)>
     ensures value { result ≡ broken_at text.now }
-    ensures some { IfSome result (λ r. 0 < r.1) }
-    ensures inside { IfSome result (λ r. r.1 ≤ length text.now) }
+    ensures front { IfSome result (λ r. IsFront text.now r.1) }
 {
     let [first, ..] = text else {
         return None;

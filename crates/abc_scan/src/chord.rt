@@ -1,6 +1,7 @@
 //! Chords.
 
-ghost use Rattle.std.specs.Prelude.{◌≡◌, ◌≤◌, ◌<◌, ◌+◌, ◌^◌, drop, length, IfOk, IfSome, false};
+ghost use Rattle.std.specs.Prelude.{◌≡◌, ◌<◌, ◌+◌, ◌^◌, drop, length, IfOk, IfSome, false};
+ghost use Rattle.abc_scan.specs.Front.{IsFront};
 ghost use Rattle.abc_scan.specs.Chord.{part_reading_at, part_reader, parts_of, chord_at};
 ghost use Rattle.abc_scan.specs.KnownAbsent.{IsKnownAbsent};
 ghost use Rattle.abc_scan.specs.Cutting.{next};
@@ -32,8 +33,7 @@ fn part_reading_at(text: &[u8], absent: &mut KnownAbsent) -> Option<(ChordPartKi
     requires known { IsKnownAbsent absent.old (drop 1 text.now) }
     requires short { length text.now < 2 ^ 31 }
     ensures value { result ≡ part_reading_at false text.now }
-    ensures some { IfSome result (λ r. 0 < r.1) }
-    ensures inside { IfSome result (λ r. r.1 ≤ length text.now) }
+    ensures front { IfSome result (λ r. IsFront text.now r.1) }
     ensures kept { IsKnownAbsent absent.new (drop 1 text.now) }
 {
     match start_of(text) {
@@ -61,14 +61,14 @@ fn next_part(text: &[u8], absent: &mut KnownAbsent) -> (ChordPartKind, usize)
     requires known { IsKnownAbsent absent.old (drop 1 text.now) }
     requires short { length text.now < 2 ^ 31 }
     ensures value { result ≡ next part_reader false text.now }
-    ensures some { 0 < result.1 }
-    ensures inside { result.1 ≤ length text.now }
+    ensures front { IsFront text.now result.1 }
     ensures kept { IsKnownAbsent absent.new (drop 1 text.now) }
 {
     part_reading_at(text, absent).unwrap_or((ChordPartKind::BadByte, 1))
 }
 
 /// The parts that the inside of a chord is cut into.
+#[tactic(auto, using(crate::proofs::Closings::absent_next))]
 fn parts_of(alloc: Global, text: &[u8]) -> Result<Sequence<ChordPart>, AllocError>
     requires { length text.now + 1 < 2 ^ 31 }
     ensures { IfOk result (λ parts. parts ≡ parts_of text.now) }
@@ -94,8 +94,7 @@ fn parts_of(alloc: Global, text: &[u8]) -> Result<Sequence<ChordPart>, AllocErro
 pub(crate) fn chord_at(alloc: Global, text: &[u8]) -> Result<Option<(Chord, usize)>, AllocError>
     requires { length text.now < 2 ^ 31 }
     ensures value { IfOk result (λ chord. chord ≡ chord_at text.now) }
-    ensures some { IfOk result (λ chord. IfSome chord (λ r. 0 < r.1)) }
-    ensures inside { IfOk result (λ chord. IfSome chord (λ r. r.1 ≤ length text.now)) }
+    ensures front { IfOk result (λ chord. IfSome chord (λ r. IsFront text.now r.1)) }
 {
     let Some((frame, size)) = frame_at(text) else {
         return Ok(None);

@@ -1,6 +1,7 @@
 //! Tokens between delimiters.
 
-ghost use Rattle.std.specs.Prelude.{◌≡◌, ◌≤◌, ◌<◌, length, drop, true, IfSome};
+ghost use Rattle.std.specs.Prelude.{◌≡◌, drop, true, IfSome};
+ghost use Rattle.abc_scan.specs.Front.{IsFront};
 ghost use Rattle.abc_scan.specs.Byte.{opening_brace};
 ghost use Rattle.abc_scan.specs.KnownAbsent.{IsKnownAbsent};
 ghost use Rattle.abc_scan.specs.Delimited.{delimited_at};
@@ -11,12 +12,11 @@ use crate::known_absent::{KnownAbsent, find, place_of};
 /// How many bytes the quoted text, decoration or grace group at the front of a text takes: up to
 /// the first closing byte (ABC 2.1 sections 4.12, 4.14, 4.18 and 4.19). A grace group that nothing
 /// closes is remembered.
-#[tactic(auto, unfolding(crate::specs::Delimited::delimited_at))]
+#[tactic(auto, using(crate::proofs::Closings::lacks_rest, crate::proofs::Closings::rest_lacks), unfolding(crate::specs::Delimited::delimited_at))]
 pub(crate) fn delimited_at(text: &[u8], absent: &mut KnownAbsent) -> Option<usize>
     requires { IsKnownAbsent absent.old (drop 1 text.now) }
     ensures value { result ≡ delimited_at text.now }
-    ensures some { IfSome result (λ size. 0 < size) }
-    ensures inside { IfSome result (λ size. size ≤ length text.now) }
+    ensures front { IfSome result (λ size. IsFront text.now size) }
     ensures kept { IsKnownAbsent absent.new (drop 1 text.now) }
     ensures remembered { result ≡ None → begins_with_byte opening_brace text.now ≡ true → absent.new.brace ≡ true }
 {

@@ -1,6 +1,7 @@
 //! First and second endings.
 
-ghost use Rattle.std.specs.Prelude.{◌≡◌, ◌≤◌, ◌<◌, ◌+◌, IsTrue, length, IfSome};
+ghost use Rattle.std.specs.Prelude.{◌≡◌, ◌≤◌, ◌+◌, IsTrue, length, IfSome};
+ghost use Rattle.abc_scan.specs.Front.{IsFront};
 ghost use Rattle.abc_scan.specs.Ending.{is_accepted, range_bits, with_range, last_at, range_at, next_range, passes_at, ending_at};
 
 use crate::number::number_at;
@@ -21,6 +22,7 @@ fn is_accepted(range: PassRange) -> bool
 }
 
 /// The passes of a range, bit `i - 1` for pass `i`.
+#[tactic(auto, using(crate::proofs::Passes::accepted_order, crate::proofs::Passes::bit_fits, crate::proofs::Passes::bits_order))]
 fn range_bits(range: PassRange) -> u32
     requires { IsTrue (is_accepted range) }
     ensures { result ≡ range_bits range }
@@ -55,8 +57,7 @@ fn last_at(text: &[u8]) -> Option<(u32, usize)>
 #[tactic(auto, unfolding(crate::specs::Ending::range_at))]
 fn range_at(text: &[u8]) -> Option<(PassRange, usize)>
     ensures value { result ≡ range_at text.now }
-    ensures some { IfSome result (λ r. 0 < r.1) }
-    ensures inside { IfSome result (λ r. r.1 ≤ length text.now) }
+    ensures front { IfSome result (λ r. IsFront text.now r.1) }
 {
     let (first, size) = number_at(text)?;
     match last_at(&text[size..]) {
@@ -68,8 +69,7 @@ fn range_at(text: &[u8]) -> Option<(PassRange, usize)>
 /// The range after a comma at the front of a text, and how many bytes both take.
 fn next_range(text: &[u8]) -> Option<(PassRange, usize)>
     ensures value { result ≡ next_range text.now }
-    ensures some { IfSome result (λ r. 0 < r.1) }
-    ensures inside { IfSome result (λ r. r.1 ≤ length text.now) }
+    ensures front { IfSome result (λ r. IsFront text.now r.1) }
 {
     match text {
         [b',', behind @ ..] => {
@@ -83,8 +83,7 @@ fn next_range(text: &[u8]) -> Option<(PassRange, usize)>
 /// The ranges at the front of a text as passes, and how many bytes they take.
 fn passes_at(text: &[u8]) -> Option<(Option<u32>, usize)>
     ensures value { result ≡ passes_at text.now }
-    ensures some { IfSome result (λ r. 0 < r.1) }
-    ensures inside { IfSome result (λ r. r.1 ≤ length text.now) }
+    ensures front { IfSome result (λ r. IsFront text.now r.1) }
 {
     let (first, mut size) = range_at(text)?;
     let mut passes = with_range(Some(0), first);
@@ -101,8 +100,7 @@ fn passes_at(text: &[u8]) -> Option<(Option<u32>, usize)>
 #[tactic(auto, unfolding(crate::specs::Ending::ending_at))]
 pub(crate) fn ending_at(after_bar: bool, text: &[u8]) -> Option<(Option<u32>, usize)>
     ensures value { result ≡ ending_at after_bar text.now }
-    ensures some { IfSome result (λ r. 0 < r.1) }
-    ensures inside { IfSome result (λ r. r.1 ≤ length text.now) }
+    ensures front { IfSome result (λ r. IsFront text.now r.1) }
 {
     match text {
         [b'[', behind @ ..] => {

@@ -1,7 +1,8 @@
 //! The frame of a chord: its brackets and its outer length.
 
-ghost use Rattle.std.specs.Prelude.{◌≡◌, ◌≤◌, ◌<◌, ◌+◌, IfSome, length};
+ghost use Rattle.std.specs.Prelude.{◌≡◌, ◌≤◌, ◌+◌, IfSome, length};
 ghost use Rattle.std.specs.List.{prefix_len};
+ghost use Rattle.abc_scan.specs.Front.{IsFront};
 ghost use Rattle.abc_scan.specs.Frame.{is_inside, frame_at};
 
 use crate::field::begins_field;
@@ -36,8 +37,7 @@ fn inside_size(text: &[u8]) -> usize
 #[tactic(auto, unfolding(crate::specs::Frame::frame_at))]
 pub(crate) fn frame_at(text: &[u8]) -> Option<(Frame, usize)>
     ensures value { result ≡ frame_at text.now }
-    ensures some { IfSome result (λ r. 0 < r.1) }
-    ensures inside { IfSome result (λ r. r.1 ≤ length text.now) }
+    ensures front { IfSome result (λ r. IsFront text.now r.1) }
     ensures framed { IfSome result (λ r. r.0.inside + 2 ≤ r.1) }
 {
     match text {

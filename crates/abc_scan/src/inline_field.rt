@@ -1,6 +1,7 @@
 //! Fields inside a music line.
 
-ghost use Rattle.std.specs.Prelude.{◌≡◌, ◌≤◌, ◌<◌, IfOk, IfSome, drop, length, true};
+ghost use Rattle.std.specs.Prelude.{◌≡◌, IfOk, IfSome, drop, true};
+ghost use Rattle.abc_scan.specs.Front.{IsFront};
 ghost use Rattle.abc_scan.specs.KnownAbsent.{IsKnownAbsent};
 ghost use Rattle.abc_scan.specs.InlineField.{opens_field, inline_field_at};
 
@@ -10,7 +11,7 @@ use std::alloc::{AllocError, Global};
 
 /// The inline field at the front of a text, and how many bytes it takes: up to the first `]`
 /// (ABC 2.1 section 3.2). A field that nothing closes is remembered.
-#[tactic(auto, unfolding(crate::specs::InlineField::inline_field_at))]
+#[tactic(auto, using(crate::proofs::Closings::lacks_rest, crate::proofs::Closings::rest_lacks), unfolding(crate::specs::InlineField::inline_field_at))]
 pub(crate) fn inline_field_at(
     alloc: Global,
     text: &[u8],
@@ -18,8 +19,7 @@ pub(crate) fn inline_field_at(
 ) -> Result<Option<(Field, usize)>, AllocError>
     requires { IsKnownAbsent absent.old (drop 1 text.now) }
     ensures value { IfOk result (λ reading. reading ≡ inline_field_at text.now) }
-    ensures some { IfOk result (λ reading. IfSome reading (λ r. 0 < r.1)) }
-    ensures inside { IfOk result (λ reading. IfSome reading (λ r. r.1 ≤ length text.now)) }
+    ensures front { IfOk result (λ reading. IfSome reading (λ r. IsFront text.now r.1)) }
     ensures kept { IsKnownAbsent absent.new (drop 1 text.now) }
     ensures remembered { IfOk result (λ reading. reading ≡ None → opens_field text.now ≡ true → absent.new.bracket ≡ true) }
 {

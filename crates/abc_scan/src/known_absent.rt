@@ -34,6 +34,7 @@ pub(crate) fn place_of(closing: u8, text: &[u8]) -> Option<usize>
 
 /// The place of the first such byte in a text, unless it is known to be absent there. A search
 /// that fails is remembered.
+#[tactic(auto, using(crate::proofs::Closings::place_none, crate::proofs::Closings::place_lacks))]
 pub(crate) fn find(absent: &mut bool, closing: u8, text: &[u8]) -> Option<usize>
     requires { absent.old ≡ true → HasNoByte closing text.now }
     ensures value { result ≡ place_of closing text.now }

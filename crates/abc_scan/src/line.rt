@@ -35,6 +35,7 @@ pub(crate) fn check_length(text: &[u8]) -> Result<&[u8], AllocError>
 }
 
 /// A text cut from left to right.
+#[tactic(auto, using(crate::proofs::Closings::absent_next))]
 fn cut(alloc: Global, text: &[u8]) -> Result<Vec<Token>, AllocError>
     requires { length text.now < 2 ^ 31 }
     ensures { IfOk result (λ tokens. tokens.items ≡ cutting_of text.now) }

@@ -34,6 +34,7 @@ fn end_cell(alloc: Global, cells: &mut Vec<Cell>, begun: &mut Vec<Token>) -> Res
 }
 
 /// Puts one more token into the open cell, which a bar line ends.
+#[tactic(auto, using(crate::proofs::CellLaws::is_closed, crate::proofs::CellLaws::stays))]
 fn put_token(
     alloc: Global,
     cells: &mut Vec<Cell>,
@@ -81,6 +82,7 @@ fn token_at(at: usize, kind: TokenKind, size: usize) -> Token
 }
 
 /// A text cut from left to right into the tokens of cells.
+#[tactic(auto, using(crate::proofs::Closings::absent_next))]
 fn cut_cells(alloc: Global, text: &[u8]) -> Result<Vec<Cell>, AllocError>
     requires { length text.now < 2 ^ 31 }
     ensures { IfOk result (λ cells. cells.items ≡ cells_of (cutting_of text.now)) }
@@ -109,6 +111,7 @@ fn cut_cells(alloc: Global, text: &[u8]) -> Result<Vec<Cell>, AllocError>
 }
 
 /// The cell of the tokens of a field or of a directive, of which there is one or none.
+#[tactic(auto, using(crate::proofs::CellLaws::is_some, crate::proofs::CellLaws::single_cell))]
 fn cell_of_one(alloc: Global, tokens: Vec<Token>) -> Result<Vec<Cell>, AllocError>
     requires { length tokens.items < 2 }
     ensures value { IfOk result (λ cells. cells.items ≡ cells_of tokens.items) }

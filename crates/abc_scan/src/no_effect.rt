@@ -1,6 +1,7 @@
 //! Tokens without effect.
 
-ghost use Rattle.std.specs.Prelude.{◌≡◌, ◌≤◌, ◌<◌, length, IfSome};
+ghost use Rattle.std.specs.Prelude.{◌≡◌, IfSome};
+ghost use Rattle.abc_scan.specs.Front.{IsFront};
 ghost use Rattle.abc_scan.specs.NoEffect.{extra_space_at};
 
 use crate::number::optional_number_at;
@@ -9,8 +10,7 @@ use crate::number::optional_number_at;
 #[tactic(auto, unfolding(crate::specs::NoEffect::extra_space_at))]
 pub(crate) fn extra_space_at(text: &[u8]) -> Option<usize>
     ensures value { result ≡ extra_space_at text.now }
-    ensures some { IfSome result (λ size. 0 < size) }
-    ensures inside { IfSome result (λ size. size ≤ length text.now) }
+    ensures front { IfSome result (λ size. IsFront text.now size) }
 {
     match text {
         [b'y', behind @ ..] => {

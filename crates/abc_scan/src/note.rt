@@ -2,6 +2,7 @@
 
 ghost use Rattle.std.specs.Prelude.{◌≡◌, ◌≤◌, ◌<◌, ◌+◌, ◌^◌, length, IfSome, count_by, ◌==◌};
 ghost use Rattle.std.specs.List.{prefix_len};
+ghost use Rattle.abc_scan.specs.Front.{IsFront};
 ghost use Rattle.abc_scan.specs.Note.{accidental_at, accidental_size, is_octave_mark, octave, letter_octave, ends_letter};
 ghost use Rattle.abc_scan.specs.Note.{is_factor, IsPlain, IsShort, note_at, rest_at};
 
@@ -113,8 +114,7 @@ fn is_factor(byte: u8) -> bool
 #[tactic(auto, using(crate::proofs::Notes::letter_alone, crate::proofs::Notes::letter_digit))]
 pub(crate) fn short_note_at(text: &[u8]) -> Option<(Note, usize)>
     ensures value { IfSome result (λ r. IsShort text.now r) }
-    ensures some { IfSome result (λ r. 0 < r.1) }
-    ensures inside { IfSome result (λ r. r.1 ≤ length text.now) }
+    ensures front { IfSome result (λ r. IsFront text.now r.1) }
 {
     match text {
         [byte, rest @ ..] if ends_letter(rest) => Some((plain_note(*byte, 1)?, 1)),
@@ -130,8 +130,7 @@ pub(crate) fn short_note_at(text: &[u8]) -> Option<(Note, usize)>
 pub(crate) fn note_at(text: &[u8]) -> Option<(Note, usize)>
     requires { length text.now < 2 ^ 31 }
     ensures value { result ≡ note_at text.now }
-    ensures some { IfSome result (λ r. 0 < r.1) }
-    ensures inside { IfSome result (λ r. r.1 ≤ length text.now) }
+    ensures front { IfSome result (λ r. IsFront text.now r.1) }
 {
     let (accidental, sign) = accidental_at(text);
     match &text[sign..] {
@@ -156,8 +155,7 @@ pub(crate) fn note_at(text: &[u8]) -> Option<(Note, usize)>
 #[tactic(auto, unfolding(crate::specs::Note::rest_at))]
 pub(crate) fn rest_at(text: &[u8]) -> Option<(WrittenLength, usize)>
     ensures value { result ≡ rest_at text.now }
-    ensures some { IfSome result (λ r. 0 < r.1) }
-    ensures inside { IfSome result (λ r. r.1 ≤ length text.now) }
+    ensures front { IfSome result (λ r. IsFront text.now r.1) }
 {
     match text {
         [b'z' | b'x', behind @ ..] => {

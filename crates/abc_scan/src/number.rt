@@ -1,6 +1,7 @@
 //! The number at the front of a text.
 
-ghost use Rattle.std.specs.Prelude.{◌≡◌, ◌≤◌, ◌<◌, length, IfSome};
+ghost use Rattle.std.specs.Prelude.{◌≡◌, ◌≤◌, length, IfSome};
+ghost use Rattle.abc_scan.specs.Front.{IsFront};
 ghost use Rattle.abc_scan.specs.Number.{number_size, number_at, optional_number_at};
 
 use abc_text::{LARGEST_NUMBER, LONGEST_NUMBER, decimal, digits};
@@ -19,8 +20,7 @@ fn number_size(text: &[u8]) -> usize
 pub(crate) fn number_at(text: &[u8]) -> Option<(u32, usize)>
     ensures value { result ≡ number_at text.now }
     ensures small { IfSome result (λ r. r.0 ≤ LARGEST_NUMBER) }
-    ensures some { IfSome result (λ r. 0 < r.1) }
-    ensures inside { IfSome result (λ r. r.1 ≤ length text.now) }
+    ensures front { IfSome result (λ r. IsFront text.now r.1) }
 {
     let size = number_size(text);
     if size == 0 {

@@ -19,6 +19,7 @@ fn up_to_comment(text: &[u8]) -> &[u8]
 }
 
 /// A text without its comment. Most have no `%`, and a search for one byte is faster than a walk that knows the byte before.
+#[tactic(auto, using(crate::proofs::Comments::no_comment))]
 pub(crate) fn without_comment(text: &[u8]) -> &[u8]
     ensures value { result.now ≡ without_comment text.now }
     ensures bounded { length result.now ≤ length text.now }

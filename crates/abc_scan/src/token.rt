@@ -1,6 +1,7 @@
 //! What a music line is made of.
 
-ghost use Rattle.std.specs.Prelude.{◌≡◌, ◌≤◌, ◌<◌, ◌^◌, drop, length, false, IfOk, IfSome};
+ghost use Rattle.std.specs.Prelude.{◌≡◌, ◌<◌, ◌^◌, drop, length, false, IfOk, IfSome};
+ghost use Rattle.abc_scan.specs.Front.{IsFront};
 ghost use Rattle.abc_scan.specs.KnownAbsent.{IsKnownAbsent};
 ghost use Rattle.abc_scan.specs.Dynamic.{dynamic_of};
 ghost use Rattle.abc_scan.specs.Token.{is_bar, mark_by, reading_by, unmatched_byte, dynamic_or_ignored, next_token, ComesFirst};
@@ -83,8 +84,7 @@ fn unmatched_byte(byte: u8) -> TokenKind
 /// The ending at the front of a text, and how many bytes it takes.
 fn ending_mark_at(after_bar: bool, text: &[u8]) -> Option<(TokenKind, usize)>
     ensures value { result ≡ mark_by Start.Digit after_bar text.now }
-    ensures some { IfSome result (λ r. 0 < r.1) }
-    ensures inside { IfSome result (λ r. r.1 ≤ length text.now) }
+    ensures front { IfSome result (λ r. IsFront text.now r.1) }
 {
     let (passes, size) = ending_at(after_bar, text)?;
     Some((TokenKind::Ending(passes), size))
@@ -98,8 +98,7 @@ fn bracket_at(
 ) -> Result<Option<(TokenKind, usize)>, AllocError>
     requires { length text.now < 2 ^ 31 }
     ensures value { IfOk result (λ token. token ≡ reading_by Start.Bracket after_bar text.now) }
-    ensures some { IfOk result (λ token. IfSome token (λ r. 0 < r.1)) }
-    ensures inside { IfOk result (λ token. IfSome token (λ r. r.1 ≤ length text.now)) }
+    ensures front { IfOk result (λ token. IfSome token (λ r. IsFront text.now r.1)) }
 {
     if let Some((chord, size)) = chord_at(alloc, text)? {
         let chord = Shared::new(alloc, chord)?;
@@ -116,8 +115,7 @@ fn field_at(
 ) -> Result<Option<(TokenKind, usize)>, AllocError>
     requires { IsKnownAbsent absent.old (drop 1 text.now) }
     ensures value { IfOk result (λ token. token ≡ reading_by Start.InlineField false text.now) }
-    ensures some { IfOk result (λ token. IfSome token (λ r. 0 < r.1)) }
-    ensures inside { IfOk result (λ token. IfSome token (λ r. r.1 ≤ length text.now)) }
+    ensures front { IfOk result (λ token. IfSome token (λ r. IsFront text.now r.1)) }
     ensures kept { IsKnownAbsent absent.new (drop 1 text.now) }
 {
     match inline_field_at(alloc, text, absent)? {
@@ -143,8 +141,7 @@ fn dynamic_or_ignored(text: &[u8]) -> TokenKind
 fn enclosed_at(text: &[u8], absent: &mut KnownAbsent) -> Option<(TokenKind, usize)>
     requires { IsKnownAbsent absent.old (drop 1 text.now) }
     ensures value { result ≡ reading_by Start.Delimited false text.now }
-    ensures some { IfSome result (λ r. 0 < r.1) }
-    ensures inside { IfSome result (λ r. r.1 ≤ length text.now) }
+    ensures front { IfSome result (λ r. IsFront text.now r.1) }
     ensures kept { IsKnownAbsent absent.new (drop 1 text.now) }
 {
     let size = delimited_at(text, absent)?;
@@ -155,8 +152,7 @@ fn enclosed_at(text: &[u8], absent: &mut KnownAbsent) -> Option<(TokenKind, usiz
 fn parenthesis_at(text: &[u8]) -> Option<(TokenKind, usize)>
     requires { 0 < length text.now }
     ensures value { result ≡ mark_by Start.Parenthesis false text.now }
-    ensures some { IfSome result (λ r. 0 < r.1) }
-    ensures inside { IfSome result (λ r. r.1 ≤ length text.now) }
+    ensures front { IfSome result (λ r. IsFront text.now r.1) }
 {
     match tuplet_at(text) {
         Some((tuplet, size)) => Some((TokenKind::Tuplet(tuplet), size)),
@@ -170,8 +166,7 @@ fn mark_at(start: Start, after_bar: bool, text: &[u8]) -> Option<(TokenKind, usi
     requires some { 0 < length text.now }
     requires short { length text.now < 2 ^ 31 }
     ensures value { result ≡ mark_by start after_bar text.now }
-    ensures some { IfSome result (λ r. 0 < r.1) }
-    ensures inside { IfSome result (λ r. r.1 ≤ length text.now) }
+    ensures front { IfSome result (λ r. IsFront text.now r.1) }
 {
     match start {
         Start::Note => {
@@ -209,12 +204,11 @@ fn mark_at(start: Start, after_bar: bool, text: &[u8]) -> Option<(TokenKind, usi
 
 /// The token at the front of a text, if it is a blank or a short note, and how many bytes it takes: most tokens are such.
 #[inline(always)]
-#[tactic(auto, using(crate::proofs::Firsts::blank_first, crate::proofs::Firsts::note_first))]
+#[tactic(auto, using(crate::proofs::Starts::blank_first, crate::proofs::Starts::note_first))]
 pub(crate) fn short_token_at(text: &[u8]) -> Option<(TokenKind, usize)>
     ensures value { IfSome result (λ r. ComesFirst r text.now) }
     ensures plain { IfSome result (λ r. is_bar r.0 ≡ false) }
-    ensures some { IfSome result (λ r. 0 < r.1) }
-    ensures inside { IfSome result (λ r. r.1 ≤ length text.now) }
+    ensures front { IfSome result (λ r. IsFront text.now r.1) }
 {
     match text {
         [b' ', ..] => Some((TokenKind::Blank, 1)),
@@ -237,8 +231,7 @@ pub(crate) fn next_token(
     requires known { IsKnownAbsent absent.old (drop 1 text.now) }
     requires short { length text.now < 2 ^ 31 }
     ensures value { IfOk result (λ r. r ≡ next_token after_bar text.now) }
-    ensures some { IfOk result (λ r. 0 < r.1) }
-    ensures inside { IfOk result (λ r. r.1 ≤ length text.now) }
+    ensures front { IfOk result (λ r. IsFront text.now r.1) }
     ensures kept { IsKnownAbsent absent.new (drop 1 text.now) }
 {
     let found = match start_of(text) {

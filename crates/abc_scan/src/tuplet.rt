@@ -1,6 +1,7 @@
 //! Tuplet marks.
 
-ghost use Rattle.std.specs.Prelude.{◌≡◌, ◌≤◌, ◌<◌, length, IfSome};
+ghost use Rattle.std.specs.Prelude.{◌≡◌, ◌≤◌, length, IfSome};
+ghost use Rattle.abc_scan.specs.Front.{IsFront};
 ghost use Rattle.abc_scan.specs.Tuplet.{further_at, tuplet_at};
 
 use crate::number::{number_at, optional_number_at};
@@ -34,8 +35,7 @@ fn further_at(text: &[u8]) -> (Option<u32>, usize)
 #[tactic(auto, unfolding(crate::specs::Tuplet::tuplet_at))]
 pub(crate) fn tuplet_at(text: &[u8]) -> Option<(Tuplet, usize)>
     ensures value { result ≡ tuplet_at text.now }
-    ensures some { IfSome result (λ r. 0 < r.1) }
-    ensures inside { IfSome result (λ r. r.1 ≤ length text.now) }
+    ensures front { IfSome result (λ r. IsFront text.now r.1) }
 {
     match text {
         [b'(', rest @ ..] => {

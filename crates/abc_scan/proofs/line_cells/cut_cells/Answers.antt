@@ -1,13 +1,10 @@
-use Rattle.std.proofs.Common.{◌≡◌, ◌+◌, ◌-◌, false, ◌++◌, ap, sym, subst, take, drop, length, ◌∙◌, arith, length-drop}
-use Rattle.std.proofs.lemmas.List.{take_all}
+use Rattle.std.proofs.Common.{◌≡◌, ◌+◌, false, ◌++◌, ap, sym, subst, drop, ◌∙◌, arith}
 use Rattle.std.proofs.lemmas.List.Elements.{All-nil}
 use Rattle.abc_scan.specs.Cell.{ends_cell, cells_of, HasNoBar}
-use Rattle.abc_scan.specs.KnownAbsent.{IsKnownAbsent}
 use Rattle.abc_scan.specs.Cutting.{cutting_from}
-use Rattle.abc_scan.specs.Token.{line_reader, next_token}
-use Rattle.abc_scan.proofs.Closings.{absent-drop, absent-behind}
-use Rattle.abc_scan.proofs.CellLaws.{stays, still_no_bar}
-use Rattle.abc_scan.proofs.CellCuts.{cells_more}
+use Rattle.abc_scan.specs.Token.{line_reader}
+use Rattle.abc_scan.proofs.Closings.{absent_next, absent_behind, front_inside}
+use Rattle.abc_scan.proofs.CellLaws.{stays, still_no_bar, cells_more}
 use Rattle.abc_scan.proofs.line_cells.cut_cells.Goals as goal
 
 pub loop-at-preserved : goal.loop-at-preserved
@@ -16,14 +13,13 @@ loop-at-preserved c =
     let at = c.loop-at.at in
     let size = c.in_ok-kind-in-None.size in
     let told = c.in_ok-kind-in-None.ensures in
-    let rest : take (length text - at) (drop at text) ≡ drop at text = take_all (length text - at) (drop at text) (omega (arith, length-drop at text)) in
     let more = cells_more text c.loop-at.after_bar at c.loop-at.cells.items c.put_token.new.cells.items _ c.loop-at.begun.items c.put_token.new.begun.items _ (
       c.in_ok-kind-in-None.kind,
       size,
-    ) c.loop-at-test.true told.some (told.value ∙ ap (next_token c.loop-at.after_bar) rest) c.token_at-in-None.ensures c.in_ok-put_token-in-None.ensures.cells c.loop-at.invariant.cut in
+    ) c.loop-at-test.true told.front told.value c.token_at-in-None.ensures c.in_ok-put_token-in-None.ensures.cells c.loop-at.invariant.cut in
     record {
-      inside = omega (arith, told.inside, ap length rest, length-drop at text);
-      known = absent-behind c.next_token.new.absent text at size told.some (subst (λ l. IsKnownAbsent c.next_token.new.absent (drop 1 l)) rest told.kept);
+      inside = front_inside text at size c.loop-at.invariant.inside told.front;
+      known = absent_behind c.next_token.new.absent text at size told.front told.kept;
       begun = c.in_ok-put_token-in-None.ensures.begun;
       cut = ap (λ b. c.put_token.new.cells.items ++ cells_of (c.put_token.new.begun.items ++ cutting_from line_reader b (at + size) 0 (drop (at + size) text))) c.is_bar-after_bar.ensures ∙ more;
     }
@@ -37,15 +33,14 @@ loop-at-preserved-in-Some c =
     let told = c.in-Some.ensures in
     let token = c.token_at.result in
     let begun = c.push.new.self.items in
-    let rest : take (length text - at) (drop at text) ≡ drop at text = take_all (length text - at) (drop at text) (omega (arith, length-drop at text)) in
-    let read : (kind, size) ≡ next_token c.loop-at.after_bar (drop at text) = sym (told.value c.loop-at.after_bar) ∙ ap (next_token c.loop-at.after_bar) rest in
+    let read = sym (told.value c.loop-at.after_bar) in
     let more = cells_more text c.loop-at.after_bar at c.loop-at.cells.items c.loop-at.cells.items _ c.loop-at.begun.items begun token (
       kind,
       size,
-    ) c.loop-at-test.true told.some read c.token_at.ensures (stays token c.loop-at.cells.items c.loop-at.begun.items begun c.in_ok-push-in-Some.ensures.items) c.loop-at.invariant.cut in
+    ) c.loop-at-test.true told.front read c.token_at.ensures (stays token c.loop-at.cells.items c.loop-at.begun.items begun c.in_ok-push-in-Some.ensures.items) c.loop-at.invariant.cut in
     record {
-      inside = omega (arith, told.inside, ap length rest, length-drop at text);
-      known = absent-behind c.loop-at.absent text at size told.some (absent-drop 1 c.loop-at.absent (drop at text) c.loop-at.invariant.known);
+      inside = front_inside text at size c.loop-at.invariant.inside told.front;
+      known = absent_behind c.loop-at.absent text at size told.front (absent_next c.loop-at.absent text at c.loop-at.invariant.known);
       begun = subst HasNoBar (sym c.in_ok-push-in-Some.ensures.items) (still_no_bar token c.loop-at.begun.items c.loop-at.invariant.begun (ap ends_cell c.token_at.ensures ∙ told.plain));
       cut = ap (λ b. c.loop-at.cells.items ++ cells_of (begun ++ cutting_from line_reader b (at + size) 0 (drop (at + size) text))) (sym told.plain) ∙ more;
     }
@@ -57,10 +52,3 @@ loop-at-init c = record {
   begun = subst HasNoBar (sym c.in_ok-begun.ensures.items) (All-nil (λ t. ends_cell t ≡ false));
   cut = λ i. c.in_ok-cells.ensures.items i ++ cells_of (c.in_ok-begun.ensures.items i ++ cutting_from line_reader false 0 0 c.args.text.now);
 }
-
-pub next_token-requires-clause-known : goal.next_token-requires-clause-known
-next_token-requires-clause-known c =
-    let text = c.args.text.now in
-    let at = c.loop-at.at in
-    let rest : take (length text - at) (drop at text) ≡ drop at text = take_all (length text - at) (drop at text) (omega (arith, length-drop at text)) in
-    subst (λ l. IsKnownAbsent c.loop-at.absent (drop 1 l)) (sym rest) (absent-drop 1 c.loop-at.absent (drop at text) c.loop-at.invariant.known)
