@@ -1,5 +1,5 @@
 -- The state after one more line of a header is what the line gives from what held before it.
-use Rattle.std.proofs.Common.{◌≡◌, ℕ, nat_lt, Bool, true, false, cond, List, [], ◌∷◌, ◌++◌, length, map, Option, Some, None, Result, Ok, Err, refl, ◌∙◌}
+use Rattle.std.proofs.Common.{◌≡◌, ℕ, nat_lt, Bool, true, false, cond, List, [], ◌∷◌, ◌++◌, length, Option, Some, None, Result, Ok, Err, refl, ◌∙◌}
 use Rattle.std.specs.Option.{option_map, option_or}
 use Rattle.std.specs.Result.{result_ok}
 use Rattle.abc_fields.specs.declared.fault.FaultCode.{FaultCode}
@@ -22,7 +22,8 @@ use Rattle.abc_bars_header.specs.declared.field_kind.FieldKind.{FieldKind}
 use Rattle.abc_bars_header.specs.declared.field_kind.FieldKind.TheVariants as kinds
 use Rattle.abc_bars_header.specs.declared.header.Header.{Header}
 use Rattle.abc_bars.specs.LookBack.Defaults.{defaults_at}
-use Rattle.abc_bars.proofs.DeclaredVoices.{voice_with, voices_named}
+use Rattle.abc_bars.proofs.DeclaredVoices.{voices_named}
+use Rattle.abc_bars.proofs.Names.{each_with}
 use Rattle.abc_bars.proofs.HeaderViews.{defaults_behind, said, setting_said}
 
 -- What is said for a name, where one more voice may be said.
@@ -35,7 +36,7 @@ shift_on voice before name = record {
 
 -- The voices after a field that may name one.
 abbrev voices_on : List HeaderLine → Option (List ℕ × Shift) → List (List ℕ × Shift)
-voices_on before voice = map (voice_with (shift_on voice (declared_shift before))) (with_named (declared_names before) voice)
+voices_on before voice = each_with (shift_on voice (declared_shift before)) (with_named (declared_names before) voice)
 
 -- The state after a field of this kind, looking back.
 abbrev header_on : Defaults → List HeaderLine → FieldKind → List ℕ → Header
@@ -87,17 +88,10 @@ voice_declares opening before value (Ok voice) =
 behind_kind : (opening : Defaults) (before : List HeaderLine) (kind : FieldKind) (value : List ℕ) →
     header_on opening before kind value ≡ (own_result (header_at opening before) kind value).header
 behind_kind opening before kinds.Reference value = reference_keeps (header_at opening before) (reference_of value)
-behind_kind opening before kinds.Title value = refl
-behind_kind opening before kinds.Meter value =
-    let set = setting_said (defaults_at opening before) kinds.Meter value in λ i. record { defaults = set i; voices = voices_at before }
-behind_kind opening before kinds.UnitLength value =
-    let set = setting_said (defaults_at opening before) kinds.UnitLength value in λ i. record { defaults = set i; voices = voices_at before }
-behind_kind opening before kinds.Tempo value =
-    let set = setting_said (defaults_at opening before) kinds.Tempo value in λ i. record { defaults = set i; voices = voices_at before }
 behind_kind opening before kinds.Parts value = order_keeps (header_at opening before) value (parts_of value)
 behind_kind opening before kinds.Voice value = voice_declares opening before value (voice_of value)
 behind_kind opening before kinds.Key value = key_keeps (header_at opening before) (key_of value)
-behind_kind opening before kinds.Other value = refl
+behind_kind opening before kind value = let set = setting_said (defaults_at opening before) kind value in λ i. record { defaults = set i; voices = voices_at before }
 
 -- The state after one more line of a header is what the line gives from what held before it.
 pub header_behind : (opening : Defaults) (before : List HeaderLine) (line : HeaderLine) →

@@ -57,15 +57,10 @@ tempo_read defaults (Err fault) = refl
 -- A field of each kind sets what it says.
 pub setting_said : (defaults : Defaults) (kind : FieldKind) (value : List ℕ) →
     said defaults kind value ≡ (setting_result defaults kind value).defaults
-setting_said defaults kinds.Reference value = refl
-setting_said defaults kinds.Title value = refl
 setting_said defaults kinds.Meter value = meter_read defaults (meter_of value)
 setting_said defaults kinds.UnitLength value = unit_read defaults (unit_of value)
 setting_said defaults kinds.Tempo value = tempo_read defaults (tempo_of value)
-setting_said defaults kinds.Parts value = refl
-setting_said defaults kinds.Voice value = refl
-setting_said defaults kinds.Key value = refl
-setting_said defaults kinds.Other value = refl
+setting_said defaults _ value = refl
 
 -- A directive of a program sets it, if MIDI has it.
 program_read : (defaults : Defaults) (program : Option ℕ) →

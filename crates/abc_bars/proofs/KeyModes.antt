@@ -1,19 +1,19 @@
 -- The mode of a K: is known by the first three letters of the run after its tonic.
 use Rattle.std.proofs.Common.{◌≡◌, ℕ, suc, ◌+◌, ◌<◌, ◌≤◌, eqb, Bool, true, false, cond, ◌||◌, ◌⊎◌, ⊎_elim, List, [], ◌∷◌, ◌++◌, length, take, drop, Option, Some, None, Ok, codes, refl, sym, ap, ◌∙◌}
 use Rattle.std.proofs.Common.{inl, inr, arith, ℤ, pos}
-use Rattle.std.specs.Prelude.{◌≢◌, ◌+ℤ◌, ◌==◌}
+use Rattle.std.specs.Prelude.{◌≢◌, ◌+ℤ◌, ◌==◌, ◌&&◌, nat_le}
 use Rattle.std.specs.List.{AllPass, prefix_len}
 use Rattle.std.specs.Option.{option_map, ok_or}
 use Rattle.std.specs.Str.{bytes_eq}
 use Rattle.std.specs.Char.{to_ascii_lowercase, is_ascii_alphabetic}
 use Rattle.std.proofs.Math.Seq.{drop-append_seam, take-append_seam}
-use Rattle.std.proofs.lemmas.Bool.{cases_lt, cond-true, cond-false, cases_Bool, false_from_ne_true, or_from, ne_eqb}
+use Rattle.std.proofs.lemmas.Bool.{and_parts, leb-true, cases_lt, cond-true, cond-false, cases_Bool, false_from_ne_true, or_from, ne_eqb}
 use Rattle.std.proofs.lemmas.Int.{ints}
 use Rattle.std.proofs.lemmas.Slice.Eq.{bytes_eq-Decides}
 use Rattle.std.proofs.lemmas.Str.Ascii.{lowercase_is}
 use Rattle.abc_text.specs.Blank.{is_blank}
 use Rattle.abc_text.specs.declared.letter.Letter.{Letter}
-use Rattle.abc_text.specs.declared.letter.Letter.TheVariants.{C, D, E, F, G, A, B}
+use Rattle.abc_text.specs.declared.letter.Letter.TheVariants.{A}
 use Rattle.abc_text.specs.Letter.{capital}
 use Rattle.abc_text.specs.Word.{words_of}
 use Rattle.abc_text.proofs.Fronts.{front_exact, front_none}
@@ -123,12 +123,7 @@ run_read text blanks run rest is =
 -- a value that begins with a tonic is neither empty nor `none`
 tonic_no_none : (letter : Letter) → capital letter ≡ 110 → ⊥
 tonic_no_none A e = omega arith
-tonic_no_none B e = omega arith
-tonic_no_none C e = omega arith
-tonic_no_none D e = omega arith
-tonic_no_none E e = omega arith
-tonic_no_none F e = omega arith
-tonic_no_none G e = omega arith
+tonic_no_none _ e = omega arith
 
 tonic_key : (value : List ℕ) (sharps : ℤ) (behind : List ℕ) → IsTonic value sharps behind → key_in value ≡ spelled_key (tonal_start sharps (basis_at behind))
 unfolding key_in start_of
@@ -168,29 +163,28 @@ read_some : (o : Option Key) (key : Key) → ok_or o BadKey ≡ Ok key → o ≡
 read_some None key e = cc
 read_some (Some other) key e = cc
 
--- a mode that is named
-mode_sharps : (sharps : ℤ) (blanks : ℕ) (run text rest : List ℕ) (added : ℤ) (is_minor : Bool) → NamesMode run added is_minor
-    → tonal_start sharps (basis_by (mode_of run) blanks run text rest) ≡ option_map (λ first. (first, rest)) (key_with (sharps +ℤ added) is_minor)
-unfolding mode_of mode_named
-mode_sharps sharps blanks run text rest _ _ (lydian h) =
-    ap (λ o. tonal_start sharps (basis_by o blanks run text rest)) (small_letters 108 121 100 run (omega arith, omega arith) (omega arith, omega arith) (omega arith, omega arith) h)
-mode_sharps sharps blanks run text rest _ _ (major h) =
-    ap (λ o. tonal_start sharps (basis_by o blanks run text rest)) (small_letters 109 97 106 run (omega arith, omega arith) (omega arith, omega arith) (omega arith, omega arith) h)
-mode_sharps sharps blanks run text rest _ _ (ionian h) =
-    ap (λ o. tonal_start sharps (basis_by o blanks run text rest)) (small_letters 105 111 110 run (omega arith, omega arith) (omega arith, omega arith) (omega arith, omega arith) h)
-mode_sharps sharps blanks run text rest _ _ (mixolydian h) =
-    ap (λ o. tonal_start sharps (basis_by o blanks run text rest)) (small_letters 109 105 120 run (omega arith, omega arith) (omega arith, omega arith) (omega arith, omega arith) h)
-mode_sharps sharps blanks run text rest _ _ (dorian h) =
-    ap (λ o. tonal_start sharps (basis_by o blanks run text rest)) (small_letters 100 111 114 run (omega arith, omega arith) (omega arith, omega arith) (omega arith, omega arith) h)
-mode_sharps sharps blanks run text rest _ _ (minor h) =
-    ap (λ o. tonal_start sharps (basis_by o blanks run text rest)) (small_letters 109 105 110 run (omega arith, omega arith) (omega arith, omega arith) (omega arith, omega arith) h)
-mode_sharps sharps blanks run text rest _ _ (aeolian h) =
-    ap (λ o. tonal_start sharps (basis_by o blanks run text rest)) (small_letters 97 101 111 run (omega arith, omega arith) (omega arith, omega arith) (omega arith, omega arith) h)
-mode_sharps sharps blanks run text rest _ _ (letter_m h) = ap (λ r. tonal_start sharps (basis_by (mode_of r) blanks run text rest)) h
-mode_sharps sharps blanks run text rest _ _ (phrygian h) =
-    ap (λ o. tonal_start sharps (basis_by o blanks run text rest)) (small_letters 112 104 114 run (omega arith, omega arith) (omega arith, omega arith) (omega arith, omega arith) h)
-mode_sharps sharps blanks run text rest _ _ (locrian h) =
-    ap (λ o. tonal_start sharps (basis_by o blanks run text rest)) (small_letters 108 111 99 run (omega arith, omega arith) (omega arith, omega arith) (omega arith, omega arith) h)
+-- a mode that is named, by the codes of its letters
+small : (x : ℕ) → (nat_le 97 x && nat_le x 122) ≡ true → IsSmall x
+small x is = let parts = and_parts (nat_le 97 x) (nat_le x 122) is in (leb-true 97 x parts.0, leb-true x 122 parts.1)
+
+module _ (sharps : ℤ) (blanks : ℕ) (run text rest : List ℕ) where
+  by_letters : (x y z : ℕ) → (nat_le 97 x && nat_le x 122) ≡ true → (nat_le 97 y && nat_le y 122) ≡ true → (nat_le 97 z && nat_le z 122) ≡ true → BeginsWith (three x y z) run
+      → tonal_start sharps (basis_by (mode_of run) blanks run text rest) ≡ tonal_start sharps (basis_by (mode_named (three x y z)) blanks run text rest)
+  by_letters x y z p q r h = ap (λ o. tonal_start sharps (basis_by o blanks run text rest)) (small_letters x y z run (small x p) (small y q) (small z r) h)
+
+  mode_sharps : (added : ℤ) (is_minor : Bool) → NamesMode run added is_minor
+      → tonal_start sharps (basis_by (mode_of run) blanks run text rest) ≡ option_map (λ first. (first, rest)) (key_with (sharps +ℤ added) is_minor)
+  unfolding mode_of mode_named
+  mode_sharps _ _ (lydian h) = by_letters 108 121 100 refl refl refl h
+  mode_sharps _ _ (major h) = by_letters 109 97 106 refl refl refl h
+  mode_sharps _ _ (ionian h) = by_letters 105 111 110 refl refl refl h
+  mode_sharps _ _ (mixolydian h) = by_letters 109 105 120 refl refl refl h
+  mode_sharps _ _ (dorian h) = by_letters 100 111 114 refl refl refl h
+  mode_sharps _ _ (minor h) = by_letters 109 105 110 refl refl refl h
+  mode_sharps _ _ (aeolian h) = by_letters 97 101 111 refl refl refl h
+  mode_sharps _ _ (letter_m h) = ap (λ r. tonal_start sharps (basis_by (mode_of r) blanks run text rest)) h
+  mode_sharps _ _ (phrygian h) = by_letters 112 104 114 refl refl refl h
+  mode_sharps _ _ (locrian h) = by_letters 108 111 99 refl refl refl h
 
 pub named_modes_add : NamedModesAdd
 named_modes_add value blanks run sharps added is_minor key is names read =

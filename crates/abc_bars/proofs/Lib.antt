@@ -5,4 +5,5 @@ pub mod HeaderViews
 pub mod KeyModes
 pub mod ListedAccidentals
 pub mod LookBack
+pub mod Names
 pub mod Titles

@@ -33,12 +33,7 @@ same_letter a b = inr (λ e. cc)
 
 altered_here : (s : Signature) (letter : Letter) (by : ℤ) → alteration (altered_signature s letter by) letter ≡ by
 altered_here s A by = refl
-altered_here s B by = refl
-altered_here s C by = refl
-altered_here s D by = refl
-altered_here s E by = refl
-altered_here s F by = refl
-altered_here s G by = refl
+altered_here s _ by = refl
 
 altered_else : (s : Signature) (letter other : Letter) (by : ℤ) → letter ≢ other → alteration (altered_signature s letter by) other ≡ alteration s other
 altered_else s A A by h = absurd (h refl)

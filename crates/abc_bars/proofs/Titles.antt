@@ -1,47 +1,28 @@
 -- The titles that the cells of a tune say are those of its header.
-use Rattle.std.proofs.Common.{◌≡◌, ℕ, Bool, true, false, cond, List, [], ◌∷◌, ◌++◌, Option, Some, None, refl, ap, ◌∙◌, append-nil}
-use Rattle.std.specs.Prelude.{All, IfSome, is_none, Result, Ok, Err, option_to_list, slice_range}
+use Rattle.std.proofs.Common.{◌≡◌, ℕ, true, List, [], ◌∷◌, ◌++◌, Option, Some, None, refl, ap, ◌∙◌, append-nil}
+use Rattle.std.specs.Prelude.{All, IfSome, Result, Ok, Err, option_to_list, slice_range}
 use Rattle.std.specs.List.{cons_option, flat_map}
 use Rattle.std.proofs.lemmas.List.Elements.{All-nil, All-cons, All-head, All-tail, filter_map-append}
 use Rattle.abc_fields.specs.declared.fault.FaultCode.{FaultCode}
-use Rattle.abc_fields.specs.declared.fault.FaultCode.TheVariants.{BadBroken, BadProgram, LooseTie, TempoRange}
 use Rattle.abc_fields.specs.declared.key.Key.{Key}
-use Rattle.abc_fields.specs.declared.meter.Meter.{Meter}
 use Rattle.abc_fields.specs.declared.shift.Shift.{Shift}
 use Rattle.abc_fields.specs.declared.tempo.Tempo.{Tempo}
 use Rattle.abc_fields.specs.declared.voice.Voice.{Voice}
 use Rattle.abc_fields.specs.Key.{empty_key, key_of}
-use Rattle.abc_fields.specs.Meter.{meter_of}
 use Rattle.abc_fields.specs.Parts.{parts_of}
-use Rattle.abc_fields.specs.Tempo.{tempo_of}
-use Rattle.abc_fields.specs.Unit.{unit_of}
 use Rattle.abc_fields.specs.Voice.{voice_of}
 use Rattle.abc_fold.specs.Steps.{items_from}
-use Rattle.abc_bars_notes.specs.BarRest.{bar_rest_of}
-use Rattle.abc_bars_notes.specs.Broken.{factors_of, is_bad_mark}
-use Rattle.abc_bars_notes.specs.Chords.{chord_builder_of}
 use Rattle.abc_bars_items.specs.Item.{Items}
-use Rattle.abc_bars_voice.specs.TempoItem.{is_out_of_range, tempo_item}
-use Rattle.abc_bars_notes.specs.TimeTokens.{chord_by, play_note, play_rest}
-use Rattle.abc_bars_notes.specs.TokenRole.{has_note}
-use Rattle.abc_bars_voice.specs.Tuplet.{begin_tuplet}
 use Rattle.abc_bars_items.specs.declared.item.Item.{Item}
 use Rattle.abc_bars_items.specs.declared.item.Item.TheVariants as items
-use Rattle.abc_bars_voice.specs.declared.voice_state.VoiceState.{VoiceState}
-use Rattle.abc_bars_notes.specs.declared.sound.ChordBuilder.{ChordBuilder}
-use Rattle.abc_bars_items.specs.Program.{program_of}
 use Rattle.abc_scan.specs.declared.directive.Directive.{Directive}
 use Rattle.abc_scan.specs.declared.directive.Directive.TheVariants as directives
 use Rattle.abc_scan.specs.declared.field.Field.{Field}
 use Rattle.abc_scan.specs.declared.spanned.Spanned.{Spanned}
 use Rattle.abc_scan.specs.declared.token.TokenKind.{TokenKind}
-use Rattle.abc_scan.specs.declared.token.TokenKind.TheVariants as kinds
 use Rattle.abc_time.specs.declared.ratio.Ratio.{Ratio}
-use Rattle.abc_bars_body.specs.Body.{here, with_current, after_mention, with_here}
-use Rattle.abc_bars_body.specs.BodyFields.{field_result, key_by, kind_result, meter_by, part_by, part_of, tempo_by, unit_by, voice_by, voice_made, accept, accept_with_fault}
 use Rattle.abc_bars_body.specs.BodyOpening.{body_from}
-use Rattle.abc_bars_body.specs.Cell.{cell_result_from, after_chord_mention, empty_cell_result, tie_ahead, with_directive, with_ending, with_fault, with_fault_if, with_item, with_kind, with_result_in}
-use Rattle.abc_bars_body.specs.Cell.{with_some_fault, with_token}
+use Rattle.abc_bars_body.specs.Cell.{cell_result_from, empty_cell_result, with_token}
 use Rattle.abc_bars_header.specs.Defaults.{unit_in}
 use Rattle.abc_bars_header.specs.FieldKind.{kind_of}
 use Rattle.abc_bars_header.specs.Header.{append_program, declare, declare_result, directive_item, header_key_by, header_voice_by, items_with, own_line_result, line_program, opening_header, order_by}
@@ -51,6 +32,7 @@ use Rattle.abc_bars_header.specs.Opening.{opening_meter, opening_tempo, opening_
 use Rattle.abc_bars_header.specs.Reference.{reference_of}
 use Rattle.abc_bars_body.specs.SameEntry.{bar_steps}
 use Rattle.abc_bars_body.specs.Step.{behind_kind, behind_line, body_step, directive_in, field_in, file_header_step, header_step, line_in, line_of, entry_step}
+use Rattle.abc_bars.proofs.LookBack.BodyItems.{AreOfBody, no_title, of_kind}
 use Rattle.abc_bars.specs.Titles.{title_said, titles_by, titles_from, titles_of_header, titles_said, SaysTitlesOfHeader}
 use Rattle.abc_bars_body.specs.declared.body.Body.{Body}
 use Rattle.abc_bars_body.specs.declared.cell.CellResult.{CellResult}
@@ -68,132 +50,13 @@ Cell = List (Spanned TokenKind)
 quiet : (tune more : List Item) → titles_said more ≡ [] → titles_said (tune ++ more) ≡ titles_said tune
 quiet tune more none = filter_map-append title_said tune more ∙ ap (λ titles. titles_said tune ++ titles) none ∙ append-nil (titles_said tune)
 
--- a field of the body says none
-part_quiet : (body : Body) (place : ℕ) (part : Option ℕ) → titles_said (part_by body place part).items ≡ []
-part_quiet body place None = refl
-part_quiet body place (Some letter) = refl
-
-meter_quiet : (body : Body) (place : ℕ) (meter : Result Meter FaultCode) → titles_said (meter_by body place meter).items ≡ []
-meter_quiet body place (Ok meter) = refl
-meter_quiet body place (Err fault) = refl
-
-unit_quiet : (body : Body) (place : ℕ) (unit : Result Ratio FaultCode) → titles_said (unit_by body place unit).items ≡ []
-unit_quiet body place (Ok unit) = refl
-unit_quiet body place (Err fault) = refl
-
-tempo_quiet : (body : Body) (place : ℕ) (tempo : Result Tempo FaultCode) → titles_said (tempo_by body place tempo).items ≡ []
-tempo_quiet body place (Ok tempo) = by (is_out_of_range (here body).unit tempo)
-  where
-    by : (out : Bool) → titles_said (cond out (accept_with_fault body place (tempo_item false (here body).unit tempo) TempoRange) (accept body (tempo_item false (here body).unit tempo))).items ≡ []
-    by true = refl
-    by false = refl
-tempo_quiet body place (Err fault) = refl
-
-key_quiet : (body : Body) (place : ℕ) (key : Result Key FaultCode) → titles_said (key_by body place key).items ≡ []
-key_quiet body place (Ok key) = refl
-key_quiet body place (Err fault) = refl
-
-made_quiet : (body : Body) (place : ℕ) (name : List ℕ) (made : Option Body) → titles_said (voice_made body place name made).items ≡ []
-made_quiet body place name (Some made) = refl
-made_quiet body place name None = refl
-
-voice_quiet : (body : Body) (place : ℕ) (value : List ℕ) (voice : Result Voice FaultCode) → titles_said (voice_by body place value voice).items ≡ []
-voice_quiet body place value (Ok voice) =
-    let name = slice_range value voice.from voice.to in
-    made_quiet body place name (with_current body name voice.shift)
-voice_quiet body place value (Err fault) = refl
-
-field_quiet : (body : Body) (kind : FieldKind) (value : List ℕ) (place : ℕ) → titles_said (kind_result body kind value place).items ≡ []
-field_quiet body fields.Parts value place = part_quiet body place (part_of value)
-field_quiet body fields.Meter value place = meter_quiet body place (meter_of value)
-field_quiet body fields.UnitLength value place = unit_quiet body place (unit_of value)
-field_quiet body fields.Tempo value place = tempo_quiet body place (tempo_of value)
-field_quiet body fields.Key value place = key_quiet body place (key_of value)
-field_quiet body fields.Voice value place = voice_quiet body place value (voice_of value)
-field_quiet body fields.Reference value place = refl
-field_quiet body fields.Title value place = refl
-field_quiet body fields.Other value place = refl
-
--- nor does any token
-abbrev said_in : CellResult → List (List ℕ)
-said_in given = titles_said given.items.items
-
-fault_kept : (given : CellResult) (place : ℕ) (fault : Option FaultCode) → (with_some_fault given place fault).items.items ≡ given.items.items
-fault_kept given place None = refl
-fault_kept given place (Some fault) = refl
-
-broken_quiet : (given : CellResult) (bad : Bool) (place : ℕ) → said_in (with_fault_if given bad place BadBroken) ≡ said_in given
-broken_quiet given true place = refl
-broken_quiet given false place = refl
-
-program_fault_quiet : (given : CellResult) (place : ℕ) (bad : Bool) → said_in (with_fault_if given bad place BadProgram) ≡ said_in given
-program_fault_quiet given place true = refl
-program_fault_quiet given place false = refl
-
-directive_quiet : (given : CellResult) (place : ℕ) (directive : Directive) → said_in (with_directive given place directive) ≡ said_in given
-directive_quiet given place (directives.Program written) =
-    program_fault_quiet (with_item given (items.Program false (program_of written))) place (is_none (program_of written))
-    ∙ quiet given.items.items (items.Program false (program_of written) ∷ []) refl
-directive_quiet given place (directives.Reach reach) = refl
-
-tie_quiet : (given : CellResult) (place : ℕ) (after_note : Bool) → said_in (cond after_note given (with_fault given place LooseTie)) ≡ said_in given
-tie_quiet given place true = refl
-tie_quiet given place false = refl
-
-ending_quiet : (given : CellResult) (place : ℕ) (passes : Option ℕ) → said_in (with_ending given place passes) ≡ said_in given
-ending_quiet given place None = refl
-ending_quiet given place (Some passes) = quiet given.items.items (items.Ending passes ∷ []) refl
-
-chord_quiet : (given : CellResult) (place : ℕ) (inside : VoiceState → ChordBuilder) (some : Bool)
-    → said_in (with_result_in given (after_chord_mention some given.body) (chord_by some (here (after_chord_mention some given.body)) place (inside (here (after_chord_mention some given.body)))))
-    ≡ said_in given
-chord_quiet given place inside true =
-    let played = chord_by true (here (after_mention given.body)) place (inside (here (after_mention given.body))) in
-    quiet given.items.items played.items refl
-chord_quiet given place inside false =
-    let played = chord_by false (here given.body) place (inside (here given.body)) in
-    quiet given.items.items played.items refl
-
-kind_quiet : (given : CellResult) (place : ℕ) (kind : TokenKind) (ahead : Cell) → said_in (with_kind given place kind ahead) ≡ said_in given
-kind_quiet given place (kinds.Note note) ahead =
-    let played = play_note (here (after_mention given.body)) (factors_of given.behind ahead) (tie_ahead ahead) place note in
-    quiet given.items.items played.items refl
-kind_quiet given place (kinds.Rest long) ahead =
-    let played = play_rest (here (after_mention given.body)) (factors_of given.behind ahead) place long in
-    quiet given.items.items played.items refl
-kind_quiet given place (kinds.BarRest bars) ahead =
-    let body = after_mention given.body in
-    let rest = bar_rest_of (here body).meter bars in
-    ap titles_said (fault_kept (record given { body = body; items = record given.items { items = given.items.items ++ rest.0 ∷ [] } }) place rest.1)
-    ∙ quiet given.items.items (rest.0 ∷ []) refl
-kind_quiet given place (kinds.Chord chord) ahead =
-    chord_quiet given place
-    (λ state. chord_builder_of state (factors_of given.behind ahead) (record { length = chord.length; tied = tie_ahead ahead; from = place }) chord.parts)
-    (has_note chord.parts)
-kind_quiet given place (kinds.InlineField field) ahead =
-    quiet given.items.items (field_result given.body field.letter field.value place).items (field_quiet given.body (kind_of field.letter) field.value place)
-kind_quiet given place (kinds.Bar bar) ahead = quiet given.items.items (items.Bar bar ∷ []) refl
-kind_quiet given place (kinds.Ending passes) ahead = ending_quiet given place passes
-kind_quiet given place (kinds.Tuplet mark) ahead =
-    let opened = begin_tuplet (here given.body).meter (here given.body).tuplet mark in
-    ap titles_said (fault_kept (record given { body = with_here given.body (record (here given.body) { tuplet = opened.0 }) }) place opened.1)
-kind_quiet given place (kinds.Broken mark) ahead = broken_quiet given (is_bad_mark given.behind ahead) place
-kind_quiet given place kinds.Tie ahead = tie_quiet given place given.after_note
-kind_quiet given place kinds.Blank ahead = refl
-kind_quiet given place kinds.NoEffect ahead = refl
-kind_quiet given place (kinds.Dynamic dynamic) ahead = refl
-kind_quiet given place (kinds.Directive directive) ahead = directive_quiet given place directive
-kind_quiet given place (kinds.Field field) ahead =
-    quiet given.items.items (field_result given.body field.letter field.value place).items (field_quiet given.body (kind_of field.letter) field.value place)
-kind_quiet given place kinds.Unclosed ahead = refl
-kind_quiet given place kinds.BadByte ahead = refl
-
-tokens_quiet : (given : CellResult) (tokens : Cell) → said_in (cell_result_from given tokens) ≡ said_in given
-tokens_quiet given [] = refl
-tokens_quiet given (token ∷ ahead) = tokens_quiet (with_token given token ahead) ahead ∙ kind_quiet given token.from token.kind ahead
+-- the body says none
+tokens_of_body : (given : CellResult) (tokens : Cell) → AreOfBody given.items.items → AreOfBody (cell_result_from given tokens).items.items
+tokens_of_body given [] h = h
+tokens_of_body given (token ∷ ahead) h = tokens_of_body (with_token given token ahead) ahead (of_kind given token.from token.kind ahead h)
 
 body_quiet : (body : Body) (cell : Cell) → titles_said (body_step body cell).1.items ≡ []
-body_quiet body cell = tokens_quiet (empty_cell_result body) cell
+body_quiet body cell = no_title (body_step body cell).1.items (tokens_of_body (empty_cell_result body) cell tt)
 
 -- the header
 tempo_silent : (unit : Ratio) (tempo : Option Tempo) → title_said (opening_tempo_by unit tempo) ≡ None
@@ -237,14 +100,10 @@ key_silent header (Err fault) = refl
 -- what a field of the header says itself
 own_say : (header : Header) (kind : FieldKind) (value : List ℕ) → titles_if (own_result header kind value).item ≡ titles_from kind value []
 own_say header fields.Reference value = reference_silent header (reference_of value)
-own_say header fields.Title value = refl
-own_say header fields.Meter value = refl
-own_say header fields.UnitLength value = refl
-own_say header fields.Tempo value = refl
 own_say header fields.Parts value = order_silent header value (parts_of value)
 own_say header fields.Voice value = voice_silent header value (voice_of value)
 own_say header fields.Key value = key_silent header (key_of value)
-own_say header fields.Other value = refl
+own_say header _ value = refl
 
 -- nor does a directive or a program
 directive_silent : (directive : Directive) → titles_if (directive_item directive) ≡ []
@@ -261,15 +120,9 @@ line_say header (DirectiveLine directive) = directive_silent directive
 
 -- what holds of the value of each field line holds of each title
 from_passes : (P : List ℕ → Type 0) (kind : FieldKind) (value : List ℕ) (behind : List (List ℕ)) → P value → All P behind → All P (titles_from kind value behind)
-from_passes P fields.Reference value behind is all = all
 from_passes P fields.Title value behind is all = All-cons P value behind is all
-from_passes P fields.Meter value behind is all = all
-from_passes P fields.UnitLength value behind is all = all
-from_passes P fields.Tempo value behind is all = all
-from_passes P fields.Parts value behind is all = all
-from_passes P fields.Voice value behind is all = all
 from_passes P fields.Key value behind is all = All-nil P
-from_passes P fields.Other value behind is all = all
+from_passes P _ value behind is all = all
 
 abbrev pub HasValue : (List ℕ → Type 0) → Cell → Type 0
 HasValue P cell = IfSome (field_in cell) (λ field. P field.value)
@@ -294,15 +147,8 @@ said_from (entries.Body body) cells = []
 
 behind_say : (header : Header) (kind : FieldKind) (value : List ℕ) (cells : List Cell)
     → titles_from kind value [] ++ said_from (behind_kind header kind value) cells ≡ titles_from kind value (titles_of_header cells)
-behind_say header fields.Reference value cells = refl
-behind_say header fields.Title value cells = refl
-behind_say header fields.Meter value cells = refl
-behind_say header fields.UnitLength value cells = refl
-behind_say header fields.Tempo value cells = refl
-behind_say header fields.Parts value cells = refl
-behind_say header fields.Voice value cells = refl
 behind_say header fields.Key value cells = refl
-behind_say header fields.Other value cells = refl
+behind_say header _ value cells = refl
 
 behind_line_say : (header : Header) (line : HeaderLine) (cells : List Cell)
     → titles_by (Some line) [] ++ said_from (behind_line header line) cells ≡ titles_by (Some line) (titles_of_header cells)

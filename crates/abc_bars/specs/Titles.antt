@@ -23,15 +23,9 @@ titles_said tune = filter_map title_said tune
 
 -- What the T: lines of a header say from a field of this kind on, of what those after it say: a K: ends the header.
 abbrev pub titles_from : FieldKind → List ℕ → List (List ℕ) → List (List ℕ)
-titles_from fields.Reference value behind = behind
 titles_from fields.Title value behind = value ∷ behind
-titles_from fields.Meter value behind = behind
-titles_from fields.UnitLength value behind = behind
-titles_from fields.Tempo value behind = behind
-titles_from fields.Parts value behind = behind
-titles_from fields.Voice value behind = behind
 titles_from fields.Key value behind = []
-titles_from fields.Other value behind = behind
+titles_from _ value behind = behind
 
 -- The same from this line on, or from music, which ends a header as well. A directive does not.
 abbrev pub titles_by : Option HeaderLine → List (List ℕ) → List (List ℕ)

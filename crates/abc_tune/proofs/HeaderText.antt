@@ -61,7 +61,7 @@ use Rattle.abc_tune.specs.HeaderText.{IsReference, empty, written, refused, Miss
 use Rattle.abc_tune.specs.HeaderText.{has_key_from, header_lines, header_up_to, is_key, is_key_line, is_missing_key, is_out_of_range, is_tempo_range}
 use Rattle.abc_tune.specs.HeaderText.{items_of_tune, sets_out_of_range, unit_of_meter}
 use Rattle.abc_tune.specs.WholeFaults.{fault_if, faults_with, is_opening_key, lacks_key, opens_out_of_range, out_after}
-use Rattle.abc_tune.proofs.WholeFaults.{past_append}
+use Rattle.abc_tune.proofs.WholeFaults.{last_passed, passed, past_append}
 use Rattle.abc_tune_compiler.specs.Tune.{first_of}
 use Rattle.abc_voices.specs.Arrange.{is_too_long, items_in}
 use Rattle.abc_voices.specs.Opening.{after_all}
@@ -174,14 +174,10 @@ key_is_key header (Err fault) = refl
 
 own_key : (header : Header) (kind : FieldKind) (value : List ℕ) → key_if (own_result header kind value).item ≡ is_key kind
 own_key header fields.Reference value = reference_no_key header (reference_of value)
-own_key header fields.Title value = refl
-own_key header fields.Meter value = refl
-own_key header fields.UnitLength value = refl
-own_key header fields.Tempo value = refl
 own_key header fields.Parts value = order_no_key header value (parts_of value)
 own_key header fields.Voice value = voice_no_key header value (voice_of value)
 own_key header fields.Key value = key_is_key header (key_of value)
-own_key header fields.Other value = refl
+own_key header _ value = refl
 
 directive_no_key : (directive : Directive) → key_if (directive_item directive) ≡ false
 directive_no_key (directives.Program number) = refl
@@ -205,15 +201,8 @@ keys_from opening before cells = list_any is_opening_key (items_in (results_alon
 key_field : (opening : Defaults) (before : List HeaderLine) (field : Field) (kind : FieldKind) (cells : List CellTokens)
     → ((more : List HeaderLine) → keys_from opening more cells ≡ has_key cells)
     → (is_key kind || list_any is_opening_key (items_in (results_along (behind_field opening before field kind) cells))) ≡ (is_key kind || has_key cells)
-key_field opening before field fields.Reference cells rest = rest (FieldLine field ∷ before)
-key_field opening before field fields.Title cells rest = rest (FieldLine field ∷ before)
-key_field opening before field fields.Meter cells rest = rest (FieldLine field ∷ before)
-key_field opening before field fields.UnitLength cells rest = rest (FieldLine field ∷ before)
-key_field opening before field fields.Tempo cells rest = rest (FieldLine field ∷ before)
-key_field opening before field fields.Parts cells rest = rest (FieldLine field ∷ before)
-key_field opening before field fields.Voice cells rest = rest (FieldLine field ∷ before)
 key_field opening before field fields.Key cells rest = refl
-key_field opening before field fields.Other cells rest = rest (FieldLine field ∷ before)
+key_field opening before field _ cells rest = rest (FieldLine field ∷ before)
 
 key_behind : (opening : Defaults) (before : List HeaderLine) (line : HeaderLine) (cells : List CellTokens)
     → ((more : List HeaderLine) → keys_from opening more cells ≡ has_key cells)
@@ -242,15 +231,6 @@ key_along opening before (cell ∷ cells) =
     ∙ key_at opening before cell (line_in cell) cells (λ more. key_along opening more cells)
 
 -- a fault among those of a tune as a whole
-passed : (test : FaultCode → Bool) (there : Bool) (fault : FaultCode) (faults : List FaultCode) → test fault ≡ false
-    → list_any test (fault_if there fault ++ faults) ≡ list_any test faults
-passed test true fault faults other = ap (λ (b : Bool). b || list_any test faults) other
-passed test false fault faults other = refl
-
-last_passed : (test : FaultCode → Bool) (there : Bool) (fault : FaultCode) → test fault ≡ false → list_any test (fault_if there fault) ≡ false
-last_passed test true fault other = ap (λ (b : Bool). b || false) other
-last_passed test false fault other = refl
-
 found : (test : FaultCode → Bool) (there : Bool) (fault : FaultCode) (faults : List FaultCode) → test fault ≡ true → list_any test faults ≡ false
     → list_any test (fault_if there fault ++ faults) ≡ there
 found test true fault faults is none = ap (λ (b : Bool). b || list_any test faults) is
@@ -331,16 +311,9 @@ out_field : (opening : Defaults) (before : List HeaderLine) (field : Field) (kin
     → ((more : List HeaderLine) → out_from (sets_at opening more) opening more cells ≡ sets_at opening (header_lines more cells))
     → after_all out_after (sets_at opening (FieldLine field ∷ before)) (items_in (results_along (behind_field opening before field kind) cells))
     ≡ sets_at opening (cond (is_key kind) (FieldLine field ∷ before) (header_lines (FieldLine field ∷ before) cells))
-out_field opening before field fields.Reference cells rest = rest (FieldLine field ∷ before)
-out_field opening before field fields.Title cells rest = rest (FieldLine field ∷ before)
-out_field opening before field fields.Meter cells rest = rest (FieldLine field ∷ before)
-out_field opening before field fields.UnitLength cells rest = rest (FieldLine field ∷ before)
-out_field opening before field fields.Tempo cells rest = rest (FieldLine field ∷ before)
-out_field opening before field fields.Parts cells rest = rest (FieldLine field ∷ before)
-out_field opening before field fields.Voice cells rest = rest (FieldLine field ∷ before)
 out_field opening before field fields.Key cells rest =
     tempo_body opening (FieldLine field ∷ before) (key_or_empty (key_of field.value)) [] cells (sets_at opening (FieldLine field ∷ before))
-out_field opening before field fields.Other cells rest = rest (FieldLine field ∷ before)
+out_field opening before field _ cells rest = rest (FieldLine field ∷ before)
 
 out_after_items : (opening : Defaults) (before : List HeaderLine) (line : HeaderLine) (cells : List CellTokens)
     → ((more : List HeaderLine) → out_from (sets_at opening more) opening more cells ≡ sets_at opening (header_lines more cells))

@@ -15,19 +15,8 @@ use Rattle.abc_voices.specs.Track.{voice_names, names_from, has_unnamed_track, p
 -- where one is the current one, only fields mention voices
 placed_from : (names : List (List ℕ)) (tune : List Item) → (behind_items (names, true) tune).0 ≡ names_from names tune
 placed_from names [] = refl
-placed_from names (items.Number number ∷ tune) = placed_from names tune
-placed_from names (items.Tone tones length ∷ tune) = placed_from names tune
-placed_from names (items.Rest length bar ∷ tune) = placed_from names tune
-placed_from names (items.Bar line ∷ tune) = placed_from names tune
-placed_from names (items.Ending numbers ∷ tune) = placed_from names tune
-placed_from names (items.Section letter ∷ tune) = placed_from names tune
-placed_from names (items.Tempo opening micros out ∷ tune) = placed_from names tune
-placed_from names (items.Meter opening meter ∷ tune) = placed_from names tune
-placed_from names (items.Key opening key ∷ tune) = placed_from names tune
 placed_from names (items.Voice opening name ∷ tune) = placed_from (with_name names name) tune
-placed_from names (items.Title text ∷ tune) = placed_from names tune
-placed_from names (items.Order text ∷ tune) = placed_from names tune
-placed_from names (items.Program opening number ∷ tune) = placed_from names tune
+placed_from names (_ ∷ tune) = placed_from names tune
 
 -- a name is put after that of the voice without one
 in_front : (b : Bool) (names : List (List ℕ)) (name : List ℕ) → cond b ([] ∷ names) (([] ∷ names) ++ name ∷ []) ≡ [] ∷ cond b names (names ++ name ∷ [])
@@ -41,57 +30,28 @@ with_named names name some =
 
 behind_nameless : (names : List (List ℕ)) (tune : List Item) → AreNamed tune → names_from ([] ∷ names) tune ≡ [] ∷ names_from names tune
 behind_nameless names [] named = refl
-behind_nameless names (items.Number number ∷ tune) named = behind_nameless names tune named.1
-behind_nameless names (items.Tone tones length ∷ tune) named = behind_nameless names tune named.1
-behind_nameless names (items.Rest length bar ∷ tune) named = behind_nameless names tune named.1
-behind_nameless names (items.Bar line ∷ tune) named = behind_nameless names tune named.1
-behind_nameless names (items.Ending numbers ∷ tune) named = behind_nameless names tune named.1
-behind_nameless names (items.Section letter ∷ tune) named = behind_nameless names tune named.1
-behind_nameless names (items.Tempo opening micros out ∷ tune) named = behind_nameless names tune named.1
-behind_nameless names (items.Meter opening meter ∷ tune) named = behind_nameless names tune named.1
-behind_nameless names (items.Key opening key ∷ tune) named = behind_nameless names tune named.1
 behind_nameless names (items.Voice opening name ∷ tune) named =
     ap (λ known. names_from known tune) (with_named names name named.0) ∙ behind_nameless (with_name names name) tune named.1
-behind_nameless names (items.Title text ∷ tune) named = behind_nameless names tune named.1
-behind_nameless names (items.Order text ∷ tune) named = behind_nameless names tune named.1
-behind_nameless names (items.Program opening number ∷ tune) named = behind_nameless names tune named.1
+behind_nameless names (_ ∷ tune) named = behind_nameless names tune named.1
 
 -- where the voice without a name has a track, it is mentioned
 heard : (tune : List Item) → AreNamed tune → bytes_eq (opening_voice tune) [] ≡ true → plays_first tune ≡ true
     → (behind_items ([], false) tune).0 ≡ names_from ([] ∷ []) tune
 heard [] named opens plays = absurd (cc)
-heard (items.Number number ∷ tune) named opens plays = heard tune named.1 opens plays
 heard (items.Tone tones length ∷ tune) named opens plays = placed_from ([] ∷ []) tune
 heard (items.Rest length bar ∷ tune) named opens plays = placed_from ([] ∷ []) tune
-heard (items.Bar line ∷ tune) named opens plays = heard tune named.1 opens plays
-heard (items.Ending numbers ∷ tune) named opens plays = heard tune named.1 opens plays
-heard (items.Section letter ∷ tune) named opens plays = heard tune named.1 opens plays
-heard (items.Tempo opening micros out ∷ tune) named opens plays = heard tune named.1 opens plays
-heard (items.Meter opening meter ∷ tune) named opens plays = heard tune named.1 opens plays
-heard (items.Key opening key ∷ tune) named opens plays = heard tune named.1 opens plays
 heard (items.Voice true name ∷ tune) named opens plays = absurd (cc (named.0, opens))
 heard (items.Voice false name ∷ tune) named opens plays = absurd (cc)
-heard (items.Title text ∷ tune) named opens plays = heard tune named.1 opens plays
-heard (items.Order text ∷ tune) named opens plays = heard tune named.1 opens plays
-heard (items.Program opening number ∷ tune) named opens plays = heard tune named.1 opens plays
+heard (_ ∷ tune) named opens plays = heard tune named.1 opens plays
 
 -- beside the voice without a name all others are mentioned
 others : (tune : List Item) → AreNamed tune → length (names_from ([] ∷ []) tune) ≤ suc (length (behind_items ([], false) tune).0)
 others [] named = omega arith
-others (items.Number number ∷ tune) named = others tune named.1
 others (items.Tone tones long ∷ tune) named = omega (arith, ap length (placed_from ([] ∷ []) tune))
 others (items.Rest long bar ∷ tune) named = omega (arith, ap length (placed_from ([] ∷ []) tune))
-others (items.Bar line ∷ tune) named = others tune named.1
-others (items.Ending numbers ∷ tune) named = others tune named.1
-others (items.Section letter ∷ tune) named = others tune named.1
-others (items.Tempo opening micros out ∷ tune) named = others tune named.1
-others (items.Meter opening meter ∷ tune) named = others tune named.1
-others (items.Key opening key ∷ tune) named = others tune named.1
 others (items.Voice opening name ∷ tune) named =
     omega (arith, ap length (ap (λ known. names_from known tune) (with_named [] name named.0) ∙ behind_nameless (with_name [] name) tune named.1), ap length (placed_from (with_name [] name) tune))
-others (items.Title text ∷ tune) named = others tune named.1
-others (items.Order text ∷ tune) named = others tune named.1
-others (items.Program opening number ∷ tune) named = others tune named.1
+others (_ ∷ tune) named = others tune named.1
 
 behind_first : {A : Type 0} (xs : List A) (n : ℕ) → length xs ≤ suc n → length (drop 1 xs) ≤ n
 behind_first [] n few = omega arith

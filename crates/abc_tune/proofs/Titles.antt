@@ -54,23 +54,8 @@ IsKindShort kind = IsShort (field_line kind)
 
 -- no token of music is a field line
 spelled_short : (after_bar : Bool) (text : List ℕ) (kind : TokenKind) → Spells after_bar text kind → IsKindShort kind
-spelled_short after_bar text (kinds.Note note) is = tt
-spelled_short after_bar text (kinds.Rest value) is = tt
-spelled_short after_bar text (kinds.BarRest bars) is = tt
-spelled_short after_bar text (kinds.Chord chord) is = tt
-spelled_short after_bar text (kinds.InlineField field) is = tt
-spelled_short after_bar text (kinds.Bar bar) is = tt
-spelled_short after_bar text (kinds.Ending passes) is = tt
-spelled_short after_bar text (kinds.Tuplet tuplet) is = tt
-spelled_short after_bar text (kinds.Broken broken) is = tt
-spelled_short after_bar text kinds.Tie is = tt
-spelled_short after_bar text kinds.Blank is = tt
-spelled_short after_bar text (kinds.Dynamic dynamic) is = tt
-spelled_short after_bar text kinds.NoEffect is = tt
 spelled_short after_bar text (kinds.Field field) is = absurd is
-spelled_short after_bar text (kinds.Directive directive) is = absurd is
-spelled_short after_bar text kinds.Unclosed is = tt
-spelled_short after_bar text kinds.BadByte is = tt
+spelled_short after_bar text _ is = tt
 
 byte_short : (b : ℕ) → IsKindShort (unmatched_byte b)
 byte_short b = cond_both (opens b) kinds.Unclosed kinds.BadByte IsKindShort (λ _. tt) (λ _. tt)
@@ -125,19 +110,8 @@ lines_short (line ∷ lines) are =
 -- the title of a tune is the first of those that it says
 first_title : (tune : List Item) → All (λ title. length title ≤ most) (titles_said tune) → length (title_of tune) ≤ most
 first_title [] all = omega arith
-first_title (items.Number number ∷ tune) all = first_title tune all
-first_title (items.Tone tones long ∷ tune) all = first_title tune all
-first_title (items.Rest long bar ∷ tune) all = first_title tune all
-first_title (items.Bar line ∷ tune) all = first_title tune all
-first_title (items.Ending numbers ∷ tune) all = first_title tune all
-first_title (items.Section letter ∷ tune) all = first_title tune all
-first_title (items.Tempo opening micros out ∷ tune) all = first_title tune all
-first_title (items.Meter opening meter ∷ tune) all = first_title tune all
-first_title (items.Key opening key ∷ tune) all = first_title tune all
-first_title (items.Voice opening name ∷ tune) all = first_title tune all
 first_title (items.Title text ∷ tune) all = All-head (λ title. length title ≤ most) text (titles_said tune) all
-first_title (items.Order text ∷ tune) all = first_title tune all
-first_title (items.Program opening number ∷ tune) all = first_title tune all
+first_title (_ ∷ tune) all = first_title tune all
 
 pub short_title : HasShortTitle
 short_title opening lines are =

@@ -64,10 +64,14 @@ faults_rise tune unknown uneven long =
     (rising_last long)))))
 
 -- another fault is passed over
-passed_over : (there : Bool) (fault : FaultCode) (faults : List FaultCode) → is_too_long_fault fault ≡ false
-    → list_any is_too_long_fault (fault_if there fault ++ faults) ≡ list_any is_too_long_fault faults
-passed_over true fault faults other = ap (λ b. b || list_any is_too_long_fault faults) other
-passed_over false fault faults other = refl
+pub passed : (test : FaultCode → Bool) (there : Bool) (fault : FaultCode) (faults : List FaultCode) → test fault ≡ false
+    → list_any test (fault_if there fault ++ faults) ≡ list_any test faults
+passed test true fault faults other = ap (λ (b : Bool). b || list_any test faults) other
+passed test false fault faults other = refl
+
+pub last_passed : (test : FaultCode → Bool) (there : Bool) (fault : FaultCode) → test fault ≡ false → list_any test (fault_if there fault) ≡ false
+last_passed test true fault other = ap (λ (b : Bool). b || false) other
+last_passed test false fault other = refl
 
 long_alone : (long : Bool) → list_any is_too_long_fault (fault_if long codes.TuneTooLong) ≡ long
 long_alone true = refl
@@ -76,8 +80,8 @@ long_alone false = refl
 -- the fault of a tune that is too long is there exactly if it is
 pub long_among : (tune : List Item) (unknown uneven long : Bool) → list_any is_too_long_fault (faults_with tune unknown uneven long) ≡ long
 long_among tune unknown uneven long =
-    simp append_assoc (passed_over (lacks_key tune) codes.MissingKey _ refl
-    ∙ passed_over (opens_out_of_range tune) codes.TempoRange _ refl
-    ∙ passed_over unknown codes.UnknownPart _ refl
-    ∙ passed_over uneven codes.UnevenVoices _ refl
+    simp append_assoc (passed is_too_long_fault (lacks_key tune) codes.MissingKey _ refl
+    ∙ passed is_too_long_fault (opens_out_of_range tune) codes.TempoRange _ refl
+    ∙ passed is_too_long_fault unknown codes.UnknownPart _ refl
+    ∙ passed is_too_long_fault uneven codes.UnevenVoices _ refl
     ∙ long_alone long)

@@ -41,54 +41,13 @@ reach_kept reach (note ∷ earlier) = reach-written (accidentals_of reach earlie
 letter-set : (letters : LetterAccidentals) (of_note letter : Letter) (by : ℤ)
     → on_letter (with_letter letters of_note by) letter ≡ option_or (cond (capital of_note == capital letter) (Some by) None) (on_letter letters letter)
 letter-set letters C C by = refl
-letter-set letters C D by = refl
-letter-set letters C E by = refl
-letter-set letters C F by = refl
-letter-set letters C G by = refl
-letter-set letters C A by = refl
-letter-set letters C B by = refl
-letter-set letters D C by = refl
 letter-set letters D D by = refl
-letter-set letters D E by = refl
-letter-set letters D F by = refl
-letter-set letters D G by = refl
-letter-set letters D A by = refl
-letter-set letters D B by = refl
-letter-set letters E C by = refl
-letter-set letters E D by = refl
 letter-set letters E E by = refl
-letter-set letters E F by = refl
-letter-set letters E G by = refl
-letter-set letters E A by = refl
-letter-set letters E B by = refl
-letter-set letters F C by = refl
-letter-set letters F D by = refl
-letter-set letters F E by = refl
 letter-set letters F F by = refl
-letter-set letters F G by = refl
-letter-set letters F A by = refl
-letter-set letters F B by = refl
-letter-set letters G C by = refl
-letter-set letters G D by = refl
-letter-set letters G E by = refl
-letter-set letters G F by = refl
 letter-set letters G G by = refl
-letter-set letters G A by = refl
-letter-set letters G B by = refl
-letter-set letters A C by = refl
-letter-set letters A D by = refl
-letter-set letters A E by = refl
-letter-set letters A F by = refl
-letter-set letters A G by = refl
 letter-set letters A A by = refl
-letter-set letters A B by = refl
-letter-set letters B C by = refl
-letter-set letters B D by = refl
-letter-set letters B E by = refl
-letter-set letters B F by = refl
-letter-set letters B G by = refl
-letter-set letters B A by = refl
 letter-set letters B B by = refl
+letter-set letters of_note letter by = refl
 
 -- What is found after one more entry of a map.
 twice : {X : Type 0} (b : Bool) (x y z : X) → cond b x z ≡ cond b x (cond b y z)
@@ -173,12 +132,7 @@ on-with-written (InOctaves octaves) other note (Some by) =
 
 on-no-letter : (letter : Letter) → on_letter no_letters letter ≡ None
 on-no-letter C = refl
-on-no-letter D = refl
-on-no-letter E = refl
-on-no-letter F = refl
-on-no-letter G = refl
-on-no-letter A = refl
-on-no-letter B = refl
+on-no-letter _ = refl
 
 on-none : (reach : Reach) (note : Note) → written_on (no_accidentals reach) note ≡ None
 unfolding letters_in

@@ -1,9 +1,11 @@
 -- What fields say is what their readers read.
-use Rattle.std.proofs.Common.{◌≡◌, ◌∙◌, ◌≤◌, ℕ, Bool, true, false, cond, List, [], ◌∷◌, Some, None, Ok, refl, sym, ap}
+use Rattle.std.proofs.Common.{◌≡◌, ◌∙◌, ◌+◌, ◌-◌, ◌<◌, ◌≤◌, ℕ, Bool, true, false, cond, List, [], ◌∷◌, ◌++◌, length, take, drop, bytes_eq, Some, None, Ok, refl, sym, ap, subst, arith}
+use Rattle.std.proofs.Math.Seq.{take-append_seam, drop-append_seam}
 use Rattle.std.proofs.lemmas.Bool.{and_from, and_parts, cond-true, le-leb, leb-true}
 use Rattle.std.specs.Char.{is_ascii_uppercase}
 use Rattle.std.specs.Prelude.{nat_le, slice_range}
 use Rattle.abc_fields.specs.declared.voice.Voice.{Voice}
+use Rattle.abc_fields.specs.Spelling.Voice.{IsVoice}
 use Rattle.abc_fields.specs.Voice.{voice_of}
 use Rattle.abc_fields.proofs.Voices.{voice_read}
 use Rattle.abc_bars_header.specs.declared.field_kind.FieldKind.{FieldKind}
@@ -60,3 +62,20 @@ pub voice-owner : (kind : TokenKind) (name : List ℕ) → IsVoiceField name kin
 voice-owner (kinds.Field field) name is = owner-named field name is
 voice-owner (kinds.InlineField field) name is = owner-named field name is
 voice-owner _ name is = absurd is
+
+-- The name that an accepted V: says is not empty.
+filled : (name : List ℕ) → 0 < length name → (bytes_eq name [] ≡ false) × (bytes_eq [] name ≡ false)
+filled [] some = absurd (omega arith)
+filled (byte ∷ name) some = (refl, refl)
+
+pub name_filled : (value : List ℕ) (voice : Voice) → voice_of value ≡ Ok voice
+    → (bytes_eq (slice_range value voice.from voice.to) [] ≡ false) × (bytes_eq [] (slice_range value voice.from voice.to) ≡ false)
+name_filled value voice read =
+    let is : IsVoice value voice = ((voice_read value (voice_of value) refl).ok voice).0 read in
+    let word : List ℕ = is.identifier in
+    let rest : drop voice.from value ≡ word ++ is.behind =
+    (λ i. drop (is.from i) (is.first.spelling i)) ∙ drop-append_seam is.first.blanks (word ++ is.behind) in
+    let to : voice.to ≡ voice.from + length word = is.to in
+    let size : voice.to - voice.from ≡ length word = omega (arith, to) in
+    let same : slice_range value voice.from voice.to ≡ word = (λ i. take (size i) (rest i)) ∙ take-append_seam word is.behind in
+    filled (slice_range value voice.from voice.to) (subst (λ (name : List ℕ). 0 < length name) (sym same) is.first.some)

@@ -1,34 +1,26 @@
 -- What alters a note at a place is what looking back finds, and its key is that of its pitch as it is altered so.
-use Rattle.std.proofs.Common.{◌≡◌, ◌∙◌, ℕ, suc, zero, ◌+◌, ℤ, Bool, true, false, ◌||◌, cond, List, [], ◌∷◌, ◌++◌, length, map, take, Option, Some, None, refl, sym, ap, subst, append-nil, append_assoc}
+use Rattle.std.proofs.Common.{◌≡◌, ◌∙◌, ℤ, Bool, true, false, List, [], ◌∷◌, ◌++◌, map, Some, None, refl, sym, ap, subst}
 use Rattle.std.specs.Prelude.{All}
 use Rattle.std.specs.Option.{option_or}
 use Rattle.std.proofs.lemmas.List.{map-append}
 use Rattle.std.proofs.lemmas.List.Elements.{All-cons, All-head, All-map, All-nil, All-same, All-tail}
-use Rattle.abc_fields.specs.declared.fault.FaultCode.TheVariants.{BadByte, BigChord, LooseTie}
 use Rattle.abc_fields.specs.Signature.{alteration as signature_alteration}
-use Rattle.abc_scan.specs.declared.chord.Chord.{Chord}
 use Rattle.abc_scan.specs.declared.directive.Reach.{Reach}
 use Rattle.abc_scan.specs.declared.note.Note.{Note}
-use Rattle.abc_scan.specs.declared.chord_part.ChordPartKind.{ChordPartKind}
-use Rattle.abc_scan.specs.declared.chord_part.ChordPartKind.TheVariants as parts
-use Rattle.abc_scan.specs.declared.spanned.Spanned.{Spanned}
 use Rattle.abc_scan.specs.declared.token.TokenKind.TheVariants as kinds
 use Rattle.abc_time.specs.declared.ratio.Ratio.{Ratio}
 use Rattle.abc_bars_body.specs.declared.body.Body.{Body}
 use Rattle.abc_bars_voice.specs.declared.accidentals.Accidentals.{Accidentals}
 use Rattle.abc_bars_notes.specs.declared.chords.ChordContext.{ChordContext}
-use Rattle.abc_bars_items.specs.declared.item.TheConstants.{MOST_CHORD_NOTES}
 use Rattle.abc_bars_voice.specs.declared.voice_state.VoiceState.{VoiceState}
 use Rattle.abc_bars_notes.specs.declared.sound.ChordBuilder.{ChordBuilder}
 use Rattle.abc_bars_voice.specs.declared.tied.TiedNote.{TiedNote}
 use Rattle.abc_bars_voice.specs.Accidentals.{reach_of, written_on}
-use Rattle.abc_bars_voice.specs.Alteration.{alteration_of, with_own}
+use Rattle.abc_bars_voice.specs.Alteration.{alteration_of}
 use Rattle.abc_bars_notes.specs.Broken.{factors_of, is_time_token}
-use Rattle.abc_bars_notes.specs.Chords.{part_context, chord_builder_from, chord_builder_of, tie_follows, with_dropped, with_fault as with_part_fault}
-use Rattle.abc_bars_items.specs.Column.{column_of}
+use Rattle.abc_bars_notes.specs.Chords.{chord_builder_of}
 use Rattle.abc_bars_notes.specs.NoteKeys.{IsAltered, IsSame}
 use Rattle.abc_bars_notes.specs.Pitch.{midi_key, pitch_of}
-use Rattle.abc_bars_notes.specs.Sound.{no_notes, with_note as with_sounding}
 use Rattle.abc_bars_notes.specs.TimeTokens.{first_length}
 use Rattle.abc_bars_notes.specs.TokenRole.{has_note}
 use Rattle.abc_bars_notes.proofs.NoteKeys.{altered_by}
@@ -39,12 +31,12 @@ use Rattle.abc_bars.specs.LookBack.Element.{Element}
 use Rattle.abc_bars.specs.LookBack.Keys.{AreWrittenAlike, ChordsHaveKeys, IsAlteredAt, IsLastAmong, IsNoneAmong, NotesHaveKeys, SoundsKeys, heard_of, key_at, keys_from}
 use Rattle.abc_bars.specs.LookBack.Since.{notes_of_tokens}
 use Rattle.abc_bars.specs.LookBack.Ties.{IsTimeBefore, altered_note, tied_notes}
-use Rattle.abc_bars.specs.LookBack.Voice.{accidentals_at, accidentals_of, alteration_at, counted_notes, newest_written, notes_among, notes_of_bar, voice_state_at, shift_at, signature_at, tied_at}
+use Rattle.abc_bars.specs.LookBack.Voice.{accidentals_at, accidentals_of, alteration_at, counted_notes, newest_written, notes_of_bar, voice_state_at, signature_at, tied_at}
 use Rattle.abc_bars.specs.LookBack.Voice.{written_by}
 use Rattle.abc_bars.proofs.LookBack.Accidentals.{newest_heard}
 use Rattle.abc_bars.proofs.LookBack.CellPlace.{between, body-at, chord-items, here-in-chord, here-is}
 use Rattle.abc_bars.proofs.LookBack.Since.{Heard, heard-since}
-use Rattle.abc_bars.proofs.LookBack.Tied.{AreBehind, alteration-at, behind-none, either, no-room, one-more, room-left}
+use Rattle.abc_bars.proofs.LookBack.Chords.{alteration-at, behind-none, chord-keys, key-is}
 use Rattle.abc_bars.proofs.LookBack.Ties.{Passed, left-by, passed-over, tied-last}
 
 -- The last accidental among notes is the one that is found.
@@ -154,80 +146,6 @@ module _ (opening : VoiceState) (before : List Element) (earlier : List Note) (n
 pub altered_by_rule : (at : VoicePlace) (earlier : List Note) (note : Note) → IsAlteredAt at earlier note
 altered_by_rule at earlier note = by-rule at.opening at.before earlier note
 
-same-shift : (opening : VoiceState) (before : List Element) → (voice_state_at opening before).shift ≡ shift_at opening.shift before
-unfolding voice_state_at
-same-shift opening before = refl
-
-module _ (opening : VoiceState) (before : List Element) (broken : List Ratio) (outside : ChordContext) where
-  abbrev here_at : VoicePlace
-  here_at = record { opening = opening; before = before }
-
-  pub key-is : (accidentals : Accidentals) (earlier : List Note) (note : Note) → AreBehind opening before accidentals earlier
-      → midi_key (pitch_of (voice_state_at opening before).shift note (alteration_of (voice_state_at opening before) accidentals note)) ≡ key_at here_at earlier note
-  key-is accidentals earlier note h = λ i. midi_key (pitch_of (same-shift opening before i) note (alteration-at opening before accidentals earlier note h i))
-
-  -- The tones of some parts of a chord, where so many more of its notes count.
-  abbrev Sounds : List (Spanned ChordPartKind) → ℕ → ChordBuilder → ChordBuilder → List Note → Type 0
-  Sounds rest room start inside earlier =
-      map heard_of (chord_builder_from (voice_state_at opening before) broken outside rest start).tones
-      ≡ map heard_of inside.tones ++ keys_from here_at outside.tied earlier (take room (notes_among rest))
-
-  step : (kind : ChordPartKind) (from to : ℕ) (rest : List (Spanned ChordPartKind))
-      → ((room : ℕ) (inside : ChordBuilder) (earlier : List Note) → length inside.tones + room ≡ MOST_CHORD_NOTES → AreBehind opening before inside.accidentals earlier
-      → Sounds rest room inside inside earlier)
-      → (room : ℕ) (inside : ChordBuilder) (earlier : List Note)
-      → length inside.tones + room ≡ MOST_CHORD_NOTES → AreBehind opening before inside.accidentals earlier
-      → Sounds (record { kind = kind; from = from; to = to } ∷ rest) room inside inside earlier
-  step (parts.Note note) from to rest ih zero inside earlier size h =
-      let column : ℕ = column_of (outside.from + from) in
-      let state : VoiceState = voice_state_at opening before in
-      let full : ChordBuilder = with_sounding state broken (part_context outside from (tie_follows rest)) note inside in
-      let P : ChordBuilder → Type 0 = λ i. Sounds rest 0 (record i { after_note = true }) inside earlier in
-      let Q : Bool → Type 0 = λ b. P (cond b full (with_dropped column inside)) in
-      subst Q (sym (no-room (length inside.tones) size))
-      (either inside.big inside (record (with_part_fault column BigChord inside) { big = true }) P
-      (ih 0 (record inside { after_note = true }) earlier size h)
-      (ih 0 (record (with_part_fault column BigChord inside) { big = true; after_note = true }) earlier size h))
-  step (parts.Note note) from to rest ih (suc room) inside earlier size h =
-      let column : ℕ = column_of (outside.from + from) in
-      let state : VoiceState = voice_state_at opening before in
-      let tied : Bool = outside.tied || tie_follows rest in
-      let full : ChordBuilder = with_sounding state broken (part_context outside from (tie_follows rest)) note inside in
-      let later : List (Option ℕ × Bool) = keys_from here_at outside.tied (note ∷ earlier) (take room (notes_among rest)) in
-      let Q : Bool → Type 0 = λ b.
-      map heard_of (chord_builder_from state broken outside rest (record (cond b full (with_dropped column inside)) { after_note = true })).tones
-      ≡ map heard_of inside.tones ++ ((key_at here_at earlier note, tied) ∷ later) in
-      let r : Sounds rest room (record full { after_note = true }) full (note ∷ earlier) =
-      ih room (record full { after_note = true }) (note ∷ earlier) (one-more inside.tones _ room size)
-      (ap (λ (a : Accidentals). with_own a note) h) in
-      subst Q (sym (room-left (length inside.tones) room size))
-      (r
-      ∙ ap (λ l. l ++ later) (map-append heard_of inside.tones _)
-      ∙ append_assoc (map heard_of inside.tones) _ later
-      ∙ ap (λ k. map heard_of inside.tones ++ ((k, tied) ∷ later)) (key-is inside.accidentals earlier note h))
-  step parts.Tie from to rest ih room inside earlier size h =
-      let column : ℕ = column_of (outside.from + from) in
-      let P : ChordBuilder → Type 0 = λ i. Sounds rest room (record i { after_note = false }) inside earlier in
-      either inside.after_note inside (with_part_fault column LooseTie inside) P
-      (ih room (record inside { after_note = false }) earlier size h)
-      (ih room (record (with_part_fault column LooseTie inside) { after_note = false }) earlier size h)
-  step parts.NoEffect from to rest ih room inside earlier size h = ih room (record inside { after_note = false }) earlier size h
-  step parts.BadByte from to rest ih room inside earlier size h =
-      ih room (record (with_part_fault (column_of (outside.from + from)) BadByte inside) { after_note = false }) earlier size h
-
-  sounds : (rest : List (Spanned ChordPartKind)) (room : ℕ) (inside : ChordBuilder) (earlier : List Note)
-      → length inside.tones + room ≡ MOST_CHORD_NOTES → AreBehind opening before inside.accidentals earlier → Sounds rest room inside inside earlier
-  sounds [] zero inside earlier size h = sym (append-nil (map heard_of inside.tones))
-  sounds [] (suc room) inside earlier size h = sym (append-nil (map heard_of inside.tones))
-  sounds (part ∷ rest) room inside earlier size h = step part.kind part.from part.to rest (sounds rest) room inside earlier size h
-
--- The tones of a chord.
-chord-sounds : (at : VoicePlace) (broken : List Ratio) (outside : ChordContext) (chord : Chord)
-    → map heard_of (chord_builder_of (voice_state_at at.opening at.before) broken outside chord.parts).tones ≡ keys_from at outside.tied [] (counted_notes chord)
-unfolding voice_state_at counted_notes
-chord-sounds at broken outside chord =
-    sounds at.opening at.before broken outside chord.parts MOST_CHORD_NOTES (no_notes (voice_state_at at.opening at.before)) [] refl (behind-none at.opening at.before)
-
 same-accidentals : (opening : VoiceState) (before : List Element) → (voice_state_at opening before).accidentals ≡ accidentals_at (reach_of opening.accidentals) before
 unfolding voice_state_at
 same-accidentals opening before = refl
@@ -236,10 +154,8 @@ pub note-key : (at : VoicePlace) (note : Note)
     → midi_key (pitch_of (voice_state_at at.opening at.before).shift note (alteration_of (voice_state_at at.opening at.before) (voice_state_at at.opening at.before).accidentals note))
     ≡ key_at at [] note
 note-key at note =
-    ap (λ accidentals. midi_key (pitch_of (voice_state_at at.opening at.before).shift note (alteration_of (voice_state_at at.opening at.before) accidentals note))) (same-accidentals at.opening
-    at.before)
-    ∙ (λ i. midi_key (pitch_of (same-shift at.opening at.before i) note
-    (alteration-at at.opening at.before (accidentals_at (reach_of at.opening.accidentals) at.before) [] note (behind-none at.opening at.before) i)))
+    let accidentals : Accidentals = (voice_state_at at.opening at.before).accidentals in
+    key-is at.opening at.before accidentals [] note (same-accidentals at.opening at.before ∙ behind-none at.opening at.before)
 
 pub notes_have_keys : NotesHaveKeys
 notes_have_keys place note =
@@ -272,7 +188,7 @@ chords_have_keys place chord some =
         inside.tones,
         first_length inside.tones,
         refl,
-        ap (λ (s : VoiceState). map heard_of (chord_builder_of s broken outside chord.parts).tones) (here-in-chord place (has_note chord.parts) some)
-            ∙ chord-sounds at broken outside chord,
+        ap (λ (s : VoiceState). map heard_of (chord_builder_of s broken outside chord.parts).tones) (here-in-chord place (has_note chord.parts))
+            ∙ chord-keys at.opening at.before broken outside chord,
       ),
     ))

@@ -13,7 +13,8 @@ use Rattle.abc_bars_body.specs.Body.{here}
 use Rattle.abc_bars_body.specs.Cell.{after_chord_mention, tie_ahead}
 use Rattle.abc_bars.specs.LookBack.CellPlace.{cell_with}
 use Rattle.abc_bars.specs.LookBack.Lengths.{BarRestsLastThere, ChordsLastThere, LastsAsNote, LastsAsRest, NotesLastThere, RestsLastThere, SoundsAsChord, state_there}
-use Rattle.abc_bars.proofs.LookBack.CellPlace.{between, body-at, fault-items, here-in-chord, here-is}
+use Rattle.abc_bars.proofs.LookBack.CellPlace.{between, body-at, here-in-chord, here-is}
+use Rattle.abc_bars.proofs.LookBack.TokenResults.{items_added}
 
 pub notes_last_there : NotesLastThere
 notes_last_there place note is =
@@ -47,7 +48,8 @@ bar_rests_last_there place bars =
     between place (kinds.BarRest bars) refl (λ item. item ≡ (bar_rest_of state.meter bars).0)
     (λ start factors. (
       (bar_rest_of state.meter bars).0,
-      fault-items _ place.from _ ∙ ap (λ (s : VoiceState). start.items.items ++ (bar_rest_of s.meter bars).0 ∷ []) (here-is place),
+      items_added (record start { body = body-at place }) place.from (kinds.BarRest bars) place.ahead
+          ∙ ap (λ (s : VoiceState). start.items.items ++ (bar_rest_of s.meter bars).0 ∷ []) (here-is place),
       refl,
     ))
 
@@ -55,7 +57,7 @@ pub chords_last_there : ChordsLastThere
 chords_last_there place chord some is =
     let state : VoiceState = state_there place in
     let cell : List (Spanned TokenKind) = cell_with place (kinds.Chord chord) in
-    let here_is : here (after_chord_mention (has_note chord.parts) (body-at place)) ≡ state = here-in-chord place (has_note chord.parts) some in
+    let here_is : here (after_chord_mention (has_note chord.parts) (body-at place)) ≡ state = here-in-chord place (has_note chord.parts) in
     between place (kinds.Chord chord) refl (SoundsAsChord state cell (length place.front) chord)
     (λ start factors.
     let sounds = chords_sound state cell (length place.front) place.from chord (tie_ahead place.ahead) is some in (

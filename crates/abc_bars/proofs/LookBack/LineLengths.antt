@@ -1,14 +1,11 @@
 -- Each place of a cell of a line, after any file header, is one of which the rule of lengths speaks.
-use Rattle.std.proofs.Common.{◌≡◌, ◌∙◌, ◌≤◌, ℕ, zero, suc, Bool, true, false, List, [], ◌∷◌, ◌++◌, length, Option, Some, None, unwrap_or, bytes_eq, Result, Ok, Err, refl, sym, subst}
+use Rattle.std.proofs.Common.{◌≡◌, ◌≤◌, ℕ, zero, suc, Bool, true, false, List, [], ◌∷◌, ◌++◌, length, Option, Some, None, unwrap_or, bytes_eq, Result, Ok, Err, refl, sym, subst}
 use Rattle.std.specs.Prelude.{All, IfSome, nat_lt, ◌*◌}
 use Rattle.std.specs.List.{list_any}
 use Rattle.std.specs.Option.{option_or}
 use Rattle.std.specs.Result.{result_ok}
 use Rattle.std.proofs.lemmas.Bool.{cond_both}
 use Rattle.std.proofs.lemmas.List.Elements.{All-cons, All-contains, All-head, All-nil, All-tail}
-use Rattle.std.proofs.lemmas.Map.Views.{Contains-from_any, list_any-from_Contains}
-use Rattle.std.proofs.lemmas.Slice.Eq.{bytes_eq-Decides}
-use Rattle.std.specs.Cmp.Lexicographic.{nat_list_eq_equiv}
 use Rattle.abc_fields.specs.declared.fault.FaultCode.{FaultCode}
 use Rattle.abc_fields.specs.declared.key.Key.{Key}
 use Rattle.abc_fields.specs.declared.meter.Meter.{Meter}
@@ -61,6 +58,7 @@ use Rattle.abc_bars.specs.LookBack.Voice.{last_said, said_by_field, said_in, voi
 use Rattle.abc_bars.proofs.LookBack.Lengths.{chords_last_there, notes_last_there, rests_last_there}
 use Rattle.abc_bars.proofs.LookBack.Openings.{declared_voices_open, other_voices_open}
 use Rattle.abc_bars.proofs.LookBack.TupletPlaces.{open_there}
+use Rattle.abc_bars.proofs.Names.{is_among, is_apart}
 
 -- Marks of broken rhythm are three together at most.
 abbrev HasFewMarks : TokenKind → Type 0
@@ -129,14 +127,7 @@ read-unit value (Err fault) read = tt
 
 unit-said : (kind : FieldKind) (value : List ℕ) → IfSome (unit_said kind value) IsUnitPart
 unit-said fields.UnitLength value = read-unit value (unit_of value) refl
-unit-said fields.Reference value = tt
-unit-said fields.Title value = tt
-unit-said fields.Meter value = tt
-unit-said fields.Tempo value = tt
-unit-said fields.Parts value = tt
-unit-said fields.Voice value = tt
-unit-said fields.Key value = tt
-unit-said fields.Other value = tt
+unit-said _ value = tt
 
 line-unit : (line : HeaderLine) → IfSome (said_by_line unit_said line) IsUnitPart
 line-unit (FieldLine field) = unit-said (kind_of field.letter) field.value
@@ -180,13 +171,9 @@ module _ (header : Option (List CellTokens)) (lines : List HeaderLine) (key : Ke
   opens-by : (b : Bool) → list_any (bytes_eq name) (declared_names lines) ≡ b → (said : Shift) × VoiceOpens values lines key said name
   opens-by true is = (
     declared_shift lines name,
-    declared_voices_open values lines key name (Contains-from_any (λ x y same. (bytes_eq-Decides x y).0 same) name (declared_names lines) is),
+    declared_voices_open values lines key name (is_among name (declared_names lines) is),
   )
-  opens-by false is = (
-    no_shift,
-    other_voices_open values lines key name
-        (λ there. let no : false ≡ true = sym is ∙ list_any-from_Contains nat_list_eq_equiv name (declared_names lines) there in absurd (cc)),
-  )
+  opens-by false is = (no_shift, other_voices_open values lines key name (is_apart name (declared_names lines) is))
 
   opening-unit : IsUnitPart (opening_of (opening_at values lines key) name).unit
   opening-unit =

@@ -1,13 +1,10 @@
 -- Tokens mention voices one by one.
-use Rattle.std.proofs.Common.{◌≡◌, ◌∙◌, ℕ, ◌<◌, ◌≤◌, true, false, cond, ◌||◌, ◌⊎◌, inl, ⊎_elim, Option, Some, None, Result, Ok, Err, List, [], ◌∷◌, ◌++◌, length, bytes_eq, refl, sym, ap, subst, arith}
-use Rattle.std.specs.Prelude.{filter, nat_le, slice_get, slice_range}
-use Rattle.std.specs.List.{Contains, list_any}
-use Rattle.std.proofs.lemmas.Bool.{cases_Bool, cond-false, cond-true, or_from, or_left, or_right}
-use Rattle.std.proofs.lemmas.Bool.Decides.{nat_tests}
+use Rattle.std.proofs.Common.{◌≡◌, ◌∙◌, ℕ, ◌≤◌, true, false, cond, ◌||◌, ◌⊎◌, ⊎_elim, position, Option, Some, None, Result, Ok, Err, List, [], ◌∷◌, length, bytes_eq, refl, sym, ap, subst}
+use Rattle.std.specs.Prelude.{filter, slice_range}
+use Rattle.std.specs.List.{Contains}
 use Rattle.abc_fields.specs.declared.fault.FaultCode.{FaultCode}
 use Rattle.abc_fields.specs.declared.voice.Voice.{Voice}
 use Rattle.abc_fields.specs.Voice.{voice_of}
-use Rattle.abc_fields.proofs.Voices.{voice_read}
 use Rattle.abc_scan.specs.declared.field.Field.{Field}
 use Rattle.abc_scan.specs.declared.chord_part.ChordPartKind.{ChordPartKind}
 use Rattle.abc_scan.specs.declared.spanned.Spanned.{Spanned}
@@ -16,53 +13,30 @@ use Rattle.abc_scan.specs.declared.token.TokenKind.TheVariants as kinds
 use Rattle.abc_bars_header.specs.FieldKind.{kind_of}
 use Rattle.abc_bars_header.specs.declared.field_kind.FieldKind.{FieldKind}
 use Rattle.abc_bars_header.specs.declared.field_kind.FieldKind.TheVariants as fields
-use Rattle.abc_bars_items.specs.declared.item.TheConstants.{MOST_VOICES}
 use Rattle.abc_bars_notes.specs.TokenRole.{has_note, is_note_part}
 use Rattle.abc_bars_body.specs.BodyFields.{part_of}
 use Rattle.abc_bars.specs.LookBack.AfterBody.{mentions}
-use Rattle.abc_bars.specs.LookBack.ByName.{Current, Named, Naming, names_behind, naming_at, owner_by, owner_of, owner_of_field, owner_of_part, owner_of_voice}
-use Rattle.abc_bars.specs.LookBack.Element.{field_of}
+use Rattle.abc_bars.specs.LookBack.ByName.{Current, Naming, names_behind, naming_at, owner_of, owner_of_field, owner_of_part, owner_of_voice}
 use Rattle.abc_bars.specs.LookBack.Header.{with_name}
-use Rattle.abc_bars.specs.LookBack.Held.{roll_of}
 use Rattle.abc_bars.specs.LookBack.Mentions.{IsHeard, Mentions, TokensMention, mentioned_at}
 use Rattle.abc_bars.specs.LookBack.Fields.{IsVoiceField, NamesVoice}
 use Rattle.abc_bars.proofs.LookBack.Fields.{names-voice, voice-owner}
 use Rattle.abc_bars.specs.LookBack.Place.{opening_at}
-use Rattle.abc_bars.proofs.LookBack.ByName.{IsNamed}
-use Rattle.abc_bars.proofs.LookBack.ByPlace.{roll_at}
-use Rattle.abc_bars.proofs.LookBack.FaultsOfFields.{apart, got, name_there}
-use Rattle.abc_bars.proofs.LookBack.Held.{names_found}
-use Rattle.abc_bars.proofs.LookBack.Named.{found}
-use Rattle.abc_bars_header.proofs.NamePlaces.{find_place}
+use Rattle.abc_bars.proofs.LookBack.Held.{IsCurrent, names_found, naming_there, of_none, of_place}
+use Rattle.abc_bars.proofs.Names.{among_at, finds_name, full_names, is_missing, known_name, new_name}
 
--- One name more.
-among : (names : List (List ℕ)) (name : List ℕ) → list_any (bytes_eq name) names ≡ true → Contains names name
-among names name any = let place = find_place (bytes_eq name) names any in name_there names name place.0 place.1
-
-more-new : (names : List (List ℕ)) (name : List ℕ) → ¬ Contains names name → length names < 15 → with_name names name ≡ names ++ name ∷ []
-more-new names name apart room =
-    cond-false _ _ _ (or_from (list_any (bytes_eq name) names) (nat_le MOST_VOICES (length names))
-    (⊎_elim (λ any. absurd (apart (among names name any))) (λ other. other) (cases_Bool (list_any (bytes_eq name) names)))
-    (grind (arith, nat_tests)))
-
-here-any : (names : List (List ℕ)) (name : List ℕ) → Contains names name → list_any (bytes_eq name) names ≡ true
-here-any names name has = ⊎_elim (λ any. any) (λ other. absurd (apart names name other has.0 has.1 has.2)) (cases_Bool (list_any (bytes_eq name) names))
-
+-- A name that is known, or one too many, adds none.
 more-again : (names : List (List ℕ)) (name : List ℕ) → Contains names name ⊎ (15 ≤ length names) → with_name names name ≡ names
-more-again names name h =
-    cond-true _ _ _ (⊎_elim
-    (λ has. or_left (list_any (bytes_eq name) names) (nat_le MOST_VOICES (length names)) (here-any names name has))
-    (λ full. or_right (list_any (bytes_eq name) names) (nat_le MOST_VOICES (length names)) (grind (arith, nat_tests)))
-    h)
+more-again names name h = ⊎_elim (λ has. known_name names name (finds_name name names has)) (λ full. full_names names name full) h
 
 -- The current voice is heard: it is one of those that are mentioned, or there is none, and it is the one without a name.
-heard-first : (names : List (List ℕ)) (current : Option ℕ) (name : List ℕ) → IsNamed names current name → names ≡ [] → with_name names name ≡ [] ∷ []
-heard-first names None name is none = (λ i. with_name (is.0 i) (is.1 i))
-heard-first names (Some at) name is none = let e : None ≡ Some name = ap (λ (l : List (List ℕ)). slice_get l at) (sym none) ∙ is in cc
+heard-first : (naming : Naming) → IsCurrent naming → naming.names ≡ [] → with_name naming.names naming.current ≡ [] ∷ []
+heard-first naming (of_none is) none = λ i. with_name (is i).names (is i).current
+heard-first naming (of_place at is) none = let e : None ≡ Some at = ap (position (bytes_eq naming.current)) (sym none) ∙ is in absurd (cc)
 
-heard-again : (names : List (List ℕ)) (current : Option ℕ) (name : List ℕ) → IsNamed names current name → ¬ (names ≡ []) → with_name names name ≡ names
-heard-again names None name is some = absurd (some is.0)
-heard-again names (Some at) name is some = more-again names name (inl (got names at name is))
+heard-again : (naming : Naming) → IsCurrent naming → ¬ (naming.names ≡ []) → with_name naming.names naming.current ≡ naming.names
+heard-again naming (of_none is) some = absurd (some (ap (λ (n : Naming). n.names) is))
+heard-again naming (of_place at is) some = known_name naming.names naming.current (among_at naming.current naming.names at is)
 
 -- What is heard is of the current voice, and mentions it.
 heard-chord : (inside : List (Spanned ChordPartKind)) → ¬ (filter (λ part. is_note_part part.kind) inside ≡ []) → has_note inside ≡ true
@@ -86,19 +60,7 @@ heard-current (kinds.Note note) h = (refl, refl)
 heard-current (kinds.Rest length) h = (refl, refl)
 heard-current (kinds.BarRest bars) h = (refl, refl)
 heard-current (kinds.Chord chord) h = (refl, heard-chord chord.parts h)
-heard-current (kinds.InlineField field) h = absurd h
-heard-current (kinds.Field field) h = absurd h
-heard-current (kinds.Bar bar) h = absurd h
-heard-current (kinds.Ending passes) h = absurd h
-heard-current (kinds.Tuplet mark) h = absurd h
-heard-current (kinds.Broken mark) h = absurd h
-heard-current kinds.Tie h = absurd h
-heard-current kinds.Blank h = absurd h
-heard-current kinds.NoEffect h = absurd h
-heard-current (kinds.Dynamic dynamic) h = absurd h
-heard-current (kinds.Directive directive) h = absurd h
-heard-current kinds.Unclosed h = absurd h
-heard-current kinds.BadByte h = absurd h
+heard-current _ h = absurd h
 
 -- Other tokens mention no voice.
 part-keeps : (naming : Naming) (part : Option ℕ) → names_behind naming (owner_of_part part) false ≡ naming.names
@@ -113,13 +75,7 @@ field-keeps : (naming : Naming) (kind : FieldKind) (value : List ℕ) → ((voic
     → names_behind naming (owner_of_field kind value) false ≡ naming.names
 field-keeps naming fields.Voice value none = voice-keeps naming value (voice_of value) (λ voice e. none voice refl e)
 field-keeps naming fields.Parts value none = part-keeps naming (part_of value)
-field-keeps naming fields.Reference value none = refl
-field-keeps naming fields.Title value none = refl
-field-keeps naming fields.Meter value none = refl
-field-keeps naming fields.UnitLength value none = refl
-field-keeps naming fields.Tempo value none = refl
-field-keeps naming fields.Key value none = refl
-field-keeps naming fields.Other value none = refl
+field-keeps naming _ value none = refl
 
 no-voice : (field : Field) → ((name : List ℕ) → ¬ NamesVoice name field)
     → (voice : Voice) → kind_of field.letter ≡ fields.Voice → voice_of field.value ≡ Ok voice → ⊥
@@ -132,35 +88,22 @@ others-keep naming (kinds.BarRest bars) none silent = absurd (silent tt)
 others-keep naming (kinds.Chord chord) none silent = ap (names_behind naming Current) (silent-chord chord.parts silent)
 others-keep naming (kinds.InlineField field) none silent = field-keeps naming (kind_of field.letter) field.value (no-voice field none)
 others-keep naming (kinds.Field field) none silent = field-keeps naming (kind_of field.letter) field.value (no-voice field none)
-others-keep naming (kinds.Bar bar) none silent = refl
-others-keep naming (kinds.Ending passes) none silent = refl
-others-keep naming (kinds.Tuplet mark) none silent = refl
-others-keep naming (kinds.Broken mark) none silent = refl
-others-keep naming kinds.Tie none silent = refl
-others-keep naming kinds.Blank none silent = refl
-others-keep naming kinds.NoEffect none silent = refl
-others-keep naming (kinds.Dynamic dynamic) none silent = refl
-others-keep naming (kinds.Directive directive) none silent = refl
-others-keep naming kinds.Unclosed none silent = refl
-others-keep naming kinds.BadByte none silent = refl
+others-keep naming _ none silent = refl
 
 -- So it is for the names after one token.
-steps : (naming : Naming) (current : Option ℕ) (kind : TokenKind) → IsNamed naming.names current naming.current
-    → Mentions naming.names kind (names_behind naming (owner_of kind) (mentions kind))
-steps naming current kind is = record {
-  named_new = λ name h apart room. ap (λ o. names_behind naming o (mentions kind)) (voice-owner kind name h) ∙ more-new naming.names name apart room;
+steps : (naming : Naming) (kind : TokenKind) → IsCurrent naming → Mentions naming.names kind (names_behind naming (owner_of kind) (mentions kind))
+steps naming kind is = record {
+  named_new = λ name h gone room. ap (λ o. names_behind naming o (mentions kind)) (voice-owner kind name h)
+      ∙ new_name naming.names name (is_missing name naming.names gone) room;
   named_again = λ name h again. ap (λ o. names_behind naming o (mentions kind)) (voice-owner kind name h) ∙ more-again naming.names name again;
-  unnamed = λ heard none. let of = heard-current kind heard in (λ i. names_behind naming (of.0 i) (of.1 i)) ∙ heard-first naming.names current naming.current is none;
-  heard = λ heard some. let of = heard-current kind heard in (λ i. names_behind naming (of.0 i) (of.1 i)) ∙ heard-again naming.names current naming.current is some;
+  unnamed = λ heard none. let of = heard-current kind heard in (λ i. names_behind naming (of.0 i) (of.1 i)) ∙ heard-first naming is none;
+  heard = λ heard some. let of = heard-current kind heard in (λ i. names_behind naming (of.0 i) (of.1 i)) ∙ heard-again naming is some;
   other = others-keep naming kind;
 }
 
 pub tokens_mention : TokensMention
 tokens_mention values lines key before element =
     let naming : Naming = naming_at (opening_at values lines key) before in
-    let agrees = found values lines key before in
-    let current : Option ℕ = (roll_at (roll_of (opening_at values lines key)) before).current in
-    let is : IsNamed naming.names current naming.current = subst (λ (l : List (List ℕ)). IsNamed l current naming.current) (sym agrees.names) agrees.current in
-    let step = steps naming current element.kind is in
     subst (λ (l : List (List ℕ)). Mentions l element.kind (mentioned_at values lines key (element ∷ before))) (sym (names_found values lines key before))
-    (subst (λ (l : List (List ℕ)). Mentions naming.names element.kind l) (sym (names_found values lines key (element ∷ before))) step)
+    (subst (λ (l : List (List ℕ)). Mentions naming.names element.kind l) (sym (names_found values lines key (element ∷ before)))
+    (steps naming element.kind (naming_there values lines key before).current))

@@ -45,18 +45,11 @@ in-body opening before key elements cell = λ i.
 -- After a field of a header.
 behind-kind : (opening : Defaults) (before : List HeaderLine) (field : Field) (kind : FieldKind)
     → behind_kind (header_result (header_at opening before) (FieldLine field)).header kind field.value ≡ view (behind_field opening before field kind)
-behind-kind opening before field fields.Reference = ap entries.Header (sym (header_behind opening before (FieldLine field)))
-behind-kind opening before field fields.Title = ap entries.Header (sym (header_behind opening before (FieldLine field)))
-behind-kind opening before field fields.Meter = ap entries.Header (sym (header_behind opening before (FieldLine field)))
-behind-kind opening before field fields.UnitLength = ap entries.Header (sym (header_behind opening before (FieldLine field)))
-behind-kind opening before field fields.Tempo = ap entries.Header (sym (header_behind opening before (FieldLine field)))
-behind-kind opening before field fields.Parts = ap entries.Header (sym (header_behind opening before (FieldLine field)))
-behind-kind opening before field fields.Voice = ap entries.Header (sym (header_behind opening before (FieldLine field)))
 behind-kind opening before field fields.Key =
     let key : Key = key_or_empty (key_of field.value) in
     ap (λ (header : Header). entries.Body (body_from header key)) (sym (header_behind opening before (FieldLine field)))
     ∙ ap entries.Body (sym (begins opening (FieldLine field ∷ before) key))
-behind-kind opening before field fields.Other = ap entries.Header (sym (header_behind opening before (FieldLine field)))
+behind-kind opening before field _ = ap entries.Header (sym (header_behind opening before (FieldLine field)))
 
 -- After a line of a header.
 behind-line : (opening : Defaults) (before : List HeaderLine) (line : HeaderLine)

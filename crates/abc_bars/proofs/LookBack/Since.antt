@@ -40,13 +40,7 @@ field-after : (field : Field) (notes : List Note) (kind : FieldKind) → kind_of
     → After (FieldEndsAccidentals field) notes [] (unless_ended (ends_accidentals kind field.value) notes)
 field-after field notes fields.Key is = ended (inl is) refl
 field-after field notes fields.Parts is = part-after field notes (part_of field.value) is refl
-field-after field notes fields.Meter is = added (other-ends field fields.Meter is (λ e. absurd (cc)) (λ e. absurd (cc))) refl
-field-after field notes fields.UnitLength is = added (other-ends field fields.UnitLength is (λ e. absurd (cc)) (λ e. absurd (cc))) refl
-field-after field notes fields.Tempo is = added (other-ends field fields.Tempo is (λ e. absurd (cc)) (λ e. absurd (cc))) refl
-field-after field notes fields.Voice is = added (other-ends field fields.Voice is (λ e. absurd (cc)) (λ e. absurd (cc))) refl
-field-after field notes fields.Reference is = added (other-ends field fields.Reference is (λ e. absurd (cc)) (λ e. absurd (cc))) refl
-field-after field notes fields.Title is = added (other-ends field fields.Title is (λ e. absurd (cc)) (λ e. absurd (cc))) refl
-field-after field notes fields.Other is = added (other-ends field fields.Other is (λ e. absurd (cc)) (λ e. absurd (cc))) refl
+field-after field notes kind is = added (other-ends field kind is (λ e. absurd (cc)) (λ e. absurd (cc))) refl
 
 put-newest : (chord : List (Note × Bool)) (notes : List Note) → put_before chord notes ≡ newest_first chord ++ notes
 put-newest [] notes = refl

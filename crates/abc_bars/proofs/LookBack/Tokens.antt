@@ -161,9 +161,7 @@ of-kind body line place fields.Key value = of-key body line place (key_of value)
 of-kind body line place fields.Parts value = of-part body line place (part_of value)
 of-kind body line place fields.Voice value = of-voice body line place value (voice_of value)
 of-kind body line place fields.Tempo value = of-tempo body line place (tempo_of value)
-of-kind body line place fields.Reference value = refl
-of-kind body line place fields.Title value = refl
-of-kind body line place fields.Other value = refl
+of-kind body line place _ value = refl
 
 body-fault : (given : CellResult) (line : ℕ) (code : Option FaultCode) → (with_some_fault given line code).body ≡ given.body
 body-fault given line None = refl
@@ -212,12 +210,9 @@ by-kind given body line (kinds.Ending passes) ahead = body-ending (record given 
 by-kind given body line (kinds.Broken mark) ahead =
     body-fault-if (record given { body = body }) (is_bad_mark given.behind ahead) line BadBroken ∙ same_here body
 by-kind given body line kinds.Tie ahead = body-tie given.after_note (record given { body = body }) line LooseTie ∙ same_here body
-by-kind given body line kinds.Blank ahead = same_here body
-by-kind given body line kinds.NoEffect ahead = same_here body
 by-kind given body line (kinds.Dynamic dynamic) ahead = refl
 by-kind given body line (kinds.Directive directive) ahead = body-directive (record given { body = body }) line directive ∙ same_here body
-by-kind given body line kinds.Unclosed ahead = same_here body
-by-kind given body line kinds.BadByte ahead = same_here body
+by-kind given body line _ ahead = same_here body
 
 -- What a token of a cell leaves is what the element leaves that it is.
 pub token_leaves : (given : CellResult) (body : Body) (token : Spanned TokenKind) (ahead : List (Spanned TokenKind))

@@ -24,14 +24,7 @@ module _ (values opening : Defaults) (before : List HeaderLine) (same : opening 
   kept-field : (field : Field) (kind : FieldKind) → kind_of field.letter ≡ kind → IsOfTune values (behind_field opening before field kind)
   kept-field field fields.Key is =
       (same, sym (ap (λ (kind : FieldKind). unwrap_or (option_or (key_said kind field.value) (key_among before)) empty_key) is))
-  kept-field field fields.Reference is = (same, still field fields.Reference is refl)
-  kept-field field fields.Title is = (same, still field fields.Title is refl)
-  kept-field field fields.Meter is = (same, still field fields.Meter is refl)
-  kept-field field fields.UnitLength is = (same, still field fields.UnitLength is refl)
-  kept-field field fields.Tempo is = (same, still field fields.Tempo is refl)
-  kept-field field fields.Parts is = (same, still field fields.Parts is refl)
-  kept-field field fields.Voice is = (same, still field fields.Voice is refl)
-  kept-field field fields.Other is = (same, still field fields.Other is refl)
+  kept-field field kind is = (same, still field kind is refl)
 
   kept-line : (line : HeaderLine) → IsOfTune values (behind_header_line opening before line)
   kept-line (FieldLine field) = kept-field field (kind_of field.letter) refl

@@ -83,14 +83,11 @@ module _ (state : VoiceState) (broken : List Ratio) (outside : ChordContext) whe
       loud-from rest (with_part state broken outside part (tie_follows rest) inside)
       (loud-kind (part_context outside part.from (tie_follows rest)) part.kind inside h)
 
--- A tone has the velocity of another state that is the same.
-moved : (state other : VoiceState) (tones : List Tone) → state ≡ other
-    → All (λ tone. tone.velocity ≡ velocity_of state.dynamic) tones → All (λ tone. tone.velocity ≡ velocity_of other.dynamic) tones
-moved state other tones same all = subst (λ (s : VoiceState). All (λ tone. tone.velocity ≡ velocity_of s.dynamic) tones) same all
-
-behind-found : (at : VoicePlace) (tones : List Tone)
-    → All (λ tone. tone.velocity ≡ velocity_of (voice_state_at at.opening at.before).dynamic) tones → All (λ tone. tone.velocity ≡ velocity_of (dynamic_at at.before)) tones
-behind-found at tones all = subst (λ (d : Option Dynamic). All (λ tone. tone.velocity ≡ velocity_of d) tones) (same-dynamic at.opening at.before) all
+-- Tones that have the velocity of the state at a place have that of the dynamic before it.
+said-by : (at : VoicePlace) (state : VoiceState) (tones : List Tone) → state ≡ voice_state_at at.opening at.before
+    → All (λ tone. tone.velocity ≡ velocity_of state.dynamic) tones → All (λ tone. tone.velocity ≡ velocity_of (dynamic_at at.before)) tones
+said-by at state tones same all =
+    subst (λ (d : Option Dynamic). All (λ tone. tone.velocity ≡ velocity_of d) tones) (ap (λ (s : VoiceState). s.dynamic) same ∙ same-dynamic at.opening at.before) all
 
 pub notes_have_velocities : NotesHaveVelocities
 notes_have_velocities place note =
@@ -107,8 +104,8 @@ notes_have_velocities place note =
               tone ∷ [],
               tone.length,
               refl,
-              behind-found at (tone ∷ []) (moved state (voice_state_at at.opening at.before) (tone ∷ []) (here-is place)
-                  (All-cons (λ (t : Tone). t.velocity ≡ velocity_of state.dynamic) tone [] refl (All-nil (λ (t : Tone). t.velocity ≡ velocity_of state.dynamic)))),
+              said-by at state (tone ∷ []) (here-is place)
+                  (All-cons (λ (t : Tone). t.velocity ≡ velocity_of state.dynamic) tone [] refl (All-nil (λ (t : Tone). t.velocity ≡ velocity_of state.dynamic))),
             ),
           )),
     )
@@ -130,8 +127,8 @@ chords_have_velocities place chord some =
               inside.tones,
               first_length inside.tones,
               refl,
-              behind-found at inside.tones (moved state (voice_state_at at.opening at.before) inside.tones (here-in-chord place (has_note chord.parts) some)
-                  (loud-from state broken outside chord.parts (no_notes state) (All-nil (λ (t : Tone). t.velocity ≡ velocity_of state.dynamic)))),
+              said-by at state inside.tones (here-in-chord place (has_note chord.parts))
+                  (loud-from state broken outside chord.parts (no_notes state) (All-nil (λ (t : Tone). t.velocity ≡ velocity_of state.dynamic))),
             ),
           )),
     )

@@ -27,13 +27,14 @@ use Rattle.abc_scan.specs.declared.token.TokenKind.{TokenKind}
 use Rattle.abc_scan.specs.declared.token.TokenKind.TheVariants as kinds
 use Rattle.abc_time.specs.declared.ratio.Ratio.{Ratio}
 use Rattle.abc_bars_voice.specs.declared.accidentals.Accidentals.{Accidentals}
+use Rattle.abc_bars_voice.specs.declared.tied.TiedNote.{TiedNote}
 use Rattle.abc_bars_voice.specs.declared.voice_state.VoiceState.{VoiceState}
 use Rattle.abc_bars_voice.specs.Accidentals.{no_accidentals, reach_of}
 use Rattle.abc_bars_voice.specs.Alteration.{alteration_of}
 use Rattle.abc_bars_notes.specs.declared.chords.ChordContext.{ChordContext}
 use Rattle.abc_bars_notes.specs.declared.sound.ChordBuilder.{ChordBuilder}
 use Rattle.abc_bars_items.specs.declared.item.TheConstants.{MOST_CHORD_NOTES}
-use Rattle.abc_bars_voice.specs.Tuplet.{count_down, begin_tuplet}
+use Rattle.abc_bars_voice.specs.Tuplet.{OpenTuplet, count_down, begin_tuplet}
 use Rattle.abc_bars_notes.specs.Chords.{chord_builder_of, tie_follows}
 use Rattle.abc_bars_notes.specs.TimeTokens.{chord_by, play_chord, play_note, play_rest}
 use Rattle.abc_bars.specs.LookBack.Element.{Element}
@@ -54,7 +55,7 @@ use Rattle.abc_bars.specs.LookBack.Voice.{
   unit_at,
 }
 use Rattle.abc_bars.proofs.LookBack.Accidentals.{each_put, reach_kept}
-use Rattle.abc_bars.proofs.LookBack.Tied.{alteration-at, behind-none, chord-leaves}
+use Rattle.abc_bars.proofs.LookBack.Chords.{alteration-at, behind-none, chord-leaves}
 use Rattle.abc_bars.proofs.LookBack.Tuplets.{at-mark, tuplet_from-suc}
 
 tied-note : (opening : VoiceState) (before : List Element) (tied : Bool) (note : Note)
@@ -64,33 +65,31 @@ tied-note opening before true note =
     ap (λ (by : ℤ). as_tied note by ∷ []) (sym (alteration-at opening before (accidentals_at (reach_of opening.accidentals) before) [] note (behind-none opening before)))
 tied-note opening before false note = refl
 
-pub after-note : (opening : VoiceState) (before : List Element) (broken : List Ratio) (tied : Bool) (from : ℕ) (note : Note)
-    → voice_state_at opening (record { kind = kinds.Note note; tied = tied } ∷ before) ≡ (play_note (voice_state_at opening before) broken tied from note).state
-unfolding voice_state_at meter_at unit_at signature_at shift_at tuplet_at accidentals_at dynamic_at
-after-note opening before broken tied from note = λ i. record {
+-- The state at a place but for these parts of it.
+abbrev state_with : VoiceState → List Element → Accidentals → Option OpenTuplet → List TiedNote → VoiceState
+state_with opening before accidentals tuplet tied = record {
   meter = meter_at opening.meter before;
   unit = unit_at opening.unit before;
   signature = signature_at opening.signature before;
   shift = shift_at opening.shift before;
-  accidentals = accidentals_of (reach_of opening.accidentals) (note ∷ notes_of_bar before);
-  tuplet = tuplet_from-suc opening.meter 0 before i;
-  tied = tied-note opening before tied note i;
+  accidentals = accidentals;
+  tuplet = tuplet;
+  tied = tied;
   dynamic = dynamic_at before;
 }
 
-pub after-rest : (opening : VoiceState) (before : List Element) (broken : List Ratio) (tied : Bool) (from : ℕ) (length : WrittenLength)
+after-note : (opening : VoiceState) (before : List Element) (broken : List Ratio) (tied : Bool) (from : ℕ) (note : Note)
+    → voice_state_at opening (record { kind = kinds.Note note; tied = tied } ∷ before) ≡ (play_note (voice_state_at opening before) broken tied from note).state
+unfolding voice_state_at meter_at unit_at signature_at shift_at tuplet_at accidentals_at dynamic_at
+after-note opening before broken tied from note = λ i.
+    state_with opening before (accidentals_of (reach_of opening.accidentals) (note ∷ notes_of_bar before)) (tuplet_from-suc opening.meter 0 before i)
+    (tied-note opening before tied note i)
+
+after-rest : (opening : VoiceState) (before : List Element) (broken : List Ratio) (tied : Bool) (from : ℕ) (length : WrittenLength)
     → voice_state_at opening (record { kind = kinds.Rest length; tied = tied } ∷ before) ≡ (play_rest (voice_state_at opening before) broken from length).state
 unfolding voice_state_at meter_at unit_at signature_at shift_at tuplet_at accidentals_at dynamic_at
-after-rest opening before broken tied from length = λ i. record {
-  meter = meter_at opening.meter before;
-  unit = unit_at opening.unit before;
-  signature = signature_at opening.signature before;
-  shift = shift_at opening.shift before;
-  accidentals = accidentals_at (reach_of opening.accidentals) before;
-  tuplet = tuplet_from-suc opening.meter 0 before i;
-  tied = [];
-  dynamic = dynamic_at before;
-}
+after-rest opening before broken tied from length = λ i.
+    state_with opening before (accidentals_at (reach_of opening.accidentals) before) (tuplet_from-suc opening.meter 0 before i) []
 
 no-notes-by : (kind : ChordPartKind) (rest : List (Spanned ChordPartKind)) (tied : Bool) → is_note_part kind || has_note rest ≡ false
     → (has_note rest ≡ false → notes_among rest ≡ []) → note_before kind tied (notes_among rest) ≡ []
@@ -124,16 +123,7 @@ chord-by opening before broken tied from chord true e =
     let ties : tied_said opening (tied_at opening before) before (kinds.Chord chord) tied ≡ inside.tied =
     ap (λ (b : Bool). cond b (tied_among opening (tied_at opening before) before tied [] (counted_notes chord)) (tied_at opening before)) e
     ∙ sym (chord-leaves opening before broken outside chord).1 in
-    λ i. record {
-      meter = meter_at opening.meter before;
-      unit = unit_at opening.unit before;
-      signature = signature_at opening.signature before;
-      shift = shift_at opening.shift before;
-      accidentals = accidentals i;
-      tuplet = tuplet i;
-      tied = ties i;
-      dynamic = dynamic_at before;
-    }
+    λ i. state_with opening before (accidentals i) (tuplet i) (ties i)
 chord-by opening before broken tied from chord false e =
     let reach : Reach = reach_of opening.accidentals in
     let accidentals : accidentals_at reach (record { kind = kinds.Chord chord; tied = tied } ∷ before) ≡ accidentals_at reach before =
@@ -142,35 +132,19 @@ chord-by opening before broken tied from chord false e =
     ap (λ (b : Bool). tuplet_from opening.meter (passing b 0) before) e in
     let ties : tied_said opening (tied_at opening before) before (kinds.Chord chord) tied ≡ tied_at opening before =
     ap (λ (b : Bool). cond b (tied_among opening (tied_at opening before) before tied [] (counted_notes chord)) (tied_at opening before)) e in
-    λ i. record {
-      meter = meter_at opening.meter before;
-      unit = unit_at opening.unit before;
-      signature = signature_at opening.signature before;
-      shift = shift_at opening.shift before;
-      accidentals = accidentals i;
-      tuplet = tuplet i;
-      tied = ties i;
-      dynamic = dynamic_at before;
-    }
+    λ i. state_with opening before (accidentals i) (tuplet i) (ties i)
 
-pub after-chord : (opening : VoiceState) (before : List Element) (broken : List Ratio) (tied : Bool) (from : ℕ) (chord : Chord)
+after-chord : (opening : VoiceState) (before : List Element) (broken : List Ratio) (tied : Bool) (from : ℕ) (chord : Chord)
     → voice_state_at opening (record { kind = kinds.Chord chord; tied = tied } ∷ before) ≡ (play_chord (voice_state_at opening before) broken tied from chord).state
 after-chord opening before broken tied from chord = chord-by opening before broken tied from chord (has_note chord.parts) refl
 
-pub after-tuplet : (opening : VoiceState) (before : List Element) (tied : Bool) (mark : Tuplet)
+after-tuplet : (opening : VoiceState) (before : List Element) (tied : Bool) (mark : Tuplet)
     → voice_state_at opening (record { kind = kinds.Tuplet mark; tied = tied } ∷ before)
     ≡ record (voice_state_at opening before) { tuplet = (begin_tuplet (voice_state_at opening before).meter (voice_state_at opening before).tuplet mark).0 }
 unfolding voice_state_at meter_at unit_at signature_at shift_at tuplet_at accidentals_at dynamic_at
-after-tuplet opening before tied mark = λ i. record {
-  meter = meter_at opening.meter before;
-  unit = unit_at opening.unit before;
-  signature = signature_at opening.signature before;
-  shift = shift_at opening.shift before;
-  accidentals = accidentals_at (reach_of opening.accidentals) before;
-  tuplet = at-mark (meter_at opening.meter before) mark (tuplet_at opening.meter before) i;
-  tied = tied_at opening before;
-  dynamic = dynamic_at before;
-}
+after-tuplet opening before tied mark = λ i.
+    state_with opening before (accidentals_at (reach_of opening.accidentals) before) (at-mark (meter_at opening.meter before) mark (tuplet_at opening.meter before) i)
+    (tied_at opening before)
 
 -- What looking back says if a field is last.
 abbrev field_last : VoiceState → List Element → FieldKind → List ℕ → VoiceState
@@ -225,10 +199,7 @@ at-field opening before fields.Key value =
     ap (λ (accidentals : Accidentals). record (after_field (voice_state_at opening before) fields.Key value) { accidentals = accidentals }) (ended opening before)
 at-field opening before fields.Parts value = in-part opening before (part_of value)
 at-field opening before fields.Voice value = in-voice (voice_state_at opening before) (voice_of value)
-at-field opening before fields.Tempo value = refl
-at-field opening before fields.Reference value = refl
-at-field opening before fields.Title value = refl
-at-field opening before fields.Other value = refl
+at-field opening before _ value = refl
 
 -- The state after a token of a kind, which a tie follows or not.
 by-kind : (opening : VoiceState) (before : List Element) (kind : TokenKind) (tied : Bool)
@@ -242,16 +213,7 @@ by-kind opening before (kinds.InlineField field) tied = at-field opening before 
 by-kind opening before (kinds.Field field) tied = at-field opening before (kind_of field.letter) field.value
 by-kind opening before (kinds.Bar bar) tied =
     ap (λ (accidentals : Accidentals). record (voice_state_at opening before) { accidentals = accidentals }) (ended opening before)
-by-kind opening before (kinds.BarRest bars) tied = refl
-by-kind opening before (kinds.Ending passes) tied = refl
-by-kind opening before (kinds.Broken mark) tied = refl
-by-kind opening before kinds.Tie tied = refl
-by-kind opening before kinds.Blank tied = refl
-by-kind opening before kinds.NoEffect tied = refl
-by-kind opening before (kinds.Dynamic dynamic) tied = refl
-by-kind opening before (kinds.Directive directive) tied = refl
-by-kind opening before kinds.Unclosed tied = refl
-by-kind opening before kinds.BadByte tied = refl
+by-kind opening before _ tied = refl
 
 -- What looking back finds after one element more.
 pub voice_state_behind : (opening : VoiceState) (before : List Element) (element : Element)

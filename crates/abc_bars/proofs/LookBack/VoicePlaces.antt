@@ -1,15 +1,13 @@
 -- The voice of a place, the tokens of each voice, and what holds for it.
 use Rattle.std.proofs.Common.{◌≡◌, ◌∙◌, ℕ, ◌<◌, ◌≤◌, Bool, true, false, cond, List, [], ◌∷◌, ◌++◌, length, Option, Some, None, bytes_eq, slice_range, Result, Ok, Err, refl, sym, ap, subst, append-nil}
 use Rattle.std.proofs.Common.{inl, inr, ⊎_elim, arith}
-use Rattle.std.specs.Prelude.{All, ◌⊎◌, ◌||◌, nat_le}
-use Rattle.std.specs.Cmp.Lexicographic.{nat_list_eq_equiv}
+use Rattle.std.specs.Prelude.{All, ◌⊎◌}
 use Rattle.std.specs.List.{Contains, list_any}
 use Rattle.std.specs.Map.{keys_of}
 use Rattle.std.specs.Option.{option_map}
 use Rattle.std.specs.Result.{result_ok}
-use Rattle.std.proofs.lemmas.Bool.{cases_Bool, cases_lt, cond-false, cond-true, cond_both, false_from_ne_true, le-leb, lt-leb, or_from, or_left, or_right}
-use Rattle.std.proofs.lemmas.List.Elements.{All-cons, All-contains, All-head, All-nil, All-tail, Contains-append_right, Contains-push}
-use Rattle.std.proofs.lemmas.Map.Views.{Contains-from_any, list_any-from_Contains}
+use Rattle.std.proofs.lemmas.Bool.{cases_lt}
+use Rattle.std.proofs.lemmas.List.Elements.{All-cons, All-contains, All-head, All-nil, All-tail, Contains-append_right}
 use Rattle.std.proofs.lemmas.Slice.Eq.{bytes_eq-Decides}
 use Rattle.abc_fields.specs.declared.fault.FaultCode.{FaultCode}
 use Rattle.abc_fields.specs.declared.key.Key.{Key}
@@ -38,8 +36,9 @@ use Rattle.abc_bars.specs.LookBack.Place.{opening_at}
 use Rattle.abc_bars.specs.LookBack.VoicePlaces.{AreDeclared, AreMentioned, AreTokensOf, DeclaresNone, DeclaresVoice, HasNoVoice, IsAfterLine, IsFirstDeclared, IsNoVoiceField, IsPlayed, IsTooMany}
 use Rattle.abc_bars.specs.LookBack.VoicePlaces.{IsVoiceAt, IsWithMention, PlacesHoldOfVoices, VoicesAreMentioned, VoicesHoldOfTokens, of_field, of_first, of_last, of_none, of_part, of_place}
 use Rattle.abc_bars.proofs.DeclaredVoices.{declared_keys}
-use Rattle.abc_bars.proofs.LookBack.Fields.{begins-part, names-voice, owner-named, part-of, voice-accepted, voice-owner}
+use Rattle.abc_bars.proofs.LookBack.Fields.{begins-part, names-voice, part-of, voice-accepted, voice-owner}
 use Rattle.abc_bars.proofs.LookBack.Held.{here_found, names_found, voices_found}
+use Rattle.abc_bars.proofs.Names.{by_name, finds_name, full_names, is_among, is_apart, is_missing, known_name, mentioned_name, new_name, refused_name, still_apart}
 
 -- A V: as it is read and as it is said.
 read-names : (field : Field) (r : Result Voice FaultCode) (said : List ℕ × Shift) → kind_of field.letter ≡ fields.Voice → voice_of field.value ≡ r
@@ -68,36 +67,13 @@ line-said : (line : HeaderLine) (name : List ℕ) → DeclaresVoice name line �
 line-said (FieldLine field) name names = (names.voice.shift, names-said field name names)
 line-said (DirectiveLine directive) name names = absurd names
 
--- Whether a name is among others.
-among : (name : List ℕ) (names : List (List ℕ)) → list_any (bytes_eq name) names ≡ true → Contains names name
-among name names is = Contains-from_any (λ x y same. (bytes_eq-Decides x y).0 same) name names is
-
-found : (name : List ℕ) (names : List (List ℕ)) → Contains names name → list_any (bytes_eq name) names ≡ true
-found name names there = list_any-from_Contains nat_list_eq_equiv name names there
-
-apart : (name : List ℕ) (names : List (List ℕ)) → list_any (bytes_eq name) names ≡ false → ¬ Contains names name
-apart name names is there = let same : false ≡ true = sym is ∙ found name names there in absurd (cc)
-
 -- One mention more.
-known-name : (names : List (List ℕ)) (name : List ℕ) → Contains names name → with_name names name ≡ names
-known-name names name there =
-    cond-true (list_any (bytes_eq name) names || nat_le MOST_VOICES (length names)) names (names ++ name ∷ [])
-    (or_left (list_any (bytes_eq name) names) (nat_le MOST_VOICES (length names)) (found name names there))
-
-full-names : (names : List (List ℕ)) (name : List ℕ) → MOST_VOICES ≤ length names → with_name names name ≡ names
-full-names names name full =
-    cond-true (list_any (bytes_eq name) names || nat_le MOST_VOICES (length names)) names (names ++ name ∷ [])
-    (or_right (list_any (bytes_eq name) names) (nat_le MOST_VOICES (length names)) (le-leb MOST_VOICES (length names) full))
-
-new-name : (names : List (List ℕ)) (name : List ℕ) → ¬ Contains names name → length names < MOST_VOICES → with_name names name ≡ names ++ name ∷ []
-new-name names name new room =
-    cond-false (list_any (bytes_eq name) names || nat_le MOST_VOICES (length names)) names (names ++ name ∷ [])
-    (or_from (list_any (bytes_eq name) names) (nat_le MOST_VOICES (length names))
-    (false_from_ne_true (list_any (bytes_eq name) names) (λ is. new (among name names is)))
-    (lt-leb MOST_VOICES (length names) room))
-
 mention : (names : List (List ℕ)) (name : List ℕ) → IsWithMention names name (with_name names name)
-mention names name = record { known = known-name names name; full = full-names names name; new = new-name names name }
+mention names name = record {
+  known = λ there. known_name names name (finds_name name names there);
+  full = full_names names name;
+  new = λ gone room. new_name names name (is_missing name names gone) room;
+}
 
 -- The names that lines declare.
 after-line : (names : List (List ℕ)) (line : HeaderLine) (o : Option (List ℕ × Shift)) → voice_on line ≡ o → IsAfterLine line names (with_named names o)
@@ -121,8 +97,7 @@ declared-are (line ∷ before) = (declared_names before, declared-are before, af
 -- The first name stays the first.
 first-kept : (first : List ℕ) (rest : List (List ℕ)) (name : List ℕ) → (more : List (List ℕ)) × (with_name (first ∷ rest) name ≡ first ∷ more)
 first-kept first rest name =
-    cond_both (list_any (bytes_eq name) (first ∷ rest) || nat_le MOST_VOICES (length (first ∷ rest))) (first ∷ rest) (first ∷ (rest ++ name ∷ []))
-    (λ names. (more : List (List ℕ)) × (names ≡ first ∷ more)) (λ e. (rest, refl)) (λ e. (rest ++ name ∷ [], refl))
+    by_name (first ∷ rest) name (λ names. (more : List (List ℕ)) × (names ≡ first ∷ more)) (rest, refl) (λ _ _. (rest ++ name ∷ [], refl))
 
 -- With which voice a header begins, if it declares one.
 data Begins (fields : List HeaderLine) (names : List (List ℕ)) : Type 0 where
@@ -165,44 +140,36 @@ part-owner (kinds.Field field) is = part-owned field is
 part-owner (kinds.InlineField field) is = part-owned field is
 part-owner _ is = absurd is
 
-part-not-named : (o : Option ℕ) (name : List ℕ) → owner_of_part o ≡ Named name → ⊥
-part-not-named (Some letter) name e = cc
-part-not-named None name e = cc
+-- What the owner of a token says of it: which voice an accepted V: names, and whether it is an accepted P:.
+record Tells (Names : List ℕ → Type 0) (Part : Type 0) (owner : Owner) : Type 0 where
+  named : (name : List ℕ) → owner ≡ Named name → Names name
+  each : owner ≡ Everyone → Part
 
-named-by : (field : Field) (r : Result Voice FaultCode) (name : List ℕ) → kind_of field.letter ≡ fields.Voice → voice_of field.value ≡ r
-    → owner_of_voice field.value r ≡ Named name → NamesVoice name field
-named-by field (Ok voice) name is read e =
-    let same : slice_range field.value voice.from voice.to ≡ name = cc in
-    subst (λ (n : List ℕ). NamesVoice n field) same (names-voice field voice is read)
-named-by field (Err fault) name is read e = absurd (cc)
+tells-voice : (field : Field) (r : Result Voice FaultCode) → kind_of field.letter ≡ fields.Voice → voice_of field.value ≡ r
+    → Tells (λ name. NamesVoice name field) (BeginsPart field) (owner_of_voice field.value r)
+tells-voice field (Ok voice) is read = record {
+  named = λ name e.
+      let same : slice_range field.value voice.from voice.to ≡ name = cc in
+      subst (λ (n : List ℕ). NamesVoice n field) same (names-voice field voice is read);
+  each = λ e. absurd (cc);
+}
+tells-voice field (Err fault) is read = record { named = λ name e. absurd (cc); each = λ e. absurd (cc) }
 
-named-field : (field : Field) (kind : FieldKind) (name : List ℕ) → kind_of field.letter ≡ kind → owner_of_field kind field.value ≡ Named name → NamesVoice name field
-named-field field fields.Voice name is e = named-by field (voice_of field.value) name is refl e
-named-field field fields.Parts name is e = absurd (part-not-named (part_of field.value) name e)
-named-field field _ name is e = absurd (cc)
+tells-part : (field : Field) (o : Option ℕ) → kind_of field.letter ≡ fields.Parts → part_of field.value ≡ o
+    → Tells (λ name. NamesVoice name field) (BeginsPart field) (owner_of_part o)
+tells-part field (Some letter) is read = record { named = λ name e. absurd (cc); each = λ e. begins-part field letter is read }
+tells-part field None is read = record { named = λ name e. absurd (cc); each = λ e. absurd (cc) }
 
-owned-voice : (kind : TokenKind) (name : List ℕ) → owner_of kind ≡ Named name → IsVoiceField name kind
-owned-voice (kinds.Field field) name e = named-field field (kind_of field.letter) name refl e
-owned-voice (kinds.InlineField field) name e = named-field field (kind_of field.letter) name refl e
-owned-voice _ name e = absurd (cc)
+tells-field : (field : Field) (kind : FieldKind) → kind_of field.letter ≡ kind
+    → Tells (λ name. NamesVoice name field) (BeginsPart field) (owner_of_field kind field.value)
+tells-field field fields.Voice is = tells-voice field (voice_of field.value) is refl
+tells-field field fields.Parts is = tells-part field (part_of field.value) is refl
+tells-field field _ is = record { named = λ name e. absurd (cc); each = λ e. absurd (cc) }
 
-voice-not-everyone : (value : List ℕ) (r : Result Voice FaultCode) → owner_of_voice value r ≡ Everyone → ⊥
-voice-not-everyone value (Ok voice) e = cc
-voice-not-everyone value (Err fault) e = cc
-
-part-by : (field : Field) (o : Option ℕ) → kind_of field.letter ≡ fields.Parts → part_of field.value ≡ o → owner_of_part o ≡ Everyone → BeginsPart field
-part-by field (Some letter) is read e = begins-part field letter is read
-part-by field None is read e = absurd (cc)
-
-everyone-field : (field : Field) (kind : FieldKind) → kind_of field.letter ≡ kind → owner_of_field kind field.value ≡ Everyone → BeginsPart field
-everyone-field field fields.Parts is e = part-by field (part_of field.value) is refl e
-everyone-field field fields.Voice is e = absurd (voice-not-everyone field.value (voice_of field.value) e)
-everyone-field field _ is e = absurd (cc)
-
-owned-part : (kind : TokenKind) → owner_of kind ≡ Everyone → IsField BeginsPart kind
-owned-part (kinds.Field field) e = everyone-field field (kind_of field.letter) refl e
-owned-part (kinds.InlineField field) e = everyone-field field (kind_of field.letter) refl e
-owned-part _ e = absurd (cc)
+tells : (kind : TokenKind) → Tells (λ name. IsVoiceField name kind) (IsField BeginsPart kind) (owner_of kind)
+tells (kinds.Field field) = tells-field field (kind_of field.letter) refl
+tells (kinds.InlineField field) = tells-field field (kind_of field.letter) refl
+tells _ = record { named = λ name e. absurd (cc); each = λ e. absurd (cc) }
 
 -- A token that mentions its voice is no field.
 played-mentions : (kind : TokenKind) → IsPlayed kind → mentions kind ≡ true
@@ -282,9 +249,6 @@ module _ (fields : List HeaderLine) (token : Element) (before : List Element) (n
     same-name : (other : List ℕ) → IsVoiceField other token.kind → name ≡ other
     same-name other voice = let both : Named name ≡ Named other = sym is ∙ voice-owner token.kind other voice in cc
 
-    with_it : List (List ℕ)
-    with_it = with_name naming.names name
-
     mentioned-voice : AreMentioned fields (token ∷ before) (with_name naming.names name)
     mentioned-voice = (
       naming.names,
@@ -292,26 +256,22 @@ module _ (fields : List HeaderLine) (token : Element) (before : List Element) (n
       record {
         voice = λ other voice. subst (λ (n : List ℕ). IsWithMention naming.names n (with_name naming.names name)) (same-name other voice) (mention naming.names name);
         unnamed = λ played none. let no : Named name ≡ Current = sym is ∙ played-current token.kind played in absurd (cc);
-        other = λ none quiet. absurd (none name (owned-voice token.kind name is));
+        other = λ none quiet. absurd (none name ((tells token.kind).named name is));
       },
     )
 
     room : list_any (bytes_eq name) (with_name naming.names name) ≡ true → Contains naming.names name ⊎ (length naming.names < MOST_VOICES)
-    room there = ⊎_elim
-        (λ known. inl (among name naming.names known))
-        (λ new. ⊎_elim (λ less. inr less)
-        (λ full. let no : true ≡ false = sym there ∙ ap (list_any (bytes_eq name)) (full-names naming.names name full) ∙ new in absurd (cc))
-        (cases_lt (length naming.names) MOST_VOICES))
-        (cases_Bool (list_any (bytes_eq name) naming.names))
+    room =
+        by_name naming.names name (λ names. list_any (bytes_eq name) names ≡ true → Contains naming.names name ⊎ (length naming.names < MOST_VOICES))
+        (λ there. inl (is_among name naming.names there)) (λ _ less _. inr less)
 
     not-known : list_any (bytes_eq name) (with_name naming.names name) ≡ false → ¬ Contains naming.names name
-    not-known gone there =
-        let no : false ≡ true = sym gone ∙ ap (list_any (bytes_eq name)) (known-name naming.names name there) ∙ found name naming.names there in absurd (cc)
+    not-known gone = is_apart name naming.names (still_apart naming.names name name gone)
 
     not-new : list_any (bytes_eq name) (with_name naming.names name) ≡ false → MOST_VOICES ≤ length naming.names
     not-new gone = ⊎_elim
-        (λ less. let there : Contains (naming.names ++ name ∷ []) name = Contains-push naming.names name in
-        let no : false ≡ true = sym gone ∙ ap (list_any (bytes_eq name)) (new-name naming.names name (not-known gone) less) ∙ found name (naming.names ++ name ∷ []) there in absurd (cc))
+        (λ less. let there = mentioned_name naming.names name (subst (λ (l : List (List ℕ)). length l < MOST_VOICES) (sym (refused_name naming.names name gone)) less) in
+        absurd (cc))
         (λ full. full)
         (cases_lt (length naming.names) MOST_VOICES)
 
@@ -320,7 +280,7 @@ module _ (fields : List HeaderLine) (token : Element) (before : List Element) (n
     still-known full (not_yet none current short) = let less = short-room naming.names short in absurd (omega (arith, less, full))
     still-known full (since_then some there) =
         since_then (λ none. some (less-voiced fields token before none))
-        (subst (λ (l : List (List ℕ)). Contains l naming.current) (sym (full-names naming.names name full)) there)
+        (subst (λ (l : List (List ℕ)). Contains l naming.current) (sym (full_names naming.names name full)) there)
 
     said-voice : (b : Bool) → list_any (bytes_eq name) (with_name naming.names name) ≡ b
         → IsSaid fields (token ∷ before) (record { names = with_name naming.names name; current = cond b name naming.current })
@@ -331,12 +291,12 @@ module _ (fields : List HeaderLine) (token : Element) (before : List Element) (n
         token = token;
         earlier = before;
         split = refl;
-        voice = owned-voice token.kind name is;
+        voice = (tells token.kind).named name is;
         counts = (naming.names, said.names, room there);
         none = tt;
       });
-      known = since_then (λ none. All-head Unvoiced token before none.body name (owned-voice token.kind name is))
-          (among name (with_name naming.names name) there);
+      known = since_then (λ none. All-head Unvoiced token before none.body name ((tells token.kind).named name is))
+          (is_among name (with_name naming.names name) there);
     }
     said-voice false gone = record {
       names = mentioned-voice;
@@ -386,7 +346,8 @@ module _ (fields : List HeaderLine) (token : Element) (before : List Element) (n
           (subst (λ (n : List ℕ). IsShort (with_name naming.names n)) (sym current) (short-with naming.names short));
     }
     said-played played (since_then some there) =
-        let same : with_name naming.names naming.current ≡ naming.names = known-name naming.names naming.current there in
+        let same : with_name naming.names naming.current ≡ naming.names =
+        known_name naming.names naming.current (finds_name naming.current naming.names there) in
         record {
           names = (
             naming.names,
@@ -453,18 +414,18 @@ module _ (values : Defaults) (fields : List HeaderLine) (key : Key) where
       → AreTokensOf fields name (token ∷ before) (cond b (token ∷ others) others)
   tokens-by name token before others (Named other) is true same rest =
       let this : name ≡ other = (bytes_eq-Decides name other).0 same in
-      inl (others, of_field (owned-voice token.kind name (is ∙ ap Named (sym this))), refl, rest)
+      inl (others, of_field ((tells token.kind).named name (is ∙ ap Named (sym this))), refl, rest)
   tokens-by name token before others (Named other) is false differ rest =
       inr (
         (
           other,
-          of_field (owned-voice token.kind other is),
+          of_field ((tells token.kind).named other is),
           (λ this. let no : false ≡ true = sym differ ∙ (bytes_eq-Decides name other).1 (sym this) in absurd (cc)),
           (λ part. let no : Named other ≡ Everyone = sym is ∙ part-owner token.kind part in absurd (cc)),
         ),
         rest,
       )
-  tokens-by name token before others Everyone is true same rest = inl (others, of_part (owned-part token.kind is), refl, rest)
+  tokens-by name token before others Everyone is true same rest = inl (others, of_part ((tells token.kind).each is), refl, rest)
   tokens-by name token before others Everyone is false differ rest = absurd (cc)
   tokens-by name token before others Current is true same rest =
       let this : name ≡ (naming_at start before).current = (bytes_eq-Decides name (naming_at start before).current).0 same in

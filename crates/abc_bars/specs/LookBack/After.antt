@@ -48,10 +48,7 @@ after_field state fields.UnitLength value = in_unit state (unit_of value)
 after_field state fields.Key value = in_key state (key_or_empty (key_of value))
 after_field state fields.Parts value = in_part state (part_of value)
 after_field state fields.Voice value = in_voice state (voice_of value)
-after_field state fields.Tempo value = state
-after_field state fields.Reference value = state
-after_field state fields.Title value = state
-after_field state fields.Other value = state
+after_field state _ value = state
 
 -- After a token of this kind, which a tie directly follows or not. Its place and the factors of broken
 -- rhythm change nothing of what it leaves.
@@ -63,16 +60,8 @@ after_kind state (kinds.Tuplet mark) tied = record state { tuplet = (begin_tuple
 after_kind state (kinds.Bar bar) tied = without_accidentals state
 after_kind state (kinds.InlineField field) tied = after_field state (kind_of field.letter) field.value
 after_kind state (kinds.Field field) tied = after_field state (kind_of field.letter) field.value
-after_kind state (kinds.BarRest bars) tied = state
-after_kind state (kinds.Ending passes) tied = state
-after_kind state (kinds.Broken mark) tied = state
-after_kind state kinds.Tie tied = state
-after_kind state kinds.Blank tied = state
-after_kind state kinds.NoEffect tied = state
 after_kind state (kinds.Dynamic dynamic) tied = record state { dynamic = Some dynamic }
-after_kind state (kinds.Directive directive) tied = state
-after_kind state kinds.Unclosed tied = state
-after_kind state kinds.BadByte tied = state
+after_kind state _ tied = state
 
 -- After one element more.
 abbrev pub after : VoiceState → Element → VoiceState

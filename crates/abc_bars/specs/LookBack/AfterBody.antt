@@ -16,19 +16,7 @@ mentions (kinds.Note note) = true
 mentions (kinds.Rest length) = true
 mentions (kinds.BarRest bars) = true
 mentions (kinds.Chord chord) = has_note chord.parts
-mentions (kinds.InlineField field) = false
-mentions (kinds.Bar bar) = false
-mentions (kinds.Ending passes) = false
-mentions (kinds.Tuplet mark) = false
-mentions (kinds.Broken mark) = false
-mentions kinds.Tie = false
-mentions kinds.Blank = false
-mentions kinds.NoEffect = false
-mentions (kinds.Dynamic dynamic) = false
-mentions (kinds.Directive directive) = false
-mentions (kinds.Field field) = false
-mentions kinds.Unclosed = false
-mentions kinds.BadByte = false
+mentions _ = false
 
 -- The current voice is mentioned, if a token mentions it.
 abbrev pub mentioned_if : Bool → Body → Body

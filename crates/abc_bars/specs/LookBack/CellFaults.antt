@@ -106,10 +106,8 @@ is_of_spelling code =
 
 -- BadByte of a byte inside a chord that begins no part of one.
 abbrev pub byte_fault : ℕ → ChordPartKind → Faults
-byte_fault place (parts.Note note) = []
-byte_fault place parts.Tie = []
-byte_fault place parts.NoEffect = []
 byte_fault place parts.BadByte = (column_of place, BadByte) ∷ []
+byte_fault place _ = []
 
 abbrev pub byte_faults : ℕ → List (Spanned ChordPartKind) → Faults
 byte_faults from [] = []
@@ -227,9 +225,7 @@ IsFaultOfField place fields.Voice value code =
     ((code ≡ BadVoice) × ((voice : Voice) → ¬ IsVoice value voice))
     ⊎ ((code ≡ TooManyVoices) × ((voice : Voice) × IsVoice value voice
     × IsOneTooMany (names_there place) (slice_range value voice.from voice.to)))
-IsFaultOfField place fields.Reference value code = ⊥
-IsFaultOfField place fields.Title value code = ⊥
-IsFaultOfField place fields.Other value code = ⊥
+IsFaultOfField place _ value code = ⊥
 
 -- There is one fault if it is one of these, and else none.
 pub record IsOnlyFault (Is : FaultCode → Type 0) (column : ℕ) (own : Faults) : Type 0 where

@@ -22,27 +22,13 @@ use Rattle.abc_bars_header.specs.declared.field_kind.FieldKind.TheVariants as ki
 
 -- The meter that a field of this kind sets, if it does and is accepted.
 abbrev pub meter_said : FieldKind → List ℕ → Option Meter
-meter_said kinds.Reference value = None
-meter_said kinds.Title value = None
 meter_said kinds.Meter value = result_ok (meter_of value)
-meter_said kinds.UnitLength value = None
-meter_said kinds.Tempo value = None
-meter_said kinds.Parts value = None
-meter_said kinds.Voice value = None
-meter_said kinds.Key value = None
-meter_said kinds.Other value = None
+meter_said _ value = None
 
 -- The unit note length that a field of this kind sets, if it does and is accepted.
 abbrev pub unit_said : FieldKind → List ℕ → Option Ratio
-unit_said kinds.Reference value = None
-unit_said kinds.Title value = None
-unit_said kinds.Meter value = None
 unit_said kinds.UnitLength value = result_ok (unit_of value)
-unit_said kinds.Tempo value = None
-unit_said kinds.Parts value = None
-unit_said kinds.Voice value = None
-unit_said kinds.Key value = None
-unit_said kinds.Other value = None
+unit_said _ value = None
 
 -- A Q: that is empty or a text alone counts as none. Not in ABC 2.1.
 abbrev pub if_set : Option Tempo → Option Tempo
@@ -53,15 +39,8 @@ if_set (Some (Beat beat n)) = Some (Beat beat n)
 
 -- The tempo that a field of this kind sets, if it does and is accepted.
 abbrev pub tempo_said : FieldKind → List ℕ → Option Tempo
-tempo_said kinds.Reference value = None
-tempo_said kinds.Title value = None
-tempo_said kinds.Meter value = None
-tempo_said kinds.UnitLength value = None
 tempo_said kinds.Tempo value = if_set (result_ok (tempo_of value))
-tempo_said kinds.Parts value = None
-tempo_said kinds.Voice value = None
-tempo_said kinds.Key value = None
-tempo_said kinds.Other value = None
+tempo_said _ value = None
 
 -- What a line says, by what its field is about and the field's value. A directive is no field.
 abbrev pub said_by_line : {A : Type 0} → (FieldKind → List ℕ → Option A) → HeaderLine → Option A

@@ -11,20 +11,6 @@ pub record Element : Type 0 where
 
 -- The field that a token is, on a line of its own or inside one.
 abbrev pub field_of : TokenKind → Option Field
-field_of (kinds.Note note) = None
-field_of (kinds.Rest length) = None
-field_of (kinds.BarRest bars) = None
-field_of (kinds.Chord chord) = None
 field_of (kinds.InlineField field) = Some field
-field_of (kinds.Bar bar) = None
-field_of (kinds.Ending passes) = None
-field_of (kinds.Tuplet mark) = None
-field_of (kinds.Broken mark) = None
-field_of kinds.Tie = None
-field_of kinds.Blank = None
-field_of kinds.NoEffect = None
-field_of (kinds.Dynamic dynamic) = None
-field_of (kinds.Directive directive) = None
 field_of (kinds.Field field) = Some field
-field_of kinds.Unclosed = None
-field_of kinds.BadByte = None
+field_of _ = None

@@ -48,16 +48,12 @@ is_told fault = is_told_code fault.1
 -- that MIDI has no key for.
 abbrev pub silent_part : VoicePlace → List Note → ℕ → ChordPartKind → List (ℕ × FaultCode)
 silent_part at earlier from (parts.Note note) = fault_if (is_none (key_at at earlier note)) (column_of from) KeyRange
-silent_part at earlier from parts.Tie = []
-silent_part at earlier from parts.NoEffect = []
-silent_part at earlier from parts.BadByte = []
+silent_part at earlier from _ = []
 
 -- The notes of a chord after a part of it, newest first.
 abbrev pub notes_with : ChordPartKind → List Note → List Note
 notes_with (parts.Note note) earlier = note ∷ earlier
-notes_with parts.Tie earlier = earlier
-notes_with parts.NoEffect earlier = earlier
-notes_with parts.BadByte earlier = earlier
+notes_with _ earlier = earlier
 
 -- KeyRange of these parts of a chord that is at a place of its line.
 abbrev pub silent_among : VoicePlace → List Note → ℕ → List (Spanned ChordPartKind) → List (ℕ × FaultCode)
@@ -90,19 +86,7 @@ told_in at from (kinds.Chord chord) = chord_faults at from chord
 told_in at from (kinds.BarRest bars) = bar_rest_faults (meter_at at.opening.meter at.before) from
 told_in at from (kinds.Tuplet mark) =
     mark_faults (tuplet_at at.opening.meter at.before) (tuplet_by (meter_at at.opening.meter at.before) mark) from
-told_in at from (kinds.Rest length) = []
-told_in at from (kinds.InlineField field) = []
-told_in at from (kinds.Bar bar) = []
-told_in at from (kinds.Ending passes) = []
-told_in at from (kinds.Broken mark) = []
-told_in at from kinds.Tie = []
-told_in at from kinds.Blank = []
-told_in at from kinds.NoEffect = []
-told_in at from (kinds.Dynamic dynamic) = []
-told_in at from (kinds.Directive directive) = []
-told_in at from (kinds.Field field) = []
-told_in at from kinds.Unclosed = []
-told_in at from kinds.BadByte = []
+told_in at from _ = []
 
 -- The faults of tokens, each by if it is in its voice.
 abbrev pub told_from : Defaults → List HeaderLine → Key → List Element → List (Spanned TokenKind) → List (ℕ × FaultCode)

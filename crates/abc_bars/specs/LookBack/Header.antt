@@ -25,15 +25,8 @@ named_in value voice = (slice_range value voice.from voice.to, voice.shift)
 
 -- The voice that a field of this kind names, if it does and is accepted.
 abbrev pub voice_said : FieldKind → List ℕ → Option (List ℕ × Shift)
-voice_said kinds.Reference value = None
-voice_said kinds.Title value = None
-voice_said kinds.Meter value = None
-voice_said kinds.UnitLength value = None
-voice_said kinds.Tempo value = None
-voice_said kinds.Parts value = None
 voice_said kinds.Voice value = option_map (named_in value) (result_ok (voice_of value))
-voice_said kinds.Key value = None
-voice_said kinds.Other value = None
+voice_said _ value = None
 
 -- The voice that a line names, if it does and is accepted.
 abbrev pub voice_on : HeaderLine → Option (List ℕ × Shift)

@@ -65,15 +65,8 @@ KindsApart = (here there : Place) → view here ≡ view there → kind_of_place
 
 -- The place after a field of a tune's header, of this kind: after a K: the body begins.
 abbrev pub behind_field : Defaults → List HeaderLine → Field → FieldKind → Place
-behind_field opening before field fields.Reference = InHeader opening (FieldLine field ∷ before)
-behind_field opening before field fields.Title = InHeader opening (FieldLine field ∷ before)
-behind_field opening before field fields.Meter = InHeader opening (FieldLine field ∷ before)
-behind_field opening before field fields.UnitLength = InHeader opening (FieldLine field ∷ before)
-behind_field opening before field fields.Tempo = InHeader opening (FieldLine field ∷ before)
-behind_field opening before field fields.Parts = InHeader opening (FieldLine field ∷ before)
-behind_field opening before field fields.Voice = InHeader opening (FieldLine field ∷ before)
 behind_field opening before field fields.Key = InBody opening (FieldLine field ∷ before) (key_or_empty (key_of field.value)) []
-behind_field opening before field fields.Other = InHeader opening (FieldLine field ∷ before)
+behind_field opening before field _ = InHeader opening (FieldLine field ∷ before)
 
 -- The place after a line of a tune's header: no directive ends it.
 abbrev pub behind_header_line : Defaults → List HeaderLine → HeaderLine → Place

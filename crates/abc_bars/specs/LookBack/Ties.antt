@@ -32,21 +32,7 @@ loose_inside from chord = map (λ pair. (column_of (from + pair.1.from), LooseTi
 abbrev pub loose_in : Option TokenKind → ℕ → TokenKind → List (ℕ × FaultCode)
 loose_in before from kinds.Tie = if is_behind_note before then [] else (column_of from, LooseTie) ∷ []
 loose_in before from (kinds.Chord chord) = loose_inside from chord
-loose_in before from (kinds.Note note) = []
-loose_in before from (kinds.Rest length) = []
-loose_in before from (kinds.BarRest bars) = []
-loose_in before from (kinds.InlineField field) = []
-loose_in before from (kinds.Bar bar) = []
-loose_in before from (kinds.Ending passes) = []
-loose_in before from (kinds.Tuplet mark) = []
-loose_in before from (kinds.Broken mark) = []
-loose_in before from kinds.Blank = []
-loose_in before from kinds.NoEffect = []
-loose_in before from (kinds.Dynamic dynamic) = []
-loose_in before from (kinds.Directive directive) = []
-loose_in before from (kinds.Field field) = []
-loose_in before from kinds.Unclosed = []
-loose_in before from kinds.BadByte = []
+loose_in before from _ = []
 
 -- The loose ties of tokens, of which the first has this directly before it.
 abbrev pub loose_from : Option TokenKind → List (Spanned TokenKind) → List (ℕ × FaultCode)
@@ -77,21 +63,7 @@ tied_in_chord follows earlier (note ∷ later) =
 abbrev pub tied_notes : TokenKind → Bool → List (List Note × Note)
 tied_notes (kinds.Note note) follows = if follows then ([], note) ∷ [] else []
 tied_notes (kinds.Chord chord) follows = tied_in_chord follows [] (counted_notes chord)
-tied_notes (kinds.Rest length) follows = []
-tied_notes (kinds.BarRest bars) follows = []
-tied_notes (kinds.InlineField field) follows = []
-tied_notes (kinds.Bar bar) follows = []
-tied_notes (kinds.Ending passes) follows = []
-tied_notes (kinds.Tuplet mark) follows = []
-tied_notes (kinds.Broken mark) follows = []
-tied_notes kinds.Tie follows = []
-tied_notes kinds.Blank follows = []
-tied_notes kinds.NoEffect follows = []
-tied_notes (kinds.Dynamic dynamic) follows = []
-tied_notes (kinds.Directive directive) follows = []
-tied_notes (kinds.Field field) follows = []
-tied_notes kinds.Unclosed follows = []
-tied_notes kinds.BadByte follows = []
+tied_notes _ follows = []
 
 -- A note from which a tie leads on, as it was altered at its own place, of a voice that opened with this state.
 abbrev pub altered_note : VoiceState → List Element → List Note × Note → TiedNote

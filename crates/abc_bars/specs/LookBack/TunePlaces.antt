@@ -12,15 +12,8 @@ use Rattle.abc_bars.specs.LookBack.Place.{Place, InFileHeader, InHeader, InBody}
 
 -- The key that a field of this kind says, if it is a K:.
 abbrev pub key_said : FieldKind → List ℕ → Option Key
-key_said fields.Reference value = None
-key_said fields.Title value = None
-key_said fields.Meter value = None
-key_said fields.UnitLength value = None
-key_said fields.Tempo value = None
-key_said fields.Parts value = None
-key_said fields.Voice value = None
 key_said fields.Key value = Some (key_or_empty (key_of value))
-key_said fields.Other value = None
+key_said _ value = None
 
 -- The key that the last K: among lines says, if there is one.
 abbrev pub key_among : List HeaderLine → Option Key

@@ -98,9 +98,7 @@ shift_at opening before = record {
 -- A note of a chord put before those after it, with whether it is tied.
 abbrev pub note_before : ChordPartKind → Bool → List (Note × Bool) → List (Note × Bool)
 note_before (parts.Note note) tied later = (note, tied) ∷ later
-note_before parts.Tie tied later = later
-note_before parts.NoEffect tied later = later
-note_before parts.BadByte tied later = later
+note_before _ tied later = later
 
 -- The notes among the parts of a chord in order, each with whether a tie directly follows it.
 abbrev pub notes_among : List (Spanned ChordPartKind) → List (Note × Bool)
@@ -138,13 +136,7 @@ put_before (note ∷ later) before = put_before later (note.0 ∷ before)
 abbrev pub ends_accidentals : FieldKind → List ℕ → Bool
 ends_accidentals fields.Key value = true
 ends_accidentals fields.Parts value = is_some (part_of value)
-ends_accidentals fields.Meter value = false
-ends_accidentals fields.UnitLength value = false
-ends_accidentals fields.Tempo value = false
-ends_accidentals fields.Voice value = false
-ends_accidentals fields.Reference value = false
-ends_accidentals fields.Title value = false
-ends_accidentals fields.Other value = false
+ends_accidentals _ value = false
 
 -- These notes, or none where accidentals end.
 abbrev pub unless_ended : Bool → List Note → List Note
@@ -155,22 +147,11 @@ unless_ended false notes = notes
 -- chord adds its first sixteen. ABC 2.1 section 4.2.
 abbrev pub notes_behind : List Note → TokenKind → List Note
 notes_behind notes (kinds.Note note) = note ∷ notes
-notes_behind notes (kinds.Rest length) = notes
-notes_behind notes (kinds.BarRest bars) = notes
 notes_behind notes (kinds.Chord chord) = put_before (counted_notes chord) notes
 notes_behind notes (kinds.InlineField field) = unless_ended (ends_accidentals (kind_of field.letter) field.value) notes
 notes_behind notes (kinds.Bar bar) = []
-notes_behind notes (kinds.Ending passes) = notes
-notes_behind notes (kinds.Tuplet mark) = notes
-notes_behind notes (kinds.Broken mark) = notes
-notes_behind notes kinds.Tie = notes
-notes_behind notes kinds.Blank = notes
-notes_behind notes kinds.NoEffect = notes
-notes_behind notes (kinds.Dynamic dynamic) = notes
-notes_behind notes (kinds.Directive directive) = notes
 notes_behind notes (kinds.Field field) = unless_ended (ends_accidentals (kind_of field.letter) field.value) notes
-notes_behind notes kinds.Unclosed = notes
-notes_behind notes kinds.BadByte = notes
+notes_behind notes _ = notes
 
 -- The notes of a voice since its last bar line, K: or accepted P:, newest first.
 abbrev pub notes_of_bar : List Element → List Note
@@ -188,23 +169,8 @@ accidentals_at reach before = accidentals_of reach (notes_of_bar before)
 
 -- The dynamic that a token is, if it is one. One inside a chord is none. ABC 2.1 section 4.14; the latter is not in ABC 2.1.
 abbrev pub dynamic_said : TokenKind → Option (Option Dynamic)
-dynamic_said (kinds.Note note) = None
-dynamic_said (kinds.Rest length) = None
-dynamic_said (kinds.BarRest bars) = None
-dynamic_said (kinds.Chord chord) = None
-dynamic_said (kinds.InlineField field) = None
-dynamic_said (kinds.Bar bar) = None
-dynamic_said (kinds.Ending passes) = None
-dynamic_said (kinds.Tuplet mark) = None
-dynamic_said (kinds.Broken mark) = None
-dynamic_said kinds.Tie = None
-dynamic_said kinds.Blank = None
-dynamic_said kinds.NoEffect = None
 dynamic_said (kinds.Dynamic dynamic) = Some (Some dynamic)
-dynamic_said (kinds.Directive directive) = None
-dynamic_said (kinds.Field field) = None
-dynamic_said kinds.Unclosed = None
-dynamic_said kinds.BadByte = None
+dynamic_said _ = None
 
 -- The last dynamic before a place, if there is one.
 unfoldable pub dynamic_at : List Element → Option Dynamic
@@ -212,23 +178,8 @@ dynamic_at before = last_said dynamic_said None before
 
 -- The tuplet that a mark begins in a meter, if the token is a mark and is accepted.
 abbrev pub tuplet_said : Meter → TokenKind → Option OpenTuplet
-tuplet_said meter (kinds.Note note) = None
-tuplet_said meter (kinds.Rest length) = None
-tuplet_said meter (kinds.BarRest bars) = None
-tuplet_said meter (kinds.Chord chord) = None
-tuplet_said meter (kinds.InlineField field) = None
-tuplet_said meter (kinds.Bar bar) = None
-tuplet_said meter (kinds.Ending passes) = None
 tuplet_said meter (kinds.Tuplet mark) = tuplet_by meter mark
-tuplet_said meter (kinds.Broken mark) = None
-tuplet_said meter kinds.Tie = None
-tuplet_said meter kinds.Blank = None
-tuplet_said meter kinds.NoEffect = None
-tuplet_said meter (kinds.Dynamic dynamic) = None
-tuplet_said meter (kinds.Directive directive) = None
-tuplet_said meter (kinds.Field field) = None
-tuplet_said meter kinds.Unclosed = None
-tuplet_said meter kinds.BadByte = None
+tuplet_said meter _ = None
 
 -- What is left of a tuplet after this number of notes, chords and rests.
 abbrev pub left_after : ℕ → OpenTuplet → Option OpenTuplet
@@ -284,20 +235,7 @@ tied_said opening tied before (kinds.Note note) false = []
 tied_said opening tied before (kinds.Rest length) follows = []
 tied_said opening tied before (kinds.Chord chord) follows =
     if has_note chord.parts then tied_among opening tied before follows [] (counted_notes chord) else tied
-tied_said opening tied before (kinds.BarRest bars) follows = tied
-tied_said opening tied before (kinds.InlineField field) follows = tied
-tied_said opening tied before (kinds.Bar bar) follows = tied
-tied_said opening tied before (kinds.Ending passes) follows = tied
-tied_said opening tied before (kinds.Tuplet mark) follows = tied
-tied_said opening tied before (kinds.Broken mark) follows = tied
-tied_said opening tied before kinds.Tie follows = tied
-tied_said opening tied before kinds.Blank follows = tied
-tied_said opening tied before kinds.NoEffect follows = tied
-tied_said opening tied before (kinds.Dynamic dynamic) follows = tied
-tied_said opening tied before (kinds.Directive directive) follows = tied
-tied_said opening tied before (kinds.Field field) follows = tied
-tied_said opening tied before kinds.Unclosed follows = tied
-tied_said opening tied before kinds.BadByte follows = tied
+tied_said opening tied before _ follows = tied
 
 -- The tied notes of the last time token at a place, with their alterations, which are looked back for
 -- themselves. ABC 2.1 section 4.11.

@@ -1,0 +1,257 @@
+-- The faults of a token that pass a test of their code.
+use Rattle.std.proofs.Common.{◌≡◌, ◌∙◌, ◌+◌, ℕ, nat_lt, Bool, true, false, cond, List, [], ◌∷◌, ◌++◌, length, Option, Some, None, Result, Ok, Err, slice_range, refl, sym, ap, append-nil, append_assoc}
+use Rattle.std.specs.Prelude.{filter, is_none}
+use Rattle.std.specs.List.{AllByRecursion, list_any}
+use Rattle.std.specs.Option.{ok_or}
+use Rattle.std.proofs.lemmas.Bool.{cond_both, or_parts}
+use Rattle.std.proofs.lemmas.List.Elements.{filter-append}
+use Rattle.abc_fields.specs.declared.fault.FaultCode.{FaultCode}
+use Rattle.abc_fields.specs.declared.fault.FaultCode.TheVariants.{BadBroken, BadByte, BadEnding, BadKey, BadLength, BadMeter, BadPart, BadProgram, BadTempo, BadTuplet, BadUnit, BadVoice, BigChord}
+use Rattle.abc_fields.specs.declared.fault.FaultCode.TheVariants.{EmptyChord, FreeBarRest, KeyRange, LooseTie, NestedTuplet, TempoRange, TooManyVoices, Unclosed}
+use Rattle.abc_fields.specs.declared.meter.Meter.{Meter}
+use Rattle.abc_fields.specs.declared.meter.Meter.TheVariants.{Free, Of}
+use Rattle.abc_fields.specs.Key.{key_in}
+use Rattle.abc_fields.specs.Meter.{symbol_or_fraction}
+use Rattle.abc_fields.specs.Tempo.{tempo_in, tempo_of}
+use Rattle.abc_fields.specs.Unit.{unit_in}
+use Rattle.abc_fields.specs.Voice.{voice_in, voice_of}
+use Rattle.abc_scan.specs.declared.chord.Chord.{Chord}
+use Rattle.abc_scan.specs.declared.chord_part.ChordPartKind.{ChordPartKind}
+use Rattle.abc_scan.specs.declared.chord_part.ChordPartKind.TheVariants as parts
+use Rattle.abc_scan.specs.declared.directive.Directive.{Directive}
+use Rattle.abc_scan.specs.declared.directive.Directive.TheVariants as directives
+use Rattle.abc_scan.specs.declared.note.Note.{Note}
+use Rattle.abc_scan.specs.declared.spanned.Spanned.{Spanned}
+use Rattle.abc_scan.specs.declared.token.TokenKind.{TokenKind}
+use Rattle.abc_scan.specs.declared.token.TokenKind.TheVariants as kinds
+use Rattle.abc_time.specs.declared.grains.Grains.{Grains}
+use Rattle.abc_time.specs.declared.ratio.Ratio.{Ratio}
+use Rattle.abc_bars_header.specs.FieldKind.{kind_of}
+use Rattle.abc_bars_header.specs.declared.field_kind.FieldKind.{FieldKind}
+use Rattle.abc_bars_header.specs.declared.field_kind.FieldKind.TheVariants as fields
+use Rattle.abc_bars_items.specs.Column.{column_of}
+use Rattle.abc_bars_items.specs.Program.{program_of}
+use Rattle.abc_bars_items.specs.declared.item.Item.{Item}
+use Rattle.abc_bars_items.specs.declared.item.TheConstants.{MOST_CHORD_NOTES}
+use Rattle.abc_bars_voice.specs.declared.voice_state.VoiceState.{VoiceState}
+use Rattle.abc_bars_voice.specs.TempoItem.{is_out_of_range, tempo_item}
+use Rattle.abc_bars_voice.specs.Tuplet.{OpenTuplet, tuplet_after_mark, tuplet_by}
+use Rattle.abc_bars_notes.specs.declared.broken.Preceding.{Preceding}
+use Rattle.abc_bars_notes.specs.declared.chords.ChordContext.{ChordContext}
+use Rattle.abc_bars_notes.specs.declared.sound.ChordBuilder.{ChordBuilder}
+use Rattle.abc_bars_notes.specs.declared.sound.NoteContext.{NoteContext}
+use Rattle.abc_bars_notes.specs.BarRest.{bar_rest_length, bars_of, or_one_bar}
+use Rattle.abc_bars_notes.specs.Broken.{factors_of}
+use Rattle.abc_bars_notes.specs.Chords.{part_context, chord_builder_from, chord_builder_of, tie_follows, with_dropped, with_fault as with_part_fault, with_kind as with_part_kind, with_part}
+use Rattle.abc_bars_notes.specs.Sound.{fault_if, no_notes, note_faults, with_note as with_sounding}
+use Rattle.abc_bars_notes.specs.TimeTokens.{chord_by, play_chord}
+use Rattle.abc_bars_notes.specs.TokenRole.{has_note}
+use Rattle.abc_bars_body.specs.declared.body.Body.{Body}
+use Rattle.abc_bars_body.specs.Body.{here, with_current, after_mention}
+use Rattle.abc_bars_body.specs.BodyFields.{accept, accept_with_fault, key_by, kind_result, meter_by, part_by, part_of, tempo_by, unit_by, voice_by, voice_made}
+use Rattle.abc_bars_body.specs.Cell.{after_chord_mention, tie_ahead}
+use Rattle.abc_bars.specs.LookBack.CellFaults.{Faults, byte_fault, byte_faults, ending_faults}
+use Rattle.abc_bars.proofs.LookBack.TokenResults.{directive_faults, some_fault, token_faults}
+
+-- The faults that pass a test of their code.
+abbrev pub Told : (FaultCode → Bool) → Faults → Faults
+Told told faults = filter (λ fault. told fault.1) faults
+
+-- None of these codes passes a test.
+abbrev pub Fails : (FaultCode → Bool) → List FaultCode → Type 0
+Fails told [] = Unit {0}
+Fails told (code ∷ codes) = (told code ≡ false) × Fails told codes
+
+fails : (told : FaultCode → Bool) (codes : List FaultCode) → list_any told codes ≡ false → Fails told codes
+fails told [] none = tt
+fails told (code ∷ codes) none = let parts = or_parts (told code) (list_any told codes) none in (parts.0, fails told codes parts.1)
+
+-- The codes of the faults that a token may have.
+abbrev field_codes : List FaultCode
+field_codes = BadMeter ∷ BadUnit ∷ BadTempo ∷ TempoRange ∷ BadKey ∷ BadPart ∷ BadVoice ∷ TooManyVoices ∷ []
+
+abbrev pub codes_of : TokenKind → List FaultCode
+codes_of (kinds.Note note) = BadLength ∷ KeyRange ∷ []
+codes_of (kinds.Rest length) = BadLength ∷ []
+codes_of (kinds.BarRest bars) = FreeBarRest ∷ BadLength ∷ []
+codes_of (kinds.Chord chord) = EmptyChord ∷ LooseTie ∷ BadByte ∷ BadLength ∷ KeyRange ∷ BigChord ∷ []
+codes_of (kinds.InlineField field) = field_codes
+codes_of (kinds.Field field) = field_codes
+codes_of (kinds.Ending passes) = BadEnding ∷ []
+codes_of (kinds.Tuplet mark) = BadTuplet ∷ NestedTuplet ∷ []
+codes_of (kinds.Broken mark) = BadBroken ∷ []
+codes_of kinds.Tie = LooseTie ∷ []
+codes_of (kinds.Directive directive) = BadProgram ∷ []
+codes_of kinds.Unclosed = Unclosed ∷ []
+codes_of kinds.BadByte = BadByte ∷ []
+codes_of _ = []
+
+-- Any parts of a chord.
+pub all_parts : (rest : List (Spanned ChordPartKind)) → AllByRecursion (λ part. Unit {0}) rest
+all_parts [] = tt
+all_parts (part ∷ rest) = (tt, all_parts rest)
+
+module _ (told : FaultCode → Bool) where
+  pub more : (faults others l : Faults) → Told told others ≡ l → Told told (faults ++ others) ≡ Told told faults ++ l
+  more faults others l is = filter-append (λ fault. told fault.1) faults others ∙ ap (λ f. Told told faults ++ f) is
+
+  pub none_more : (faults : Faults) → Told told faults ≡ Told told faults ++ []
+  none_more faults = sym (append-nil _)
+
+  -- Faults that do not pass.
+  pub no_fault : (column : ℕ) (code : FaultCode) → told code ≡ false → Told told ((column, code) ∷ []) ≡ []
+  no_fault column code not = ap (λ b. cond b ((column, code) ∷ []) []) not
+
+  pub none_if : (code : FaultCode) → told code ≡ false → (b : Bool) (column : ℕ) → Told told (fault_if b column code) ≡ []
+  none_if code not true column = no_fault column code not
+  none_if code not false column = refl
+
+  none-note : told BadLength ≡ false → told KeyRange ≡ false → (refused silent : Bool) (column : ℕ)
+      → Told told (fault_if refused column BadLength ++ fault_if silent column KeyRange) ≡ []
+  none-note first second refused silent column =
+      filter-append (λ fault. told fault.1) (fault_if refused column BadLength) (fault_if silent column KeyRange)
+      ∙ (λ i. none_if BadLength first refused column i ++ none_if KeyRange second silent column i)
+
+  none-bar : told BadLength ≡ false → (from num den : ℕ) (o : Option Grains) → Told told (some_fault from (or_one_bar num den o).1) ≡ []
+  none-bar not from num den None = no_fault (column_of from) BadLength not
+  none-bar not from num den (Some length) = refl
+
+  none-bars : told FreeBarRest ≡ false → told BadLength ≡ false → (from : ℕ) (meter : Meter) (bars : Option ℕ) → Told told (some_fault from (bar_rest_length meter bars).1) ≡ []
+  none-bars free not from Free bars = no_fault (column_of from) FreeBarRest free
+  none-bars free not from (Of num den) None = refl
+  none-bars free not from (Of num den) (Some n) = none-bar not from num den (bars_of num den n)
+
+  none-tuplet : told BadTuplet ≡ false → told NestedTuplet ≡ false → (from : ℕ) (old new : Option OpenTuplet) → Told told (some_fault from (tuplet_after_mark old new).1) ≡ []
+  none-tuplet bad nested from old None = no_fault (column_of from) BadTuplet bad
+  none-tuplet bad nested from None (Some new) = refl
+  none-tuplet bad nested from (Some old) (Some new) = no_fault (column_of from) NestedTuplet nested
+
+  none-tie : told LooseTie ≡ false → (from : ℕ) (b : Bool) → Told told (cond b [] ((column_of from, LooseTie) ∷ [])) ≡ []
+  none-tie not from true = refl
+  none-tie not from false = no_fault (column_of from) LooseTie not
+
+  none-ending : told BadEnding ≡ false → (from : ℕ) (passes : Option ℕ) → Told told (ending_faults from passes) ≡ []
+  none-ending not from None = no_fault (column_of from) BadEnding not
+  none-ending not from (Some passes) = refl
+
+  none-directive : told BadProgram ≡ false → (from : ℕ) (directive : Directive) → Told told (directive_faults from directive) ≡ []
+  none-directive not from (directives.Program written) = none_if BadProgram not (is_none (program_of written)) (column_of from)
+  none-directive not from (directives.Reach reach) = refl
+
+  -- The faults of a field that is read or refused.
+  none-read : {V : Type 0} (o : Option V) (code : FaultCode) (given : Result V FaultCode → Faults) → ((v : V) → Told told (given (Ok v)) ≡ [])
+      → Told told (given (Err code)) ≡ [] → Told told (given (ok_or o code)) ≡ []
+  none-read (Some v) code given accepted refused = accepted v
+  none-read None code given accepted refused = refused
+
+  none-part : told BadPart ≡ false → (body : Body) (from : ℕ) (part : Option ℕ) → Told told (part_by body from part).faults ≡ []
+  none-part not body from (Some letter) = refl
+  none-part not body from None = no_fault (column_of from) BadPart not
+
+  none-range : told TempoRange ≡ false → (body : Body) (from : ℕ) (item : Item) (b : Bool)
+      → Told told (cond b (accept_with_fault body from item TempoRange) (accept body item)).faults ≡ []
+  none-range not body from item true = no_fault (column_of from) TempoRange not
+  none-range not body from item false = refl
+
+  none-made : told TooManyVoices ≡ false → (body : Body) (from : ℕ) (name : List ℕ) (made : Option Body) → Told told (voice_made body from name made).faults ≡ []
+  none-made not body from name (Some made) = refl
+  none-made not body from name None = no_fault (column_of from) TooManyVoices not
+
+  none-field : Fails told field_codes → (body : Body) (from : ℕ) (kind : FieldKind) (value : List ℕ) → Told told (kind_result body kind value from).faults ≡ []
+  unfolding tempo_of voice_of
+  none-field h body from fields.Meter value =
+      none-read (symbol_or_fraction value) BadMeter (λ r. (meter_by body from r).faults) (λ _. refl) (no_fault (column_of from) BadMeter h.0)
+  none-field h body from fields.UnitLength value =
+      none-read (unit_in value) BadUnit (λ r. (unit_by body from r).faults) (λ _. refl) (no_fault (column_of from) BadUnit h.1.0)
+  none-field h body from fields.Tempo value =
+      none-read (tempo_in value) BadTempo (λ r. (tempo_by body from r).faults)
+      (λ tempo. none-range h.1.1.1.0 body from (tempo_item false (here body).unit tempo) (is_out_of_range (here body).unit tempo))
+      (no_fault (column_of from) BadTempo h.1.1.0)
+  none-field h body from fields.Key value =
+      none-read (key_in value) BadKey (λ r. (key_by body from r).faults) (λ _. refl) (no_fault (column_of from) BadKey h.1.1.1.1.0)
+  none-field h body from fields.Parts value = none-part h.1.1.1.1.1.0 body from (part_of value)
+  none-field h body from fields.Voice value =
+      none-read (voice_in value) BadVoice (λ r. (voice_by body from value r).faults)
+      (λ voice.
+      let name : List ℕ = slice_range value voice.from voice.to in
+      none-made h.1.1.1.1.1.1.1.0 body from name (with_current body name voice.shift))
+      (no_fault (column_of from) BadVoice h.1.1.1.1.1.1.0)
+  none-field h body from _ value = refl
+
+  -- The faults of a chord are those of the bytes in it, if its notes and ties have none.
+  module _ (tie : told LooseTie ≡ false) (empty : told EmptyChord ≡ false) (Allowed : ChordPartKind → Type 0)
+      (notes : (note : Note) → Allowed (parts.Note note) → Fails told (BadLength ∷ KeyRange ∷ BigChord ∷ [])) where
+    bytes-of-part : (state : VoiceState) (broken : List Ratio) (outside : ChordContext) (kind : ChordPartKind) (from : ℕ) (follows : Bool) (inside : ChordBuilder) → Allowed kind
+        → Told told (with_part_kind state broken (part_context outside from follows) kind inside).faults
+        ≡ Told told inside.faults ++ Told told (byte_fault (outside.from + from) kind)
+    bytes-of-part state broken outside (parts.Note note) from follows inside allowed =
+        let around : NoteContext = part_context outside from follows in
+        let h : Fails told (BadLength ∷ KeyRange ∷ BigChord ∷ []) = notes note allowed in
+        let P : ChordBuilder → Type 0 = λ i. Told told i.faults ≡ Told told inside.faults ++ [] in
+        cond_both (nat_lt (length inside.tones) MOST_CHORD_NOTES) (with_sounding state broken around note inside) (with_dropped around.column inside) P
+        (λ _. more inside.faults (note_faults state inside.accidentals broken around.outer around.column note) [] (none-note h.0 h.1.0 _ _ around.column))
+        (λ _. cond_both inside.big inside (record (with_part_fault around.column BigChord inside) { big = true }) P (λ _. none_more inside.faults)
+        (λ _. more inside.faults ((around.column, BigChord) ∷ []) [] (no_fault around.column BigChord h.1.1.0)))
+    bytes-of-part state broken outside parts.Tie from follows inside allowed =
+        let column : ℕ = column_of (outside.from + from) in
+        cond_both inside.after_note inside (with_part_fault column LooseTie inside) (λ (i : ChordBuilder). Told told i.faults ≡ Told told inside.faults ++ [])
+        (λ _. none_more inside.faults) (λ _. more inside.faults ((column, LooseTie) ∷ []) [] (no_fault column LooseTie tie))
+    bytes-of-part state broken outside parts.NoEffect from follows inside allowed = none_more inside.faults
+    bytes-of-part state broken outside parts.BadByte from follows inside allowed = more inside.faults _ _ refl
+
+    bytes-of-parts : (state : VoiceState) (broken : List Ratio) (outside : ChordContext) (rest : List (Spanned ChordPartKind)) (inside : ChordBuilder)
+        → AllByRecursion (λ part. Allowed part.kind) rest
+        → Told told (chord_builder_from state broken outside rest inside).faults ≡ Told told inside.faults ++ Told told (byte_faults outside.from rest)
+    bytes-of-parts state broken outside [] inside all = none_more inside.faults
+    bytes-of-parts state broken outside (part ∷ rest) inside all =
+        bytes-of-parts state broken outside rest (with_part state broken outside part (tie_follows rest) inside) all.1
+        ∙ ap (λ l. l ++ Told told (byte_faults outside.from rest)) (bytes-of-part state broken outside part.kind part.from (tie_follows rest) inside all.0)
+        ∙ append_assoc (Told told inside.faults) (Told told (byte_fault (outside.from + part.from) part.kind)) (Told told (byte_faults outside.from rest))
+        ∙ ap (λ l. Told told inside.faults ++ l) (sym (filter-append (λ fault. told fault.1) (byte_fault (outside.from + part.from) part.kind) (byte_faults outside.from rest)))
+
+    pub bytes_of_chord : (state : VoiceState) (broken : List Ratio) (tied : Bool) (from : ℕ) (chord : Chord) → AllByRecursion (λ part. Allowed part.kind) chord.parts
+        → Told told (play_chord state broken tied from chord).faults ≡ Told told (byte_faults from chord.parts)
+    bytes_of_chord state broken tied from chord all =
+        let outside : ChordContext = record { length = chord.length; tied = tied; from = from } in
+        by-note (has_note chord.parts) state from (chord_builder_of state broken outside chord.parts)
+        ∙ bytes-of-parts state broken outside chord.parts (no_notes state) all
+      where
+        by-note : (b : Bool) (state : VoiceState) (from : ℕ) (inside : ChordBuilder) → Told told (chord_by b state from inside).faults ≡ Told told inside.faults
+        by-note true state from inside = refl
+        by-note false state from inside = ap (λ b. cond b ((column_of from, EmptyChord) ∷ Told told inside.faults) (Told told inside.faults)) empty
+
+  -- Of a byte of a chord, if it has none.
+  none-byte : told BadByte ≡ false → (from : ℕ) (kind : ChordPartKind) → Told told (byte_fault from kind) ≡ []
+  none-byte not from parts.BadByte = no_fault (column_of from) BadByte not
+  none-byte not from _ = refl
+
+  pub none_bytes : told BadByte ≡ false → (from : ℕ) (rest : List (Spanned ChordPartKind)) → Told told (byte_faults from rest) ≡ []
+  none_bytes not from [] = refl
+  none_bytes not from (part ∷ rest) =
+      filter-append (λ fault. told fault.1) (byte_fault (from + part.from) part.kind) (byte_faults from rest)
+      ∙ (λ i. none-byte not (from + part.from) part.kind i ++ none_bytes not from rest i)
+
+  -- A token has none if no code of its faults passes.
+  none-of : (body : Body) (behind : Preceding) (after : Bool) (from : ℕ) (kind : TokenKind) (ahead : List (Spanned TokenKind)) → Fails told (codes_of kind)
+      → Told told (token_faults body behind after from kind ahead) ≡ []
+  none-of body behind after from (kinds.Note note) ahead h = none-note h.0 h.1.0 _ _ (column_of from)
+  none-of body behind after from (kinds.Rest length) ahead h = none_if BadLength h.0 _ (column_of from)
+  none-of body behind after from (kinds.BarRest bars) ahead h = none-bars h.0 h.1.0 from (here (after_mention body)).meter bars
+  none-of body behind after from (kinds.Chord chord) ahead h =
+      bytes_of_chord h.1.0 h.0 (λ _. Unit {0}) (λ _ _. h.1.1.1) (here (after_chord_mention (has_note chord.parts) body)) (factors_of behind ahead) (tie_ahead ahead) from chord
+      (all_parts chord.parts)
+      ∙ none_bytes h.1.1.0 from chord.parts
+  none-of body behind after from (kinds.InlineField field) ahead h = none-field h body from (kind_of field.letter) field.value
+  none-of body behind after from (kinds.Field field) ahead h = none-field h body from (kind_of field.letter) field.value
+  none-of body behind after from (kinds.Ending passes) ahead h = none-ending h.0 from passes
+  none-of body behind after from (kinds.Tuplet mark) ahead h = none-tuplet h.0 h.1.0 from (here body).tuplet (tuplet_by (here body).meter mark)
+  none-of body behind after from (kinds.Broken mark) ahead h = none_if BadBroken h.0 _ (column_of from)
+  none-of body behind after from kinds.Tie ahead h = none-tie h.0 from after
+  none-of body behind after from (kinds.Directive directive) ahead h = none-directive h.0 from directive
+  none-of body behind after from kinds.Unclosed ahead h = no_fault (column_of from) Unclosed h.0
+  none-of body behind after from kinds.BadByte ahead h = no_fault (column_of from) BadByte h.0
+  none-of body behind after from _ ahead h = refl
+
+  pub none_told : (body : Body) (behind : Preceding) (after : Bool) (from : ℕ) (kind : TokenKind) (ahead : List (Spanned TokenKind)) → list_any told (codes_of kind) ≡ false
+      → Told told (token_faults body behind after from kind ahead) ≡ []
+  none_told body behind after from kind ahead none = none-of body behind after from kind ahead (fails told (codes_of kind) none)
