@@ -1,5 +1,5 @@
 -- Laws of lists and options.
-use Rattle.std.proofs.Common.{◌≡◌, ℕ, zero, suc, ◌+◌, ◌<◌, ◌≤◌, true, false, Bool, List, [], ◌∷◌, ◌++◌, map, take, drop, length}
+use Rattle.std.proofs.Common.{◌≡◌, ℕ, zero, suc, ◌+◌, ◌<◌, true, false, Bool, List, [], ◌∷◌, ◌++◌, map, take, drop, length}
 use Rattle.std.proofs.Common.{Option, Some, None, option_map, find, refl, sym, ap, ◌∙◌, ⊎_elim, arith, suc-add, zero-add}
 use Rattle.std.proofs.lemmas.Bool.{cases_Bool}
 use Rattle.std.proofs.lemmas.List.Folds.{find-append}
@@ -28,11 +28,6 @@ row_before (x ∷ xs) ys (suc i) h = row_before xs ys i (omega arith)
 pub row_behind : {A : Type 0} (xs ys : List (List A)) (i : ℕ) → row_at (xs ++ ys) (length xs + i) ≡ row_at ys i
 row_behind [] ys i = ap (λ k. row_at ys k) (zero-add i)
 row_behind (x ∷ xs) ys i = rw suc-add (row_behind xs ys i)
-
-pub row_past : {A : Type 0} (xs : List (List A)) (i : ℕ) → length xs ≤ i → row_at xs i ≡ []
-row_past [] i h = refl
-row_past (x ∷ xs) zero h = absurd (omega arith)
-row_past (x ∷ xs) (suc i) h = row_past xs i (omega arith)
 
 pub row_take : {A : Type 0} (n : ℕ) (xs : List (List A)) (i : ℕ) → i < n → row_at (take n xs) i ≡ row_at xs i
 row_take zero xs i h = absurd (omega arith)

@@ -23,9 +23,6 @@ use Rattle.abc_live_cost.proofs.Lists.{find_behind, find_before}
 
 -- entered states are items
 
-as_placed : {State : Type 0} → Spot State → Placed State
-as_placed spot = placed_at spot.line spot.entered
-
 line_items : {State Cell : Type 0} (next : State → Cell → State) (line nth : ℕ) (state : State) (cells : List Cell)
     (others : List (Placed Cell)) → items_along next (λ entered cell. entered) state (map (placed_at line) cells ++ others) ≡ map
     (λ spot. placed_at spot.line spot.entered) (spots_in_line next line nth state cells) ++ items_along next (λ entered cell. entered) (state_after next state cells) others

@@ -4,7 +4,7 @@ use Rattle.std.proofs.Common.{None, refl, sym, ap, ◌∙◌, subst, arith}
 use Rattle.std.proofs.lemmas.List.Sums.{sum_by-drop_more}
 use Rattle.abc_fold.specs.Work.{Counters, raised}
 use Rattle.abc_live_index.specs.BuildCount.{IsBuiltUpTo, built_count_at, built_count}
-use Rattle.abc_fold.proofs.Raised.{raised-least, raised-mono, raised-raised}
+use Rattle.abc_fold.proofs.Raised.{raised-least, raised-raised}
 
 more_raised : (count more k : ℕ) → count ≤ more → raised count k ≤ raised more k
 unfolding raised
@@ -46,15 +46,6 @@ built_both j k a b c ab bc = record {
       let more = more_raised b.built (raised a.built j) k ab.most in
       let sum = raised-raised a.built j k in
       omega (arith, bc.most, more, sum);
-}
-
--- A bound may be greater.
-pub built_more : (j k : ℕ) (a b : Counters) → j ≤ k → IsBuiltUpTo j a b → IsBuiltUpTo k a b
-built_more j k a b less ab = record {
-  scanned = ab.scanned;
-  folded = ab.folded;
-  least = ab.least;
-  most = let more = raised-mono a.built j k less in omega (arith, ab.most, more);
 }
 
 -- Counters from which the rest may be built, and stay within what all may be.

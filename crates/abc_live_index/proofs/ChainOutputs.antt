@@ -50,11 +50,6 @@ module _ {State Cell Items : Type 0} (steps : Steps State Cell Items) where
   items_append state [] others = refl
   items_append state (cell ∷ cells) others = ap (λ l. steps.gives state cell ∷ l) (items_append (steps.next state cell) cells others)
 
-  -- what stands along cells of one line
-  along_line : (line : ℕ) (state : State) (cells : List Cell) → items_along steps.next steps.gives state (map (placed_at line) cells) ≡ map (placed_at line) (items_from steps state cells)
-  along_line line state [] = refl
-  along_line line state (cell ∷ cells) = ap (λ l. placed_at line (steps.gives state cell) ∷ l) (along_line line (steps.next state cell) cells)
-
   along_append : (line : ℕ) (state : State) (cells : List Cell) (others : List (Placed Cell))
       → items_along steps.next steps.gives state (map (placed_at line) cells ++ others)
       ≡ map (placed_at line) (items_from steps state cells) ++ items_along steps.next steps.gives (state_after state cells) others

@@ -8,7 +8,8 @@ use Rattle.std.specs.List.{AllZip}
 use Rattle.abc_book.specs.declared.block.Block.{Block}
 use Rattle.abc_fold.specs.Chain.{Chained}
 use Rattle.abc_live_index.specs.Tunes.{HasCells, faults_by, tune_faults_by}
-use Rattle.abc_live_index.proofs.OutputLists.{one_on, put_more, zipped_count}
+use Rattle.abc_live_index.proofs.OutputLists.{put_more, zipped_count}
+use Rattle.abc_live_index.proofs.Lists.{one_on}
 use Rattle.abc_tune_compiler.specs.Rules.{Rules}
 use Rattle.abc_tune_compiler.specs.declared.fault.Fault.{Fault}
 

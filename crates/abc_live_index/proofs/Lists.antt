@@ -1,9 +1,9 @@
 -- Elements of lists by their places.
-use Rattle.std.proofs.Common.{◌≡◌, ℕ, zero, suc, ◌+◌, ◌-◌, ◌<◌, ◌≤◌, List, [], ◌∷◌, ◌++◌, length, take, drop, set, Option, Some}
-use Rattle.std.proofs.Common.{None, slice_get, refl, sym, ap, ◌∙◌, append_assoc, arith, inl, inr}
+use Rattle.std.proofs.Common.{◌≡◌, ℕ, zero, suc, ◌+◌, ◌-◌, ◌<◌, ◌≤◌, List, [], ◌∷◌, ◌++◌, length, take, drop, Option, Some}
+use Rattle.std.proofs.Common.{None, slice_get, refl, sym, ap, ◌∙◌, arith, inl, inr}
 use Rattle.std.specs.Prelude.{IfOk, Result, Ok, Err}
 use Rattle.std.proofs.Math.Seq.{drop-cons}
-use Rattle.std.proofs.lemmas.List.{drop-drop, drop-set-lt, take_all, take_more, take_more_set, take-append-drop}
+use Rattle.std.proofs.lemmas.List.{drop-drop, take_all, take_more, take-append-drop}
 use Rattle.std.proofs.lemmas.Option.{slice_get_within, slice_get_cases, get_or_from_slice_get}
 
 -- the one at a place, and those after it
@@ -16,7 +16,7 @@ one_on xs i x is =
 pub take_next : {X : Type 0} (xs : List X) (k : ℕ) (x : X) → slice_get xs k ≡ Some x → take (k + 1) xs ≡ take k xs ++ x ∷ []
 take_next xs k x is = take_more xs k x (slice_get_within xs k x is) ∙ ap (λ y. take k xs ++ y ∷ []) (get_or_from_slice_get xs k x x is)
 
-past : {X : Type 0} (xs : List X) (i : ℕ) → slice_get xs i ≡ None → length xs ≤ i
+pub past : {X : Type 0} (xs : List X) (i : ℕ) → slice_get xs i ≡ None → length xs ≤ i
 past xs i is = elim (slice_get_cases xs i).1 [ inl some ↦ absurd (let e = sym is ∙ some.2 in cc) | inr behind ↦ behind.0 ]
 
 -- there is one at each place
@@ -70,16 +70,6 @@ same_behind xs ys from to i k here there apart same =
     let one : i ≡ from + (i - from) = omega (arith, here) in
     let other : to + (i - from) ≡ k = omega (arith, there, apart) in
     ap (slice_get xs) one ∙ sym (get_behind from xs (i - from)) ∙ ap (λ l. slice_get l (i - from)) (sym same) ∙ get_behind to ys (i - from) ∙ ap (slice_get ys) other
-
--- one more that is put instead of an old one, and those that are still to be put
-pub put_next : {X : Type 0} (xs next : List X) (k : ℕ) (x : X) (rest : List X) → k < length xs → next ≡ set xs k x
-    → take (k + 1) next ++ (rest ++ drop (k + 1 + length rest) next) ≡ take k xs ++ ((x ∷ rest) ++ drop (k + length (x ∷ rest)) xs)
-put_next xs next k x rest inside put =
-    let count : k + 1 + length rest ≡ k + length (x ∷ rest) = omega arith in
-    let front : take (k + 1) next ≡ take k xs ++ x ∷ [] = ap (take (k + 1)) put ∙ take_more_set xs k x inside in
-    let behind : drop (k + 1 + length rest) next ≡ drop (k + length (x ∷ rest)) xs =
-    ap (drop (k + 1 + length rest)) put ∙ drop-set-lt (k + 1 + length rest) xs k x (omega arith) ∙ ap (λ n. drop n xs) count in
-    ap (λ l. l ++ (rest ++ drop (k + 1 + length rest) next)) front ∙ append_assoc (take k xs) (x ∷ []) (rest ++ drop (k + 1 + length rest) next) ∙ ap (λ l. take k xs ++ (x ∷ (rest ++ l))) behind
 
 -- what follows from two facts of an answer
 pub ok_both : {A E : Type 0} (answer : Result A E) (P Q R : A → Type 0) → ((x : A) → P x → Q x → R x) → IfOk answer P → IfOk answer Q → IfOk answer R

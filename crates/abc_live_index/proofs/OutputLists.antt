@@ -1,46 +1,26 @@
 -- Items of a chain from a place on, and their faults.
-use Rattle.std.proofs.Common.{◌≡◌, ℕ, zero, suc, ◌+◌, ◌-◌, ◌<◌, ◌≤◌, List, [], ◌∷◌, ◌++◌, length, take, drop, map, Option, Some}
-use Rattle.std.proofs.Common.{None, slice_get, get_or, refl, sym, ap, ◌∙◌, subst, append_assoc, length-append, arith, inl, inr}
+use Rattle.std.proofs.Common.{◌≡◌, ℕ, zero, suc, ◌+◌, ◌-◌, ◌<◌, ◌≤◌, List, [], ◌∷◌, ◌++◌, length, take, drop, map, Some}
+use Rattle.std.proofs.Common.{None, slice_get, get_or, refl, sym, ap, ◌∙◌, subst, append_assoc, length-append, arith}
 use Rattle.std.proofs.Math.Seq.{drop-cons}
 use Rattle.std.proofs.lemmas.Grind.{flat_map-append}
 use Rattle.std.proofs.lemmas.List.{drop_all, drop-drop, drop-map, append-nil}
-use Rattle.std.proofs.lemmas.List.Elements.{All-head, All-tail}
-use Rattle.std.proofs.lemmas.Option.{slice_get_within, slice_get_cases, slice_get_read, get_or_from_slice_get}
+use Rattle.std.proofs.lemmas.Option.{slice_get_within, slice_get_read, get_or_from_slice_get}
 use Rattle.std.specs.List.{AllZip}
 use Rattle.std.specs.Prelude.{All, IfOk, Result, Ok, Err}
+use Rattle.std.proofs.lemmas.Slice.Zip.{AllZip-long}
+use Rattle.abc_live_index.proofs.Lists.{one_on, past}
 use Rattle.abc_fields.specs.declared.fault.FaultCode.{FaultCode}
 use Rattle.abc_live_index.specs.Output.{placed_from}
 use Rattle.abc_tune_compiler.specs.Placed.{placed_at}
 use Rattle.abc_tune_compiler.specs.Tune.{fault_in, faults_along}
 
-none_some : {X : Type 0} (x : X) → None ≡ Some x → ⊥
-none_some x is = subst (λ o. elim o as (λ _. Type 0) [ None ↦ Unit {0} | Some y ↦ ⊥ ]) is tt
-
-value_or : {X : Type 0} → X → Option X → X
-value_or x None = x
-value_or x (Some y) = y
-
-some_one : {X : Type 0} (x y : X) → Some x ≡ Some y → x ≡ y
-unfolding value_or
-some_one x y is = ap (value_or x) is
-
--- the one at a place, and those after it
-pub one_on : {X : Type 0} (xs : List X) (i : ℕ) (x : X) → slice_get xs i ≡ Some x → drop i xs ≡ x ∷ drop (i + 1) xs
-one_on xs i x is =
-    let next : suc i ≡ i + 1 = omega arith in
-    drop-cons xs i x (slice_get_within xs i x is) ∙ ap (λ y. y ∷ drop (suc i) xs) (get_or_from_slice_get xs i x x is) ∙ ap (λ k. x ∷ drop k xs) next
-
 -- there is none after the last
 pub none_on : {X : Type 0} (xs : List X) (i : ℕ) → slice_get xs i ≡ None → drop i xs ≡ []
-none_on xs i is =
-    let cases = slice_get_cases xs i in
-    elim cases.1 [ inl some ↦ absurd (none_some some.0 (sym is ∙ some.2)) | inr past ↦ drop_all i xs past.0 ]
+none_on xs i is = drop_all i xs (past xs i is)
 
 -- and one before it
 pub never_none : {X : Type 0} {A : Type 0} (xs : List X) (i : ℕ) → i < length xs → slice_get xs i ≡ None → A
-never_none xs i inside is =
-    let cases = slice_get_cases xs i in
-    elim cases.1 [ inl some ↦ absurd (none_some some.0 (sym is ∙ some.2)) | inr past ↦ absurd (omega (arith, inside, past.0)) ]
+never_none xs i inside is = absurd (let behind = past xs i is in omega (arith, inside, behind))
 
 -- the first of those from one place to another, and the rest
 pub between : {X : Type 0} (xs : List X) (from to : ℕ) (x : X) → from < to → slice_get xs from ≡ Some x → take (to - from) (drop from xs) ≡ x ∷ take (to - (from + 1)) (drop (from + 1) xs)
@@ -101,23 +81,18 @@ copied_all all copies n count at whole =
 module _ {A B : Type 0} (R : A → B → Type 0) where
   -- two lists that go together place by place have as many
   pub zipped_count : (xs : List A) (ys : List B) → AllZip R xs ys → length xs ≡ length ys
-  zipped_count [] [] all = refl
-  zipped_count [] (y ∷ ys) all = absurd all
-  zipped_count (x ∷ xs) [] all = absurd all
-  zipped_count (x ∷ xs) (y ∷ ys) all = ap suc (zipped_count xs ys all.1)
+  zipped_count xs ys all = sym (AllZip-long R xs ys all)
 
   -- and those of one place go together
   pub zipped_at : (xs : List A) (ys : List B) (at : ℕ) (x : A) (y : B) → AllZip R xs ys → slice_get xs at ≡ Some x → slice_get ys at ≡ Some y → R x y
-  zipped_at [] ys at x y all here there = absurd (none_some x here)
+  zipped_at [] ys at x y all here there = absurd (cc)
   zipped_at (x ∷ xs) [] at one other all here there = absurd all
-  zipped_at (x ∷ xs) (y ∷ ys) zero one other all here there = subst (λ b. R one b) (some_one y other there) (subst (λ a. R a y) (some_one x one here) all.0)
+  zipped_at (x ∷ xs) (y ∷ ys) zero one other all here there = (let a : x ≡ one = cc in let b : y ≡ other = cc in subst (λ v. R one v) b (subst (λ u. R u y) a all.0))
   zipped_at (x ∷ xs) (y ∷ ys) (suc at) one other all here there = zipped_at xs ys at one other all.1 here there
 
 -- what holds of all holds of the one at a place
 pub all_at : {X : Type 0} (P : X → Type 0) (xs : List X) (at : ℕ) (x : X) → All P xs → slice_get xs at ≡ Some x → P x
-all_at P [] at x all here = absurd (none_some x here)
-all_at P (y ∷ xs) zero x all here = subst P (some_one y x here) (All-head P y xs all)
-all_at P (y ∷ xs) (suc at) x all here = all_at P xs at x (All-tail P y xs all) here
+all_at P xs at x all here = subst P (get_or_from_slice_get xs at x x here) (all at x (slice_get_within xs at x here))
 
 -- there is one at each place
 pub some_at : {X : Type 0} (xs : List X) (at : ℕ) → at < length xs → (x : X) × (slice_get xs at ≡ Some x)

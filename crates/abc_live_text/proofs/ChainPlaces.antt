@@ -3,6 +3,7 @@ use Rattle.std.proofs.Common.{◌≡◌, ℕ, ◌<◌, ◌≤◌, true, false, L
 use Rattle.std.proofs.Common.{sym, subst, arith, ⊎_elim}
 use Rattle.std.proofs.lemmas.Bool.{cases_Bool}
 use Rattle.std.proofs.lemmas.List.Elements.{All-cons, All-nil}
+use Rattle.std.proofs.lemmas.List.{length-map}
 use Rattle.abc_book.specs.Block.{blocks_of}
 use Rattle.abc_book.specs.Laws.{RiseFromTo}
 use Rattle.abc_book.specs.declared.block.Block.{Block}
@@ -14,7 +15,7 @@ use Rattle.abc_live_text.specs.Pieces.{LiesWithin, class_in}
 use Rattle.abc_live_text.specs.Chains.{header_place, places_of}
 use Rattle.abc_live_text.specs.Origin.{BlocksRise}
 use Rattle.abc_live_text.specs.Row.{CarriedRow}
-use Rattle.abc_live_text.proofs.FreshSteps.{length-over}
+use Rattle.abc_live_text.proofs.Spans.{rise_to}
 
 lower : (low first : ℕ) (blocks : List Block) (last : ℕ) → low ≤ first → BlocksRise first blocks last → BlocksRise low blocks last
 lower low first [] last e h = omega arith
@@ -49,17 +50,13 @@ rise_places (block ∷ blocks) last h =
 -- The places of a text follow one another within it.
 pub places_rise : {Cell : Type 0} (rows : List (CarriedRow Cell)) (blocks : List Block) → blocks ≡ blocks_of (map class_in rows) → BlocksRise 0 (places_of blocks) (length rows)
 places_rise rows blocks are =
-    subst (λ n. BlocksRise 0 (places_of blocks) n) (length-over class_in rows)
+    subst (λ n. BlocksRise 0 (places_of blocks) n) (length-map rows class_in)
     (rise_places blocks (length (map class_in rows)) (subst (λ (b : List Block). RiseFromTo 0 b (length (map class_in rows))) (sym are) (blocks_rise (map class_in rows))))
-
-rise_end : (at : ℕ) (blocks : List Block) (last : ℕ) → BlocksRise at blocks last → at ≤ last
-rise_end at [] last rise = rise
-rise_end at (block ∷ blocks) last rise = let more = rise_end block.to blocks last rise.2 in omega (arith, rise.0, rise.1, more)
 
 rise_within : (at : ℕ) (blocks : List Block) (last : ℕ) → BlocksRise at blocks last → All (LiesWithin last) blocks
 rise_within at [] last rise = All-nil (LiesWithin last)
 rise_within at (block ∷ blocks) last rise =
-    let within : LiesWithin last block = (rise.1, rise_end block.to blocks last rise.2) in
+    let within : LiesWithin last block = (rise.1, rise_to block.to blocks last rise.2) in
     All-cons (LiesWithin last) block blocks within (rise_within block.to blocks last rise.2)
 
 own_place : (n : ℕ) (header : Option Block) → LiesWithin n (header_place header) → IfSome header (LiesWithin n)
@@ -69,7 +66,7 @@ own_place n (Some block) h = h
 pub header_within : {Cell : Type 0} (rows : List (CarriedRow Cell)) (blocks : List Block) → blocks ≡ blocks_of (map class_in rows) → IfSome (header_in blocks) (LiesWithin (length rows))
 header_within rows blocks are =
     let rise = places_rise rows blocks are in
-    own_place (length rows) (header_in blocks) (rise.1, rise_end (header_place (header_in blocks)).to (tunes_in blocks) (length rows) rise.2)
+    own_place (length rows) (header_in blocks) (rise.1, rise_to (header_place (header_in blocks)).to (tunes_in blocks) (length rows) rise.2)
 
 pub tunes_within : {Cell : Type 0} (rows : List (CarriedRow Cell)) (blocks : List Block) → blocks ≡ blocks_of (map class_in rows) → All (LiesWithin (length rows)) (tunes_in blocks)
 tunes_within rows blocks are =

@@ -1,13 +1,14 @@
 -- What an edit costs, and the text with no lines.
-use Rattle.std.proofs.Common.{◌∙◌, ◌∷◌, ◌≡◌, ◌≤◌, Bool, List, None, Option, [], ap, arith, refl, subst, sym, ℕ}
+use Rattle.std.proofs.Common.{◌∷◌, ◌≡◌, List, None, Option, [], ap, arith, refl, subst, sym, ℕ}
 use Rattle.abc_book.specs.declared.block.Block.{Block}
 use Rattle.abc_book.proofs.OnePass.{one_pass}
 use Rattle.abc_fold.specs.Chain.{Chained, no_cells}
-use Rattle.abc_fold.specs.Steps.{Steps}
-use Rattle.abc_fold.specs.Work.{Counters, IsRaisedUpTo, raised}
+use Rattle.abc_fold.specs.Steps.{IsResumable, Steps}
+use Rattle.abc_fold.specs.Work.{Counters}
 use Rattle.abc_fold.proofs.Raised.{raised-least}
 use Rattle.abc_lines.specs.Text.{Text}
 use Rattle.abc_tune_compiler.specs.Book.{blocks_in, header_in, opening_of, tunes_in}
+use Rattle.abc_tune_compiler.specs.Lawful.{AreLawful}
 use Rattle.abc_tune_compiler.specs.Rules.{Rules}
 use Rattle.abc_live_text.specs.Chains.{IsHeaderChainOf}
 use Rattle.abc_live_cost.specs.OldItems.{IsChainOf}
@@ -34,16 +35,6 @@ early_work lines steps before after scan = record {
   most_folded = let same = scan.folded in let least = raised-least before.folded steps in omega (arith, same, least);
 }
 
--- Where steps have been folded too.
-pub late_work : (lines steps : ℕ) (before now after : Counters) → IsScannedUpTo lines before now → IsRaisedUpTo steps now after → IsWorkUpTo lines steps before after
-late_work lines steps before now after scan raise = record {
-  built = raise.built ∙ scan.built;
-  least_scanned = let same = raise.scanned in let least = scan.least in omega (arith, same, least);
-  most_scanned = let same = raise.scanned in let most = scan.most in omega (arith, same, most);
-  least_folded = let same = scan.folded in let least = raise.least in omega (arith, same, least);
-  most_folded = subst (λ n. after.folded ≤ raised n steps) scan.folded raise.most;
-}
-
 empty_chains : {State Cell Items Defaults : Type 0} (steps : Steps State Cell Items) (rules : Rules State Cell Items Defaults) (blocks : List Block) → blocks ≡ []
     → IsHeaderChainOf steps rules [] no_cells (header_in blocks) × AllZip (IsChainOf steps rules.cells (opening_of steps.next rules [] blocks) []) [] (tunes_in blocks)
 empty_chains steps rules [] e = (refl, tt)
@@ -63,9 +54,23 @@ empty_stands {State = State} {Cell = Cell} {Items = Items} steps rules text rows
     } in
     rw (t, r, h, b, c) all
 
--- What is kept of a text stands, seen as it is now.
-pub stands_now : {C State Cell Items Defaults : Type 0} (steps : C → Steps State Cell Items) (rules : C → Rules State Cell Items Defaults) {was now : KeptTextView C State Cell Items} → was ≡ now
+-- What is kept of a text stands, and the laws of its compiler.
+pub record IsKept {C State Cell Items Defaults : Type 0} (steps : Steps State Cell Items) (rules : Rules State Cell Items Defaults) (on : KeptTextView C State Cell Items) : Type 0 where
+  pub laws : IsResumable steps
+  pub lawful : AreLawful steps rules
+  pub stands : ArePartsOf steps rules on.lines.text (parts_of on)
+
+pub kept_of : {C State Cell Items Defaults : Type 0} (steps : C → Steps State Cell Items) (rules : C → Rules State Cell Items Defaults) (on : KeptTextView C State Cell Items)
+    → ArePartsOf (steps on.compiler) (rules on.compiler) on.lines.text (parts_of on)
+    → ((compiler : C) → IsResumable (steps compiler)) → ((compiler : C) → AreLawful (steps compiler) (rules compiler)) → IsKept (steps on.compiler) (rules on.compiler) on
+kept_of steps rules on stands laws lawful = record { laws = laws on.compiler; lawful = lawful on.compiler; stands = stands }
+
+-- The same of a text seen as it is now.
+pub kept_now : {C State Cell Items Defaults : Type 0} (steps : C → Steps State Cell Items) (rules : C → Rules State Cell Items Defaults) {was now : KeptTextView C State Cell Items} → was ≡ now
     → ArePartsOf (steps was.compiler) (rules was.compiler) was.lines.text (parts_of was)
-    → ArePartsOf (steps now.compiler) (rules now.compiler) now.lines.text (parts_of now)
-stands_now {C = C} {State = State} {Cell = Cell} {Items = Items} steps rules same stands =
-    subst (λ (k : KeptTextView C State Cell Items). ArePartsOf (steps k.compiler) (rules k.compiler) k.lines.text (parts_of k)) same stands
+    → ((compiler : C) → IsResumable (steps compiler)) → ((compiler : C) → AreLawful (steps compiler) (rules compiler)) → IsKept (steps now.compiler) (rules now.compiler) now
+kept_now {C = C} {State = State} {Cell = Cell} {Items = Items} steps rules {now = now} same stands laws lawful = record {
+  laws = laws now.compiler;
+  lawful = lawful now.compiler;
+  stands = subst (λ (k : KeptTextView C State Cell Items). ArePartsOf (steps k.compiler) (rules k.compiler) k.lines.text (parts_of k)) same stands;
+}

@@ -1,8 +1,9 @@
 -- The rows of an edited text, by those of a stretch.
-use Rattle.std.proofs.Common.{◌≡◌, ℕ, suc, ◌+◌, ◌-◌, ◌≤◌, List, [], ◌∷◌, ◌++◌, map, All, length, take, drop, refl, sym, ◌∙◌, ap}
-use Rattle.std.proofs.Common.{arith}
-use Rattle.std.proofs.lemmas.List.Elements.{All-cons}
+use Rattle.std.proofs.Common.{◌≡◌, ℕ, ◌+◌, ◌-◌, ◌≤◌, List, ◌++◌, map, All, length, take, drop, refl, sym, ◌∙◌, ap}
+use Rattle.std.proofs.Common.{arith, subst}
 use Rattle.std.specs.List.{flat_map}
+use Rattle.std.proofs.lemmas.List.{take_at, drop_at}
+use Rattle.std.proofs.lemmas.List.Elements.{All-take, All-drop}
 use Rattle.abc_book.specs.Block.{blocks_of}
 use Rattle.abc_book.specs.Laws.{moved}
 use Rattle.abc_book.specs.declared.block.Block.{Block}
@@ -66,16 +67,10 @@ new_parts steps rules text s rows old are chains =
     let read = bare_read rules text rows are in
     let all = map carried_row rows in
     let blocks = blocks_in rules text in
-    let same : blocks ≡ blocks_of (map class_in all) = ap blocks_of (sym read.classes) in
-    let strip = strip_from all 0 0 (places_of blocks) (places_rise all blocks same) in
     let here = placed_from all 0 0 (places_of blocks) in
     let opening = opening_of steps.next rules text blocks in
-    let own : AreRead rules text here = record {
-      classes = by_strip class_in here all strip (λ l. refl) ∙ read.classes;
-      cells = by_strip cells_in here all strip (λ l. refl) ∙ read.cells;
-    } in
     record {
-      read = edit_read rules s here text own;
+      read = edit_read rules s here text (placed_read rules text rows are);
       from = edit_origins steps rules s here text (from_origins rules.cells opening all text 0 0 (places_of blocks) read.cells
           ∙ all_origins rules.cells rules.header opening text (header_in blocks) (tunes_in blocks));
       carried = edit_carried rules old s here (settled_carried steps rules text all old read.cells chains);
@@ -123,12 +118,8 @@ parted rules s rows from to front own back among order h k =
     }
 
 pub all_mid : {X : Type 0} (P : X → Type 0) (a own b : List X) → All P (a ++ (own ++ b)) → All P own
-all_mid P (x ∷ a) own b all = all_mid P a own b (λ i d l. all (suc i) d (omega arith))
-all_mid P [] own b all = all_front P own b all
-  where
-    all_front : {X : Type 0} (P : X → Type 0) (own b : List X) → All P (own ++ b) → All P own
-    all_front P [] b all = λ i d l. absurd (omega (arith, l))
-    all_front P (x ∷ own) b all = All-cons P x own (all 0 x (omega arith)) (all_front P own b (λ i d l. all (suc i) d (omega arith)))
+all_mid P a own b all = subst (All P) (take_at own b (length own) refl)
+    (All-take P (length own) (own ++ b) (subst (All P) (drop_at a (own ++ b) (length a) refl) (All-drop P (length a) (a ++ (own ++ b)) all)))
 
 -- A tune of the stretch in the text.
 pub rows_moved : {Cell : Type 0} (a own b : List (CarriedRow Cell)) (n : ℕ) (block : Block) → n ≡ length a

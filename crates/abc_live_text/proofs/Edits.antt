@@ -1,9 +1,9 @@
 -- What an edit keeps of rows.
-use Rattle.std.proofs.Common.{◌≡◌, ℕ, suc, ◌+◌, ◌<◌, ◌≤◌, true, false, List, [], ◌∷◌, ◌++◌, map, Option, Some, None, Ok, All}
-use Rattle.std.proofs.Common.{length, take, drop, refl, sym, ◌∙◌, ap, arith, append_assoc, ⊎_elim, inl, inr}
+use Rattle.std.proofs.Common.{◌≡◌, ℕ, ◌+◌, ◌<◌, ◌≤◌, true, false, List, [], ◌∷◌, ◌++◌, map, Option, Some, None, Ok, All}
+use Rattle.std.proofs.Common.{length, take, drop, refl, sym, ◌∙◌, ap, append_assoc, ⊎_elim, inl, inr, subst}
 use Rattle.std.proofs.lemmas.Bool.{cases_Bool, cases_lt}
 use Rattle.std.proofs.lemmas.List.{map-append, drop-map, take-map}
-use Rattle.std.proofs.lemmas.List.Elements.{All-cons, All-nil, All-take, All-drop}
+use Rattle.std.proofs.lemmas.List.Elements.{All-cons, All-nil, All-take, All-drop, All-append}
 use Rattle.std.specs.List.{AllZip, list_all}
 use Rattle.abc_book.specs.declared.block.Block.{Block}
 use Rattle.abc_fold.specs.Chain.{Chained}
@@ -19,12 +19,13 @@ use Rattle.abc_tune_compiler.specs.Rules.{Rules}
 use Rattle.abc_live_text.specs.Pieces.{IsCarried, IsFolded, cells_in, class_in, origin_in}
 use Rattle.abc_live_text.specs.Chains.{AreChains, IsHeaderChainOf}
 use Rattle.abc_live_cost.specs.OldItems.{IsChainOf}
+use Rattle.abc_live_text.specs.KeptText.{KeptTextView}
 use Rattle.abc_live_text.specs.Row.{CarriedRow, carried_row, new_row}
 use Rattle.abc_live_text.proofs.WholeRows.{AreRead}
 
 -- A splice that is accepted lies in the text, and makes the spliced one.
-pub accepted : (text : Text) (s : Splice) (after : Text) → replaced text s ≡ Ok after → (s.at + s.removed ≤ length text) × (after ≡ spliced text s)
-accepted text s after e = ⊎_elim
+pub accepted_splice : (text : Text) (s : Splice) (after : Text) → replaced text s ≡ Ok after → (s.at + s.removed ≤ length text) × (after ≡ spliced text s)
+accepted_splice text s after e = ⊎_elim
     (λ (out : length text < s.at + s.removed). let bad = replaced-outside text s out in absurd (cc (bad, e)))
     (λ (inside : s.at + s.removed ≤ length text). ⊎_elim
     (λ (good : list_all is_line s.lines ≡ true). ⊎_elim
@@ -34,6 +35,12 @@ accepted text s after e = ⊎_elim
     (λ (wrong : list_all is_line s.lines ≡ false). let bad = replaced-bad text s inside wrong in absurd (cc (bad, e)))
     (cases_Bool (list_all is_line s.lines)))
     (cases_lt (length text) (s.at + s.removed))
+
+-- The same of a kept text, seen as it is now.
+pub accepted_now : {C State Cell Items : Type 0} {was now : KeptTextView C State Cell Items} (view : was ≡ now) (s : Splice) (after : Text)
+    → replaced was.lines.text s ≡ Ok after → (s.at + s.removed ≤ length now.lines.text) × (after ≡ spliced now.lines.text s)
+accepted_now {C = C} {State = State} {Cell = Cell} {Items = Items} {now = now} view s after e =
+    accepted_splice now.lines.text s after (subst (λ (k : KeptTextView C State Cell Items). replaced k.lines.text s ≡ Ok after) view e)
 
 -- A new line, whose cells no chain holds.
 abbrev pub fresh_row : {State Cell Items Defaults : Type 0} → Rules State Cell Items Defaults → List ℕ → CarriedRow Cell
@@ -87,10 +94,6 @@ edit_origins steps rules s rows text e =
     ∙ ((λ i. take s.at (map origin_in rows) ++ (new_origins rules s.lines i ++ sym (drop-map origin_in (s.at + s.removed) rows) i))
     ∙ (λ i. take s.at (e i) ++ (no_origins s.lines ++ drop (s.at + s.removed) (e i)))))
 
-pub all_both : {X : Type 0} (P : X → Type 0) (a b : List X) → All P a → All P b → All P (a ++ b)
-all_both P [] b h k = k
-all_both P (x ∷ a) b h k = All-cons P x (a ++ b) (h 0 x (omega arith)) (all_both P a b (λ i d l. h (suc i) d (omega arith)) k)
-
 new_carried : {State Cell Items Defaults : Type 0} (rules : Rules State Cell Items Defaults)
     (chains : List (Chained State Cell Items)) (lines : Text) → All (IsCarried chains) (map (fresh_row rules) lines)
 new_carried rules chains [] = All-nil (IsCarried chains)
@@ -99,8 +102,8 @@ new_carried rules chains (line ∷ lines) = All-cons (IsCarried chains) (fresh_r
 pub edit_carried : {State Cell Items Defaults : Type 0} (rules : Rules State Cell Items Defaults)
     (chains : List (Chained State Cell Items)) (s : Splice) (rows : List (CarriedRow Cell)) → All (IsCarried chains) rows → All (IsCarried chains) (edit_of rules s rows)
 edit_carried rules chains s rows all =
-    all_both (IsCarried chains) (take s.at rows) (map (fresh_row rules) s.lines ++ drop (s.at + s.removed) rows) (All-take (IsCarried chains) s.at rows all)
-    (all_both (IsCarried chains) (map (fresh_row rules) s.lines) (drop (s.at + s.removed) rows) (new_carried rules chains s.lines) (All-drop (IsCarried chains) (s.at + s.removed) rows all))
+    All-append (IsCarried chains) (take s.at rows) (map (fresh_row rules) s.lines ++ drop (s.at + s.removed) rows) (All-take (IsCarried chains) s.at rows all)
+    (All-append (IsCarried chains) (map (fresh_row rules) s.lines) (drop (s.at + s.removed) rows) (new_carried rules chains s.lines) (All-drop (IsCarried chains) (s.at + s.removed) rows all))
 
 tunes_folded : {State Cell Items : Type 0} (steps : Steps State Cell Items) (read : List ℕ → List Cell) (opening : State)
     (text : Text) (chains : List (Chained State Cell Items)) (blocks : List Block) → AllZip (IsChainOf steps read opening text) chains blocks → All (IsFolded steps) chains

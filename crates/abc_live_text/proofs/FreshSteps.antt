@@ -1,7 +1,7 @@
 -- The steps over the blocks of a new text are its fresh cells.
 use Rattle.std.proofs.Common.{◌≡◌, ℕ, zero, suc, ◌+◌, ◌-◌, ◌<◌, ◌≤◌, List, [], ◌∷◌, ◌++◌, map, Option, Some, None, length, take}
 use Rattle.std.proofs.Common.{drop, get_or, Contains, refl, sym, ◌∙◌, ap, subst, arith}
-use Rattle.std.proofs.lemmas.List.{drop-map, map-append}
+use Rattle.std.proofs.lemmas.List.{drop-map, map-append, length-map}
 use Rattle.std.proofs.lemmas.List.Sums.{sum_by-cons}
 use Rattle.std.specs.List.{flat_map, AllZip, sum_by}
 use Rattle.abc_book.specs.declared.block.Block.{Block}
@@ -23,15 +23,11 @@ use Rattle.abc_live_cost.proofs.Words.{chains_lie_in_order}
 use Rattle.abc_tune_compiler.specs.Book.{blocks_in, header_in, opening_of, tunes_in}
 use Rattle.abc_tune_compiler.specs.Rules.{Rules}
 use Rattle.abc_tune_compiler.specs.Tune.{lines_in}
-use Rattle.abc_live_text.specs.Pieces.{cells_in, cells_over, entries_at, kept_states_over, origin_in, steps_taken}
+use Rattle.abc_live_text.specs.Pieces.{cells_in, cells_over, rows_in, entries_at, kept_states_over, origin_in, steps_taken}
 use Rattle.abc_live_text.specs.Chains.{AreChains, IsHeaderChainOf, header_steps}
 use Rattle.abc_live_cost.specs.OldItems.{IsChainOf}
 use Rattle.abc_live_text.specs.Row.{CarriedRow}
 use Rattle.abc_live_text.proofs.WholeRows.{AreRead}
-
-pub length-over : {A B : Type 0} (g : A → B) (xs : List A) → length (map g xs) ≡ length xs
-length-over g [] = refl
-length-over g (x ∷ xs) = ap suc (length-over g xs)
 
 pub map-over : {A B C : Type 0} (g : B → C) (h : A → B) (xs : List A) → map g (map h xs) ≡ map (λ x. g (h x)) xs
 map-over g h [] = refl
@@ -77,29 +73,6 @@ pub block_cells : {Cell : Type 0} (read : List ℕ → List Cell) (rows : List (
 block_cells read rows text block e =
     cells_walk read (block.to - block.from) (drop block.from rows) (drop block.from text) (read_drop read block.from rows text e)
 
-helds_walk : {State Cell : Type 0} (read : List ℕ → List Cell) (hold : Option (ℕ × ℕ) → Option (KeptState State)) (n : ℕ)
-    (rows : List (CarriedRow Cell)) (text : Text) (pasts : List (List (Option (Past State))))
-    → map cells_in rows ≡ map read text
-    → map (λ row. map address_of row) pasts ≡ map (λ (r : CarriedRow Cell). addresses r.origin r.cells) rows
-    → map (λ piece. hold (address_of piece)) (pasts_over read (take n text) pasts) ≡ flat_map (λ (r : CarriedRow Cell). map hold (addresses r.origin r.cells)) (take n rows)
-helds_walk read hold zero rows text pasts c e = refl
-helds_walk read hold (suc n) [] [] pasts c e = refl
-helds_walk read hold (suc n) [] (bytes ∷ text) pasts c e = absurd (cc)
-helds_walk read hold (suc n) (row ∷ rows) [] pasts c e = absurd (cc)
-helds_walk read hold (suc n) (row ∷ rows) (bytes ∷ text) [] c e = absurd (cc)
-helds_walk {State = State} {Cell = Cell} read hold (suc n) (row ∷ rows) (bytes ∷ text) (past ∷ pasts) c e =
-    let own_cells : row.cells ≡ read bytes = cc in
-    let other_cells : map cells_in rows ≡ map read text = cc in
-    let here : map address_of past ≡ addresses row.origin row.cells = cc in
-    let others : map (λ row. map address_of row) pasts ≡ map (λ (r : CarriedRow Cell). addresses r.origin r.cells) rows = cc in
-    let count : length past ≡ length (read bytes) =
-    sym (length-over address_of past) ∙ (ap length here ∙ (length-addresses row.origin row.cells ∙ ap length own_cells)) in
-    let own : map (λ piece. hold (address_of piece)) past ≡ map hold (addresses row.origin row.cells) = sym (map-over hold address_of past) ∙ ap (map hold) here in
-    let tail = pasts_over read (take n text) pasts in
-    map-append (λ piece. hold (address_of piece)) (pasts_beside (read bytes) past) tail
-    ∙ (ap (λ l. map (λ piece. hold (address_of piece)) l ++ map (λ piece. hold (address_of piece)) tail) (beside_whole (read bytes) past count)
-    ∙ (λ i. own i ++ helds_walk read hold n rows text pasts other_cells others i))
-
 beside_rows : {Cell : Type 0} (read : List ℕ → List Cell) (rows : List (CarriedRow Cell)) (text : Text)
     → map cells_in rows ≡ map read text → addresses_beside read (map origin_in rows) text ≡ map (λ (r : CarriedRow Cell). addresses r.origin r.cells) rows
 beside_rows read [] text e = refl
@@ -116,6 +89,46 @@ pub addresses_are : {State Cell Items : Type 0} (steps : Steps State Cell Items)
 addresses_are steps read laid s rows lies inside cells from =
     origins_agree steps read laid s lies inside ∙ (ap (λ o. addresses_beside read o (spliced laid.text s)) (sym from) ∙ beside_rows read rows (spliced laid.text s) cells)
 
+-- The addresses of the pasts of a block are those of its rows.
+walk : {State Cell : Type 0} (read : List ℕ → List Cell) (n : ℕ) (rows : List (CarriedRow Cell)) (text : Text) (all : List (List (Option (Past State))))
+    → map cells_in rows ≡ map read text
+    → map (λ row. map (address_of {State = State}) row) all ≡ map (λ (r : CarriedRow Cell). addresses r.origin r.cells) rows
+    → map (address_of {State = State}) (pasts_over read (take n text) all) ≡ flat_map (λ (r : CarriedRow Cell). addresses r.origin r.cells) (take n rows)
+walk read zero rows text all c e = refl
+walk read (suc n) [] [] all c e = refl
+walk read (suc n) [] (bytes ∷ text) all c e = absurd (cc)
+walk read (suc n) (row ∷ rows) [] all c e = absurd (cc)
+walk read (suc n) (row ∷ rows) (bytes ∷ text) [] c e = absurd (cc)
+walk {State = State} {Cell = Cell} read (suc n) (row ∷ rows) (bytes ∷ text) (past ∷ all) c e =
+    let own_cells : row.cells ≡ read bytes = cc in
+    let other_cells : map cells_in rows ≡ map read text = cc in
+    let here : map (address_of {State = State}) past ≡ addresses row.origin row.cells = cc in
+    let others : map (λ row. map (address_of {State = State}) row) all ≡ map (λ (r : CarriedRow Cell). addresses r.origin r.cells) rows = cc in
+    let count : length past ≡ length (read bytes) =
+    sym (length-map past (address_of {State = State})) ∙ (ap length here ∙ (length-addresses row.origin row.cells ∙ ap length own_cells)) in
+    let tail = pasts_over read (take n text) all in
+    map-append (address_of {State = State}) (pasts_beside (read bytes) past) tail
+    ∙ (ap (λ l. map (address_of {State = State}) l ++ map (address_of {State = State}) tail) (beside_whole (read bytes) past count)
+    ∙ (λ i. here i ++ walk read n rows text all other_cells others i))
+
+pub block_addresses : {State Cell Items : Type 0} (steps : Steps State Cell Items) (read : List ℕ → List Cell) (laid : Layout State)
+    (s : Splice) (rows : List (CarriedRow Cell)) (source : ℕ) (opening : State) (block : Block)
+    → LiesInOrder laid → s.at + s.removed ≤ length laid.text → map cells_in rows ≡ map read (spliced laid.text s) → map origin_in rows ≡ origins read laid s
+    → map (address_of {State = State}) (pieces_of read (spliced laid.text s) (pasts steps read laid s)
+    (chain_at source opening block)) ≡ flat_map (λ (r : CarriedRow Cell). addresses r.origin r.cells) (rows_in rows block)
+block_addresses {State = State} {Cell = Cell} steps read laid s rows source opening block lies inside cells from =
+    let text = spliced laid.text s in
+    let all = pasts steps read laid s in
+    let by : List (Option (Past State)) → List (Option (ℕ × ℕ)) = λ row. map address_of row in
+    let dropped : map by (drop block.from all) ≡ map (λ (r : CarriedRow Cell). addresses r.origin r.cells) (drop block.from rows) =
+    sym (drop-map by block.from all) ∙ (ap (drop block.from) (addresses_are steps read laid s rows lies inside cells from)
+    ∙ drop-map (λ (r : CarriedRow Cell). addresses r.origin r.cells) block.from rows) in
+    walk read (block.to - block.from) (drop block.from rows) (drop block.from text) (drop block.from all) (read_drop read block.from rows text cells) dropped
+
+map_flat : {X A B : Type 0} (f : A → B) (g : X → List A) (xs : List X) → map f (flat_map g xs) ≡ flat_map (λ x. map f (g x)) xs
+map_flat f g [] = refl
+map_flat f g (x ∷ xs) = map-append f (g x) (flat_map g xs) ∙ ap (λ l. map f (g x) ++ l) (map_flat f g xs)
+
 -- What is held of the cells of a block is what is held at the addresses of their pasts.
 block_helds : {State Cell Items : Type 0} (steps : Steps State Cell Items) (read : List ℕ → List Cell) (laid : Layout State)
     (s : Splice) (old : List (Chained State Cell Items)) (rows : List (CarriedRow Cell)) (source : ℕ) (opening : State) (block : Block)
@@ -123,14 +136,10 @@ block_helds : {State Cell Items : Type 0} (steps : Steps State Cell Items) (read
     → kept_states_over old rows block ≡ map (λ piece. kept_state_at (entries_at old) (address_of piece))
     (pieces_of read (spliced laid.text s) (pasts steps read laid s) (chain_at source opening block))
 block_helds {State = State} {Cell = Cell} steps read laid s old rows source opening block lies inside cells from =
-    let text = spliced laid.text s in
-    let all = pasts steps read laid s in
-    let by : List (Option (Past State)) → List (Option (ℕ × ℕ)) = λ row. map address_of row in
-    let dropped : map by (drop block.from all) ≡ map (λ (r : CarriedRow Cell). addresses r.origin r.cells) (drop block.from rows) =
-    sym (drop-map by block.from all) ∙ (ap (drop block.from) (addresses_are steps read laid s rows lies inside cells from)
-    ∙ drop-map (λ (r : CarriedRow Cell). addresses r.origin r.cells) block.from rows) in
-    sym (helds_walk read (kept_state_at (entries_at old)) (block.to - block.from) (drop block.from rows) (drop block.from text)
-    (drop block.from all) (read_drop read block.from rows text cells) dropped)
+    let hold : Option (ℕ × ℕ) → Option (KeptState State) = kept_state_at (entries_at old) in
+    let pieces = pieces_of read (spliced laid.text s) (pasts steps read laid s) (chain_at source opening block) in
+    sym (map_flat hold (λ (r : CarriedRow Cell). addresses r.origin r.cells) (rows_in rows block))
+    ∙ (ap (map hold) (sym (block_addresses steps read laid s rows source opening block lies inside cells from)) ∙ map-over hold (address_of {State = State}) pieces)
 
 -- The steps over a block are the fresh cells of its chain.
 pub block_steps : {State Cell Items : Type 0} (steps : Steps State Cell Items) (read : List ℕ → List Cell) (laid : Layout State)

@@ -1,7 +1,8 @@
 -- The first lines of a text, before and after an edit of them.
-use Rattle.std.proofs.Common.{◌≡◌, ◌+◌, ◌-◌, ◌≤◌, List, [], ◌∷◌, ◌++◌, map, All, length, take, drop, refl, sym, ◌∙◌, ap, subst}
+use Rattle.std.proofs.Common.{◌≡◌, ◌+◌, ◌-◌, ◌≤◌, List, [], ◌∷◌, ◌++◌, map, All, length, take, drop, sym, ◌∙◌, ap, subst}
 use Rattle.std.proofs.Common.{arith, take-append-drop}
-use Rattle.std.proofs.lemmas.List.{map-append}
+use Rattle.std.proofs.lemmas.List.{length-map, nil_from_length}
+use Rattle.std.proofs.lemmas.List.Elements.{All-nil}
 use Rattle.abc_book.specs.Block.{blocks_of}
 use Rattle.abc_book.specs.Laws.{RiseFromTo, moved}
 use Rattle.abc_book.specs.Stretch.{shifted}
@@ -19,18 +20,15 @@ use Rattle.abc_live_text.specs.KeptText.{AreRows}
 use Rattle.abc_live_text.specs.declared.stretch.Lead.{Lead}
 use Rattle.abc_live_text.proofs.StretchLines.{BeginBehind, length-until}
 use Rattle.abc_live_text.proofs.Edits.{edit_of}
-use Rattle.abc_live_text.proofs.FreshSteps.{length-over}
 use Rattle.abc_live_text.proofs.TuneStretch.{all_starts, begin_behind, strict_rest}
 use Rattle.abc_live_text.proofs.NewBlocks.{begin_rest, header_first, tunes_first}
-use Rattle.abc_live_text.proofs.OutsideStretch.{StartsFrom}
 use Rattle.abc_live_text.proofs.EditedRows.{IsAmong, Parted, bare_read, parted, placed_read, stretch_rows}
 use Rattle.abc_live_text.proofs.ChainPlaces.{places_rise}
-use Rattle.abc_live_text.proofs.Spans.{rise_front, rise_to, start_inside, tunes_strict}
+use Rattle.abc_live_text.proofs.Spans.{Ends, rise_amid, rise_front, rise_to, start_inside, tunes_strict}
+use Rattle.abc_live_text.proofs.EditedRuns.{IsEditedRun, part_classes}
+use Rattle.abc_live_text.specs.Blocks.{header_among}
+use Rattle.abc_live_text.specs.Lead.{lead_span}
 use Rattle.abc_live_text.proofs.WholeRows.{AreRead, placed_from}
-
-no_length : {X : Type 0} (xs : List X) → 0 ≡ length xs → xs ≡ []
-no_length [] e = refl
-no_length (x ∷ xs) e = absurd (omega (arith, e))
 
 module _ {State Cell Items Defaults : Type 0} (rules : Rules State Cell Items Defaults) (text : Text) (s : Splice) (rows : List (Row Cell)) (lead : Lead) where
   -- The file header and the tunes that begin among the first lines.
@@ -44,21 +42,16 @@ module _ {State Cell Items Defaults : Type 0} (rules : Rules State Cell Items De
   new_run = stretch_rows rules s 0 first_run
 
   -- What is known of the first lines.
-  pub record IsLeading : Type 0 where
-    pub parts : Parted rules s (placed_from (map carried_row rows) 0 0 (places_of (blocks_in rules text))) first_run 0
-    pub tunes : tunes_in (blocks_in rules (spliced text s)) ≡ map (moved 0) (tunes_in (blocks_of (map class_in new_run)))
-        ++ map (shifted (lead.to - 0) (length new_run)) (drop lead.behind (tunes_in (blocks_in rules text)))
-    pub header : header_in (blocks_in rules (spliced text s)) ≡ header_in (blocks_of (map class_in new_run))
+  pub record IsLeadRun : Type 0 where
+    pub run : IsEditedRun rules text s rows (lead_span lead) first_run
+    pub header : header_in (blocks_in rules (spliced text s)) ≡ header_among new_run
     pub header_ends : (header_place (header_in (blocks_in rules text))).to ≤ lead.to
-    pub behind : All (StartsFrom lead.to) (drop lead.behind (tunes_in (blocks_in rules text)))
-    pub inside : lead.to ≤ length text
-    pub count : length first_run ≡ lead.to
     pub rise : BlocksRise 0 first_places lead.to
 
-  pub leading : AreRows rules text rows → IsLead (tunes_in (blocks_in rules text)) (length text) (s.at + s.removed) lead
+  pub lead_facts : AreRows rules text rows → IsLead (tunes_in (blocks_in rules text)) (length text) (s.at + s.removed) lead
       → AreRead rules (spliced text s) (edit_of rules s (placed_from (map carried_row rows) 0 0 (places_of (blocks_in rules text))))
-      → IsLeading
-  leading are is new =
+      → IsLeadRun
+  lead_facts are is new =
       let blocks = blocks_in rules text in
       let tunes = tunes_in blocks in
       let head = header_place (header_in blocks) in
@@ -66,7 +59,7 @@ module _ {State Cell Items Defaults : Type 0} (rules : Rules State Cell Items De
       let back = drop lead.behind tunes in
       let all = map carried_row rows in
       let read = bare_read rules text rows are in
-      let long : length all ≡ length text = sym (length-over class_in all) ∙ (ap length read.classes ∙ length-over rules.class text) in
+      let long : length all ≡ length text = sym (length-map all class_in) ∙ (ap length read.classes ∙ length-map text rules.class) in
       let same : blocks ≡ blocks_of (map class_in all) = ap blocks_of (sym read.classes) in
       let whole : front ++ back ≡ tunes = take-append-drop lead.behind tunes in
       let rise : BlocksRise 0 ((head ∷ front) ++ back) (length text) = subst
@@ -89,16 +82,15 @@ module _ {State Cell Items Defaults : Type 0} (rules : Rules State Cell Items De
       let r = map class_in new_run in
       let b = map class_in own.behind in
       let old_classes : a ++ (o ++ b) ≡ map rules.class text =
-      (λ i. a ++ sym (map-append class_in first_run own.behind) i)
-      ∙ (sym (map-append class_in own.before (first_run ++ own.behind)) ∙ (ap (map class_in) (sym own.old_are) ∙ (placed_read rules text rows are).classes)) in
+      part_classes _ own.before first_run own.behind _ own.old_are (placed_read rules text rows are).classes in
       let new_classes : a ++ (r ++ b) ≡ map rules.class (spliced text s) =
-      (λ i. a ++ sym (map-append class_in new_run own.behind) i) ∙ (sym (map-append class_in own.before (new_run ++ own.behind)) ∙ (ap (map class_in) (sym own.new_are) ∙ new.classes)) in
-      let none : own.before ≡ [] = no_length own.before own.count in
+      part_classes _ own.before new_run own.behind _ own.new_are new.classes in
+      let none : own.before ≡ [] = nil_from_length own.before (sym own.count) in
       let none_classes : a ≡ [] = ap (map class_in) none in
       let count : length first_run ≡ lead.to = length-until all 0 lead.to 0 (head ∷ front) here (omega (arith, inside, long)) ∙ (let z : lead.to - 0 ≡ lead.to = omega arith in z) in
-      let long_old : length o ≡ lead.to - 0 = length-over class_in first_run ∙ (count ∙ (let z : lead.to ≡ lead.to - 0 = omega arith in z)) in
+      let long_old : length o ≡ lead.to - 0 = length-map first_run class_in ∙ (count ∙ (let z : lead.to ≡ lead.to - 0 = omega arith in z)) in
       let long_before : length a ≡ 0 = ap length none_classes in
-      let long_all : length (a ++ (o ++ b)) ≡ length text = ap length old_classes ∙ length-over rules.class text in
+      let long_all : length (a ++ (o ++ b)) ≡ length text = ap length old_classes ∙ length-map text rules.class in
       let tunes_are : tunes_in (blocks_of (a ++ (o ++ b))) ≡ front ++ back = ap (λ c. tunes_in (blocks_of c)) old_classes ∙ sym whole in
       let to : length a + length o ≡ start_of back (length (a ++ (o ++ b))) = (let sum : length a + length o
       ≡ lead.to = omega (arith, long_before, long_old) in sum) ∙ (is.to ∙ ap (start_of back) (sym long_all)) in
@@ -106,17 +98,26 @@ module _ {State Cell Items Defaults : Type 0} (rules : Rules State Cell Items De
       let law_header = header_first a r b none_classes (begin_rest a o b front back tunes_are to) in
       let classes = map rules.class text in
       let strict = tunes_strict 0 blocks (length classes) (blocks_rise classes) in
-      let strict_text : RiseFromTo 0 tunes (length text) = subst (RiseFromTo 0 tunes) (length-over rules.class text) strict in
+      let strict_text : RiseFromTo 0 tunes (length text) = subst (RiseFromTo 0 tunes) (length-map text rules.class) strict in
       let strict_parts : RiseFromTo 0 (front ++ back) (length text) = subst (λ (l : List Block). RiseFromTo 0 l (length text)) (sym whole) strict_text in
       let start = is.to in
+      let none_behind : lead.behind ≡ lead.behind - 0 = omega arith in
       record {
-        parts = own;
-        tunes = sym (ap (λ c. tunes_in (blocks_of c)) new_classes) ∙ (law
-            ∙ (λ i. map (moved (long_before i)) (tunes_in (blocks_of r)) ++ map (shifted (long_old i) (length-over class_in new_run i)) back));
+        run = record {
+          parts = own;
+          tunes = sym (ap (λ c. tunes_in (blocks_of c)) new_classes) ∙ (law
+              ∙ (λ i. map (moved (long_before i)) (tunes_in (blocks_of r)) ++ map (shifted (long_old i) (length-map new_run class_in i)) back));
+          before = All-nil (Ends 0);
+          behind = all_starts (start_of back (length text)) back (length text) lead.to (omega (arith, start)) (strict_rest 0 front back (length text) strict_parts);
+          amid = subst (λ n. All (λ (block : Block). (0 ≤ block.from) × (block.to ≤ lead.to)) (take n tunes)) none_behind (rise_amid 0 head.to front lead.to (omega arith) here.2);
+          order = omega arith;
+          most = is.most;
+          begins = omega arith;
+          ends = is.ends;
+          inside = inside;
+          count = count ∙ (let z : lead.to ≡ lead.to - 0 = omega arith in z);
+        };
         header = sym (ap (λ c. header_in (blocks_of c)) new_classes) ∙ law_header;
         header_ends = rise_to head.to front lead.to here.2;
-        behind = all_starts (start_of back (length text)) back (length text) lead.to (omega (arith, start)) (strict_rest 0 front back (length text) strict_parts);
-        inside = inside;
-        count = count;
         rise = here;
       }

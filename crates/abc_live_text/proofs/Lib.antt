@@ -1,3 +1,4 @@
+pub mod Spans
 pub mod WholeRows
 pub mod ScanCounts
 pub mod LinePieces
@@ -16,13 +17,14 @@ pub mod UntouchedTunes
 pub mod WholeTunes
 pub mod StretchLines
 pub mod Parts
-pub mod Spans
 pub mod NewBlocks
 pub mod EditedRows
 pub mod OutsideStretch
+pub mod EditedRuns
 pub mod TuneStretch
-pub mod Facts
+pub mod Refolds
 pub mod StretchRows
+pub mod SpanRefold
 pub mod ReplacedParts
 pub mod PreparedEdit
 pub mod LeadRows

@@ -17,25 +17,21 @@ use Rattle.abc_live_cost.specs.Origin.{Origin, addresses, addresses_from}
 use Rattle.abc_live_cost.specs.KeptState.{KeptState, kept_state_at, both_kept}
 use Rattle.abc_live_text.specs.Pieces.{IsFolded, IsCarriedAt, address_from, cells_at, entries_at, kept_state_in, kept_states_in}
 use Rattle.abc_live_text.specs.Pieces.{kept_states_at}
+use Rattle.abc_live_text.specs.Row.{CarriedRow}
 
 pub some_at : {X : Type 0} (xs : List X) (k : ℕ) → k < length xs → (x : X) × (slice_get xs k ≡ Some x)
 some_at [] k h = absurd (omega arith)
 some_at (x ∷ xs) zero h = (x, refl)
 some_at (x ∷ xs) (suc k) h = some_at xs k (omega arith)
 
--- The address of a cell of a line.
-pub address : (k : ℕ) (o : Option Origin) (origin : Origin) (source first : ℕ) → o ≡ Some origin → origin ≡ record { source = source; first = first } → address_from k o ≡ Some (source, first + k)
-address k o origin source first e v =
-    ap (address_from k) e ∙ ap (λ (y : Origin). address_from k (Some y)) v
+-- Where the cells of a row are, seen as it is now.
+pub origin_seen : {Cell : Type 0} {was now : CarriedRow Cell} (view : was ≡ now) {origin own : Origin} → was.origin ≡ Some origin → own ≡ origin → now.origin ≡ Some own
+origin_seen {Cell = Cell} view is v = ap (λ (row : CarriedRow Cell). row.origin) (sym view) ∙ (is ∙ ap (λ x. Some x) (sym v))
 
 module _ {State Cell Items : Type 0} where
-  pub held_cell : (chains : List (Chained State Cell Items)) (row : List Cell) (o : Option Origin) (origin : Origin) (source first k : ℕ)
-      → o ≡ Some origin → origin ≡ record { source = source; first = first } → IsCarriedAt chains row o → k < length row
-      → slice_get (cells_at chains source) (first + k) ≡ slice_get row k
-  held_cell chains row None origin source first k e v carried inside = absurd (cc)
-  held_cell chains row (Some x) origin source first k e v carried inside =
-      let one : x ≡ origin = cc in
-      subst (λ (y : Origin). slice_get (cells_at chains y.source) (y.first + k) ≡ slice_get row k) (one ∙ v) (carried k inside)
+  held_cell : (chains : List (Chained State Cell Items)) (row : List Cell) (o : Option Origin) (own : Origin) (k : ℕ)
+      → o ≡ Some own → IsCarriedAt chains row o → k < length row → slice_get (cells_at chains own.source) (own.first + k) ≡ slice_get row k
+  held_cell chains row o own k e carried inside = (subst (IsCarriedAt chains row) e carried) k inside
 
   pub source_within : (chains : List (Chained State Cell Items)) (source i : ℕ) (x : Cell) → slice_get (cells_at chains source) i ≡ Some x → source < length chains
   source_within [] source i x e = absurd (cc)
@@ -53,36 +49,42 @@ module _ {State Cell Items : Type 0} where
   entries_get (chain ∷ chains) (suc source) d h = entries_get chains source d (omega arith)
 
   -- The chain of a line's origin is there.
-  pub source_there : (chains : List (Chained State Cell Items)) (row : List Cell) (o : Option Origin) (origin : Origin) (source first k : ℕ)
-      → o ≡ Some origin → origin ≡ record { source = source; first = first } → IsCarriedAt chains row o → k < length row
-      → source < length chains
-  source_there chains row o origin source first k e v carried inside =
+  pub source_there : (chains : List (Chained State Cell Items)) (row : List Cell) (o : Option Origin) (own : Origin) (k : ℕ)
+      → o ≡ Some own → IsCarriedAt chains row o → k < length row → own.source < length chains
+  source_there chains row o own k e carried inside =
       let cell = some_at row k inside in
-      source_within chains source (first + k) cell.0 (held_cell chains row o origin source first k e v carried inside ∙ cell.1)
+      source_within chains own.source (own.first + k) cell.0 (held_cell chains row o own k e carried inside ∙ cell.1)
 
-  -- And so is the place.
-  pub place_there : (chains : List (Chained State Cell Items)) (row : List Cell) (o : Option Origin) (origin : Origin) (source first k : ℕ) (chain : Chained State Cell Items)
-      → o ≡ Some origin → origin ≡ record { source = source; first = first } → IsCarriedAt chains row o → k < length row → chain ≡ get_or chains source chain
-      → slice_get chain.cells (first + k) ≡ slice_get row k
-  place_there chains row o origin source first k chain e v carried inside is =
-      let there = source_there chains row o origin source first k e v carried inside in
-      ap (λ (c : Chained State Cell Items). slice_get c.cells (first + k)) is
-      ∙ (ap (λ cells. slice_get cells (first + k)) (sym (cells_get chains source chain there))
-      ∙ held_cell chains row o origin source first k e v carried inside)
+  -- The chain has the cell at index `k` of a line, and the states around it.
+  pub record IsPlaced (chains : List (Chained State Cell Items)) (row : List Cell) (o : Option Origin) (k : ℕ) (chain : Chained State Cell Items) (source i : ℕ) : Type 0 where
+    pub address : address_from k o ≡ Some (source, i)
+    pub there : source < length chains
+    pub cell : slice_get chain.cells i ≡ slice_get row k
+    pub within : i < length chain.cells
+    pub entries : entries_at chains source ≡ chain.entries
 
-  pub place_within : (chains : List (Chained State Cell Items)) (row : List Cell) (o : Option Origin) (origin : Origin) (source first k : ℕ) (chain : Chained State Cell Items)
-      → o ≡ Some origin → origin ≡ record { source = source; first = first } → IsCarriedAt chains row o → k < length row → chain ≡ get_or chains source chain
-      → first + k < length chain.cells
-  place_within chains row o origin source first k chain e v carried inside is =
-      let cell = some_at row k inside in
-      slice_get_within chain.cells (first + k) cell.0 (place_there chains row o origin source first k chain e v carried inside is ∙ cell.1)
+  pub place_facts : (chains : List (Chained State Cell Items)) (row : List Cell) (o : Option Origin) (own : Origin) (k : ℕ) (chain : Chained State Cell Items)
+      → o ≡ Some own → IsCarriedAt chains row o → k < length row → chain ≡ get_or chains own.source chain → IsPlaced chains row o k chain own.source (own.first + k)
+  place_facts chains row o own k chain e carried inside is =
+      let there = source_there chains row o own k e carried inside in
+      let some = some_at row k inside in
+      let cell : slice_get chain.cells (own.first + k) ≡ slice_get row k =
+      ap (λ (c : Chained State Cell Items). slice_get c.cells (own.first + k)) is
+      ∙ (ap (λ cells. slice_get cells (own.first + k)) (sym (cells_get chains own.source chain there)) ∙ held_cell chains row o own k e carried inside) in
+      record {
+        address = ap (address_from k) e;
+        there = there;
+        cell = cell;
+        within = slice_get_within chain.cells (own.first + k) some.0 (cell ∙ some.1);
+        entries = entries_get chains own.source chain there ∙ ap (λ (c : Chained State Cell Items). c.entries) (sym is);
+      }
 
   -- The cell of a kept piece.
-  pub own_cell : {F Work E : Type 0} (row : List Cell) (chain : Chained State Cell Items) (i k : ℕ) (result : Result (Piece F State Cell Items Work) E)
-      → slice_get chain.cells i ≡ slice_get row k → IfOk result (λ piece. IsKeptAt chain i piece)
+  pub own_cell : {F Work E : Type 0} {chains : List (Chained State Cell Items)} {row : List Cell} {o : Option Origin} {k : ℕ} {chain : Chained State Cell Items} {source i : ℕ}
+      (result : Result (Piece F State Cell Items Work) E) → IsPlaced chains row o k chain source i → IfOk result (λ piece. IsKeptAt chain i piece)
       → IfOk result (λ piece. slice_get row k ≡ Some (cell_of piece))
-  own_cell row chain i k (Ok piece) e at = sym e ∙ kept_cell chain i piece at
-  own_cell row chain i k (Err error) e at = tt
+  own_cell {chain = chain} {i = i} (Ok piece) here at = sym here.cell ∙ kept_cell chain i piece at
+  own_cell (Err error) here at = tt
 
   held_piece : {F Work : Type 0} (chains : List (Chained State Cell Items)) (source i : ℕ) (chain : Chained State Cell Items) (piece : Piece F State Cell Items Work)
       → entries_at chains source ≡ chain.entries → IsKeptAt chain i piece → kept_state_in piece ≡ kept_state_at (entries_at chains) (Some (source, i))
@@ -92,16 +94,12 @@ module _ {State Cell Items : Type 0} where
       let next : slice_get (entries_at chains source) (i + 1) ≡ Some left = ap (λ l. slice_get l (i + 1)) e ∙ at.next_entry in
       sym (λ j. both_kept (here j) (next j))
 
-  pub own_held : {F Work E : Type 0} (chains : List (Chained State Cell Items)) (row : List Cell) (o : Option Origin)
-      (origin : Origin) (source first k : ℕ) (chain : Chained State Cell Items) (result : Result (Piece F State Cell Items Work) E)
-      → o ≡ Some origin → origin ≡ record { source = source; first = first } → IsCarriedAt chains row o → k < length row → chain ≡ get_or chains source chain
-      → IfOk result (λ piece. IsKeptAt chain (first + k) piece)
+  pub own_held : {F Work E : Type 0} {chains : List (Chained State Cell Items)} {row : List Cell} {o : Option Origin} {k : ℕ} {chain : Chained State Cell Items} {source i : ℕ}
+      (result : Result (Piece F State Cell Items Work) E) → IsPlaced chains row o k chain source i → IfOk result (λ piece. IsKeptAt chain i piece)
       → IfOk result (λ piece. kept_state_in piece ≡ kept_state_at (entries_at chains) (address_from k o))
-  own_held chains row o origin source first k chain (Err error) e v carried inside is at = tt
-  own_held chains row o origin source first k chain (Ok piece) e v carried inside is at =
-      let there = source_there chains row o origin source first k e v carried inside in
-      let entries : entries_at chains source ≡ chain.entries = entries_get chains source chain there ∙ ap (λ (c : Chained State Cell Items). c.entries) (sym is) in
-      held_piece chains source (first + k) chain piece entries at ∙ ap (kept_state_at (entries_at chains)) (sym (address k o origin source first e v))
+  own_held (Err error) here at = tt
+  own_held {chains = chains} {chain = chain} {source = source} {i = i} (Ok piece) here at =
+      held_piece chains source i chain piece here.entries at ∙ ap (kept_state_at (entries_at chains)) (sym here.address)
 
 -- One more cell of a line.
 take_next : {X : Type 0} (xs : List X) (k : ℕ) (x : X) → slice_get xs k ≡ Some x → take (k + 1) xs ≡ take k xs ++ x ∷ []

@@ -6,7 +6,8 @@ use Rattle.std.specs.Prelude.{IsTrue, cond, count_by, nat_le}
 use Rattle.std.proofs.lemmas.Bool.{cases_Bool, cases_lt}
 use Rattle.std.proofs.lemmas.Bool.Decides.{nat_tests}
 use Rattle.std.proofs.lemmas.List.Sums.{sum_by-cons}
-use Rattle.std.proofs.lemmas.List.Elements.{All-cons, All-nil}
+use Rattle.std.proofs.lemmas.List.Elements.{All-cons, All-nil, All-drop}
+use Rattle.std.proofs.lemmas.List.{drop_all, drop_at, append-nil}
 use Rattle.abc_book.specs.Block.{blocks_of, is_x_line, letter_x}
 use Rattle.abc_book.specs.Laws.{RiseFromTo, holds, moved}
 use Rattle.abc_book.specs.Stretch.{BeginTune, blocks_at, blocks_before, blocks_behind, shifted}
@@ -51,17 +52,12 @@ x_begins classes (block ∷ blocks) begin =
     (λ (e : is_tune block.kind ≡ false). simp e more)
     (cases_Bool (is_tune block.kind))
 
-dropped : {X : Type 0} (xs : List X) → drop (length xs) xs ≡ []
-dropped [] = refl
-dropped (x ∷ xs) = dropped xs
-
 all_behind : (P : Block → Type 0) (xs ys : List Block) → All P (xs ++ ys) → All P ys
-all_behind P [] ys all = all
-all_behind P (x ∷ xs) ys all = all_behind P xs ys (λ i d l. all (suc i) d (omega arith))
+all_behind P xs ys all = subst (All P) (drop_at xs ys (length xs) refl) (All-drop P (length xs) (xs ++ ys) all)
 
 -- A tune begins where others do, or the text ends there.
 begin_start : (classes : List LineClass) (xs ys : List Block) → tunes_in (blocks_of classes) ≡ xs ++ ys → BeginTune (drop (start_of ys (length classes)) classes)
-begin_start classes xs [] e = subst BeginTune (sym (dropped classes)) tt
+begin_start classes xs [] e = subst BeginTune (sym (drop_all (length classes) classes (omega arith))) tt
 begin_start classes xs (block ∷ ys) e =
     let all = all_behind (BeginsWithX classes) xs (block ∷ ys) (subst (All (BeginsWithX classes)) e (x_begins classes (blocks_of classes) (tunes_begin classes))) in
     begin_x classes block.from (all 0 block (omega arith))
@@ -184,6 +180,19 @@ begin_rest before old behind front back tunes to =
 run_ends : (before old behind : List LineClass) (front mid back : List Block) → IsRun before old behind front mid back → BeginTune behind
 run_ends before old behind front mid back run = begin_rest before old behind (front ++ mid) back (run.tunes ∙ sym (append_assoc front mid back)) run.to
 
+tunes_parts : (before old new behind : List LineClass) (there front back : List Block)
+    → blocks_of (before ++ (new ++ behind)) ≡ blocks_before (length before) there
+    ++ (blocks_at (length before) new ++ map (shifted (length old) (length new)) (blocks_behind (length before + length old) there))
+    → tunes_in (blocks_before (length before) there) ≡ front → tunes_in (blocks_behind (length before + length old) there) ≡ back
+    → tunes_in (blocks_of (before ++ (new ++ behind))) ≡ front ++ (map (moved (length before)) (tunes_in (blocks_of new)) ++ map (shifted (length old) (length new)) back)
+tunes_parts before old new behind there front back law first last =
+    let a = blocks_before (length before) there in
+    let b = blocks_at (length before) new in
+    let c = map (shifted (length old) (length new)) (blocks_behind (length before + length old) there) in
+    ap tunes_in law ∙ (tunes_both a (b ++ c)
+    ∙ (λ i. first i ++ (tunes_both b c ∙ (λ j. tunes_moved (length before) (blocks_of new) j ++
+    (tunes_shifted (length old) (length new) (blocks_behind (length before + length old) there) ∙ ap (map (shifted (length old) (length new))) last) j)) i))
+
 -- The tunes after the edit of a stretch.
 pub tunes_after : (before old new behind : List LineClass) (front mid back : List Block) → IsRun before old behind front mid back → BeginTune new
     → tunes_in (blocks_of (before ++ (new ++ behind))) ≡ front ++ (map (moved (length before)) (tunes_in (blocks_of new)) ++ map (shifted (length old) (length new)) back)
@@ -201,12 +210,7 @@ tunes_after before old new behind front mid back run begins =
     tunes_before (length before) there ∙ ((λ i. blocks_before (run.from i) (run.tunes i)) ∙ before_are front (mid ++ back) n rise_first) in
     let last : tunes_in (blocks_behind (length before + length old) there) ≡ back =
     tunes_behind (length before + length old) there ∙ ((λ i. blocks_behind (run.to i) (both i)) ∙ behind_are (front ++ mid) back n rise_last) in
-    let a = blocks_before (length before) there in
-    let b = blocks_at (length before) new in
-    let c = map (shifted (length old) (length new)) (blocks_behind (length before + length old) there) in
-    ap tunes_in law ∙ (tunes_both a (b ++ c)
-    ∙ (λ i. first i ++ (tunes_both b c ∙ (λ j. tunes_moved (length before) (blocks_of new) j ++
-    (tunes_shifted (length old) (length new) (blocks_behind (length before + length old) there) ∙ ap (map (shifted (length old) (length new))) last) j)) i))
+    tunes_parts before old new behind there _ back law first last
 
 -- And the file header.
 pub header_after : (before old new behind : List LineClass) (front mid back : List Block) → IsRun before old behind front mid back → 1 ≤ length new → BeginTune new
@@ -229,24 +233,15 @@ tunes_first before old new behind mid back none tunes to =
     let first : tunes_in (blocks_before (length before) there) ≡ [] = ap (λ k. tunes_in (blocks_before k there)) zeroth ∙ ap tunes_in (keep_none 0 there (λ i d l. omega arith)) in
     let last : tunes_in (blocks_behind (length before + length old) there) ≡ back =
     tunes_behind (length before + length old) there ∙ ((λ i. blocks_behind (to i) (tunes i)) ∙ behind_are mid back n rise) in
-    let a = blocks_before (length before) there in
-    let b = blocks_at (length before) new in
-    let c = map (shifted (length old) (length new)) (blocks_behind (length before + length old) there) in
-    ap tunes_in law ∙ (tunes_both a (b ++ c)
-    ∙ (λ i. first i ++ (tunes_both b c ∙ (λ j. tunes_moved (length before) (blocks_of new) j ++
-    (tunes_shifted (length old) (length new) (blocks_behind (length before + length old) there) ∙ ap (map (shifted (length old) (length new))) last) j)) i))
-
-append_none : {X : Type 0} (xs : List X) → xs ++ [] ≡ xs
-append_none [] = refl
-append_none (x ∷ xs) = ap (λ l. x ∷ l) (append_none xs)
+    tunes_parts before old new behind there _ back law first last
 
 header_only : (new behind : List LineClass) → BeginTune behind → header_in (blocks_of (new ++ behind)) ≡ header_in (blocks_of new)
-header_only new [] begin = ap (λ c. header_in (blocks_of c)) (append_none new)
+header_only new [] begin = ap (λ c. header_in (blocks_of c)) (append-nil new)
 header_only new (x ∷ behind) begin =
     let some : 1 ≤ suc (length behind) = omega arith in
     ap header_in (cut new (x ∷ behind) some begin)
     ∙ (header_front (blocks_of new) (map (moved (length new)) (blocks_of (x ∷ behind))) [] (header_moved (length new) (blocks_of (x ∷ behind)) (no_header (x ∷ behind) some begin)) refl
-    ∙ ap header_in (append_none (blocks_of new)))
+    ∙ ap header_in (append-nil (blocks_of new)))
 
 -- And the file header, which is that of the first lines.
 pub header_first : (before new behind : List LineClass) → before ≡ [] → BeginTune behind → header_in (blocks_of (before ++ (new ++ behind))) ≡ header_in (blocks_of new)

@@ -1,7 +1,6 @@
 -- The states in which chains begin.
 use Rattle.std.proofs.Common.{◌≡◌, ℕ, List, [], ◌∷◌, map, Option, Some, None, slice_get, length, refl, sym, ◌∙◌, ap, subst}
 use Rattle.std.specs.List.{AllZip}
-use Rattle.abc_book.specs.Block.{blocks_of}
 use Rattle.abc_book.specs.declared.block.Block.{Block}
 use Rattle.abc_tune_compiler.specs.Lawful.{AreLawful}
 use Rattle.abc_fold.specs.Chain.{Chained, Folds}
@@ -10,16 +9,15 @@ use Rattle.abc_fold.proofs.Alike.{alike_states, equal_items, other_tail}
 use Rattle.abc_lines.specs.Text.{Text}
 use Rattle.abc_live_cost.specs.Layout.{chain_at}
 use Rattle.abc_live_cost.proofs.SameCells.{cells_are_things}
-use Rattle.abc_tune_compiler.specs.Book.{state_after_header, blocks_in, header_in, opening_of, tunes_in}
+use Rattle.abc_tune_compiler.specs.Book.{state_after_header}
 use Rattle.abc_tune_compiler.specs.Placed.{Placed, state_along, placed_values}
 use Rattle.abc_tune_compiler.specs.Rules.{Rules}
 use Rattle.abc_tune_compiler.specs.Tune.{cells_in as placed_in}
-use Rattle.abc_live_text.specs.Pieces.{IsChain, cells_in, class_in}
-use Rattle.abc_live_text.specs.Chains.{AreChains, IsHeaderChain, IsHeaderChainOf, state_after_chain}
+use Rattle.abc_live_text.specs.Pieces.{IsChain, cells_in}
+use Rattle.abc_live_text.specs.Chains.{IsHeaderChain, IsHeaderChainOf, state_after_chain}
 use Rattle.abc_live_cost.specs.OldItems.{IsChainOf}
 use Rattle.abc_live_text.specs.Row.{CarriedRow}
 use Rattle.abc_live_text.proofs.FreshSteps.{block_cells}
-use Rattle.abc_live_text.proofs.WholeRows.{AreRead}
 
 -- A chain is the fold from every state alike to its opening.
 pub folds_alike : {State Cell Items : Type 0} (steps : Steps State Cell Items) (a b : State) (chain : Chained State Cell Items)
@@ -75,29 +73,3 @@ pub header_made : {State Cell Items Defaults : Type 0} (steps : Steps State Cell
     → IsResumable steps → map cells_in rows ≡ map rules.cells text → IsHeaderChain steps rules.header rows chain header → IsHeaderChainOf steps rules text chain header
 header_made steps rules text rows chain None laws cells made = made
 header_made steps rules text rows chain (Some block) laws cells made = chain_made steps rules.cells rules.header rules.header text rows chain block laws (laws.reflexive rules.header) cells made
-
--- The opening that the chain of the file header gives.
-pub own_opening : {State Cell Items Defaults : Type 0} (steps : Steps State Cell Items) (rules : Rules State Cell Items Defaults)
-    (text : Text) (rows : List (CarriedRow Cell)) (blocks : List Block) (chain : Chained State Cell Items) (own : State)
-    → IsResumable steps → AreLawful steps rules → AreRead rules text rows → blocks ≡ blocks_of (map class_in rows)
-    → IsHeaderChain steps rules.header rows chain (header_in blocks) → own ≡ rules.tune (state_after_chain (header_in blocks) chain)
-    → IsAlike steps own (opening_of steps.next rules text (blocks_in rules text))
-own_opening steps rules text rows blocks chain own laws lawful read are made is =
-    let same : blocks ≡ blocks_in rules text = are ∙ ap blocks_of read.classes in
-    subst (λ (b : List Block). IsAlike steps own (opening_of steps.next rules text b)) same
-    (rw is (opening_alike steps rules text chain (header_in blocks) laws lawful (header_made steps rules text rows chain (header_in blocks) laws read.cells made)))
-
--- The chains that are made are those of the text.
-pub chains_made : {State Cell Items Defaults : Type 0} (steps : Steps State Cell Items) (rules : Rules State Cell Items Defaults)
-    (text : Text) (rows : List (CarriedRow Cell)) (blocks : List Block) (chain : Chained State Cell Items) (own : State) (chains : List (Chained State Cell Items))
-    → IsResumable steps → AreRead rules text rows → blocks ≡ blocks_of (map class_in rows)
-    → IsAlike steps own (opening_of steps.next rules text (blocks_in rules text))
-    → IsHeaderChain steps rules.header rows chain (header_in blocks) → AllZip (IsChain steps own rows) chains (tunes_in blocks)
-    → AreChains steps rules text (chain ∷ chains)
-chains_made steps rules text rows blocks chain own chains laws read are alike first made =
-    let same : blocks ≡ blocks_in rules text = are ∙ ap blocks_of read.classes in (
-      subst (λ (b : List Block). IsHeaderChainOf steps rules text chain (header_in b)) same (header_made steps rules text rows chain (header_in blocks) laws read.cells first),
-      subst (λ (b : List Block). AllZip (IsChainOf steps rules.cells
-          (opening_of steps.next rules text (blocks_in rules text)) text) chains (tunes_in b)) same
-          (tunes_made steps rules.cells own (opening_of steps.next rules text (blocks_in rules text)) text rows chains (tunes_in blocks) laws alike read.cells made),
-    )

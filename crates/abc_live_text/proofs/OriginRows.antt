@@ -1,8 +1,8 @@
 -- Lines along which origins are made.
 use Rattle.std.proofs.Common.{◌≡◌, ℕ, zero, suc, ◌+◌, ◌-◌, ◌<◌, ◌≤◌, List, [], ◌∷◌, ◌++◌, map, Some, None, length, take, drop}
-use Rattle.std.proofs.Common.{get_or, refl, sym, ◌∙◌, ap, subst, arith, add-one, append_assoc, length-append, length-drop}
+use Rattle.std.proofs.Common.{get_or, refl, sym, ◌∙◌, ap, subst, arith, add-one, append_assoc, length-append}
 use Rattle.std.proofs.Math.Seq.{drop-cons}
-use Rattle.std.proofs.lemmas.List.{map-append, take_more}
+use Rattle.std.proofs.lemmas.List.{map-append, take_more, get_or_default, drop_all, get_or-map}
 use Rattle.std.proofs.lemmas.Option.{slice_get_read}
 use Rattle.std.specs.List.{flat_map}
 use Rattle.abc_book.specs.declared.block.Block.{Block}
@@ -11,14 +11,11 @@ use Rattle.abc_live_text.specs.Pieces.{cells_in}
 use Rattle.abc_live_text.specs.Origin.{BlocksRise, rows_between, cell_count, rows_along, rows_until}
 use Rattle.abc_live_text.specs.Row.{CarriedRow, at_origin}
 use Rattle.abc_live_text.proofs.LinePieces.{over_next}
-use Rattle.abc_live_text.proofs.WholeRows.{placed_from}
+use Rattle.abc_live_text.proofs.Spans.{rise_to}
 
 -- One more of a list.
 pub map_next : {A B : Type 0} (g : A → B) (xs : List A) (i : ℕ) (x : A) → x ≡ get_or xs i x → i < length xs → map g (take (i + 1) xs) ≡ map g (take i xs) ++ g x ∷ []
 map_next g xs i x is inside = ap (map g) (take_more xs i x inside) ∙ (map-append g (take i xs) (get_or xs i x ∷ []) ∙ ap (λ y. map g (take i xs) ++ g y ∷ []) (sym is))
-
-pub read_next : {A B : Type 0} (g : A → B) (made : List B) (xs : List A) (i : ℕ) (x : A) → made ≡ map g (take i xs) → x ≡ get_or xs i x → i < length xs → made ++ g x ∷ [] ≡ map g (take (i + 1) xs)
-read_next g made xs i x e is inside = ap (λ l. l ++ g x ∷ []) e ∙ sym (map_next g xs i x is inside)
 
 pub part_next : {A : Type 0} (old made xs : List A) (from i : ℕ) (x : A) → made ≡ old ++ take (i - from) (drop from xs) → from ≤ i
     → i < length xs → x ≡ get_or xs i x → made ++ x ∷ [] ≡ old ++ take (i + 1 - from) (drop from xs)
@@ -64,54 +61,12 @@ pub rise_at : (at : ℕ) (blocks : List Block) (i : ℕ) (r : Block) (last : ℕ
 rise_at at blocks i r last rise inside is =
     subst (λ rest. BlocksRise at rest last) (drop-cons blocks i r inside ∙ (λ j. sym is j ∷ drop (sym (add-one i) j) blocks)) rise
 
-pub rise_last : (at : ℕ) (blocks : List Block) (last : ℕ) → BlocksRise at blocks last → at ≤ last
-rise_last at [] last rise = rise
-rise_last at (block ∷ blocks) last rise = let more = rise_last block.to blocks last rise.2 in omega (arith, rise.0, rise.1, more)
-
-pub settle_next : {Cell : Type 0} (rows whole made made1 made2 : List (CarriedRow Cell)) (blocks : List Block) (at i : ℕ) (r : Block)
-    → made ++ placed_from rows at i (drop i blocks) ≡ whole
-    → made1 ≡ made ++ map (at_origin None) (rows_between rows at r.from) → made2 ≡ made1 ++ rows_along i 0 (rows_between rows r.from r.to)
-    → i < length blocks → r ≡ get_or blocks i r
-    → made2 ++ placed_from rows r.to (i + 1) (drop (i + 1) blocks) ≡ whole
-settle_next rows whole made made1 made2 blocks at i r e free own inside is =
-    let a = map (at_origin None) (rows_between rows at r.from) in
-    let b = rows_along i 0 (rows_between rows r.from r.to) in
-    let rest = placed_from rows r.to (i + 1) (drop (i + 1) blocks) in
-    let cut : drop i blocks ≡ r ∷ drop (i + 1) blocks = drop-cons blocks i r inside ∙ (λ j. sym is j ∷ drop (sym (add-one i) j) blocks) in
-    ap (λ l. l ++ rest) (own ∙ ap (λ l. l ++ b) free)
-    ∙ (append_assoc (made ++ a) b rest ∙ (append_assoc made a (b ++ rest)
-    ∙ (ap (λ l. made ++ placed_from rows at i l) (sym cut) ∙ e)))
-
-pub take_whole : {A : Type 0} (n : ℕ) (xs : List A) → length xs ≤ n → take n xs ≡ xs
-take_whole zero [] h = refl
-take_whole zero (x ∷ xs) h = absurd (omega arith)
-take_whole (suc n) [] h = refl
-take_whole (suc n) (x ∷ xs) h = ap (λ l. x ∷ l) (take_whole n xs (omega arith))
-
-drop_whole : {A : Type 0} (n : ℕ) (xs : List A) → length xs ≤ n → drop n xs ≡ []
-drop_whole zero [] h = refl
-drop_whole zero (x ∷ xs) h = absurd (omega arith)
-drop_whole (suc n) [] h = refl
-drop_whole (suc n) (x ∷ xs) h = drop_whole n xs (omega arith)
-
-pub settle_end : {Cell : Type 0} (rows whole made made1 : List (CarriedRow Cell)) (blocks : List Block) (at i k : ℕ)
-    → made ++ placed_from rows at k (drop i blocks) ≡ whole → made1 ≡ made ++ map (at_origin None) (rows_between rows at (length rows)) → length blocks ≤ i → made1 ≡ whole
-settle_end rows whole made made1 blocks at i k e last done =
-    let none : drop i blocks ≡ [] = drop_whole i blocks done in
-    let all : rows_between rows at (length rows) ≡ drop at rows = take_whole (length rows - at) (drop at rows) (omega (arith, length-drop at rows)) in
-    last ∙ (ap (λ l. made ++ map (at_origin None) l) all ∙ (ap (λ l. made ++ placed_from rows at k l) (sym none) ∙ e))
-
-pub get_same : {A : Type 0} (xs : List A) (i : ℕ) (d x : A) → i < length xs → get_or xs i d ≡ get_or xs i x
-get_same [] i d x h = absurd (omega arith)
-get_same (a ∷ xs) zero d x h = refl
-get_same (a ∷ xs) (suc i) d x h = get_same xs i d x (omega arith)
-
 -- The block of a number lies within so many lines.
 pub rise_index : (at : ℕ) (blocks : List Block) (i : ℕ) (d : Block) (last : ℕ) → BlocksRise at (drop i blocks) last → i < length blocks
     → ((get_or blocks i d).from ≤ last) × ((get_or blocks i d).to ≤ last)
 rise_index at blocks i d last rise inside =
-    let own = rise_at at blocks i (get_or blocks i d) last rise inside (get_same blocks i d (get_or blocks i d) inside) in
-    let end = rise_last (get_or blocks i d).to (drop (i + 1) blocks) last own.2 in
+    let own = rise_at at blocks i (get_or blocks i d) last rise inside (get_or_default blocks i d (get_or blocks i d) inside) in
+    let end = rise_to (get_or blocks i d).to (drop (i + 1) blocks) last own.2 in
     (omega (arith, own.1, end), end)
 
 -- Lines up to another one.
@@ -135,13 +90,11 @@ until_next rows whole made made1 made2 blocks at to number i r e free own inside
 pub until_end : {Cell : Type 0} (rows whole made made1 : List (CarriedRow Cell)) (blocks : List Block) (at to i k : ℕ)
     → made ++ rows_until rows at to k (drop i blocks) ≡ whole → made1 ≡ made ++ map (at_origin None) (rows_between rows at to) → length blocks ≤ i → made1 ≡ whole
 until_end rows whole made made1 blocks at to i k e last done =
-    let none : drop i blocks ≡ [] = drop_whole i blocks done in
+    let none : drop i blocks ≡ [] = drop_all i blocks done in
     last ∙ (ap (λ l. made ++ rows_until rows at to k l) (sym none) ∙ e)
 
 pub map_at : {A B : Type 0} (f : A → B) (xs : List A) (i : ℕ) (x : A) → x ≡ get_or xs i x → i < length xs → f x ≡ get_or (map f xs) i (f x)
-map_at f [] i x is inside = absurd (omega arith)
-map_at f (y ∷ xs) zero x is inside = ap f is
-map_at f (y ∷ xs) (suc i) x is inside = map_at f xs i x is (omega arith)
+map_at f xs i x is inside = ap f is ∙ sym (get_or-map f xs i x (f x) inside)
 
 pub map_more : {A B : Type 0} (g : A → B) (old made : List B) (xs : List A) (i : ℕ) (x : A) → made ≡ old ++ map g (take i xs)
     → x ≡ get_or xs i x → i < length xs → made ++ g x ∷ [] ≡ old ++ map g (take (i + 1) xs)
@@ -154,15 +107,9 @@ between_next g old made xs from i x e order inside is =
     ap (λ l. l ++ g x ∷ []) e ∙ (append_assoc old (map g (take (i - from) (drop from xs))) (g x ∷ [])
     ∙ ap (λ l. old ++ l) (sym (ap (map g) (one_more xs from i x order (slice_get_read xs (length xs) i x refl inside is)) ∙ map-append g (take (i - from) (drop from xs)) (x ∷ []))))
 
-pub between_end : {A B : Type 0} (g : A → B) (xs : List A) (from i : ℕ) → from ≤ length xs → length xs ≤ i → map g (take (i - from) (drop from xs)) ≡ map g (drop from xs)
-between_end g xs from i h done = ap (map g) (take_whole (i - from) (drop from xs) (let e = length-drop from xs in omega (arith, e, done, h)))
-
 pub copy_next : {A : Type 0} (old made xs : List A) (i : ℕ) (x : A) → made ≡ old ++ take i xs → x ≡ get_or xs i x → i < length xs → made ++ x ∷ [] ≡ old ++ take (i + 1) xs
 copy_next old made xs i x e is inside =
     ap (λ l. l ++ x ∷ []) e ∙ (append_assoc old (take i xs) (x ∷ []) ∙ ap (λ l. old ++ l) (ap (λ y. take i xs ++ y ∷ []) is ∙ sym (take_more xs i x inside)))
-
-pub copy_end : {A : Type 0} (xs : List A) (i : ℕ) → length xs ≤ i → take i xs ≡ xs
-copy_end xs i done = take_whole i xs done
 
 -- What holds of all after a place holds of each there.
 pub beyond_at : {A : Type 0} (P : A → Type 0) (xs : List A) (from i : ℕ) (d : A)

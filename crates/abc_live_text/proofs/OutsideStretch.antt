@@ -1,9 +1,9 @@
 -- What an edit leaves as it is: the lines outside its stretch, their chains and the state in which tunes begin.
 use Rattle.std.proofs.Common.{◌≡◌, ℕ, zero, suc, ◌+◌, ◌-◌, ◌≤◌, List, [], ◌∷◌, ◌++◌, map, Option, Some, None, All, length, take}
 use Rattle.std.proofs.Common.{drop, refl, sym, ◌∙◌, ap, subst, arith, drop-drop}
-use Rattle.std.proofs.lemmas.List.{length-take-le}
-use Rattle.std.proofs.lemmas.List.Sums.{sum_by-cons}
+use Rattle.std.proofs.lemmas.List.{length-take-le, take-append-le, take-take}
 use Rattle.std.specs.List.{AllZip, flat_map, sum_by}
+use Rattle.std.proofs.lemmas.List.Sums.{sum_by-append}
 use Rattle.abc_book.specs.Stretch.{shifted}
 use Rattle.abc_book.specs.declared.block.Block.{Block}
 use Rattle.abc_fold.specs.Chain.{Chained}
@@ -15,16 +15,18 @@ use Rattle.abc_tune_compiler.specs.Book.{state_after_header, blocks_in, header_i
 use Rattle.abc_tune_compiler.specs.Placed.{cells_from, state_along}
 use Rattle.abc_tune_compiler.specs.Rules.{Rules}
 use Rattle.abc_live_text.specs.Pieces.{IsChain, cells_in, steps_taken}
-use Rattle.abc_live_text.specs.Chains.{AreChains, IsHeaderChainOf}
+use Rattle.abc_live_text.specs.Chains.{AreChains, IsHeaderChainOf, header_steps}
 use Rattle.abc_live_cost.specs.OldItems.{IsChainOf}
 use Rattle.abc_live_text.specs.Row.{CarriedRow}
 use Rattle.abc_live_text.specs.KeptText.{kept_numbers}
-use Rattle.abc_live_text.proofs.Costs.{raised_up}
+use Rattle.abc_live_text.specs.NewParts.{chains_after}
+use Rattle.abc_live_text.specs.declared.stretch.Stretch.{Stretch}
+use Rattle.abc_live_text.proofs.Costs.{raised_both, raised_up}
 use Rattle.abc_live_text.proofs.Edits.{spliced_is}
 use Rattle.abc_live_text.proofs.FreshSteps.{edit_steps}
 use Rattle.abc_live_text.proofs.Openings.{tunes_made}
-use Rattle.abc_live_text.proofs.Parts.{drop_past, part_before, part_behind, take_in, take_less, zip_both, zip_drop, zip_given}
-use Rattle.abc_live_text.proofs.Parts.{zip_same, zip_take}
+use Rattle.abc_live_text.proofs.Parts.{drop_past, part_before, part_behind, zip_both, zip_given}
+use Rattle.abc_live_text.proofs.Parts.{zip_same}
 use Rattle.abc_live_text.proofs.EditedRows.{AreRenewed}
 use Rattle.abc_live_text.proofs.Spans.{Ends}
 
@@ -32,7 +34,7 @@ use Rattle.abc_live_text.proofs.Spans.{Ends}
 pub lines_before : (text : Text) (s : Splice) (from : ℕ) → from ≤ s.at → s.at + s.removed ≤ length text → take from (spliced text s) ≡ take from text
 lines_before text s from h k =
     let long : length (take s.at text) ≡ s.at = length-take-le s.at text (omega (arith, k)) in
-    ap (take from) (spliced_is text s) ∙ (take_in from (take s.at text) (s.lines ++ drop (s.at + s.removed) text) (omega (arith, long, h)) ∙ sym (take_less from s.at text h))
+    ap (take from) (spliced_is text s) ∙ (take-append-le from (take s.at text) (s.lines ++ drop (s.at + s.removed) text) (omega (arith, long, h)) ∙ take-take from s.at text h)
 
 pub lines_behind : (text : Text) (s : Splice) (from gone came : ℕ) → from ≤ s.at → s.at + s.removed ≤ from + gone → from + gone ≤ length text → came ≡ gone - s.removed + length s.lines
     → drop (from + came) (spliced text s) ≡ drop (from + gone) text
@@ -92,57 +94,55 @@ module _ {State Cell Items Defaults : Type 0} (steps : Steps State Cell Items) (
       ap (λ (h : Option Block). rules.tune (state_after_header steps.next rules new h)) header
       ∙ ap rules.tune (state_before steps.next rules text new from (header_in (blocks_in rules text)) e ends)
 
-  -- The chains outside the stretch, and those made for it, are those of the new text.
-  pub chains_stay : (first : Chained State Cell Items) (tunes made : List (Chained State Cell Items)) (rows : List (CarriedRow Cell)) (own : State) (front behind : ℕ) (places : List Block)
-      → IsResumable steps → AreChains steps rules text (first ∷ tunes)
-      → header_in (blocks_in rules new) ≡ header_in (blocks_in rules text) → HeaderEnds from (header_in (blocks_in rules text))
-      → take from new ≡ take from text → drop (from + came) new ≡ drop (from + gone) text
+  -- The chains of tunes outside the stretch, and those made for it, are those of the new text.
+  pub tunes_stay : (tunes made : List (Chained State Cell Items)) (rows : List (CarriedRow Cell)) (own now : State) (front behind : ℕ) (places : List Block)
+      → IsResumable steps → take from new ≡ take from text → drop (from + came) new ≡ drop (from + gone) text
       → tunes_in (blocks_in rules new) ≡ take front (tunes_in (blocks_in rules text)) ++ (places ++ map (shifted gone came) (drop behind (tunes_in (blocks_in rules text))))
       → All (Ends from) (take front (tunes_in (blocks_in rules text))) → All (StartsFrom (from + gone)) (drop behind (tunes_in (blocks_in rules text)))
-      → IsAlike steps own (opening_of steps.next rules new (blocks_in rules new)) → map cells_in rows ≡ map rules.cells new → AllZip (IsChain steps own rows) made places
-      → AreChains steps rules new (first ∷ (take front tunes ++ (made ++ drop behind tunes)))
-  chains_stay first tunes made rows own front behind places laws old header ends e f all before starts alike read chains =
-      let was = opening_of steps.next rules text (blocks_in rules text) in
-      let now = opening_of steps.next rules new (blocks_in rules new) in
-      let same : was ≡ now = sym (opening_stays header ends e) in
+      → AllZip (IsChainOf steps rules.cells now text) (take front tunes) (take front (tunes_in (blocks_in rules text)))
+      → AllZip (IsChainOf steps rules.cells now text) (drop behind tunes) (drop behind (tunes_in (blocks_in rules text)))
+      → IsAlike steps own now → map cells_in rows ≡ map rules.cells new → AllZip (IsChain steps own rows) made places
+      → AllZip (IsChainOf steps rules.cells now new) (take front tunes ++ (made ++ drop behind tunes)) (tunes_in (blocks_in rules new))
+  tunes_stay tunes made rows own now front behind places laws e f all before starts old_front old_behind alike read chains =
       let blocks = tunes_in (blocks_in rules text) in
-      let old_tunes : AllZip (IsChainOf steps rules.cells now text) tunes blocks = subst (λ (o : State). AllZip (IsChainOf steps rules.cells o text) tunes blocks) same old.1 in
-      let a = zip_same (IsChainOf steps rules.cells now text) (IsChainOf steps rules.cells now new) (Ends from) (take front tunes)
-      (take front blocks)
-      (λ chain block known own. chain_before steps rules.cells now text new from chain block e known own) before (zip_take (IsChainOf steps rules.cells now text) front tunes blocks old_tunes) in
+      let a = zip_same (IsChainOf steps rules.cells now text) (IsChainOf steps rules.cells now new) (Ends from) (take front tunes) (take front blocks)
+      (λ chain block known own. chain_before steps rules.cells now text new from chain block e known own) before old_front in
       let b = tunes_made steps rules.cells own now new rows made places laws alike read chains in
       let c = zip_given (IsChainOf steps rules.cells now text) (IsChainOf steps rules.cells now new) (StartsFrom (from + gone))
       (shifted gone came) (drop behind tunes) (drop behind blocks)
-      (λ chain block known own. chain_behind steps rules.cells now text new from gone came chain block f known own) starts
-      (zip_drop (IsChainOf steps rules.cells now text) behind tunes blocks old_tunes) in (
-        subst (λ (h : Option Block). IsHeaderChainOf steps rules new first h) (sym header) (header_before steps rules text new from first (header_in (blocks_in rules text)) e ends old.0),
-        subst (AllZip (IsChainOf steps rules.cells now new) (take front tunes ++ (made ++ drop behind tunes))) (sym all)
-            (zip_both (IsChainOf steps rules.cells now new) (take front tunes) (made ++ drop behind tunes) (take front blocks) (places ++ map (shifted gone came) (drop behind blocks)) a
-            (zip_both (IsChainOf steps rules.cells now new) made (drop behind tunes) places (map (shifted gone came) (drop behind blocks)) b c)),
-      )
+      (λ chain block known own. chain_behind steps rules.cells now text new from gone came chain block f known own) starts old_behind in
+      subst (AllZip (IsChainOf steps rules.cells now new) (take front tunes ++ (made ++ drop behind tunes))) (sym all)
+      (zip_both (IsChainOf steps rules.cells now new) (take front tunes) (made ++ drop behind tunes) (take front blocks) (places ++ map (shifted gone came) (drop behind blocks)) a
+      (zip_both (IsChainOf steps rules.cells now new) made (drop behind tunes) places (map (shifted gone came) (drop behind blocks)) b c))
 
-pub sum_both : {X : Type 0} (g : X → ℕ) (xs ys : List X) → sum_by g (xs ++ ys) ≡ sum_by g xs + sum_by g ys
-sum_both g [] ys = let e : sum_by g ys ≡ 0 + sum_by g ys = omega arith in e
-sum_both g (x ∷ xs) ys =
-    let own = sum_by-cons g x xs in
-    let all = sum_by-cons g x (xs ++ ys) in
-    let more = sum_both g xs ys in
-    omega (arith, own, all, more)
+-- So is the chain of a file header that is before the stretch.
+pub header_stays : {State Cell Items Defaults : Type 0} (steps : Steps State Cell Items) (rules : Rules State Cell Items Defaults)
+    (text new : Text) (stretch : Stretch) (old made : List (Chained State Cell Items)) → AreChains steps rules text old
+    → header_in (blocks_in rules new) ≡ header_in (blocks_in rules text) → HeaderEnds stretch.from (header_in (blocks_in rules text)) → take stretch.from new ≡ take stretch.from text
+    → AllZip (IsChainOf steps rules.cells (opening_of steps.next rules new (blocks_in rules new)) new)
+    (take stretch.front (drop 1 old) ++ (made ++ drop stretch.behind (drop 1 old))) (tunes_in (blocks_in rules new))
+    → AreChains steps rules new (chains_after None stretch old made)
+header_stays steps rules text new stretch [] made chains header ends e all = absurd chains
+header_stays steps rules text new stretch (first ∷ tunes) made chains header ends e all = (
+  subst (λ (h : Option Block). IsHeaderChainOf steps rules new first h) (sym header) (header_before steps rules text new stretch.from first (header_in (blocks_in rules text)) e ends chains.0),
+  all,
+)
 
--- Where no more than tunes of a stretch has been folded.
+-- Where the file header and tunes of a stretch have been folded.
 pub stretch_cost : {State Cell Items Defaults : Type 0} (steps : Steps State Cell Items) (rules : Rules State Cell Items Defaults)
-    (text : Text) (s : Splice) (old : List (Chained State Cell Items)) (rows : List (CarriedRow Cell)) (own : State) (front places back : List Block) (before after : Counters)
+    (text : Text) (s : Splice) (old : List (Chained State Cell Items)) (rows : List (CarriedRow Cell)) (own : State) (front places back : List Block) (before now after : Counters)
     → IsResumable steps → s.at + s.removed ≤ length text → AreChains steps rules text old → AreRenewed steps rules text s old rows
     → IsAlike steps own (opening_of steps.next rules (spliced text s) (blocks_in rules (spliced text s)))
     → tunes_in (blocks_in rules (spliced text s)) ≡ front ++ (places ++ back)
-    → IsRaisedUpTo (sum_by (steps_taken steps own old rows) places) before after → IsRaisedUpTo (fresh_cells_after steps rules text s) before after
-stretch_cost steps rules text s old rows own front places back before after laws inside chains new alike all raise =
+    → IsRaisedUpTo (header_steps steps rules.header old rows (header_in (blocks_in rules (spliced text s)))) before now
+    → IsRaisedUpTo (sum_by (steps_taken steps own old rows) places) now after → IsRaisedUpTo (fresh_cells_after steps rules text s) before after
+stretch_cost steps rules text s old rows own front places back before now after laws inside chains new alike all head raise =
     let g = steps_taken steps own old rows in
     let sum = edit_steps steps rules text s old rows own laws inside chains new.read new.from alike in
     let first = ap (sum_by g) all in
-    let second = sum_both g front (places ++ back) in
-    let third = sum_both g places back in
-    raised_up _ _ before after (omega (arith, sum, first, second, third)) raise
+    let second = sum_by-append g front (places ++ back) in
+    let third = sum_by-append g places back in
+    raised_up _ _ before after (omega (arith, sum, first, second, third)) (raised_both _ _ before now after head raise)
 
 -- Tunes that stay have the items of old ones.
 pub kept_some : {A : Type 0} (P : A → Option ℕ → Type 0) (first : ℕ) (xs : List A) (count : ℕ) → ((x : A) (k : ℕ) → P x (Some k)) → length xs ≡ count → AllZip P xs (kept_numbers first count)

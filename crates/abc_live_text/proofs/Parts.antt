@@ -1,7 +1,8 @@
 -- Parts of lists.
-use Rattle.std.proofs.Common.{◌≡◌, ℕ, zero, suc, ◌+◌, ◌-◌, ◌≤◌, List, [], ◌∷◌, ◌++◌, map, All, length, take, drop, refl, sym, ◌∙◌}
+use Rattle.std.proofs.Common.{◌≡◌, ℕ, zero, suc, ◌+◌, ◌-◌, ◌≤◌, List, [], ◌∷◌, ◌++◌, map, All, length, take, drop, sym, ◌∙◌}
 use Rattle.std.proofs.Common.{ap, arith, append_assoc, drop-drop}
 use Rattle.std.specs.List.{AllZip}
+use Rattle.std.proofs.lemmas.List.{take-append-le, drop-append-le, drop-take, take-take}
 
 pub take_past : {X : Type 0} (n : ℕ) (a b : List X) → length a ≤ n → take n (a ++ b) ≡ a ++ take (n - length a) b
 take_past n [] b h = (let e : n ≡ n - 0 = omega arith in ap (λ m. take m b) e)
@@ -13,24 +14,14 @@ drop_past n [] b h = (let e : n ≡ n - 0 = omega arith in ap (λ m. drop m b) e
 drop_past zero (x ∷ a) b h = absurd (omega arith)
 drop_past (suc n) (x ∷ a) b h = (let e : n - length a ≡ suc n - suc (length a) = omega arith in drop_past n a b (omega arith) ∙ ap (λ m. drop m b) e)
 
-pub take_in : {X : Type 0} (n : ℕ) (a b : List X) → n ≤ length a → take n (a ++ b) ≡ take n a
-take_in zero a b h = refl
-take_in (suc n) [] b h = absurd (omega arith)
-take_in (suc n) (x ∷ a) b h = ap (λ l. x ∷ l) (take_in n a b (omega arith))
-
-pub drop_in : {X : Type 0} (n : ℕ) (a b : List X) → n ≤ length a → drop n (a ++ b) ≡ drop n a ++ b
-drop_in zero a b h = refl
-drop_in (suc n) [] b h = absurd (omega arith)
-drop_in (suc n) (x ∷ a) b h = drop_in n a b (omega arith)
-
 -- A list edited within its middle part.
 pub edited_parts : {X : Type 0} (a own b new : List X) (at removed : ℕ) → length a ≤ at → at + removed ≤ length a + length own
     → take at (a ++ (own ++ b)) ++ (new ++ drop (at + removed) (a ++ (own ++ b)))
     ≡ a ++ ((take (at - length a) own ++ (new ++ drop (at + removed - length a) own)) ++ b)
 edited_parts a own b new at removed h k =
-    let front : take at (a ++ (own ++ b)) ≡ a ++ take (at - length a) own = take_past at a (own ++ b) h ∙ ap (λ l. a ++ l) (take_in (at - length a) own b (omega arith)) in
+    let front : take at (a ++ (own ++ b)) ≡ a ++ take (at - length a) own = take_past at a (own ++ b) h ∙ ap (λ l. a ++ l) (take-append-le (at - length a) own b (omega arith)) in
     let tail : drop (at + removed) (a ++ (own ++ b)) ≡ drop (at + removed - length a) own
-    ++ b = drop_past (at + removed) a (own ++ b) (omega arith) ∙ drop_in (at + removed - length a) own b (omega arith) in
+    ++ b = drop_past (at + removed) a (own ++ b) (omega arith) ∙ drop-append-le (at + removed - length a) own b (omega arith) in
     let first = take (at - length a) own in
     let last = drop (at + removed - length a) own in
     (λ i. front i ++ (new ++ tail i))
@@ -43,36 +34,20 @@ pub part_moved : {X : Type 0} (a own b : List X) (from to n : ℕ) → n ≡ len
 part_moved a own b from to n e h k =
     let count : to + n - (from + n) ≡ to - from = omega arith in
     let here : drop (from + n) (a ++ (own ++ b)) ≡ drop from own ++ b = drop_past (from + n) a (own ++ b) (omega (arith, e))
-    ∙ ((let m : from + n - length a ≡ from = omega (arith, e) in ap (λ i. drop i (own ++ b)) m) ∙ drop_in from own b (omega arith)) in
-    (λ i. take (count i) (here i)) ∙ take_in (to - from) (drop from own) b (long from own (to - from) (omega arith))
+    ∙ ((let m : from + n - length a ≡ from = omega (arith, e) in ap (λ i. drop i (own ++ b)) m) ∙ drop-append-le from own b (omega arith)) in
+    (λ i. take (count i) (here i)) ∙ take-append-le (to - from) (drop from own) b (long from own (to - from) (omega arith))
   where
     long : {X : Type 0} (from : ℕ) (own : List X) (k : ℕ) → from + k ≤ length own → k ≤ length (drop from own)
     long zero own k h = omega arith
     long (suc from) [] k h = omega arith
     long (suc from) (x ∷ own) k h = long from own k (omega arith)
 
-none_taken : {X : Type 0} (n : ℕ) → (let xs : List X = [] in take n xs ≡ xs)
-none_taken zero = refl
-none_taken (suc n) = refl
-
-pub take_drop : {X : Type 0} (k j : ℕ) (xs : List X) → take k (drop j xs) ≡ drop j (take (j + k) xs)
-take_drop k zero xs = (let e : k ≡ 0 + k = omega arith in ap (λ m. take m xs) e)
-take_drop zero (suc j) [] = sym (ap (drop (suc j)) (none_taken (suc j + 0)))
-take_drop (suc k) (suc j) [] = sym (ap (drop (suc j)) (none_taken (suc j + suc k)))
-take_drop k (suc j) (x ∷ xs) = take_drop k j xs ∙ (let e : suc (j + k) ≡ suc j + k = omega arith in ap (λ m. drop (suc j) (take m (x ∷ xs))) e)
-
-pub take_less : {X : Type 0} (m n : ℕ) (xs : List X) → m ≤ n → take m xs ≡ take m (take n xs)
-take_less zero n xs h = refl
-take_less (suc m) zero xs h = absurd (omega arith)
-take_less (suc m) (suc n) [] h = refl
-take_less (suc m) (suc n) (x ∷ xs) h = ap (λ l. x ∷ l) (take_less m n xs (omega arith))
-
 -- A part of two lists that begin alike.
 pub part_before : {X : Type 0} (xs ys : List X) (from to n : ℕ) → take n xs ≡ take n ys → from ≤ to → to ≤ n → take (to - from) (drop from xs) ≡ take (to - from) (drop from ys)
 part_before xs ys from to n e h k =
     let sum : from + (to - from) ≡ to = omega arith in
-    let own : take to xs ≡ take to ys = take_less to n xs k ∙ (ap (take to) e ∙ sym (take_less to n ys k)) in
-    take_drop (to - from) from xs ∙ (ap (λ m. drop from (take m xs)) sum ∙ (ap (drop from) own ∙ (ap (λ m. drop from (take m ys)) (sym sum) ∙ sym (take_drop (to - from) from ys))))
+    let own : take to xs ≡ take to ys = sym (take-take to n xs k) ∙ (ap (take to) e ∙ take-take to n ys k) in
+    sym (drop-take from (to - from) xs) ∙ (ap (λ m. drop from (take m xs)) sum ∙ (ap (drop from) own ∙ (ap (λ m. drop from (take m ys)) (sym sum) ∙ drop-take from (to - from) ys)))
 
 -- A part of two lists that end alike, the one from a place on and the other from another.
 pub part_behind : {X : Type 0} (xs ys : List X) (from to start gone came : ℕ) → drop (start + came) ys ≡ drop (start + gone) xs → start + gone ≤ from → from ≤ to

@@ -1,6 +1,6 @@
 -- Where pieces end in old chains, one piece after the other.
-use Rattle.std.proofs.Common.{◌≡◌, ℕ, ◌+◌, ◌-◌, ◌<◌, List, [], ◌∷◌, ◌++◌, Option, Some, None, Result, Ok, Err, IfOk, IfSome}
-use Rattle.std.proofs.Common.{slice_get, get_or, length, sym, ◌∙◌, ap, subst, arith, length-append}
+use Rattle.std.proofs.Common.{◌≡◌, ℕ, ◌+◌, ◌-◌, List, [], ◌∷◌, ◌++◌, Option, Some, None, Result, Ok, Err, IfOk, IfSome}
+use Rattle.std.proofs.Common.{slice_get, length, sym, ◌∙◌, ap, subst, arith, length-append}
 use Rattle.std.specs.Option.{IsSome, IsSomeAnd}
 use Rattle.abc_fold.specs.declared.piece.Piece.{Piece}
 use Rattle.abc_fold.specs.declared.piece.Piece.TheVariants.{New, Kept}
@@ -10,8 +10,8 @@ use Rattle.abc_fold.proofs.Following.{get_last}
 use Rattle.abc_fold.proofs.Kept.{some_same}
 use Rattle.abc_live_cost.specs.Origin.{Origin}
 use Rattle.abc_live_text.specs.PieceEnd.{EndsAt, IsLeftAt, LiesAt}
-use Rattle.abc_live_text.specs.Pieces.{IsCarriedAt, address_from, entries_at}
-use Rattle.abc_live_text.proofs.LinePieces.{address, entries_get, source_there}
+use Rattle.abc_live_text.specs.Pieces.{address_from, entries_at}
+use Rattle.abc_live_text.proofs.LinePieces.{IsPlaced}
 
 module _ {F State Cell Items Work : Type 0} (chains : List (Chained State Cell Items)) where
   follows_one : (source i : ℕ) (last piece : Piece F State Cell Items Work) → IsLeftAt chains source i last → LiesAt chains (Some (source, i)) piece → Follows last piece
@@ -75,12 +75,8 @@ module _ {F State Cell Items Work : Type 0} (chains : List (Chained State Cell I
       (ap (λ l. slice_get l i) e ∙ at.own_entry, ap (λ l. slice_get l (i + 1)) e ∙ at.next_entry)
 
   -- Where a kept piece of a line stands.
-  pub own_place : {E : Type 0} (row : List Cell) (o : Option Origin) (origin : Origin) (source first k : ℕ) (chain : Chained State Cell Items) (result : Result (Piece F State Cell Items Work) E)
-      → o ≡ Some origin → origin ≡ record { source = source; first = first } → IsCarriedAt chains row o → k < length row → chain ≡ get_or chains source chain
-      → IfOk result (λ piece. IsKeptAt chain (first + k) piece)
-      → IfOk result (λ piece. LiesAt chains (address_from k o) piece)
-  own_place row o origin source first k chain (Err error) e v carried inside is at = tt
-  own_place row o origin source first k chain (Ok piece) e v carried inside is at =
-      let there = source_there chains row o origin source first k e v carried inside in
-      let entries : entries_at chains source ≡ chain.entries = entries_get chains source chain there ∙ ap (λ (c : Chained State Cell Items). c.entries) (sym is) in
-      subst (λ a. LiesAt chains a piece) (sym (address k o origin source first e v)) (stands_one source (first + k) chain piece entries at)
+  pub own_place : {E : Type 0} {row : List Cell} {o : Option Origin} {k : ℕ} {chain : Chained State Cell Items} {source i : ℕ} (result : Result (Piece F State Cell Items Work) E)
+      → IsPlaced chains row o k chain source i → IfOk result (λ piece. IsKeptAt chain i piece) → IfOk result (λ piece. LiesAt chains (address_from k o) piece)
+  own_place (Err error) here at = tt
+  own_place {chain = chain} {source = source} {i = i} (Ok piece) here at =
+      subst (λ a. LiesAt chains a piece) (sym here.address) (stands_one source i chain piece here.entries at)

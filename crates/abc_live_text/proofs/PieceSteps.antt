@@ -1,17 +1,19 @@
 -- The steps of pieces are those along cells and what is held of them.
 use Rattle.std.proofs.Common.{◌≡◌, ℕ, suc, ◌+◌, ◌<◌, true, false, List, [], ◌∷◌, ◌++◌, length, take, drop, get_or, refl, sym, ◌∙◌}
-use Rattle.std.proofs.Common.{ap, subst, ⊎_elim, arith, add-one, zero-add}
+use Rattle.std.proofs.Common.{ap, subst, ⊎_elim, arith, zero-add}
 use Rattle.std.proofs.lemmas.Bool.{cases_Bool}
 use Rattle.std.proofs.lemmas.List.{take_more}
-use Rattle.std.proofs.lemmas.List.Sums.{sum_by-cons}
-use Rattle.std.proofs.Math.Seq.{drop-cons}
 use Rattle.std.specs.List.{AllZip, sum_by}
+use Rattle.std.proofs.lemmas.Slice.Zip.{all_zipped_more}
+use Rattle.std.proofs.lemmas.List.Sums.{sum_by-drop_more}
 use Rattle.abc_book.specs.declared.block.Block.{Block}
 use Rattle.abc_fold.specs.declared.piece.Piece.{Piece}
 use Rattle.abc_fold.specs.declared.piece.Piece.TheVariants.{New, Kept}
 use Rattle.abc_fold.specs.Chain.{Chained}
 use Rattle.abc_fold.specs.Piece.{IsKept, cells_of, steps_needed}
 use Rattle.abc_fold.specs.Steps.{Steps, IsAlike, IsResumable}
+use Rattle.abc_fold.specs.Work.{Counters, IsRaisedUpTo}
+use Rattle.abc_fold.proofs.Folding.{IsWithin, within_more}
 use Rattle.abc_live_cost.specs.KeptState.{steps_over}
 use Rattle.abc_live_text.specs.Pieces.{cells_over, kept_states_in, kept_states_over, steps_taken}
 use Rattle.abc_live_text.specs.Row.{CarriedRow}
@@ -55,18 +57,22 @@ pub block_pieces : {F State Cell Items Work : Type 0} (steps : Steps State Cell 
 block_pieces steps laws opening old rows block pieces kept e h =
     steps_are_over steps laws opening opening pieces (laws.reflexive opening) kept ∙ (λ i. steps_over steps opening (e i) (h i))
 
-pub sum_at : {X : Type 0} (g : X → ℕ) (xs : List X) (i : ℕ) (x : X) → x ≡ get_or xs i x → i < length xs → sum_by g (drop i xs) ≡ g x + sum_by g (drop (i + 1) xs)
-sum_at g xs i x is inside =
-    ap (sum_by g) (drop-cons xs i x inside) ∙ (sum_by-cons g (get_or xs i x) (drop (suc i) xs)
-    ∙ (λ j. g (sym is j) + sum_by g (drop (sym (add-one i) j) xs)))
+pub pieces_cost : {F State Cell Items Work : Type 0} (steps : Steps State Cell Items) (laws : IsResumable steps) (opening : State)
+    (old : List (Chained State Cell Items)) (rows : List (CarriedRow Cell)) (block : Block) (pieces : List (Piece F State Cell Items Work))
+    → ((k : ℕ) (d : Piece F State Cell Items Work) → k < length pieces → IsKept steps (get_or pieces k d))
+    → cells_of pieces ≡ cells_over rows block → kept_states_in pieces ≡ kept_states_over old rows block → {before after : Counters}
+    → IsRaisedUpTo (steps_needed steps opening pieces) before after → IsRaisedUpTo (steps_taken steps opening old rows block) before after
+pieces_cost steps laws opening old rows block pieces kept e h {before = before} {after = after} raise =
+    subst (λ n. IsRaisedUpTo n before after) (block_pieces steps laws opening old rows block pieces kept e h) raise
 
-pub zip_push : {A B : Type 0} (R : A → B → Type 0) (xs : List A) (ys : List B) (x : A) (y : B) → AllZip R xs ys → R x y → AllZip R (xs ++ x ∷ []) (ys ++ y ∷ [])
-zip_push R [] [] x y all own = (own, tt)
-zip_push R [] (b ∷ ys) x y all own = absurd all
-zip_push R (a ∷ xs) [] x y all own = absurd all
-zip_push R (a ∷ xs) (b ∷ ys) x y all own = (all.0, zip_push R xs ys x y all.1 own)
+-- One more item that counts.
+pub sum_next : {X : Type 0} (g : X → ℕ) (xs : List X) (i : ℕ) (d : X) {before now later : Counters} → i < length xs
+    → IsWithin before now (sum_by g (drop i xs)) (sum_by g xs) → IsRaisedUpTo (g (get_or xs i d)) now later → IsWithin before later (sum_by g (drop (i + 1) xs)) (sum_by g xs)
+sum_next g xs i d {before = before} {now = now} {later = later} inside within raise =
+    within_more before now later (g (get_or xs i d)) (sum_by g (drop (i + 1) xs)) (sum_by g xs)
+    (subst (λ k. IsWithin before now k (sum_by g xs)) (sum_by-drop_more g xs i d inside) within) raise
 
 pub zip_next : {A B : Type 0} (R : A → B → Type 0) (xs : List A) (ys : List B) (i : ℕ) (x : A) (y : B) → AllZip R xs (take i ys)
     → R x y → y ≡ get_or ys i y → i < length ys → AllZip R (xs ++ x ∷ []) (take (i + 1) ys)
 zip_next R xs ys i x y all own is inside =
-    subst (AllZip R (xs ++ x ∷ [])) (sym (take_more ys i y inside ∙ ap (λ b. take i ys ++ b ∷ []) (sym is))) (zip_push R xs (take i ys) x y all own)
+    subst (AllZip R (xs ++ x ∷ [])) (sym (take_more ys i y inside ∙ ap (λ b. take i ys ++ b ∷ []) (sym is))) (all_zipped_more R xs (take i ys) x y all own)

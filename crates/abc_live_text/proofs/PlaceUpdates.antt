@@ -1,5 +1,5 @@
 -- Tunes that are put in place, one by one.
-use Rattle.std.proofs.Common.{◌≡◌, ℕ, zero, suc, ◌+◌, ◌-◌, ◌<◌, ◌≤◌, List, [], ◌∷◌, ◌++◌, All, map, length, take, drop, set}
+use Rattle.std.proofs.Common.{◌≡◌, ℕ, suc, ◌+◌, ◌-◌, ◌<◌, ◌≤◌, List, [], ◌∷◌, ◌++◌, All, map, length, take, drop, set}
 use Rattle.std.proofs.Common.{get_or, refl, sym, ◌∙◌, ap, subst, arith, add-one, append_assoc, length-append}
 use Rattle.std.proofs.Math.Seq.{drop-append_seam, drop-cons, take-append_seam}
 use Rattle.std.proofs.lemmas.List.{drop-set-lt, length-take-le, take_more_set, take-append-drop}
@@ -12,12 +12,6 @@ use Rattle.abc_live_text.specs.declared.stretch.Stretch.{Stretch}
 cut_at : {X : Type 0} (xs : List X) (i : ℕ) (x : X) → i < length xs → x ≡ get_or xs i x → drop i xs ≡ x ∷ drop (i + 1) xs
 cut_at xs i x inside is = drop-cons xs i x inside ∙ (λ j. sym is j ∷ drop (sym (add-one i) j) xs)
 
-drop_none : {X : Type 0} (n : ℕ) (xs : List X) → length xs ≤ n → drop n xs ≡ []
-drop_none zero [] h = refl
-drop_none zero (x ∷ xs) h = absurd (omega arith)
-drop_none (suc n) [] h = refl
-drop_none (suc n) (x ∷ xs) h = drop_none n xs (omega arith)
-
 -- One more that is moved in its place, and those that are still to be moved.
 pub move_more : {X : Type 0} (f : X → X) (xs next : List X) (i : ℕ) (x : X) → next ≡ set xs i (f x) → i < length xs → x ≡ get_or xs i x
     → take (i + 1) next ++ map f (drop (i + 1) next) ≡ take i xs ++ map f (drop i xs)
@@ -28,11 +22,6 @@ move_more f xs next i x put inside is =
     ∙ append_assoc (take i xs) (f x ∷ []) (map f (drop (i + 1) next))
     ∙ ap (λ l. take i xs ++ (f x ∷ map f l)) behind
     ∙ ap (λ l. take i xs ++ map f l) (sym (cut_at xs i x inside is))
-
--- Where none is still to be moved.
-pub move_all : {X : Type 0} (f : X → X) (xs : List X) (i : ℕ) → length xs ≤ i → xs ≡ take i xs ++ map f (drop i xs)
-move_all f xs i end =
-    sym (take-append-drop i xs) ∙ ap (λ l. take i xs ++ l) (drop_none i xs end ∙ sym (ap (map f) (drop_none i xs end)))
 
 -- A tune after a stretch stays where as many lines came as went.
 stays : (stretch : Stretch) (block : Block) → gone stretch ≡ stretch.came → LiesAfter stretch block → block.from ≤ block.to → block ≡ block_after stretch block
@@ -69,9 +58,6 @@ rest_behind P xs next i x y put all inside is =
     subst (All P) (sym (ap (drop (i + 1)) put ∙ drop-set-lt (i + 1) xs i y (omega arith))) (λ k d l. own (suc k) d (omega (arith, l)))
 
 -- Tunes that lie within some lines lie within more.
-pub within_most : (few most : ℕ) (tunes : List Block) → All (LiesWithin few) tunes → few ≤ most → All (LiesWithin most) tunes
-within_most few most tunes within order = λ i d l. (let own = within i d l in (own.0, omega (arith, own.1, order)))
-
 -- The tunes of the stretch are put, and then those after it are moved.
 pub put_and_moved : {X : Type 0} (f : X → X) (old places : List X) (front behind : ℕ) → front + length places ≡ behind → behind ≤ length old
     → take behind (take front old ++ (places ++ drop behind old)) ++ map f (drop behind (take front old ++ (places ++ drop behind old))) ≡ take front old ++ (places ++ map f (drop behind old))

@@ -9,7 +9,7 @@ use Rattle.abc_lines.specs.Text.{Text, spliced}
 use Rattle.abc_tune_compiler.specs.Rules.{Rules}
 use Rattle.abc_live_text.specs.NewParts.{MayReplaceHeader, chains_after, splice_at}
 use Rattle.abc_live_text.specs.Row.{Row, new_row, row_cells, row_class}
-use Rattle.abc_live_text.specs.KeptText.{AreRows}
+use Rattle.abc_live_text.specs.KeptText.{AreRows, KeptTextView}
 use Rattle.abc_live_text.specs.declared.stretch.Stretch.{Stretch}
 use Rattle.abc_live_text.proofs.Edits.{spliced_is}
 use Rattle.abc_live_text.proofs.FreshSteps.{map-over}
@@ -73,6 +73,11 @@ map_spliced h text lines at removed =
     ap (map h) (spliced_is text (splice_at at removed lines))
     ∙ (map-append h (take at text) (lines ++ drop (at + removed) text)
     ∙ (λ i. sym (take-map h at text) i ++ (map-append h lines (drop (at + removed) text) ∙ (λ j. map h lines ++ sym (drop-map h (at + removed) text) j)) i))
+
+-- Rows that were read, by the compiler of a kept text as it is now.
+pub read_now : {C State Cell Items Defaults : Type 0} (rules : C → Rules State Cell Items Defaults) {was now : KeptTextView C State Cell Items} (view : was ≡ now)
+    (lines : Text) {new : List (Row Cell)} → new ≡ map (new_row (rules was.compiler)) lines → new ≡ map (new_row (rules now.compiler)) lines
+read_now {C = C} {State = State} {Cell = Cell} {Items = Items} rules view lines e = e ∙ ap (λ (k : KeptTextView C State Cell Items). map (new_row (rules k.compiler)) lines) view
 
 pub rows_after : {State Cell Items Defaults : Type 0} (rules : Rules State Cell Items Defaults) (text lines : Text)
     (rows new : List (Row Cell)) (at removed : ℕ) → AreRows rules text rows → new ≡ map (new_row rules) lines

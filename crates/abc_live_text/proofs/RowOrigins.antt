@@ -3,7 +3,7 @@ use Rattle.std.proofs.Common.{◌≡◌, ℕ, zero, suc, ◌+◌, ◌-◌, ◌<�
 use Rattle.std.proofs.Common.{take, drop, slice_get, refl, sym, ◌∙◌, ap, arith, append_assoc, take-append-drop, drop-drop}
 use Rattle.std.proofs.Common.{length-append}
 use Rattle.std.proofs.lemmas.List.{map-append, take-map}
-use Rattle.std.proofs.lemmas.List.Elements.{All-cons, All-nil}
+use Rattle.std.proofs.lemmas.List.Elements.{All-cons, All-nil, All-append}
 use Rattle.std.specs.List.{flat_map, AllZip}
 use Rattle.abc_book.specs.declared.block.Block.{Block}
 use Rattle.abc_fold.specs.Chain.{Chained}
@@ -18,7 +18,6 @@ use Rattle.abc_live_text.specs.Chains.{AreChains, IsHeaderChainOf, header_place,
 use Rattle.abc_live_cost.specs.OldItems.{IsChainOf}
 use Rattle.abc_live_text.specs.Origin.{BlocksRise, rows_between, rows_along}
 use Rattle.abc_live_text.specs.Row.{CarriedRow, at_origin}
-use Rattle.abc_live_text.proofs.Edits.{all_both}
 use Rattle.abc_live_text.proofs.FreshSteps.{block_cells, map-over, read_drop}
 use Rattle.abc_live_text.proofs.WholeRows.{placed_from}
 
@@ -88,9 +87,10 @@ from_carried chains (t ∷ others) rows at source [] look all = absurd all
 from_carried chains (t ∷ others) rows at source (block ∷ blocks) look all =
     let zeroth : source ≡ source + 0 = omega arith in
     let own : cells_at chains source ≡ [] ++ flat_map cells_in (rows_between rows block.from block.to) = ap (cells_at chains) zeroth ∙ (look 0 ∙ all.0) in
-    all_both (IsCarried chains) (map (at_origin None) (rows_between rows at block.from)) (rows_along source 0 (rows_between rows block.from block.to) ++ placed_from rows block.to (source + 1) blocks)
+    All-append (IsCarried chains) (map (at_origin None) (rows_between rows at block.from)) (rows_along source 0 (rows_between rows block.from block.to) ++ placed_from rows block.to
+    (source + 1) blocks)
     (free_carried chains (rows_between rows at block.from))
-    (all_both (IsCarried chains) (rows_along source 0 (rows_between rows block.from block.to)) (placed_from rows block.to (source + 1) blocks)
+    (All-append (IsCarried chains) (rows_along source 0 (rows_between rows block.from block.to)) (placed_from rows block.to (source + 1) blocks)
     (along_carried chains source 0 [] (rows_between rows block.from block.to) refl own)
     (from_carried chains others rows block.to (source + 1) blocks (λ k. (let e : source + 1 + k ≡ source + suc k = omega arith in ap (cells_at chains) e) ∙ look (suc k)) all.1))
 

@@ -1,5 +1,5 @@
 -- Counters of scanned lines.
-use Rattle.std.proofs.Common.{◌≡◌, ℕ, ◌+◌, ◌-◌, ◌<◌, ◌≤◌, List, [], ◌∷◌, ◌++◌, map, take, length, get_or, refl, sym, ◌∙◌, ap}
+use Rattle.std.proofs.Common.{◌≡◌, ℕ, ◌+◌, ◌-◌, ◌<◌, ◌≤◌, List, [], ◌∷◌, ◌++◌, map, take, length, get_or, sym, ◌∙◌, ap}
 use Rattle.std.proofs.Common.{subst, arith}
 use Rattle.std.proofs.lemmas.List.{map-append, take_more}
 use Rattle.std.specs.Global.{Vec}
@@ -27,9 +27,6 @@ scanned_once before after is = record {
   least = rw is (raised-least before.scanned 1);
   most = rw is (omega arith);
 }
-
-pub scanning_start : (now : Counters) (k : ℕ) → IsScanning now now k k
-scanning_start now k = record { folded = refl; built = refl; least = omega arith; bound = omega arith }
 
 pub scanning_done : (before now : Counters) (k most : ℕ) → IsScanning before now k most → IsScannedUpTo most before now
 scanning_done before now k most within = record {

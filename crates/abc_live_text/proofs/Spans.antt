@@ -26,6 +26,11 @@ pub rise_to : (at : ℕ) (blocks : List Block) (last : ℕ) → BlocksRise at bl
 rise_to at [] last rise = rise
 rise_to at (block ∷ blocks) last rise = let more = rise_to block.to blocks last rise.2 in omega (arith, rise.0, rise.1, more)
 
+-- They begin at a line or later, if the line is not after the end.
+pub starts_late : (blocks : List Block) (line last : ℕ) → line ≤ start_of blocks line → line ≤ last → line ≤ start_of blocks last
+starts_late [] line last begins most = most
+starts_late (block ∷ blocks) line last begins most = begins
+
 -- Each lies between where they begin and where they end.
 pub rise_amid : (low at : ℕ) (blocks : List Block) (last : ℕ) → low ≤ at → BlocksRise at blocks last → All (λ (block : Block). (low ≤ block.from) × (block.to ≤ last)) blocks
 rise_amid low at [] last least rise = All-nil (λ (block : Block). (low ≤ block.from) × (block.to ≤ last))

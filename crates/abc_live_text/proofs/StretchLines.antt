@@ -1,13 +1,13 @@
 -- The lines of a stretch, among those of the text.
 use Rattle.std.proofs.Common.{◌≡◌, ℕ, zero, suc, ◌+◌, ◌-◌, ◌≤◌, List, [], ◌∷◌, ◌++◌, map, None, length, take, drop, refl, sym}
 use Rattle.std.proofs.Common.{◌∙◌, ap, arith, append_assoc, drop-drop, length-append, length-drop}
-use Rattle.std.proofs.lemmas.List.{map-append, length-take-le}
+use Rattle.std.proofs.lemmas.List.{map-append, length-take-le, length-map}
 use Rattle.abc_book.specs.declared.block.Block.{Block}
 use Rattle.abc_live_text.specs.Origin.{BlocksRise, rows_between, rows_along, rows_until}
 use Rattle.abc_live_text.specs.Row.{CarriedRow, at_origin}
-use Rattle.abc_live_text.proofs.FreshSteps.{length-over}
 use Rattle.abc_live_text.proofs.RowOrigins.{split}
 use Rattle.abc_live_text.proofs.WholeRows.{placed_from}
+use Rattle.abc_live_text.proofs.Spans.{rise_to}
 
 take_none : {A : Type 0} (n : ℕ) → (let xs : List A = [] in take n xs ≡ xs)
 take_none zero = refl
@@ -57,20 +57,16 @@ length-along source first (row ∷ rows) = ap suc (length-along source (first + 
 length-rows_between : {Cell : Type 0} (rows : List (CarriedRow Cell)) (at to : ℕ) → at ≤ to → to ≤ length rows → length (rows_between rows at to) ≡ to - at
 length-rows_between rows at to h k = length-take-le (to - at) (drop at rows) (let n = length-drop at rows in omega (arith, n))
 
-rise_order : (at : ℕ) (blocks : List Block) (last : ℕ) → BlocksRise at blocks last → at ≤ last
-rise_order at [] last rise = rise
-rise_order at (block ∷ blocks) last rise = let more = rise_order block.to blocks last rise.2 in omega (arith, rise.0, rise.1, more)
-
 -- There are as many as lines.
 pub length-until : {Cell : Type 0} (rows : List (CarriedRow Cell)) (at to source : ℕ) (blocks : List Block)
     → BlocksRise at blocks to → to ≤ length rows → length (rows_until rows at to source blocks) ≡ to - at
-length-until rows at to source [] rise inside = length-over (at_origin None) (rows_between rows at to) ∙ length-rows_between rows at to rise inside
+length-until rows at to source [] rise inside = length-map (rows_between rows at to) (at_origin None) ∙ length-rows_between rows at to rise inside
 length-until rows at to source (block ∷ blocks) rise inside =
-    let order = rise_order block.to blocks to rise.2 in
+    let order = rise_to block.to blocks to rise.2 in
     let a = map (at_origin None) (rows_between rows at block.from) in
     let b = rows_along source 0 (rows_between rows block.from block.to) in
     let c = rows_until rows block.to to (source + 1) blocks in
-    let first : length a ≡ block.from - at = length-over (at_origin None) (rows_between rows at block.from) ∙ length-rows_between rows at block.from rise.0 (omega (arith, rise.1, order)) in
+    let first : length a ≡ block.from - at = length-map (rows_between rows at block.from) (at_origin None) ∙ length-rows_between rows at block.from rise.0 (omega (arith, rise.1, order)) in
     let second : length b ≡ block.to - block.from = length-along source 0 (rows_between rows block.from block.to) ∙ length-rows_between rows block.from block.to rise.1 (omega (arith, order)) in
     let third : length c ≡ to - block.to = length-until rows block.to to (source + 1) blocks rise.2 inside in
     let sums = length-append a (b ++ c) in

@@ -1,7 +1,7 @@
 -- A stretch that begins with a tune.
 use Rattle.std.proofs.Common.{◌≡◌, ℕ, zero, suc, ◌+◌, ◌-◌, ◌≤◌, List, [], ◌∷◌, ◌++◌, map, Option, Some, None, All, length, take}
 use Rattle.std.proofs.Common.{drop, sym, ◌∙◌, ap, subst, arith, append_assoc, drop-drop, take-append-drop}
-use Rattle.std.proofs.lemmas.List.{map-append, take-map}
+use Rattle.std.proofs.lemmas.List.{map-append, take-map, length-map}
 use Rattle.std.proofs.lemmas.List.Elements.{All-cons}
 use Rattle.abc_book.specs.Block.{blocks_of}
 use Rattle.abc_book.specs.Laws.{RiseFromTo, moved}
@@ -21,12 +21,12 @@ use Rattle.abc_live_text.specs.KeptText.{AreRows}
 use Rattle.abc_live_text.specs.declared.stretch.Span.{Span}
 use Rattle.abc_live_text.proofs.StretchLines.{BeginBehind, length-until}
 use Rattle.abc_live_text.proofs.Edits.{edit_of, fresh_row}
-use Rattle.abc_live_text.proofs.FreshSteps.{length-over}
 use Rattle.abc_live_text.proofs.NewBlocks.{IsRun, begin_taken, header_after, run_begins, tunes_after}
 use Rattle.abc_live_text.proofs.OutsideStretch.{HeaderEnds, StartsFrom}
 use Rattle.abc_live_text.proofs.EditedRows.{IsAmong, Parted, bare_read, parted, placed_read, stretch_rows}
+use Rattle.abc_live_text.proofs.EditedRuns.{IsEditedRun, part_classes}
 use Rattle.abc_live_text.proofs.ChainPlaces.{places_rise}
-use Rattle.abc_live_text.proofs.Spans.{Ends, end_start, rise_back, rise_front, start_inside, tunes_strict}
+use Rattle.abc_live_text.proofs.Spans.{Ends, end_start, rise_amid, rise_back, rise_front, rise_to, start_inside, tunes_strict}
 use Rattle.abc_live_text.proofs.WholeRows.{AreRead, placed_from}
 
 -- A list in three parts.
@@ -85,24 +85,16 @@ module _ {State Cell Items Defaults : Type 0} (rules : Rules State Cell Items De
   old_run = rows_until (map carried_row rows) span.from span.to (0 + length front_places) mid_tunes
 
   -- What is known of a stretch that begins with a tune.
-  pub record IsNarrow : Type 0 where
-    pub parts : Parted rules s (placed_from (map carried_row rows) 0 0 (places_of (blocks_in rules text))) old_run span.from
-    pub tunes : tunes_in (blocks_in rules (spliced text s)) ≡ take span.front (tunes_in (blocks_in rules text)) ++
-        (map (moved span.from) (tunes_in (blocks_of (map class_in (stretch_rows rules s span.from old_run)))) ++ map
-        (shifted (span.to - span.from) (length (stretch_rows rules s span.from old_run))) (drop span.behind (tunes_in (blocks_in rules text))))
+  pub record IsSpanRun : Type 0 where
+    pub run : IsEditedRun rules text s rows span old_run
     pub header : header_in (blocks_in rules (spliced text s)) ≡ header_in (blocks_in rules text)
     pub header_ends : HeaderEnds span.from (header_in (blocks_in rules text))
-    pub before : All (Ends span.from) (take span.front (tunes_in (blocks_in rules text)))
-    pub behind : All (StartsFrom span.to) (drop span.behind (tunes_in (blocks_in rules text)))
-    pub order : span.from ≤ span.to
-    pub inside : span.to ≤ length text
-    pub count : length old_run ≡ span.to - span.from
     pub rise : BlocksRise span.from mid_tunes span.to
 
-  pub narrow : AreRows rules text rows → IsSpan (tunes_in (blocks_in rules text)) (length text) s.at s.removed span
+  pub span_facts : AreRows rules text rows → IsSpan (tunes_in (blocks_in rules text)) (length text) s.at s.removed span
       → AreRead rules (spliced text s) (edit_of rules s (placed_from (map carried_row rows) 0 0 (places_of (blocks_in rules text))))
-      → IsNarrow
-  narrow are is new =
+      → IsSpanRun
+  span_facts are is new =
       let blocks = blocks_in rules text in
       let tunes = tunes_in blocks in
       let head = header_place (header_in blocks) in
@@ -113,7 +105,7 @@ module _ {State Cell Items Defaults : Type 0} (rules : Rules State Cell Items De
       let order : span.front ≤ span.behind = omega (arith, is.order) in
       let whole = three_parts span.front span.behind tunes order in
       let rest = two_parts span.front span.behind tunes order in
-      let long : length all ≡ length text = sym (length-over class_in all) ∙ (ap length read.classes ∙ length-over rules.class text) in
+      let long : length all ≡ length text = sym (length-map all class_in) ∙ (ap length read.classes ∙ length-map text rules.class) in
       let same : blocks ≡ blocks_of (map class_in all) = ap blocks_of (sym read.classes) in
       let rise : BlocksRise 0 (front_places ++ (mid_tunes ++ back)) (length text) =
       subst (λ (l : List Block). BlocksRise 0 (head ∷ l) (length text)) whole (subst (BlocksRise 0 (places_of blocks)) long (places_rise all blocks same)) in
@@ -126,14 +118,13 @@ module _ {State Cell Items Defaults : Type 0} (rules : Rules State Cell Items De
       let own : Parted rules s (placed_from all 0 0 (places_of blocks)) old_run span.from = subst (λ x. Parted rules s x old_run span.from) (sym places) cut in
       let run = stretch_rows rules s span.from old_run in
       let old_classes : map class_in own.before ++ (map class_in old_run ++ map class_in own.behind) ≡ map rules.class text =
-      (λ i. map class_in own.before ++ sym (map-append class_in old_run own.behind) i)
-      ∙ (sym (map-append class_in own.before (old_run ++ own.behind)) ∙ (ap (map class_in) (sym own.old_are) ∙ (placed_read rules text rows are).classes)) in
+      part_classes _ own.before old_run own.behind _ own.old_are (placed_read rules text rows are).classes in
       let new_classes : map class_in own.before ++ (map class_in run ++ map class_in own.behind) ≡ map rules.class (spliced text s) =
-      (λ i. map class_in own.before ++ sym (map-append class_in run own.behind) i) ∙ (sym (map-append class_in own.before (run ++ own.behind)) ∙ (ap (map class_in) (sym own.new_are) ∙ new.classes)) in
+      part_classes _ own.before run own.behind _ own.new_are new.classes in
       let count : length old_run ≡ span.to - span.from = length-until all span.from span.to (0 + length front_places) mid_tunes among.here among.inside in
-      let long_old : length (map class_in old_run) ≡ span.to - span.from = length-over class_in old_run ∙ count in
-      let long_before : length (map class_in own.before) ≡ span.from = length-over class_in own.before ∙ sym own.count in
-      let long_all : length (map class_in own.before ++ (map class_in old_run ++ map class_in own.behind)) ≡ length text = ap length old_classes ∙ length-over rules.class text in
+      let long_old : length (map class_in old_run) ≡ span.to - span.from = length-map old_run class_in ∙ count in
+      let long_before : length (map class_in own.before) ≡ span.from = length-map own.before class_in ∙ sym own.count in
+      let long_all : length (map class_in own.before ++ (map class_in old_run ++ map class_in own.behind)) ≡ length text = ap length old_classes ∙ length-map text rules.class in
       let is_run : IsRun (map class_in own.before) (map class_in old_run) (map class_in own.behind) front mid_tunes back = record {
         tunes = ap (λ c. tunes_in (blocks_of c)) old_classes ∙ whole;
         from = long_before ∙ (from ∙ ap (start_of (mid_tunes ++ back)) (sym long_all));
@@ -154,31 +145,33 @@ module _ {State Cell Items Defaults : Type 0} (rules : Rules State Cell Items De
       let law_header = header_after (map class_in own.before) (map class_in old_run) (map class_in run) (map class_in own.behind) front mid_tunes back is_run some_new begins in
       let classes = map rules.class text in
       let strict = tunes_strict 0 blocks (length classes) (blocks_rise classes) in
-      let strict_text : RiseFromTo 0 tunes (length text) = subst (RiseFromTo 0 tunes) (length-over rules.class text) strict in
+      let strict_text : RiseFromTo 0 tunes (length text) = subst (RiseFromTo 0 tunes) (length-map text rules.class) strict in
       let strict_front : RiseFromTo 0 (front ++ (mid_tunes ++ back)) (length text) = subst (λ (l : List Block). RiseFromTo 0 l (length text)) whole strict_text in
       let strict_back : RiseFromTo 0 ((front ++ mid_tunes) ++ back) (length text) = subst (λ (l : List Block). RiseFromTo 0 l (length text)) (sym (append_assoc front mid_tunes back)) strict_front in
       record {
-        parts = own;
-        tunes = sym (ap (λ c. tunes_in (blocks_of c)) new_classes) ∙ (law
-            ∙ (λ i. front ++ (map (moved (long_before i)) (tunes_in (blocks_of (map class_in run))) ++ map (shifted (long_old i) (length-over class_in run i)) back)));
+        run = record {
+          parts = own;
+          tunes = sym (ap (λ c. tunes_in (blocks_of c)) new_classes) ∙ (law
+              ∙ (λ i. front ++ (map (moved (long_before i)) (tunes_in (blocks_of (map class_in run))) ++ map (shifted (long_old i) (length-map run class_in i)) back)));
+          before = subst (λ n. All (Ends n) front) (sym from) (end_start front (mid_tunes ++ back) (length text) strict_front);
+          behind = all_starts (start_of back (length text)) back (length text) span.to (omega (arith, is.to)) (strict_rest 0 (front ++ mid_tunes) back (length text) strict_back);
+          amid = rise_amid span.from span.from mid_tunes span.to (omega arith) among_text.here;
+          order = order;
+          most = is.most;
+          begins = omega (arith, is.begins);
+          ends = is.ends;
+          inside = among_text.inside;
+          count = count;
+        };
         header = sym (ap (λ c. header_in (blocks_of c)) new_classes) ∙ (law_header ∙ ap (λ c. header_in (blocks_of c)) old_classes);
         header_ends = header_lies span.from (header_in blocks) (among_text.first);
-        before = subst (λ n. All (Ends n) front) (sym from) (end_start front (mid_tunes ++ back) (length text) strict_front);
-        behind = all_starts (start_of back (length text)) back (length text) span.to (omega (arith, is.to)) (strict_rest 0 (front ++ mid_tunes) back (length text) strict_back);
-        order = ordered;
-        inside = among_text.inside;
-        count = count;
         rise = among_text.here;
       }
     where
-      rise_past : (at : ℕ) (xs : List Block) (last : ℕ) → BlocksRise at xs last → at ≤ last
-      rise_past at [] last rise = rise
-      rise_past at (block ∷ xs) last rise = let more = rise_past block.to xs last rise.2 in omega (arith, rise.0, rise.1, more)
-
       header_lies : (line : ℕ) (header : Option Block) → BlocksRise 0 (header_place header ∷ take span.front (tunes_in (blocks_in rules text))) line → HeaderEnds line header
       header_lies line None rise = λ block e. absurd (cc)
       header_lies line (Some own) rise = λ block e.
           let same : own ≡ block = cc in
-          let end = rise_past own.to (take span.front (tunes_in (blocks_in rules text))) line rise.2 in
+          let end = rise_to own.to (take span.front (tunes_in (blocks_in rules text))) line rise.2 in
           let here : Ends line own = (rise.1, end) in
           subst (Ends line) same here

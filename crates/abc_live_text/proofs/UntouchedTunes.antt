@@ -4,7 +4,7 @@ use Rattle.std.proofs.Common.{true, false, List, [], ◌∷◌, ◌++◌, map, O
 use Rattle.std.proofs.Common.{◌∙◌, ap, subst, arith, ⊎_elim, inl, inr}
 use Rattle.std.proofs.lemmas.Bool.{cases_Bool, eqb-true, and_parts}
 use Rattle.std.proofs.lemmas.Bool.Decides.{nat_tests}
-use Rattle.std.proofs.lemmas.List.{drop-map, map-append}
+use Rattle.std.proofs.lemmas.List.{length-map}
 use Rattle.std.proofs.lemmas.List.Elements.{All-cons, All-nil}
 use Rattle.std.specs.List.{AllZip, flat_map, list_any}
 use Rattle.std.specs.Option.{option_map}
@@ -21,10 +21,10 @@ use Rattle.abc_lines.specs.Text.{Splice, Text, spliced}
 use Rattle.abc_live_cost.specs.Spot.{spots_of}
 use Rattle.abc_live_cost.specs.FreshCells.{is_fresh_after, is_untouched}
 use Rattle.abc_live_cost.specs.KeptState.{KeptState, behind, both_kept, entry_of, kept_state_at, steps_over}
-use Rattle.abc_live_cost.specs.Layout.{Chain, Layout, LiesInOrder, chain_at, layout_of, tune_chains}
+use Rattle.abc_live_cost.specs.Layout.{Chain, chain_at, layout_of, tune_chains}
 use Rattle.abc_live_cost.specs.Origin.{Origin, address_of, addresses, addresses_from, origins}
 use Rattle.abc_live_cost.specs.Past.{Past, first_past, fresh_cells_of, pasts, rest}
-use Rattle.abc_live_cost.specs.Pieces.{are_one_tune, are_places, is_place, pasts_beside, pasts_over, pieces_of}
+use Rattle.abc_live_cost.specs.Pieces.{are_one_tune, are_places, is_place, pieces_of}
 use Rattle.abc_live_cost.proofs.Pieces.{pieces_decide}
 use Rattle.abc_live_cost.proofs.SameCells.{cells_of_chain}
 use Rattle.abc_live_cost.proofs.Words.{chains_lie_in_order}
@@ -37,8 +37,7 @@ use Rattle.abc_live_text.specs.Chains.{AreChains}
 use Rattle.abc_live_cost.specs.OldItems.{IsChainOf, TakesUntouched}
 use Rattle.abc_live_text.specs.Row.{CarriedRow}
 use Rattle.abc_live_text.specs.ReusedTunes.{GoesAlong, KnowsAlong, continues, first_source, is_along, is_origin}
-use Rattle.abc_live_text.proofs.FreshSteps.{addresses_are, are_kept, beside_whole, block_steps, length-addresses, length-over}
-use Rattle.abc_live_text.proofs.FreshSteps.{read_drop}
+use Rattle.abc_live_text.proofs.FreshSteps.{block_addresses, are_kept, block_steps}
 use Rattle.abc_live_text.proofs.WholeRows.{AreRead}
 
 -- So many cells of a chain, one after another.
@@ -57,42 +56,6 @@ addresses_up source place (suc n) (Some past ∷ others) e =
     let s : past.source ≡ source = eqb-true past.source source own.0 in
     let p : past.place ≡ place = eqb-true past.place place own.1 in
     λ i. Some (s i, p i) ∷ addresses_up source (place + 1) n others both.1 i
-
--- The addresses of the pasts of a block are those of its rows.
-walk : {State Cell : Type 0} (read : List ℕ → List Cell) (n : ℕ) (rows : List (CarriedRow Cell)) (text : Text) (all : List (List (Option (Past State))))
-    → map cells_in rows ≡ map read text
-    → map (λ row. map (address_of {State = State}) row) all ≡ map (λ (r : CarriedRow Cell). addresses r.origin r.cells) rows
-    → map (address_of {State = State}) (pasts_over read (take n text) all) ≡ flat_map (λ (r : CarriedRow Cell). addresses r.origin r.cells) (take n rows)
-walk read zero rows text all c e = refl
-walk read (suc n) [] [] all c e = refl
-walk read (suc n) [] (bytes ∷ text) all c e = absurd (cc)
-walk read (suc n) (row ∷ rows) [] all c e = absurd (cc)
-walk read (suc n) (row ∷ rows) (bytes ∷ text) [] c e = absurd (cc)
-walk {State = State} {Cell = Cell} read (suc n) (row ∷ rows) (bytes ∷ text) (past ∷ all) c e =
-    let own_cells : row.cells ≡ read bytes = cc in
-    let other_cells : map cells_in rows ≡ map read text = cc in
-    let here : map (address_of {State = State}) past ≡ addresses row.origin row.cells = cc in
-    let others : map (λ row. map (address_of {State = State}) row) all ≡ map (λ (r : CarriedRow Cell). addresses r.origin r.cells) rows = cc in
-    let count : length past ≡ length (read bytes) =
-    sym (length-over (address_of {State = State}) past) ∙ (ap length here ∙ (length-addresses row.origin row.cells ∙ ap length own_cells)) in
-    let tail = pasts_over read (take n text) all in
-    map-append (address_of {State = State}) (pasts_beside (read bytes) past) tail
-    ∙ (ap (λ l. map (address_of {State = State}) l ++ map (address_of {State = State}) tail) (beside_whole (read bytes) past count)
-    ∙ (λ i. here i ++ walk read n rows text all other_cells others i))
-
-block_addresses : {State Cell Items : Type 0} (steps : Steps State Cell Items) (read : List ℕ → List Cell) (laid : Layout State)
-    (s : Splice) (rows : List (CarriedRow Cell)) (source : ℕ) (opening : State) (block : Block)
-    → LiesInOrder laid → s.at + s.removed ≤ length laid.text → map cells_in rows ≡ map read (spliced laid.text s) → map origin_in rows ≡ origins read laid s
-    → map (address_of {State = State}) (pieces_of read (spliced laid.text s) (pasts steps read laid s)
-    (chain_at source opening block)) ≡ flat_map (λ (r : CarriedRow Cell). addresses r.origin r.cells) (rows_in rows block)
-block_addresses {State = State} {Cell = Cell} steps read laid s rows source opening block lies inside cells from =
-    let text = spliced laid.text s in
-    let all = pasts steps read laid s in
-    let by : List (Option (Past State)) → List (Option (ℕ × ℕ)) = λ row. map address_of row in
-    let dropped : map by (drop block.from all) ≡ map (λ (r : CarriedRow Cell). addresses r.origin r.cells) (drop block.from rows) =
-    sym (drop-map by block.from all) ∙ (ap (drop block.from) (addresses_are steps read laid s rows lies inside cells from)
-    ∙ drop-map (λ (r : CarriedRow Cell). addresses r.origin r.cells) block.from rows) in
-    walk read (block.to - block.from) (drop block.from rows) (drop block.from text) (drop block.from all) (read_drop read block.from rows text cells) dropped
 
 -- rows whose cells are so many of a chain
 
@@ -202,7 +165,7 @@ cell_count : {State Cell Items : Type 0} (steps : Steps State Cell Items) (read 
 cell_count {Cell = Cell} steps read text opening source was block own =
     let chain = chain_at source opening block in
     let same = ap length (cells_of_chain steps read text chain) in
-    sym (length-over _ (spots_of steps read text chain)) ∙ (same ∙ (length-over (λ (cell : Cell). Some cell) _ ∙ ap length (sym own.cells)))
+    sym (length-map (spots_of steps read text chain) _) ∙ (same ∙ (length-map _ (λ (cell : Cell). Some cell) ∙ ap length (sym own.cells)))
 
 -- the states in which they begin
 

@@ -5,10 +5,14 @@ use Rattle.std.proofs.Common.{arith, add-one, ⊎_elim, inl, inr}
 use Rattle.std.proofs.lemmas.Bool.{cases_Bool, ne_eqb, eqb-true, and_parts}
 use Rattle.std.proofs.Math.Seq.{drop-cons}
 use Rattle.std.specs.List.{AllZip, flat_map}
+use Rattle.std.proofs.lemmas.List.{drop_all, take_more, drop-drop}
+use Rattle.std.proofs.lemmas.Slice.Zip.{all_zipped_more}
+use Rattle.std.proofs.lemmas.Option.{get_or_from_slice_get, slice_get_within}
+use Rattle.abc_live_text.proofs.Openings.{folds_alike}
 use Rattle.abc_book.specs.declared.block.Block.{Block}
 use Rattle.abc_fold.specs.Chain.{Chained, Folds, no_cells}
 use Rattle.abc_fold.specs.Steps.{Steps, AreAlike, IsAlike, IsResumable, items_from, states_from}
-use Rattle.abc_fold.proofs.Alike.{alike_states, equal_items}
+use Rattle.abc_fold.proofs.Alike.{equal_items}
 use Rattle.abc_live_cost.specs.Origin.{Origin}
 use Rattle.abc_live_text.specs.Pieces.{IsCarried, IsChain, IsFolded, IsCarriedAt, cells_at, cells_in, cells_over}
 use Rattle.abc_live_text.specs.Row.{CarriedRow}
@@ -36,18 +40,6 @@ get_behind : {A : Type 0} (n : ℕ) (xs : List A) (k : ℕ) → slice_get (drop 
 get_behind zero xs k = let e : k ≡ 0 + k = omega arith in ap (slice_get xs) e
 get_behind (suc n) [] k = refl
 get_behind (suc n) (x ∷ xs) k = let e : suc (n + k) ≡ suc n + k = omega arith in get_behind n xs k ∙ ap (slice_get (x ∷ xs)) e
-
-drop_twice : {A : Type 0} (n m : ℕ) (xs : List A) → drop m (drop n xs) ≡ drop (n + m) xs
-drop_twice zero m xs = let e : m ≡ 0 + m = omega arith in ap (λ k. drop k xs) e
-drop_twice (suc n) zero [] = let e : suc (n + 0) ≡ suc n + 0 = omega arith in ap (λ k. drop k []) e
-drop_twice (suc n) (suc m) [] = let e : suc (n + suc m) ≡ suc n + suc m = omega arith in ap (λ k. drop k []) e
-drop_twice (suc n) m (x ∷ xs) = let e : suc (n + m) ≡ suc n + m = omega arith in drop_twice n m xs ∙ ap (λ k. drop k (x ∷ xs)) e
-
-all_gone : {A : Type 0} (n : ℕ) (xs : List A) → n ≡ length xs → [] ≡ drop n xs
-all_gone zero [] e = refl
-all_gone zero (x ∷ xs) e = absurd (omega (arith, e))
-all_gone (suc n) [] e = refl
-all_gone (suc n) (x ∷ xs) e = all_gone n xs (omega (arith, e))
 
 -- The cells of a line that continues an old chain are those that follow there.
 line_along : {Cell : Type 0} (all cells : List Cell) (source place : ℕ) (origin : Option Origin) → is_origin source place origin ≡ true
@@ -83,12 +75,12 @@ row_along chains all source place row own held e = λ k h. ⊎_elim
 cells_along : {State Cell Items : Type 0} (chains : List (Chained State Cell Items)) (all : List Cell) (source place : ℕ)
     (rows : List (CarriedRow Cell)) → cells_at chains source ≡ all → All (IsCarried chains) rows
     → is_along source (length all) place rows ≡ true → flat_map cells_in rows ≡ drop place all
-cells_along chains all source place [] own held e = all_gone place all (eqb-true place (length all) e)
+cells_along chains all source place [] own held e = sym (drop_all place all (let same = eqb-true place (length all) e in omega (arith, same)))
 cells_along chains all source place (row ∷ rows) own held e =
     let both = and_parts (continues source place row) (is_along source (length all) (place + length row.cells) rows) e in
     let here = prefix row.cells (drop place all) (row_along chains all source place row own (held 0 row (omega arith)) both.0) in
     let more = cells_along chains all source (place + length row.cells) rows own (λ i d l. held (suc i) d (omega arith)) both.1 in
-    sym (here ∙ ap (λ l. row.cells ++ l) (drop_twice place (length row.cells) all ∙ sym more))
+    sym (here ∙ ap (λ l. row.cells ++ l) (drop-drop (length row.cells) place all ∙ sym more))
 
 cells_there : {State Cell Items : Type 0} (chains : List (Chained State Cell Items)) (source : ℕ) (was : Chained State Cell Items)
     → slice_get chains source ≡ Some was → cells_at chains source ≡ was.cells
@@ -109,9 +101,6 @@ both_there alike None b e = absurd (cc)
 both_there alike (Some x) None e = absurd (cc)
 both_there alike (Some x) (Some y) e = (x, y, refl, refl, e)
 
-all_items : {State Cell Items : Type 0} (steps : Steps State Cell Items) (a b : State) (cells : List Cell) → IsResumable steps → IsAlike steps a b → items_from steps a cells ≡ items_from steps b cells
-all_items steps a b cells laws alike = equal_items steps laws a b cells alike
-
 -- from one line to the next
 pub step_far : {Cell : Type 0} (source count place : ℕ) (row : CarriedRow Cell) (rows : List (CarriedRow Cell)) → count < place + length row.cells → is_along source count place (row ∷ rows) ≡ false
 step_far source count place row rows far = and_right (continues source place row) (is_along source count (place + length row.cells) rows) (too_far source count (place + length row.cells) rows far)
@@ -119,9 +108,6 @@ step_far source count place row rows far = and_right (continues source place row
     and_right : (a b : Bool) → b ≡ false → (a && b) ≡ false
     and_right true b e = e
     and_right false b e = refl
-
-pub step_stop : {Cell : Type 0} (source count place : ℕ) (row : CarriedRow Cell) (rows : List (CarriedRow Cell)) → false ≡ continues source place row → is_along source count place (row ∷ rows) ≡ false
-step_stop source count place row rows e = ap (λ b. b && is_along source count (place + length row.cells) rows) (sym e)
 
 pub step_on : {Cell : Type 0} (source count place : ℕ) (row : CarriedRow Cell) (rows : List (CarriedRow Cell))
     → true ≡ continues source place row → is_along source count place (row ∷ rows) ≡ is_along source count (place + length row.cells) rows
@@ -131,9 +117,7 @@ pub next_row : {A : Type 0} (rows : List A) (i : ℕ) (row : A) → row ≡ get_
 next_row rows i row is inside = drop-cons rows i row inside ∙ (λ j. sym is j ∷ drop (sym (add-one i) j) rows)
 
 all_at : {A : Type 0} (P : A → Type 0) (xs : List A) (k : ℕ) (x : A) → All P xs → slice_get xs k ≡ Some x → P x
-all_at P [] k x all e = absurd (cc)
-all_at P (y ∷ ys) zero x all e = let same : y ≡ x = cc in subst P same (all 0 y (omega arith))
-all_at P (y ∷ ys) (suc k) x all e = all_at P ys k x (λ i d l. all (suc i) d (omega arith)) e
+all_at P xs k x all e = subst P (get_or_from_slice_get xs k x x e) (all k x (slice_get_within xs k x e))
 
 one_less : {A : Type 0} (xs : List A) (source : ℕ) (x : A) → (source ≡ 0 → ⊥) → slice_get xs source ≡ Some x → slice_get (drop 1 xs) (source - 1) ≡ Some x
 one_less [] source x some e = absurd (cc)
@@ -152,7 +136,7 @@ same_items steps opening was chain laws (inr (begun, own)) folds cells e =
     let old = first_alike steps was.entries begun at.0 was.cells own.entries at.2 in
     let new = first_alike steps chain.entries opening at.1 chain.cells folds.entries at.3 in
     let alike : IsAlike steps begun opening = laws.transitive begun at.0 opening (laws.symmetric at.0 begun old) (laws.transitive at.0 at.1 opening at.4 new) in
-    own.items ∙ (all_items steps begun opening was.cells laws alike ∙ (ap (items_from steps opening) (sym cells) ∙ sym folds.items))
+    own.items ∙ (equal_items steps laws begun opening was.cells alike ∙ (ap (items_from steps opening) (sym cells) ∙ sym folds.items))
 
 -- What goes along an old tune, and begins alike, has its items.
 pub taken_items : {State Cell Items : Type 0} (steps : Steps State Cell Items) (old : List (Chained State Cell Items))
@@ -185,32 +169,14 @@ begins_so {State = State} {Cell = Cell} {Items = Items} steps old rows source wa
 -- from one tune to the next
 pub zip_more : {A B : Type 0} (P : A → B → Type 0) (xs : List A) (made : List B) (i : ℕ) (x : A) (new : B)
     → AllZip P (take i xs) made → P x new → x ≡ get_or xs i x → i < length xs → AllZip P (take (i + 1) xs) (made ++ new ∷ [])
-zip_more P xs made i x new all one is inside = subst (λ n. AllZip P (take n xs) (made ++ new ∷ [])) (sym (add-one i)) (more xs made i all is inside)
-  where
-    more : (xs : List _) (made : List _) (i : ℕ) → AllZip P (take i xs) made → x ≡ get_or xs i x → i < length xs → AllZip P (take (suc i) xs) (made ++ new ∷ [])
-    more [] made i all is inside = absurd (omega arith)
-    more (y ∷ ys) [] zero all is inside = (subst (λ z. P z new) is one, tt)
-    more (y ∷ ys) (m ∷ made) zero all is inside = absurd all
-    more (y ∷ ys) [] (suc i) all is inside = absurd all
-    more (y ∷ ys) (m ∷ made) (suc i) all is inside = (all.0, more ys made i all.1 is (omega arith))
+zip_more P xs made i x new all one is inside =
+    subst (λ l. AllZip P l (made ++ new ∷ [])) (sym (take_more xs i x inside ∙ ap (λ y. take i xs ++ y ∷ []) (sym is))) (all_zipped_more P (take i xs) made x new all one)
 
 pub zip_at : {A B : Type 0} (P : A → B → Type 0) (xs : List A) (ys : List B) (i : ℕ) (x : A) (y : B) → AllZip P xs ys → x ≡ get_or xs i x → y ≡ get_or ys i y → i < length xs → P x y
 zip_at P [] ys i x y all e f inside = absurd (omega arith)
 zip_at P (a ∷ xs) [] i x y all e f inside = absurd all
 zip_at P (a ∷ xs) (b ∷ ys) zero x y all e f inside = subst (λ z. P x z) (sym f) (subst (λ z. P z b) (sym e) all.0)
 zip_at P (a ∷ xs) (b ∷ ys) (suc i) x y all e f inside = zip_at P xs ys i x y all.1 e f (omega arith)
-
-pub got_there : {A : Type 0} (xs : List A) (k : ℕ) (x : A) → x ≡ get_or xs k x → k < length xs → slice_get xs k ≡ Some x
-got_there [] k x is inside = absurd (omega arith)
-got_there (y ∷ ys) zero x is inside = ap (λ z. Some z) (sym is)
-got_there (y ∷ ys) (suc k) x is inside = got_there ys k x is (omega arith)
-
-both_alike : {State Cell Items : Type 0} (steps : Steps State Cell Items) → IsResumable steps → (a b c : List State) → AreAlike steps a b → AreAlike steps b c → AreAlike steps a c
-both_alike steps laws [] [] c ab bc = bc
-both_alike steps laws [] (y ∷ ys) c ab bc = absurd ab
-both_alike steps laws (x ∷ xs) [] c ab bc = absurd ab
-both_alike steps laws (x ∷ xs) (y ∷ ys) [] ab bc = bc
-both_alike steps laws (x ∷ xs) (y ∷ ys) (z ∷ zs) ab bc = (laws.transitive x y z ab.0 bc.0, both_alike steps laws xs ys zs ab.1 bc.1)
 
 -- A whole old chain that begins alike is the fold over the cells of the lines that go along it.
 pub whole_folds : {State Cell Items : Type 0} (steps : Steps State Cell Items) (old : List (Chained State Cell Items)) (source : ℕ)
@@ -227,10 +193,7 @@ whole_folds {State = State} {Cell = Cell} {Items = Items} steps old source was o
     let begun_alike = first_alike steps was.entries own.0 at.0 was.cells own.1.entries at.2 in
     let same : opening ≡ at.1 = (let both = at.3 in cc) in
     let alike : IsAlike steps own.0 opening = laws.transitive own.0 at.0 opening (laws.symmetric at.0 own.0 begun_alike) (subst (IsAlike steps at.0) (sym same) at.4) in
-    record {
-      items = own.1.items ∙ equal_items steps laws own.0 opening was.cells alike;
-      entries = both_alike steps laws was.entries (states_from steps own.0 was.cells) (states_from steps opening was.cells) own.1.entries (alike_states steps laws own.0 opening was.cells alike);
-    })
+    folds_alike steps own.0 opening was laws alike own.1)
     (all_at (IsFolded steps) old source was folded there)
 
 -- It has just their cells.

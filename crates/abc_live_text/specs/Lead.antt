@@ -1,19 +1,19 @@
 -- The first lines of a text, of which an edit changes some before any tune begins. Not in ABC 2.1.
-use Rattle.std.specs.Prelude.{◌≡◌, ◌⊎◌, ℕ, ◌≤◌, List, ◌∷◌, get_or, length, map, take, Option}
-use Rattle.abc_book.specs.Block.{blocks_of}
+use Rattle.std.specs.Prelude.{◌≡◌, ◌⊎◌, ℕ, ◌+◌, ◌≤◌, List, ◌∷◌, get_or, length, map, take, Option}
 use Rattle.abc_book.specs.declared.block.Block.{Block}
 use Rattle.abc_fold.specs.Chain.{Chained}
 use Rattle.abc_fold.specs.Steps.{Steps, IsAlike}
-use Rattle.abc_tune_compiler.specs.Book.{header_in, tunes_in}
+use Rattle.abc_lines.specs.Text.{Splice, Text}
+use Rattle.abc_tune_compiler.specs.Book.{blocks_in, header_in}
 use Rattle.abc_tune_compiler.specs.Rules.{Rules}
-use Rattle.abc_live_text.specs.Pieces.{class_in}
-use Rattle.abc_live_text.specs.Chains.{IsHeaderChain, state_after_chain, header_place}
+use Rattle.abc_live_text.specs.Blocks.{header_among}
+use Rattle.abc_live_text.specs.Chains.{IsHeaderChain, IsHeaderChainOf, state_after_chain, header_place}
 use Rattle.abc_live_text.specs.Origin.{rows_until}
-use Rattle.abc_live_text.specs.NewParts.{edited_rows}
-use Rattle.abc_live_text.specs.Row.{CarriedRow, Row, carried_row}
+use Rattle.abc_live_text.specs.NewParts.{IsLead, edited_rows}
+use Rattle.abc_live_text.specs.Row.{CarriedRow, Row, carried_row, new_row}
 use Rattle.abc_live_text.specs.KeptText.{KeptTextView}
 use Rattle.abc_live_text.specs.declared.stretch.Lead.{Lead}
-use Rattle.abc_live_text.specs.declared.stretch.Stretch.{Stretch}
+use Rattle.abc_live_text.specs.declared.stretch.Span.{Span}
 
 -- The first lines of a text, with the chains that hold their cells.
 abbrev pub old_lead_rows : {C State Cell Items : Type 0} → KeptTextView C State Cell Items → Lead → List (CarriedRow Cell)
@@ -24,16 +24,13 @@ abbrev pub lead_rows : {C State Cell Items : Type 0} → KeptTextView C State Ce
     → List (CarriedRow Cell)
 lead_rows on lead at removed new = edited_rows at removed new (old_lead_rows on lead)
 
--- The stretch of such an edit, which has `came` lines after it.
-abbrev pub lead_stretch : Lead → ℕ → Stretch
-lead_stretch lead came = record { front = 0; behind = lead.behind; from = 0; to = lead.to; came = came }
+-- They begin with the text.
+abbrev pub lead_span : Lead → Span
+lead_span lead = record { front = 0; behind = lead.behind; from = 0; to = lead.to }
 
--- The file header among rows, if there is one, and the tunes.
-abbrev pub header_among : {Cell : Type 0} → List (CarriedRow Cell) → Option Block
-header_among rows = header_in (blocks_of (map class_in rows))
-
-abbrev pub tunes_among : {Cell : Type 0} → List (CarriedRow Cell) → List Block
-tunes_among rows = tunes_in (blocks_of (map class_in rows))
+-- All lines of a text.
+abbrev pub whole_lead : {C State Cell Items : Type 0} → KeptTextView C State Cell Items → Lead
+whole_lead on = record { behind = length on.tunes; to = length on.lines.text }
 
 -- The file header of a text that begins with these rows, its chain, and the state in which tunes begin after it.
 pub record IsHeaderOpening {State Cell Items Defaults : Type 0} (steps : Steps State Cell Items)
@@ -43,14 +40,36 @@ pub record IsHeaderOpening {State Cell Items Defaults : Type 0} (steps : Steps S
   pub chain : IsHeaderChain steps rules.header rows first header
   pub begins : opening ≡ rules.tune (state_after_chain header first)
 
--- The state in which tunes begin by the chain that is kept of the file header is alike to another one.
-pub record BeginAlike {C State Cell Items Defaults : Type 0} (steps : Steps State Cell Items)
-    (rules : Rules State Cell Items Defaults) (on : KeptTextView C State Cell Items) (opening : State) : Type 0 where
+-- The same of a text, by its lines.
+pub record IsHeaderOpeningOf {State Cell Items Defaults : Type 0} (steps : Steps State Cell Items)
+    (rules : Rules State Cell Items Defaults) (text : Text) (header : Option Block) (first : Chained State Cell Items)
+    (opening : State) : Type 0 where
+  pub header_is : header ≡ header_in (blocks_in rules text)
+  pub chain : IsHeaderChainOf steps rules text first (header_in (blocks_in rules text))
+  pub begins : opening ≡ rules.tune (state_after_chain (header_in (blocks_in rules text)) first)
+
+-- The state in which tunes begin, by the chain that is kept of the file header.
+pub record IsKeptOpening {C State Cell Items Defaults : Type 0} (rules : Rules State Cell Items Defaults)
+    (on : KeptTextView C State Cell Items) (opening : State) : Type 0 where
   pub first : Chained State Cell Items
   pub there : first ≡ get_or on.chains.items 0 first
-  pub alike : IsAlike steps (rules.tune (state_after_chain on.header first)) opening
+  pub begins : opening ≡ rules.tune (state_after_chain on.header first)
+
+-- It is alike to another one.
+pub record BeginAlike {C State Cell Items Defaults : Type 0} (steps : Steps State Cell Items)
+    (rules : Rules State Cell Items Defaults) (on : KeptTextView C State Cell Items) (opening : State) : Type 0 where
+  pub was : State
+  pub begins : IsKeptOpening rules on was
+  pub alike : IsAlike steps was opening
 
 -- There are no tunes from `behind` on, or tunes begin as before.
 abbrev pub MayGoOn : {C State Cell Items Defaults : Type 0} → Steps State Cell Items → Rules State Cell Items Defaults
     → KeptTextView C State Cell Items → ℕ → State → Type 0
 MayGoOn steps rules on behind opening = (length on.tunes ≤ behind) ⊎ BeginAlike steps rules on opening
+
+-- An edit of the first lines of a text, and the rows of these lines after it.
+pub record IsLeadEdit {C State Cell Items Defaults : Type 0} (rules : Rules State Cell Items Defaults)
+    (on : KeptTextView C State Cell Items) (s : Splice) (lead : Lead) (rows : List (CarriedRow Cell)) : Type 0 where
+  pub inside : s.at + s.removed ≤ length on.lines.text
+  pub is_lead : IsLead on.tunes (length on.lines.text) (s.at + s.removed) lead
+  pub rows_are : rows ≡ lead_rows on lead s.at s.removed (map (new_row rules) s.lines)

@@ -11,6 +11,7 @@ use Rattle.abc_tune_compiler.specs.Book.{blocks_in, header_in, tunes_in}
 use Rattle.abc_tune_compiler.specs.Rules.{Rules}
 use Rattle.abc_live_text.specs.Pieces.{LiesWithin}
 use Rattle.abc_live_text.specs.Chains.{AreChains}
+use Rattle.abc_live_text.specs.Origin.{rows_until}
 use Rattle.abc_live_text.specs.Row.{CarriedRow, Row, carried_row, new_row}
 use Rattle.abc_live_text.specs.KeptText.{KeptTextView, LiesAmid, LiesBefore, LiesAfter, MayEndBy, MayLieBefore, gone, block_after}
 use Rattle.abc_live_text.specs.KeptText.{reused_tunes_after}
@@ -52,6 +53,20 @@ pub record IsLead (tunes : List Block) (count end : ℕ) (lead : Lead) : Type 0 
 -- Lines after an edit of them: new ones, without origins, replace those that go.
 abbrev pub edited_rows : {Cell : Type 0} → ℕ → ℕ → List (Row Cell) → List (CarriedRow Cell) → List (CarriedRow Cell)
 edited_rows at removed new old = take at old ++ (map carried_row new ++ drop (at + removed) old)
+
+-- The stretch of lines with these places, which has so many lines after an edit.
+abbrev pub span_stretch : Span → ℕ → Stretch
+span_stretch span came = record { front = span.front; behind = span.behind; from = span.from; to = span.to; came = came }
+
+-- The lines of a stretch that begins with a tune, with the chains that hold their cells.
+abbrev pub old_span_rows : {C State Cell Items : Type 0} → KeptTextView C State Cell Items → Span → List (CarriedRow Cell)
+old_span_rows on span = rows_until (map carried_row on.rows.items) span.from span.to (span.front + 1)
+    (take (span.behind - span.front) (drop span.front on.tunes))
+
+-- The same after an edit of them.
+abbrev pub span_rows : {C State Cell Items : Type 0} → KeptTextView C State Cell Items → Span → ℕ → ℕ → List (Row Cell)
+    → List (CarriedRow Cell)
+span_rows on span at removed new = edited_rows (at - span.from) removed new (old_span_rows on span)
 
 -- The chain of the file header: a new one, or the old one.
 abbrev pub first_of : {State Cell Items : Type 0} → Option (Chained State Cell Items) → List (Chained State Cell Items)

@@ -1,10 +1,12 @@
 -- Which tunes of an edited text have the items of old ones. Not in ABC 2.1.
 use Rattle.std.specs.Prelude.{◌&&◌, ◌+◌, ◌==◌, ◌∷◌, ◌≡◌, Bool, IsSome, List, None, Option, Some, [], false, if◌then◌else◌, length}
-use Rattle.std.specs.Prelude.{slice_get, suc, true, ℕ}
+use Rattle.std.specs.Prelude.{drop, slice_get, suc, true, ℕ}
 use Rattle.std.specs.Option.{option_map}
 use Rattle.abc_fold.specs.Chain.{Chained}
 use Rattle.abc_fold.specs.Steps.{IsAlike, Steps}
+use Rattle.abc_live_cost.specs.OldItems.{HasItemsOf}
 use Rattle.abc_live_cost.specs.Origin.{Origin}
+use Rattle.abc_live_text.specs.Blocks.{tunes_among}
 use Rattle.abc_live_text.specs.Row.{CarriedRow}
 use Rattle.std.specs.List.{AllZip}
 use Rattle.abc_book.specs.declared.block.Block.{Block}
@@ -58,3 +60,12 @@ abbrev pub KnowsIfBegun : {State Cell Items : Type 0} → Steps State Cell Items
     → List (CarriedRow Cell) → List (Chained State Cell Items) → List Block → List (Option ℕ) → Type 0
 KnowsIfBegun steps old begun rows new_chains tunes reused_tunes = AllZip (IsChain steps begun rows) new_chains tunes
     → KnowsAlong steps old begun rows tunes reused_tunes
+
+-- The tunes among rows, folded again from this state: their chains, and the old tunes that have their items.
+pub record AreRefolded {State Cell Items : Type 0} (steps : Steps State Cell Items) (old : List (Chained State Cell Items))
+    (opening : State) (rows : List (CarriedRow Cell)) (tunes : List Block) (new_chains : List (Chained State Cell Items))
+    (reused_tunes : List (Option ℕ)) : Type 0 where
+  pub tunes_are : tunes ≡ tunes_among rows
+  pub chains_are : AllZip (IsChain steps opening rows) new_chains tunes
+  pub items : AllZip (HasItemsOf (drop 1 old)) new_chains reused_tunes
+  pub along : (begun : State) → KnowsIfBegun steps old begun rows new_chains tunes reused_tunes

@@ -2,13 +2,14 @@
 
 ghost use Rattle.std.specs.Prelude.{◌≡◌, All, IfOk, IfSome, length, option_copied};
 ghost use Rattle.std.specs.List.{AllZip, sum_by};
-ghost use Rattle.abc_live_text.specs.Pieces.{IsCarried, IsChain, IsFolded, LiesWithin, steps_taken};
+ghost use Rattle.abc_live_text.specs.Pieces.{IsCarried, IsFolded, LiesWithin};
+ghost use Rattle.abc_live_text.specs.Refold.{IsRefold, IsRefoldChain, LiesInRefold, refold_steps};
 ghost use Rattle.abc_live_text.specs.Chains.{IsHeaderChain, state_after_chain, header_steps};
 ghost use Rattle.abc_fold.specs.Chain.{no_cells};
 ghost use Rattle.abc_fold.specs.Work.{IsRaisedUpTo};
 
 use crate::origin::CarriedRow;
-use crate::pieces::pieces_of;
+use crate::refold::Refold;
 use crate::reused_tunes::whole_chain;
 use abc_book::Block;
 use abc_fold::{Chain, Counts, Fold, Shared};
@@ -16,78 +17,69 @@ use abc_lines::GapList;
 use abc_tune_compiler::Compiler;
 use std::alloc::{AllocError, Global};
 
-/// A new chain of a block, begun in this state.
-fn chain_of<F: Fold>(
-    fold: &F,
-    opening: &F::State,
-    old: &GapList<Shared<Chain<F>>>,
-    rows: &[CarriedRow<F::Cell>],
-    block: &Block,
-    work: &mut F::Work,
-) -> Result<Chain<F>, AllocError>
-    requires carried { All (IsCarried old.now.items) rows.now }
-    requires folded { All (IsFolded (F.steps fold.now)) old.now.items }
-    requires within { LiesWithin (length rows.now) block.now }
-    ensures chain { IfOk result (λ chain. IsChain (F.steps fold.now) opening.now rows.now chain block.now) }
-    ensures counted { IsRaisedUpTo (steps_taken (F.steps fold.now) opening.now old.now.items rows.now block.now)
-        (F.Work.counts work.old) (F.Work.counts work.new) }
-{
-    let alloc = old.allocator();
-    let pieces = pieces_of(alloc, fold, old, rows, block)?;
-    let mut chain = Chain::new(alloc)?;
-    let patch = chain.prepare_pieces(fold, opening, &pieces, work)?;
-    chain.commit(patch);
-    Ok(chain)
-}
+impl<F: Fold> Refold<'_, F> {
+    /// A new chain of a block.
+    fn chain_of(&self, block: &Block, work: &mut F::Work) -> Result<Chain<F>, AllocError>
+        requires refold { IsRefold (F.steps self.now.fold.now) self.now }
+        requires within { LiesInRefold self.now block.now }
+        ensures chain { IfOk result (λ chain. IsRefoldChain (F.steps self.now.fold.now) self.now chain block.now) }
+        ensures counted { IsRaisedUpTo (refold_steps (F.steps self.now.fold.now) self.now block.now)
+            (F.Work.counts work.old) (F.Work.counts work.new) }
+    {
+        let pieces = self.pieces_of(block)?;
+        let mut chain = Chain::new(self.chains.allocator())?;
+        let patch = chain.prepare_pieces(self.fold, self.opening, &pieces, work)?;
+        chain.commit(patch);
+        Ok(chain)
+    }
 
-/// The chain of a block, begun in this state. It is an old one if one holds exactly the cells of the block and begins
-/// alike.
-fn chain_over<F: Fold>(
-    fold: &F,
-    opening: &F::State,
-    old: &GapList<Shared<Chain<F>>>,
-    rows: &[CarriedRow<F::Cell>],
-    block: &Block,
-    work: &mut F::Work,
-) -> Result<Shared<Chain<F>>, AllocError>
-    requires carried { All (IsCarried old.now.items) rows.now }
-    requires folded { All (IsFolded (F.steps fold.now)) old.now.items }
-    requires within { LiesWithin (length rows.now) block.now }
-    ensures chain { IfOk result (λ chain. IsChain (F.steps fold.now) opening.now rows.now chain block.now) }
-    ensures counted { IsRaisedUpTo (steps_taken (F.steps fold.now) opening.now old.now.items rows.now block.now)
-        (F.Work.counts work.old) (F.Work.counts work.new) }
-{
-    match whole_chain(fold, old, opening, &rows[block.from..block.to]) {
-        Some(chain) => chain.share(),
-        None => {
-            let chain = chain_of(fold, opening, old, rows, block, work)?;
-            Shared::new(old.allocator(), chain)
+    /// The chain of a block. It is an old one if one holds exactly the cells of the block and begins alike.
+    pub(crate) fn chain_over(
+        &self,
+        block: &Block,
+        work: &mut F::Work,
+    ) -> Result<Shared<Chain<F>>, AllocError>
+        requires refold { IsRefold (F.steps self.now.fold.now) self.now }
+        requires within { LiesInRefold self.now block.now }
+        ensures chain { IfOk result (λ chain. IsRefoldChain (F.steps self.now.fold.now) self.now chain block.now) }
+        ensures counted { IsRaisedUpTo (refold_steps (F.steps self.now.fold.now) self.now block.now)
+            (F.Work.counts work.old) (F.Work.counts work.new) }
+    {
+        let rows = self.rows;
+        match whole_chain(
+            self.fold,
+            self.chains,
+            self.opening,
+            &rows[block.from..block.to],
+        ) {
+            Some(chain) => chain.share(),
+            None => {
+                let chain = self.chain_of(block, work)?;
+                Shared::new(self.chains.allocator(), chain)
+            }
         }
     }
-}
 
-/// The chains of tunes, each begun in this state.
-pub(crate) fn tune_chains<F: Fold>(
-    fold: &F,
-    opening: &F::State,
-    old: &GapList<Shared<Chain<F>>>,
-    rows: &[CarriedRow<F::Cell>],
-    blocks: &[Block],
-    work: &mut F::Work,
-) -> Result<Vec<Shared<Chain<F>>>, AllocError>
-    requires carried { All (IsCarried old.now.items) rows.now }
-    requires folded { All (IsFolded (F.steps fold.now)) old.now.items }
-    requires within { All (LiesWithin (length rows.now)) blocks.now }
-    ensures chains { IfOk result (λ chains. AllZip (IsChain (F.steps fold.now) opening.now rows.now) chains.items blocks.now) }
-    ensures counted { IsRaisedUpTo (sum_by (steps_taken (F.steps fold.now) opening.now old.now.items rows.now) blocks.now)
-        (F.Work.counts work.old) (F.Work.counts work.new) }
-{
-    let mut chains = Vec::new(old.allocator());
-    for block in blocks {
-        let chain = chain_over(fold, opening, old, rows, block, work)?;
-        chains.push(chain)?;
+    /// The chains of tunes.
+    pub(crate) fn tune_chains(
+        &self,
+        blocks: &[Block],
+        work: &mut F::Work,
+    ) -> Result<Vec<Shared<Chain<F>>>, AllocError>
+        requires refold { IsRefold (F.steps self.now.fold.now) self.now }
+        requires within { All (LiesInRefold self.now) blocks.now }
+        ensures chains { IfOk result (λ chains.
+            AllZip (IsRefoldChain (F.steps self.now.fold.now) self.now) chains.items blocks.now) }
+        ensures counted { IsRaisedUpTo (sum_by (refold_steps (F.steps self.now.fold.now) self.now) blocks.now)
+            (F.Work.counts work.old) (F.Work.counts work.new) }
+    {
+        let mut chains = Vec::new(self.chains.allocator());
+        for block in blocks {
+            let chain = self.chain_over(block, work)?;
+            chains.push(chain)?;
+        }
+        Ok(chains)
     }
-    Ok(chains)
 }
 
 /// A chain without cells and states.
@@ -119,7 +111,13 @@ pub(crate) fn header_chain<C: Compiler>(
         None => empty_chain(alloc),
         Some(block) => {
             let first = compiler.header(alloc);
-            chain_over(compiler, &first, old, rows, &block, work)
+            Refold {
+                fold: compiler,
+                opening: &first,
+                chains: old,
+                rows,
+            }
+            .chain_over(&block, work)
         }
     }
 }

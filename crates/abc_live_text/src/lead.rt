@@ -1,24 +1,23 @@
 //! The first lines of a text, which an edit may change if no tune begins before it.
 
-ghost use Rattle.std.specs.Prelude.{◌≡◌, ◌+◌, ◌≤◌, true, All, IfOk, Some, drop, length};
-ghost use Rattle.std.specs.List.{AllZip, sum_by};
-ghost use Rattle.abc_live_text.specs.Pieces.{IsCarried, IsChain, steps_taken};
+ghost use Rattle.std.specs.Prelude.{◌≡◌, ◌+◌, ◌≤◌, true, All, IfOk, length};
+ghost use Rattle.std.specs.List.{sum_by};
+ghost use Rattle.abc_live_text.specs.Blocks.{header_among, tunes_among};
+ghost use Rattle.abc_live_text.specs.Pieces.{IsCarried, steps_taken};
 ghost use Rattle.abc_live_text.specs.Chains.{header_steps};
-ghost use Rattle.abc_live_text.specs.Lead.{IsHeaderOpening, MayGoOn, header_among, lead_rows, lead_stretch, tunes_among};
+ghost use Rattle.abc_live_text.specs.Lead.{IsHeaderOpening, IsHeaderOpeningOf, IsLeadEdit, MayGoOn, lead_rows, whole_lead};
 ghost use Rattle.abc_live_text.specs.NewParts.{ForSplice, IsLead, AreNewParts, view_of_new_parts};
 ghost use Rattle.abc_live_text.specs.KeptText.{fresh_cells_in};
-ghost use Rattle.abc_live_text.specs.ReusedTunes.{KnowsIfBegun};
-ghost use Rattle.abc_live_cost.specs.OldItems.{HasItemsOf};
+ghost use Rattle.abc_lines.specs.Text.{Splice, spliced};
 ghost use Rattle.abc_fold.specs.Work.{IsRaisedUpTo};
 
 use crate::blocks::{blocks_of, header_in, places_of};
 use crate::chains::{header_chain, tune_opening};
 use crate::kept_text::KeptText;
 use crate::new_parts::{NewParts, edited_rows};
-use crate::origin::{CarriedRow, item_at, rows_with_origins};
-use crate::refolded_tunes::refold_tunes;
+use crate::origin::{CarriedRow, rows_with_origins};
 use crate::row::Row;
-use crate::stretch::{Lead, Stretch, lead_of};
+use crate::stretch::{Lead, lead_of};
 use abc_book::Block;
 use abc_fold::{Chain, Counts, Fold, Shared};
 use abc_tune_compiler::Compiler;
@@ -33,6 +32,24 @@ pub(crate) struct HeaderOpening<C: Compiler> {
 }
 
 impl<C: Compiler> KeptText<C> {
+    /// The first lines, which an edit ending at `end` may change if no tune begins before it.
+    fn lead(&self, end: usize) -> Lead
+        requires { end ≤ length self.now.lines.text }
+        ensures { IsLead self.now.tunes (length self.now.lines.text) end result }
+    {
+        lead_of(&self.tunes, self.lines.len(), end)
+    }
+
+    /// All lines.
+    fn whole_lead(&self) -> Lead
+        ensures { result ≡ whole_lead self.now }
+    {
+        Lead {
+            behind: self.tunes.len(),
+            to: self.lines.len(),
+        }
+    }
+
     /// The rows of the first lines of the text after an edit of them.
     fn lead_rows(
         &self,
@@ -43,12 +60,14 @@ impl<C: Compiler> KeptText<C> {
     ) -> Result<Vec<CarriedRow<C::Cell>>, AllocError>
         requires lead { IsLead self.now.tunes (length self.now.lines.text) (at + removed) lead }
         requires inside { at + removed ≤ length self.now.lines.text }
-        ensures { IfOk result (λ rows. rows.items ≡ lead_rows self.now lead at removed new.now) }
+        ensures value { IfOk result (λ rows. rows.items ≡ lead_rows self.now lead at removed new.now) }
+        ensures carried { IfOk result (λ rows. All (IsCarried self.now.chains.items) rows.items) }
     {
         let alloc = self.lines.allocator();
         let places = places_of(alloc, self.header, &self.tunes[..lead.behind])?;
         let old = rows_with_origins(alloc, &self.rows, 0, lead.to, 0, &places)?;
-        edited_rows(alloc, &old, at, removed, new)
+        let rows = edited_rows(alloc, &old, at, removed, new)?;
+        Ok(rows)
     }
 
     /// The file header of a text that begins with these rows, and how tunes begin after it.
@@ -84,9 +103,7 @@ impl<C: Compiler> KeptText<C> {
         if self.tunes.len() <= behind {
             return true;
         }
-        let alloc = self.lines.allocator();
-        let first = item_at(&self.chains, 0).get();
-        let was = tune_opening(alloc, &self.compiler, self.header, first);
+        let was = self.kept_opening();
         C::same(&was, opening)
     }
 
@@ -99,38 +116,25 @@ impl<C: Compiler> KeptText<C> {
         work: &mut C::Work,
     ) -> Result<NewParts<C>, AllocError>
         requires { All (IsCarried self.now.chains.items) rows.now }
-        ensures stretch { IfOk result (λ r. r.stretch ≡ lead_stretch lead (length rows.now)) }
-        ensures header { IfOk result (λ r. r.header ≡ header.header) }
-        ensures first { IfOk result (λ r. r.first ≡ Some header.first) }
-        ensures tunes { IfOk result (λ r. r.folded.tunes.items ≡ tunes_among rows.now) }
-        ensures chains { let c = self.now.compiler in
-            IfOk result (λ r. AllZip (IsChain (C.steps c) header.opening rows.now)
-            r.folded.new_chains.items r.folded.tunes.items) }
-        ensures items { IfOk result (λ r. AllZip (HasItemsOf (drop 1 self.now.chains.items))
-            r.folded.new_chains.items r.folded.reused_tunes.items) }
-        ensures along { let c = self.now.compiler in (begun : C.State) →
-            IfOk result (λ r. KnowsIfBegun (C.steps c) self.now.chains.items begun rows.now
-            r.folded.new_chains.items r.folded.tunes.items r.folded.reused_tunes.items) }
+        ensures new_parts { let c = self.now.compiler in
+            (s : Splice) → IsLeadEdit (C.rules c) self.now s lead rows.now
+            → IsHeaderOpeningOf (C.steps c) (C.rules c) (spliced self.now.lines.text s) header.header header.first header.opening
+            → MayGoOn (C.steps c) (C.rules c) self.now lead.behind header.opening
+            → IfOk result (λ r. AreNewParts (C.steps c) (C.rules c) self.now s (view_of_new_parts r)) }
         ensures counted { let c = self.now.compiler in
             IsRaisedUpTo (sum_by (steps_taken (C.steps c) header.opening self.now.chains.items rows.now)
             (tunes_among rows.now)) (C.Work.counts work.old) (C.Work.counts work.new) }
     {
-        let alloc = self.lines.allocator();
+        // For the prover: what is kept is that of the text.
+        let _ = self.lines();
         let HeaderOpening {
             header,
             first,
             opening,
         } = header;
-        let blocks = blocks_of(alloc, rows)?;
-        let folded = refold_tunes(&self.compiler, &opening, &self.chains, rows, &blocks, work)?;
+        let folded = self.refold_rows(&opening, rows, work)?;
         Ok(NewParts {
-            stretch: Stretch {
-                front: 0,
-                behind: lead.behind,
-                from: 0,
-                to: lead.to,
-                came: rows.len(),
-            },
+            stretch: lead.span().stretch(rows.len()),
             header,
             first: Some(first),
             folded,
@@ -152,17 +156,15 @@ impl<C: Compiler> KeptText<C> {
         ensures counted { let c = self.now.compiler in ForSplice (C.rules c) at removed new.now (λ s.
             IsRaisedUpTo (fresh_cells_in (C.steps c) (C.rules c) self.now s) (C.Work.counts work.old) (C.Work.counts work.new)) }
     {
-        let count = self.lines.len();
-        let lead = lead_of(&self.tunes, count, at + removed);
+        // For the prover: what is kept is that of the text, and the count of lines fits.
+        let _ = self.lines().len();
+        let lead = self.lead(at + removed);
         let rows = self.lead_rows(lead, at, removed, new)?;
         let header = self.header_opening(&rows, work)?;
         if self.may_go_on(lead.behind, &header.opening) {
             return self.refold_lead(lead, header, &rows, work);
         }
-        let whole = Lead {
-            behind: self.tunes.len(),
-            to: count,
-        };
+        let whole = self.whole_lead();
         let rows = self.lead_rows(whole, at, removed, new)?;
         self.refold_lead(whole, header, &rows, work)
     }

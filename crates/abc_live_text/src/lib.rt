@@ -10,6 +10,7 @@ mod new_places;
 mod origin;
 mod part_patches;
 mod pieces;
+mod refold;
 mod refolded_tunes;
 mod reused_tunes;
 mod row;

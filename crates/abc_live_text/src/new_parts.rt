@@ -1,16 +1,21 @@
 //! What an edit of a kept text folds again.
 
-ghost use Rattle.std.specs.Prelude.{◌≡◌, ◌+◌, ◌-◌, ◌≤◌, ◌++◌, IfOk, OnOk, drop, length, map, take};
-ghost use Rattle.abc_live_text.specs.NewParts.{ForSplice, AreNewParts, IsSpan, edited_rows, view_of_new_parts};
+ghost use Rattle.std.specs.Prelude.{◌≡◌, ◌+◌, ◌-◌, ◌≤◌, ◌++◌, All, IfOk, OnOk, drop, length, map, take};
+ghost use Rattle.std.specs.List.{sum_by};
+ghost use Rattle.abc_live_text.specs.Blocks.{tunes_among};
+ghost use Rattle.abc_live_text.specs.Lead.{IsKeptOpening};
+ghost use Rattle.abc_live_text.specs.NewParts.{ForSplice, AreNewParts, IsSpan, edited_rows, span_rows, view_of_new_parts};
+ghost use Rattle.abc_live_text.specs.Pieces.{IsCarried, steps_taken};
+ghost use Rattle.abc_live_text.specs.ReusedTunes.{AreRefolded};
 ghost use Rattle.abc_live_text.specs.Row.{carried_row};
 ghost use Rattle.abc_live_text.specs.KeptText.{fresh_cells_in};
 ghost use Rattle.abc_fold.specs.Work.{IsRaisedUpTo};
 
-use crate::blocks::blocks_of;
 use crate::chains::tune_opening;
 use crate::kept_text::KeptText;
 use crate::origin::{CarriedRow, item_at, rows_with_origins};
-use crate::refolded_tunes::{RefoldedTunes, refold_tunes};
+use crate::refold::Refold;
+use crate::refolded_tunes::RefoldedTunes;
 use crate::row::Row;
 use crate::stretch::{Span, Stretch, span_of};
 use abc_book::Block;
@@ -75,8 +80,66 @@ pub(crate) fn edited_rows<K: Drop>(
 }
 
 impl<C: Compiler> KeptText<C> {
+    /// The rows of a stretch that begins with a tune, after an edit of its lines.
+    fn span_rows(
+        &self,
+        span: Span,
+        at: usize,
+        removed: usize,
+        new: &[Row<C::Cell>],
+    ) -> Result<Vec<CarriedRow<C::Cell>>, AllocError>
+        requires { IsSpan self.now.tunes (length self.now.lines.text) at removed span }
+        ensures value { IfOk result (λ rows. rows.items ≡ span_rows self.now span at removed new.now) }
+        ensures carried { IfOk result (λ rows. All (IsCarried self.now.chains.items) rows.items) }
+    {
+        let alloc = self.lines.allocator();
+        let places = &self.tunes[span.front..span.behind];
+        let old = rows_with_origins(
+            alloc,
+            &self.rows,
+            span.from,
+            span.to,
+            span.front + 1,
+            places,
+        )?;
+        let rows = edited_rows(alloc, &old, at - span.from, removed, new)?;
+        Ok(rows)
+    }
+
+    /// The state in which tunes begin, by the chain that is kept of the file header.
+    pub(crate) fn kept_opening(&self) -> C::State
+        ensures { IsKeptOpening (C.rules self.now.compiler) self.now result }
+    {
+        let first = item_at(&self.chains, 0).get();
+        tune_opening(self.lines.allocator(), &self.compiler, self.header, first)
+    }
+
+    /// Folds the tunes among rows again, each begun in this state.
+    pub(crate) fn refold_rows(
+        &self,
+        opening: &C::State,
+        rows: &[CarriedRow<C::Cell>],
+        work: &mut C::Work,
+    ) -> Result<RefoldedTunes<C>, AllocError>
+        requires { All (IsCarried self.now.chains.items) rows.now }
+        ensures value { let c = self.now.compiler in
+            IfOk result (λ r. AreRefolded (C.steps c) self.now.chains.items opening.now rows.now
+            r.tunes.items r.new_chains.items r.reused_tunes.items) }
+        ensures counted { let c = self.now.compiler in
+            IsRaisedUpTo (sum_by (steps_taken (C.steps c) opening.now self.now.chains.items rows.now) (tunes_among rows.now))
+            (C.Work.counts work.old) (C.Work.counts work.new) }
+    {
+        let refold = Refold {
+            fold: &self.compiler,
+            opening,
+            chains: &self.chains,
+            rows,
+        };
+        refold.refold_tunes(work)
+    }
+
     /// Folds the tunes of the stretch again, if a tune begins before the edit.
-    pub(crate) fn refold_stretch(
+    fn refold_stretch(
         &self,
         span: Span,
         at: usize,
@@ -91,30 +154,13 @@ impl<C: Compiler> KeptText<C> {
         ensures counted { let c = self.now.compiler in ForSplice (C.rules c) at removed new.now (λ s.
             IsRaisedUpTo (fresh_cells_in (C.steps c) (C.rules c) self.now s) (C.Work.counts work.old) (C.Work.counts work.new)) }
     {
-        let alloc = self.lines.allocator();
-        let places = &self.tunes[span.front..span.behind];
-        let old = rows_with_origins(
-            alloc,
-            &self.rows,
-            span.from,
-            span.to,
-            span.front + 1,
-            places,
-        )?;
-        let rows = edited_rows(alloc, &old, at - span.from, removed, new)?;
-        let blocks = blocks_of(alloc, &rows)?;
-        let first = item_at(&self.chains, 0).get();
-        let opening = tune_opening(alloc, &self.compiler, self.header, first);
-        let folded = refold_tunes(&self.compiler, &opening, &self.chains, &rows, &blocks, work)?;
-        let came = rows.len();
+        // For the prover: what is kept is that of the text.
+        let _ = self.lines();
+        let rows = self.span_rows(span, at, removed, new)?;
+        let opening = self.kept_opening();
+        let folded = self.refold_rows(&opening, &rows, work)?;
         Ok(NewParts {
-            stretch: Stretch {
-                front: span.front,
-                behind: span.behind,
-                from: span.from,
-                to: span.to,
-                came,
-            },
+            stretch: span.stretch(rows.len()),
             header: self.header,
             first: None,
             folded,

@@ -3,8 +3,9 @@
 ghost use Rattle.std.specs.Prelude.{◌≡◌, ◌<◌, [], ◌∷◌, ◌++◌, All, IfOk, IfSome, OnErr, OnOk, Some, length, slice_get, true};
 ghost use Rattle.std.specs.Option.{IsSomeAnd};
 ghost use Rattle.abc_live_text.specs.PieceEnd.{EndsAt, LiesAt};
-ghost use Rattle.abc_live_text.specs.Pieces.{IsCarried, IsFolded, LiesWithin, address_from, cells_over, entries_at};
+ghost use Rattle.abc_live_text.specs.Pieces.{IsCarried, address_from, cells_over, entries_at};
 ghost use Rattle.abc_live_text.specs.Pieces.{kept_state_in, kept_states_in, kept_states_of, kept_states_over};
+ghost use Rattle.abc_live_text.specs.Refold.{IsRefold, LiesInRefold};
 ghost use Rattle.abc_fold.specs.Chain.{Folds, IsKeptAt};
 ghost use Rattle.abc_fold.specs.Following.{FollowsLast};
 ghost use Rattle.abc_fold.specs.Piece.{IsKept, cell_of, cells_of};
@@ -12,10 +13,10 @@ ghost use Rattle.abc_fold.specs.Steps.{IsResumable, Steps};
 ghost use Rattle.abc_live_cost.specs.KeptState.{kept_state_at};
 
 use crate::origin::{CarriedRow, Origin, item_at};
+use crate::refold::Refold;
 use abc_book::Block;
 use abc_fold::{Chain, Fold, Piece, Pieces, Shared};
-use abc_lines::GapList;
-use std::alloc::{AllocError, Global};
+use std::alloc::AllocError;
 
 /// How many cells a chain has.
 fn count_of<F: Fold>(chain: &Shared<Chain<F>>) -> usize
@@ -35,37 +36,6 @@ fn kept_piece<F: Fold>(chain: &Shared<Chain<F>>, i: usize) -> Result<Piece<F>, A
     chain.get().kept(i)
 }
 
-/// The piece of a line's cell at index `k`: a kept one if an old chain holds the cell, or a new one.
-fn piece_at<F: Fold>(
-    alloc: Global,
-    fold: &F,
-    chains: &GapList<Shared<Chain<F>>>,
-    row: &CarriedRow<F::Cell>,
-    k: usize,
-) -> Result<Piece<F>, AllocError>
-    requires inside { k < length row.now.cells }
-    requires carried { IsCarried chains.now.items row.now }
-    requires folded { All (IsFolded (F.steps fold.now)) chains.now.items }
-    ensures cell { IfOk result (λ piece. slice_get row.now.cells k ≡ Some (cell_of piece)) }
-    ensures held { IfOk result (λ piece. kept_state_in piece
-        ≡ kept_state_at (entries_at chains.now.items) (address_from k row.now.origin)) }
-    ensures kept { IfOk result (λ piece. IsKept (F.steps fold.now) piece) }
-    ensures stands { IfOk result (λ piece. LiesAt chains.now.items (address_from k row.now.origin) piece) }
-{
-    match &row.origin {
-        None => {
-            let cell = F::copy_cell(alloc, &row.cells.get().as_slice()[k])?;
-            Ok(Piece::New(cell))
-        }
-        Some(origin) => {
-            let chain = item_at(chains, origin.source);
-            // For the prover: the count of a chain's cells fits.
-            let _ = count_of(chain);
-            kept_piece(chain, origin.first + k)
-        }
-    }
-}
-
 /// Appends a piece. `known`: it follows the last one.
 #[inline(always)]
 fn append<F: Fold>(pieces: &mut Pieces<F>, piece: Piece<F>, known: bool) -> Result<(), AllocError>
@@ -79,62 +49,6 @@ fn append<F: Fold>(pieces: &mut Pieces<F>, piece: Piece<F>, known: bool) -> Resu
     pieces.push(piece)
 }
 
-/// Appends the pieces of a line. `known`: the first follows the last piece in an old chain.
-fn append_cells<F: Fold>(
-    alloc: Global,
-    fold: &F,
-    chains: &GapList<Shared<Chain<F>>>,
-    row: &CarriedRow<F::Cell>,
-    known: bool,
-    pieces: &mut Pieces<F>,
-) -> Result<(), AllocError>
-    requires carried { IsCarried chains.now.items row.now }
-    requires folded { All (IsFolded (F.steps fold.now)) chains.now.items }
-    requires kept { All (IsKept (F.steps fold.now)) pieces.old }
-    requires known { known ≡ true → IsSomeAnd (address_from 0 row.now.origin) (λ at. EndsAt chains.now.items pieces.old at.0 at.1) }
-    ensures cells { OnOk result (cells_of pieces.new ≡ cells_of pieces.old ++ row.now.cells) }
-    ensures kept_states { OnOk result (kept_states_in pieces.new ≡ kept_states_in pieces.old
-        ++ kept_states_of chains.now.items row.now) }
-    ensures kept { All (IsKept (F.steps fold.now)) pieces.new }
-    ensures ends { 0 < length row.now.cells → OnOk result (IfSome (address_from (length row.now.cells) row.now.origin)
-        (λ at. EndsAt chains.now.items pieces.new at.0 at.1)) }
-{
-    let count = row.cells().len();
-    let mut known = known;
-    for k in 0..count {
-        let piece = piece_at(alloc, fold, chains, row, k)?;
-        append(pieces, piece, known)?;
-        known = row.has_origin();
-    }
-    Ok(())
-}
-
-/// Appends the pieces of a line. It takes and returns the place in an old chain at which the last piece ends, if known.
-fn append_row<F: Fold>(
-    alloc: Global,
-    fold: &F,
-    chains: &GapList<Shared<Chain<F>>>,
-    row: &CarriedRow<F::Cell>,
-    end: Option<Origin>,
-    pieces: &mut Pieces<F>,
-) -> Result<Option<Origin>, AllocError>
-    requires carried { IsCarried chains.now.items row.now }
-    requires folded { All (IsFolded (F.steps fold.now)) chains.now.items }
-    requires kept { All (IsKept (F.steps fold.now)) pieces.old }
-    requires ends { IfSome end (λ end. EndsAt chains.now.items pieces.old end.source end.first) }
-    ensures cells { OnOk result (cells_of pieces.new ≡ cells_of pieces.old ++ row.now.cells) }
-    ensures kept_states { OnOk result (kept_states_in pieces.new ≡ kept_states_in pieces.old
-        ++ kept_states_of chains.now.items row.now) }
-    ensures kept { All (IsKept (F.steps fold.now)) pieces.new }
-    ensures ends { IfOk result (λ end. IfSome end (λ end. EndsAt chains.now.items pieces.new end.source end.first)) }
-{
-    if row.cells().len() == 0 {
-        return Ok(end);
-    }
-    append_cells(alloc, fold, chains, row, row.goes_on(&end), pieces)?;
-    Ok(row.end())
-}
-
 /// The number of cells of some rows. No result depends on it.
 fn room_for<C: Drop>(rows: &[CarriedRow<C>]) -> usize {
     let mut room: usize = 0;
@@ -144,25 +58,101 @@ fn room_for<C: Drop>(rows: &[CarriedRow<C>]) -> usize {
     room
 }
 
-/// The pieces of the cells of a block.
-pub(crate) fn pieces_of<F: Fold>(
-    alloc: Global,
-    fold: &F,
-    chains: &GapList<Shared<Chain<F>>>,
-    rows: &[CarriedRow<F::Cell>],
-    block: &Block,
-) -> Result<Pieces<F>, AllocError>
-    requires carried { All (IsCarried chains.now.items) rows.now }
-    requires folded { All (IsFolded (F.steps fold.now)) chains.now.items }
-    requires within { LiesWithin (length rows.now) block.now }
-    ensures cells { IfOk result (λ pieces. cells_of pieces ≡ cells_over rows.now block.now) }
-    ensures kept_states { IfOk result (λ pieces. kept_states_in pieces ≡ kept_states_over chains.now.items rows.now block.now) }
-    ensures kept { IfOk result (λ pieces. All (IsKept (F.steps fold.now)) pieces) }
-{
-    let mut pieces = Pieces::with_room(alloc, room_for(&rows[block.from..block.to]))?;
-    let mut end = None;
-    for i in block.from..block.to {
-        end = append_row(alloc, fold, chains, &rows[i], end, &mut pieces)?;
+impl<F: Fold> Refold<'_, F> {
+    /// The piece of a line's cell at index `k`: a kept one if an old chain holds the cell, or a new one.
+    fn piece_at(&self, row: &CarriedRow<F::Cell>, k: usize) -> Result<Piece<F>, AllocError>
+        requires inside { k < length row.now.cells }
+        requires carried { IsCarried self.now.chains.now.items row.now }
+        requires refold { IsRefold (F.steps self.now.fold.now) self.now }
+        ensures cell { IfOk result (λ piece. slice_get row.now.cells k ≡ Some (cell_of piece)) }
+        ensures held { IfOk result (λ piece. kept_state_in piece
+            ≡ kept_state_at (entries_at self.now.chains.now.items) (address_from k row.now.origin)) }
+        ensures kept { IfOk result (λ piece. IsKept (F.steps self.now.fold.now) piece) }
+        ensures stands { IfOk result (λ piece. LiesAt self.now.chains.now.items (address_from k row.now.origin) piece) }
+    {
+        match &row.origin {
+            None => {
+                let cell = F::copy_cell(self.chains.allocator(), &row.cells.get().as_slice()[k])?;
+                Ok(Piece::New(cell))
+            }
+            Some(origin) => {
+                let chain = item_at(self.chains, origin.source);
+                // For the prover: the count of a chain's cells fits.
+                let _ = count_of(chain);
+                kept_piece(chain, origin.first + k)
+            }
+        }
     }
-    Ok(pieces)
+
+    /// Appends the pieces of a line. `known`: the first follows the last piece in an old chain.
+    fn append_cells(
+        &self,
+        row: &CarriedRow<F::Cell>,
+        known: bool,
+        pieces: &mut Pieces<F>,
+    ) -> Result<(), AllocError>
+        requires carried { IsCarried self.now.chains.now.items row.now }
+        requires refold { IsRefold (F.steps self.now.fold.now) self.now }
+        requires kept { All (IsKept (F.steps self.now.fold.now)) pieces.old }
+        requires known { known ≡ true
+            → IsSomeAnd (address_from 0 row.now.origin) (λ at. EndsAt self.now.chains.now.items pieces.old at.0 at.1) }
+        ensures cells { OnOk result (cells_of pieces.new ≡ cells_of pieces.old ++ row.now.cells) }
+        ensures kept_states { OnOk result (kept_states_in pieces.new ≡ kept_states_in pieces.old
+            ++ kept_states_of self.now.chains.now.items row.now) }
+        ensures kept { All (IsKept (F.steps self.now.fold.now)) pieces.new }
+        ensures ends { 0 < length row.now.cells → OnOk result (IfSome (address_from (length row.now.cells) row.now.origin)
+            (λ at. EndsAt self.now.chains.now.items pieces.new at.0 at.1)) }
+    {
+        let count = row.cells().len();
+        let mut known = known;
+        for k in 0..count {
+            let piece = self.piece_at(row, k)?;
+            append(pieces, piece, known)?;
+            known = row.has_origin();
+        }
+        Ok(())
+    }
+
+    /// Appends the pieces of a line. It takes and returns the place in an old chain at which the last piece ends, if known.
+    fn append_row(
+        &self,
+        row: &CarriedRow<F::Cell>,
+        end: Option<Origin>,
+        pieces: &mut Pieces<F>,
+    ) -> Result<Option<Origin>, AllocError>
+        requires carried { IsCarried self.now.chains.now.items row.now }
+        requires refold { IsRefold (F.steps self.now.fold.now) self.now }
+        requires kept { All (IsKept (F.steps self.now.fold.now)) pieces.old }
+        requires ends { IfSome end (λ end. EndsAt self.now.chains.now.items pieces.old end.source end.first) }
+        ensures cells { OnOk result (cells_of pieces.new ≡ cells_of pieces.old ++ row.now.cells) }
+        ensures kept_states { OnOk result (kept_states_in pieces.new ≡ kept_states_in pieces.old
+            ++ kept_states_of self.now.chains.now.items row.now) }
+        ensures kept { All (IsKept (F.steps self.now.fold.now)) pieces.new }
+        ensures ends { IfOk result (λ end. IfSome end (λ end. EndsAt self.now.chains.now.items pieces.new end.source end.first)) }
+    {
+        if row.cells().len() == 0 {
+            return Ok(end);
+        }
+        self.append_cells(row, row.goes_on(&end), pieces)?;
+        Ok(row.end())
+    }
+
+    /// The pieces of the cells of a block.
+    pub(crate) fn pieces_of(&self, block: &Block) -> Result<Pieces<F>, AllocError>
+        requires refold { IsRefold (F.steps self.now.fold.now) self.now }
+        requires within { LiesInRefold self.now block.now }
+        ensures cells { IfOk result (λ pieces. cells_of pieces ≡ cells_over self.now.rows.now block.now) }
+        ensures kept_states { IfOk result (λ pieces. kept_states_in pieces
+            ≡ kept_states_over self.now.chains.now.items self.now.rows.now block.now) }
+        ensures kept { IfOk result (λ pieces. All (IsKept (F.steps self.now.fold.now)) pieces) }
+    {
+        let rows = self.rows;
+        let room = room_for(&rows[block.from..block.to]);
+        let mut pieces = Pieces::with_room(self.chains.allocator(), room)?;
+        let mut end = None;
+        for i in block.from..block.to {
+            end = self.append_row(&rows[i], end, &mut pieces)?;
+        }
+        Ok(pieces)
+    }
 }

@@ -1,7 +1,8 @@
 //! The stretch of a text that an edit may change.
 
-ghost use Rattle.std.specs.Prelude.{◌+◌, ◌-◌, ◌<◌, ◌≤◌, IfSome, drop, length};
-ghost use Rattle.abc_live_text.specs.NewParts.{IsLead, IsSpan, start_of};
+ghost use Rattle.std.specs.Prelude.{◌≡◌, ◌+◌, ◌-◌, ◌<◌, ◌≤◌, IfSome, drop, length};
+ghost use Rattle.abc_live_text.specs.Lead.{lead_span};
+ghost use Rattle.abc_live_text.specs.NewParts.{IsLead, IsSpan, span_stretch, start_of};
 
 use abc_book::Block;
 
@@ -30,11 +31,40 @@ pub(crate) struct Span {
     pub(crate) to: usize,
 }
 
+impl Span {
+    /// The stretch, which has `came` lines after the edit.
+    pub(crate) fn stretch(self, came: usize) -> Stretch
+        ensures { result ≡ span_stretch self came }
+    {
+        Stretch {
+            front: self.front,
+            behind: self.behind,
+            from: self.from,
+            to: self.to,
+            came,
+        }
+    }
+}
+
 /// The first lines of a text, up to one of its tunes or to its end, and how many tunes begin among them.
 #[derive(Clone, Copy)]
 pub(crate) struct Lead {
     pub(crate) behind: usize,
     pub(crate) to: usize,
+}
+
+impl Lead {
+    /// The lines and the tunes from the first ones on.
+    pub(crate) fn span(self) -> Span
+        ensures { result ≡ lead_span self }
+    {
+        Span {
+            front: 0,
+            behind: self.behind,
+            from: 0,
+            to: self.to,
+        }
+    }
 }
 
 /// How many tunes begin before a line; at least `first` do.
@@ -58,8 +88,16 @@ fn begun_before(tunes: &[Block], first: usize, line: usize) -> usize
     begun
 }
 
+/// Where the tune at index `i` begins; without one, at the end.
+fn start_at(tunes: &[Block], i: usize, end: usize) -> usize
+    ensures { result ≡ start_of (drop i tunes.now) end }
+{
+    if i < tunes.len() { tunes[i].from } else { end }
+}
+
 /// The stretch of an edit of a text with `count` lines: from the last tune that begins before the edit to the first
 /// that begins after it. None if no tune begins before the edit.
+#[tactic(auto, using(crate::proofs::Spans::starts_late))]
 pub(crate) fn span_of(tunes: &[Block], count: usize, at: usize, removed: usize) -> Option<Span>
     requires { at + removed ≤ count }
     ensures { IfSome result (λ span. IsSpan tunes.now count at removed span) }
@@ -69,29 +107,23 @@ pub(crate) fn span_of(tunes: &[Block], count: usize, at: usize, removed: usize) 
         return None;
     }
     let behind = begun_before(tunes, begun, at + removed);
-    let to = if behind < tunes.len() {
-        tunes[behind].from
-    } else {
-        count
-    };
     Some(Span {
         front: begun - 1,
         behind,
         from: tunes[begun - 1].from,
-        to,
+        to: start_at(tunes, behind, count),
     })
 }
 
 /// The prefix that an edit ending at `end` can affect: up to the first tune that begins at `end` or later.
+#[tactic(auto, using(crate::proofs::Spans::starts_late))]
 pub(crate) fn lead_of(tunes: &[Block], count: usize, end: usize) -> Lead
     requires { end ≤ count }
     ensures { IsLead tunes.now count end result }
 {
     let behind = begun_before(tunes, 0, end);
-    let to = if behind < tunes.len() {
-        tunes[behind].from
-    } else {
-        count
-    };
-    Lead { behind, to }
+    Lead {
+        behind,
+        to: start_at(tunes, behind, count),
+    }
 }

@@ -8,7 +8,7 @@ use Rattle.abc_live_index.specs.Owners.{Owners, owners_of}
 use Rattle.abc_live_index.specs.Report.{changed_number_at}
 use Rattle.abc_tune_compiler.specs.Sort.{sort_dedup}
 use Rattle.std.specs.Ordering.{nat_cmp}
-use Rattle.abc_live_index.proofs.report.changed_numbers.Goals.{in-Some+in_ok-push, in_default}
+use Rattle.abc_live_index.proofs.report.changed_numbers.Goals.{in_default, in-Some+in_ok-push}
 use Rattle.abc_live_index.proofs.report.changed_numbers.Goals as goal
 
 pub loop-place-init : goal.loop-place-init

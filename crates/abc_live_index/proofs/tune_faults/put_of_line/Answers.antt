@@ -3,7 +3,7 @@ use Rattle.abc_tune_compiler.specs.Placed.{placed_at}
 use Rattle.abc_tune_compiler.specs.Tune.{fault_in, faults_along}
 use Rattle.abc_live_index.proofs.Fronts.{front_both}
 use Rattle.abc_live_index.proofs.OutputLists.{line_on, never_none, put_more, shorter}
-use Rattle.abc_live_index.proofs.tune_faults.put_of_line.Goals.{in-Some+in_ok-put_of_cell, in_default}
+use Rattle.abc_live_index.proofs.tune_faults.put_of_line.Goals.{in_default, in-Some+in_ok-put_of_cell}
 use Rattle.abc_live_index.proofs.tune_faults.put_of_line.Goals as goal
 
 pub loop-i-preserved : goal.loop-i-preserved

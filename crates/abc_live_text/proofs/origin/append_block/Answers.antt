@@ -1,6 +1,6 @@
 use Rattle.std.proofs.Common.{rules, ◌≡◌, ◌<◌, ◌+◌, length, map, arith, ap, ◌∙◌}
+use Rattle.std.proofs.lemmas.List.{length-map}
 use Rattle.abc_live_text.specs.Row.{carried_row}
-use Rattle.abc_live_text.proofs.FreshSteps.{length-over}
 use Rattle.abc_live_text.proofs.OriginRows.{block_next, count_next, map_at}
 use Rattle.abc_live_text.proofs.origin.append_block.Goals as goal
 
@@ -8,7 +8,7 @@ pub loop-i-preserved : goal.loop-i-preserved
 loop-i-preserved g c =
     let inside : c.loop-i.i < length c.args.rows.now.items = let a = c.loop-i-test.true in let b = c.requires.inside in omega arith in
     let rows = map carried_row c.args.rows.now.items in
-    let long : c.loop-i.i < length (map carried_row c.args.rows.now.items) = let n = length-over carried_row c.args.rows.now.items in omega (arith, n, inside) in
+    let long : c.loop-i.i < length (map carried_row c.args.rows.now.items) = let n = length-map c.args.rows.now.items carried_row in omega (arith, n, inside) in
     let row = carried_row c.item_at-row.result.now in
     let here = map_at carried_row c.args.rows.now.items c.loop-i.i c.item_at-row.result.now c.item_at-row.ensures inside in
     let count = ap length c.cells-cells.ensures in

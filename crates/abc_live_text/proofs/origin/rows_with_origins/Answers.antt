@@ -1,8 +1,9 @@
 use Rattle.std.proofs.Common.{map, get_or, arith}
+use Rattle.std.proofs.lemmas.List.{get_or_default}
 use Rattle.abc_book.specs.declared.block.Block.{Block}
 use Rattle.abc_book.specs.declared.block.BlockKind.TheVariants.{FileHeader}
 use Rattle.abc_live_text.specs.Row.{carried_row}
-use Rattle.abc_live_text.proofs.OriginRows.{get_same, rise_at, rise_index, until_next}
+use Rattle.abc_live_text.proofs.OriginRows.{rise_at, rise_index, until_next}
 use Rattle.abc_live_text.proofs.origin.rows_with_origins.Goals as goal
 
 pub append_without_origin-requires-clause-inside : goal.append_without_origin-requires-clause-inside
@@ -18,7 +19,7 @@ append_block-requires-clause-inside g c =
 pub loop-i-preserved : goal.loop-i-preserved
 loop-i-preserved g c =
     let d : Block = record { kind = FileHeader; from = 0; to = 0 } in
-    let is = get_same c.args.blocks.now c.loop-i.i d (get_or c.args.blocks.now c.loop-i.i d) c.loop-i-test.true in
+    let is = get_or_default c.args.blocks.now c.loop-i.i d (get_or c.args.blocks.now c.loop-i.i d) c.loop-i-test.true in
     record {
       placed_rows = until_next
           (map carried_row

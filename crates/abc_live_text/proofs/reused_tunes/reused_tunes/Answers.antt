@@ -1,11 +1,11 @@
 use Rattle.std.proofs.Common.{◌≡◌, ◌<◌, IsSome, drop, get_or, length, sym, ◌∙◌, ap, subst, arith}
+use Rattle.std.proofs.lemmas.List.{get_or_default}
 use Rattle.abc_book.specs.declared.block.BlockKind.TheVariants.{FileHeader}
 use Rattle.abc_fold.specs.Chain.{Chained, Folds}
 use Rattle.abc_live_text.specs.Pieces.{IsChain, rows_in}
 use Rattle.abc_live_text.specs.ReusedTunes.{GoesAlong}
 use Rattle.abc_live_cost.specs.OldItems.{HasItemsOf}
 use Rattle.abc_live_text.proofs.WholeOldTunes.{zip_at, zip_more}
-use Rattle.abc_live_text.proofs.OriginRows.{get_same}
 use Rattle.abc_live_text.proofs.reused_tunes.reused_tunes.Goals as goal
 
 pub loop-place-preserved : goal.loop-place-preserved
@@ -16,7 +16,7 @@ loop-place-preserved g c =
     let tune = get_or c.args.tunes.now place (record { kind = FileHeader; from = 0; to = 0 }) in
     let inside : place < length c.args.chains.now = c.loop-place-test.true in
     let there : place < length c.args.tunes.now = let count = c.requires.count in omega (arith, inside, count) in
-    let is : tune ≡ get_or c.args.tunes.now place tune = get_same c.args.tunes.now place _ tune there in
+    let is : tune ≡ get_or c.args.tunes.now place tune = get_or_default c.args.tunes.now place _ tune there in
     record {
       items = λ opening all.
           let own = zip_at (IsChain steps opening c.args.rows.now) c.args.chains.now c.args.tunes.now place chain tune all c.index-chains-place.is is inside in

@@ -1,47 +1,16 @@
-use Rattle.std.proofs.Common.{◌≡◌, ◌≤◌, ◌+◌, All, length, sym, subst, arith}
+use Rattle.std.proofs.Common.{◌≡◌, subst}
 use Rattle.abc_lines.specs.GapList.{replaced_run}
 use Rattle.abc_lines.specs.declared.limits.TheConstants.{MOST_LINES}
-use Rattle.abc_live_text.specs.Pieces.{LiesWithin}
 use Rattle.abc_live_text.specs.KeptText.{KeptTextView}
-use Rattle.abc_live_text.proofs.StretchRows.{chain_total, tunes_inside}
-use Rattle.abc_live_text.proofs.PlaceUpdates.{within_most}
+use Rattle.abc_live_text.proofs.StretchRows.{chains_reach, tunes_within_most}
 use Rattle.abc_live_text.proofs.ReplacedParts.{items_after}
 use Rattle.abc_live_text.proofs.kept_text.KeptText.prepare_patches.Goals as goal
 
 pub of-requires-clause-within : goal.of-requires-clause-within
-of-requires-clause-within g c =
-    let on : KeptTextView g.row.C.Denot g.row.C-State.Denot g.row.C-Cell.Denot g.row.C-Items.Denot =
-    record {
-      compiler = c.self.inside.compiler;
-      lines = c.self.inside.lines;
-      rows = c.self.inside.rows;
-      header = c.self.inside.header;
-      tunes = c.self.inside.tunes.items;
-      chains = c.self.inside.chains;
-    } in
-    let steps = g.C.Fold.steps c.self.inside.compiler in
-    let rules' = g.C.Compiler.rules c.self.inside.compiler in
-    subst (All (LiesWithin MOST_LINES)) (sym c.deref-2.ensures.value)
-    (within_most (length c.self.inside.lines.text) MOST_LINES c.self.inside.tunes.items (tunes_inside steps rules' on c.self.invariant) c.len.ensures.limits.count)
+of-requires-clause-within g c = tunes_within_most g.C.Fold.steps g.C.Compiler.rules c.self.view_is c.self.invariant MOST_LINES c.len.ensures.limits.count _ c.deref-2.ensures.value
 
 pub prepare_chains-requires-clause-inside : goal.prepare_chains-requires-clause-inside
-prepare_chains-requires-clause-inside g c =
-    let on : KeptTextView g.row.C.Denot g.row.C-State.Denot g.row.C-Cell.Denot g.row.C-Items.Denot =
-    record {
-      compiler = c.self.inside.compiler;
-      lines = c.self.inside.lines;
-      rows = c.self.inside.rows;
-      header = c.self.inside.header;
-      tunes = c.self.inside.tunes.items;
-      chains = c.self.inside.chains;
-    } in
-    let steps = g.C.Fold.steps c.self.inside.compiler in
-    let rules' = g.C.Compiler.rules c.self.inside.compiler in
-    let total = chain_total steps rules' on c.self.invariant in
-    let most = subst
-    (λ (k : KeptTextView g.row.C.Denot g.row.C-State.Denot g.row.C-Cell.Denot g.row.C-Items.Denot). c.args.new_parts.now.stretch.behind ≤ length k.tunes) (sym c.self.view_is) c.requires.inside in
-    subst (λ (k : KeptTextView g.row.C.Denot g.row.C-State.Denot g.row.C-Cell.Denot g.row.C-Items.Denot).
-    c.args.new_parts.now.stretch.behind + 1 ≤ length k.chains.items) c.self.view_is (omega (arith, total, most))
+prepare_chains-requires-clause-inside g c = chains_reach g.C.Fold.steps g.C.Compiler.rules c.self.view_is c.self.invariant c.args.new_parts.now.stretch.behind c.requires.inside
 
 pub returns-in-Ok-clause-rows : goal.returns-in-Ok-clause-rows
 returns-in-Ok-clause-rows g c =

@@ -1,24 +1,15 @@
-use Rattle.std.proofs.Common.{subst}
-use Rattle.std.specs.List.{AllZip}
-use Rattle.abc_fold.proofs.Raised.{raised-none}
-use Rattle.abc_live_text.specs.Pieces.{IsChain}
-use Rattle.abc_live_text.specs.KeptText.{KeptTextView}
-use Rattle.abc_live_text.specs.ReusedTunes.{KnowsAlong}
-use Rattle.abc_live_text.proofs.Edits.{are_folded}
+use Rattle.std.proofs.Common.{Some, length, sym, ◌∙◌, subst}
+use Rattle.abc_live_text.specs.NewParts.{AreNewParts, new_parts_view, span_stretch}
+use Rattle.abc_live_text.proofs.EditCost.{kept_of}
+use Rattle.abc_live_text.proofs.LeadRefold.{lead_renewed}
 use Rattle.abc_live_text.proofs.kept_text.KeptText.refold_lead.Goals as goal
 
-pub returns-in_err-blocks-clause-counted : goal.returns-in_err-blocks-clause-counted
-returns-in_err-blocks-clause-counted g c =
-    raised-none _ _
-
-pub refold_tunes-requires-clause-folded : goal.refold_tunes-requires-clause-folded
-refold_tunes-requires-clause-folded g c =
-    are_folded (g.C.Fold.steps c.self.inside.compiler) (g.C.Compiler.rules c.self.inside.compiler) c.self.inside.lines.text c.self.inside.chains.items c.self.invariant.chains_are
-
-pub returns-clause-along : goal.returns-clause-along
-returns-clause-along g c =
-    subst (λ (k : KeptTextView g.row.C.Denot g.row.C-State.Denot g.row.C-Cell.Denot g.row.C-Items.Denot).
-    (begun : g.row.C-State.Denot) → AllZip (IsChain
-    (g.C.Fold.steps k.compiler) begun c.args.rows.now) c.in_ok-folded.folded.new_chains.items c.in_ok-folded.folded.tunes.items
-    → KnowsAlong (g.C.Fold.steps k.compiler) k.chains.items begun c.args.rows.now c.in_ok-folded.folded.tunes.items c.in_ok-folded.folded.reused_tunes.items) c.self.view_is
-    c.in_ok-folded.ensures.along
+pub returns-clause-new_parts : goal.returns-clause-new_parts
+returns-clause-new_parts g c = λ s edit begin goes.
+    let now = c.args.self.now in
+    let r = c.in_ok-folded.folded in
+    let kept = kept_of g.C.Fold.steps g.C.Compiler.rules c.args.self.now c.lines.ensures.stands g.met.C.Fold.resumable g.met.C.Compiler.lawful in
+    subst (AreNewParts (g.C.Fold.steps now.compiler) (g.C.Compiler.rules now.compiler) now s)
+    (λ i. new_parts_view (((λ j. span_stretch (sym c.span.ensures j) (length c.args.rows.now)) ∙ sym c.stretch.ensures) i)
+    c.args.header.header (Some c.args.header.first) r.tunes.items r.new_chains.items r.reused_tunes.items)
+    (lead_renewed kept edit begin goes c.in_ok-folded.ensures.value)

@@ -1,0 +1,44 @@
+-- The lines that an edit folds again, among those of the old text and of the new one.
+use Rattle.std.proofs.Common.{◌≡◌, ◌+◌, ◌-◌, ◌≤◌, List, ◌++◌, map, All, length, take, drop, sym, ◌∙◌, ap}
+use Rattle.std.proofs.lemmas.List.{map-append}
+use Rattle.abc_book.specs.Laws.{moved}
+use Rattle.abc_book.specs.Stretch.{shifted}
+use Rattle.abc_book.specs.declared.block.Block.{Block}
+use Rattle.abc_lines.specs.Text.{Splice, Text, spliced}
+use Rattle.abc_scan.specs.declared.class.LineClass.{LineClass}
+use Rattle.abc_tune_compiler.specs.Book.{blocks_in, tunes_in}
+use Rattle.abc_tune_compiler.specs.Rules.{Rules}
+use Rattle.abc_live_text.specs.Blocks.{tunes_among}
+use Rattle.abc_live_text.specs.Chains.{places_of}
+use Rattle.abc_live_text.specs.Pieces.{class_in}
+use Rattle.abc_live_text.specs.Row.{CarriedRow, Row, carried_row}
+use Rattle.abc_live_text.specs.declared.stretch.Span.{Span}
+use Rattle.abc_live_text.proofs.EditedRows.{Parted, stretch_rows}
+use Rattle.abc_live_text.proofs.OutsideStretch.{StartsFrom}
+use Rattle.abc_live_text.proofs.Spans.{Ends}
+use Rattle.abc_live_text.proofs.WholeRows.{placed_from}
+
+-- The classes of rows in three parts.
+pub part_classes : {Cell : Type 0} (rows a own b : List (CarriedRow Cell)) (classes : List LineClass)
+    → rows ≡ a ++ (own ++ b) → map class_in rows ≡ classes → map class_in a ++ (map class_in own ++ map class_in b) ≡ classes
+part_classes rows a own b classes parts read =
+    (λ i. map class_in a ++ sym (map-append class_in own b) i)
+    ∙ (sym (map-append class_in a (own ++ b)) ∙ (ap (map class_in) (sym parts) ∙ read))
+
+-- The lines and the tunes of a span, whose rows with their origins are `own`, in a text and after an edit of them.
+pub record IsEditedRun {State Cell Items Defaults : Type 0} (rules : Rules State Cell Items Defaults) (text : Text)
+    (s : Splice) (rows : List (Row Cell)) (span : Span) (own : List (CarriedRow Cell)) : Type 0 where
+  pub parts : Parted rules s (placed_from (map carried_row rows) 0 0 (places_of (blocks_in rules text))) own span.from
+  pub tunes : tunes_in (blocks_in rules (spliced text s)) ≡ take span.front (tunes_in (blocks_in rules text))
+      ++ (map (moved span.from) (tunes_among (stretch_rows rules s span.from own))
+      ++ map (shifted (span.to - span.from) (length (stretch_rows rules s span.from own))) (drop span.behind (tunes_in (blocks_in rules text))))
+  pub before : All (Ends span.from) (take span.front (tunes_in (blocks_in rules text)))
+  pub behind : All (StartsFrom span.to) (drop span.behind (tunes_in (blocks_in rules text)))
+  pub amid : All (λ (block : Block). (span.from ≤ block.from) × (block.to ≤ span.to))
+      (take (span.behind - span.front) (drop span.front (tunes_in (blocks_in rules text))))
+  pub order : span.front ≤ span.behind
+  pub most : span.behind ≤ length (tunes_in (blocks_in rules text))
+  pub begins : span.from ≤ s.at
+  pub ends : s.at + s.removed ≤ span.to
+  pub inside : span.to ≤ length text
+  pub count : length own ≡ span.to - span.from

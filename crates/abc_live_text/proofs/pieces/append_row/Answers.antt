@@ -1,6 +1,0 @@
-use Rattle.abc_live_text.proofs.PieceEnds.{ends_before}
-use Rattle.abc_live_text.proofs.pieces.append_row.Goals as goal
-
-pub append_cells-requires-clause-known : goal.append_cells-requires-clause-known
-append_cells-requires-clause-known g c = λ known.
-    ends_before c.args.chains.now.items c.args.pieces.now c.args.end c.args.row.now.origin (c.goes_on.ensures.held known) (c.goes_on.ensures.same known) c.requires.ends
