@@ -1,6 +1,8 @@
 -- The state of the current voice of a body, if it was written.
 use Rattle.std.proofs.Common.{◌≡◌, ℕ, zero, suc, ◌≤◌, ◌<◌, nat_lt, Bool, true, false, cond, List, [], ◌∷◌, length, unwrap_or, refl, sym, ap, ◌∙◌, arith}
 use Rattle.std.proofs.lemmas.Bool.Decides.{nat_tests}
+use Rattle.std_collections.proofs.Entries.{length-set_value_at}
+use Rattle.std_collections.proofs.HashLookup.{get_value_set, set_value_at_twice}
 use Rattle.abc_bars_body.specs.declared.body.Body.{Body}
 use Rattle.abc_bars_body.specs.declared.body.Current.{Current}
 use Rattle.abc_bars_body.specs.declared.body.Current.TheVariants.{Unnamed, At}
@@ -12,22 +14,6 @@ set-same : (voices : List (List ℕ × VoiceState)) (place : ℕ) (another : Voi
 set-same [] place another = refl
 set-same (voice ∷ voices) zero another = refl
 set-same (voice ∷ voices) (suc place) another = ap (λ (rest : List (List ℕ × VoiceState)). voice ∷ rest) (set-same voices place another)
-
-set-twice : (voices : List (List ℕ × VoiceState)) (place : ℕ) (first last : VoiceState) → with_voice_at (with_voice_at voices place first) place last ≡ with_voice_at voices place last
-set-twice [] place first last = refl
-set-twice (voice ∷ voices) zero first last = refl
-set-twice (voice ∷ voices) (suc place) first last = ap (λ (rest : List (List ℕ × VoiceState)). voice ∷ rest) (set-twice voices place first last)
-
-set-long : (voices : List (List ℕ × VoiceState)) (place : ℕ) (state : VoiceState) → length (with_voice_at voices place state) ≡ length voices
-set-long [] place state = refl
-set-long (voice ∷ voices) zero state = refl
-set-long (voice ∷ voices) (suc place) state = ap suc (set-long voices place state)
-
-set-read : (voices : List (List ℕ × VoiceState)) (place : ℕ) (state another : VoiceState) → place < length voices
-    → unwrap_or (voice_at (with_voice_at voices place state) place) another ≡ state
-set-read [] place state another h = absurd (omega arith)
-set-read (voice ∷ voices) zero state another h = refl
-set-read (voice ∷ voices) (suc place) state another h = set-read voices place state another (omega arith)
 
 beyond : (voices : List (List ℕ × VoiceState)) (place : ℕ) (another : VoiceState) → length voices ≤ place → unwrap_or (voice_at voices place) another ≡ another
 beyond [] place another h = refl
@@ -57,7 +43,7 @@ same_here body = same-in body body.current
 
 read-at : (body : Body) (place : ℕ) (state : VoiceState) (b : Bool) → nat_lt place (length body.voices) ≡ b
     → here_in (cond b (record body { voices = with_voice_at body.voices place state }) (record body { another = state })) (At place) ≡ state
-read-at body place state true e = set-read body.voices place state body.another (below place (length body.voices) e)
+read-at body place state true e = ap (λ found. unwrap_or found body.another) (get_value_set body.voices place state (below place (length body.voices) e))
 read-at body place state false e = beyond body.voices place state (not-below place (length body.voices) e)
 
 kept-current : (body : Body) (place : ℕ) (state : VoiceState) (b : Bool)
@@ -82,8 +68,8 @@ twice-at : (body : Body) (place : ℕ) (first last : VoiceState) (b : Bool) → 
 twice-at body place first last true e =
     let written : Body = record body { voices = with_voice_at body.voices place first; current = At place } in
     ap (λ b. cond b (record written { voices = with_voice_at written.voices place last }) (record written { another = last }))
-    (ap (nat_lt place) (set-long body.voices place first) ∙ e)
-    ∙ ap (λ (voices : List (List ℕ × VoiceState)). record body { voices = voices; current = At place }) (set-twice body.voices place first last)
+    (ap (nat_lt place) (length-set_value_at body.voices place first) ∙ e)
+    ∙ ap (λ (voices : List (List ℕ × VoiceState)). record body { voices = voices; current = At place }) (set_value_at_twice body.voices place first last)
 twice-at body place first last false e =
     let written : Body = record body { another = first; current = At place } in
     ap (λ b. cond b (record written { voices = with_voice_at written.voices place last }) (record written { another = last })) e

@@ -34,19 +34,10 @@ name_more names name placed true is = ([], rw is (sym (append-nil names)))
 name_more names name placed false is = (name ∷ [], rw is refl)
 
 item_behind : (known : Mentioned) (item : Item) → IsBehind known (behind_item known item)
-item_behind known (items.Number number) = inl refl
 item_behind known (items.Tone tones length) = time_behind known
 item_behind known (items.Rest length bar) = time_behind known
-item_behind known (items.Bar line) = inl refl
-item_behind known (items.Ending numbers) = inl refl
-item_behind known (items.Section letter) = inl refl
-item_behind known (items.Tempo opening micros out) = inl refl
-item_behind known (items.Meter opening meter) = inl refl
-item_behind known (items.Key opening key) = inl refl
 item_behind known (items.Voice opening name) = inr (refl, λ named. name_more known.0 name known.1 (list_any (bytes_eq name) known.0) refl)
-item_behind known (items.Program opening number) = inl refl
-item_behind known (items.Title text) = inl refl
-item_behind known (items.Order text) = inl refl
+item_behind known _ = inl refl
 
 both_behind : (a b c : Mentioned) → IsBehind a b → IsBehind b c → IsBehind a c
 both_behind a b c (inl same) later = subst (λ (k : Mentioned). IsBehind k c) same later
@@ -86,9 +77,7 @@ keeps_names body cell same long =
 
 body_of : Entry → Body → Body
 body_of (entries.Body body) other = body
-body_of (entries.FileHeader defaults) other = other
-body_of (entries.Opening defaults) other = other
-body_of (entries.Header header) other = other
+body_of _ other = other
 
 -- So the state in a body after a cell keeps its names.
 pub step_keeps_names : (body next : Body) (cell : List (Spanned TokenKind)) → entries.Body next ≡ (entry_step (entries.Body body) cell).0 → KeepsNames body next

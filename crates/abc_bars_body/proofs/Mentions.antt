@@ -1,11 +1,13 @@
 -- The voices that the cells of a tune mention: no more than fifteen.
-use Rattle.std.proofs.Common.{◌≡◌, ◌≤◌, ◌<◌, ℕ, ◌+◌, ◌-◌, zero, suc, nat_lt, Bool, true, false, cond, List, [], ◌∷◌, ◌++◌, length, Option, Some, None, bytes_eq, refl, sym, ap, subst, ◌∙◌}
-use Rattle.std.proofs.Common.{append_assoc, append-nil, length-append, length-take, length-drop, lit≤, arith}
+use Rattle.std.proofs.Common.{◌≡◌, ◌≤◌, ◌<◌, ℕ, ◌+◌, ◌-◌, suc, nat_lt, Bool, true, false, cond, List, [], ◌∷◌, ◌++◌, length, Option, Some, None, bytes_eq, refl, sym, ap, subst, ◌∙◌}
+use Rattle.std.proofs.Common.{append_assoc, append-nil, length-append, length-take, length-drop, lit≤, ⊎_elim, arith}
 use Rattle.std.specs.Prelude.{◌||◌, is_none, slice_range, drop, Result, Ok, Err}
 use Rattle.std.specs.Option.{ok_or, option_and_then, option_map}
-use Rattle.std.proofs.lemmas.Bool.{ltb-true}
+use Rattle.std.proofs.lemmas.Bool.{cases_Bool, ltb-true}
 use Rattle.std.specs.List.{flat_map, list_any, position}
 use Rattle.std.specs.Map.{keys_of}
+use Rattle.std_collections.proofs.Entries.{keys_set_value_at}
+use Rattle.std_collections.proofs.HashLookup.{keys_push}
 use Rattle.abc_fields.specs.declared.fault.FaultCode.{FaultCode}
 use Rattle.abc_fields.specs.declared.fault.FaultCode.TheVariants.{BadBroken, BadProgram, BadVoice, LooseTie, TempoRange, TooManyVoices}
 use Rattle.abc_fields.specs.declared.key.Key.{Key}
@@ -119,16 +121,7 @@ silent_told : (before after : Mentioned) (item : Item) → after ≡ before → 
 silent_told before after item same quiet named =
     one_told before after item (same ∙ sym quiet) named (subst (λ (k : Mentioned). length k.0 ≤ MOST_VOICES) (sym same))
 
--- what is known of a voice leaves the names
-keys_kept : {S : Type 0} (voices : List (List ℕ × S)) (at : ℕ) (known : S) → keys_of (with_voice_at voices at known) ≡ keys_of voices
-keys_kept [] at known = refl
-keys_kept (voice ∷ voices) zero known = refl
-keys_kept (voice ∷ voices) (suc at) known = ap (λ names. voice.0 ∷ names) (keys_kept voices at known)
-
-keys_push : {S : Type 0} (voices : List (List ℕ × S)) (name : List ℕ) (known : S) → keys_of (voices ++ (name, known) ∷ []) ≡ keys_of voices ++ name ∷ []
-keys_push [] name known = refl
-keys_push (voice ∷ voices) name known = ap (λ names. voice.0 ∷ names) (keys_push voices name known)
-
+-- there are as many names as voices
 pub keys_long : {S : Type 0} (voices : List (List ℕ × S)) → length (keys_of voices) ≡ length voices
 keys_long [] = refl
 keys_long (voice ∷ voices) = ap suc (keys_long voices)
@@ -139,7 +132,7 @@ here_in_known body (Unnamed old) state same = λ i. (keys_of body.voices, is_pla
 here_in_known body (At at) state same = by (nat_lt at (length body.voices))
   where
     by : (b : Bool) → known_of (cond b (record body { voices = with_voice_at body.voices at state }) (record body { another = state })) ≡ known_of body
-    by true = λ i. (keys_kept body.voices at state i, is_placed body.current)
+    by true = λ i. (keys_set_value_at body.voices at state i, is_placed body.current)
     by false = refl
 
 here_known : (body : Body) (state : VoiceState) → known_of (with_here body state) ≡ known_of body
@@ -223,18 +216,12 @@ no_place_of name [] none = no_place (bytes_eq name) [] tt
 no_place_of name (first ∷ names) none = no_place_by name first names (no_place_of name names) (bytes_eq name first) refl none
 
 among : (name : List ℕ) (names : List (List ℕ)) (at : ℕ) → position (bytes_eq name) names ≡ Some at → list_any (bytes_eq name) names ≡ true
-among name names at found = by (list_any (bytes_eq name) names) refl
-  where
-    by : (b : Bool) → list_any (bytes_eq name) names ≡ b → list_any (bytes_eq name) names ≡ true
-    by true is = is
-    by false is = absurd (cc (no_place_of name names is, found))
+among name names at found =
+    ⊎_elim (λ yes. yes) (λ no. absurd (cc (no_place_of name names no, found))) (cases_Bool (list_any (bytes_eq name) names))
 
 apart : (name : List ℕ) (names : List (List ℕ)) → position (bytes_eq name) names ≡ None → list_any (bytes_eq name) names ≡ false
-apart name names none = by (list_any (bytes_eq name) names) refl
-  where
-    by : (b : Bool) → list_any (bytes_eq name) names ≡ b → list_any (bytes_eq name) names ≡ false
-    by true is = let found = find_place (bytes_eq name) names is in absurd (cc (found.1, none))
-    by false is = is
+apart name names none =
+    ⊎_elim (λ yes. let found = find_place (bytes_eq name) names yes in absurd (cc (found.1, none))) (λ no. no) (cases_Bool (list_any (bytes_eq name) names))
 
 name_known : (name : List ℕ) (names : List (List ℕ)) (at : ℕ) → position (bytes_eq name) names ≡ Some at → behind_name names name ≡ names
 name_known name names at found = ap (λ b. cond b names (names ++ name ∷ [])) (among name names at found)
@@ -258,7 +245,7 @@ made_told body place name said named None found = by (nat_lt (length body.voices
         (cond b (Some (after_join body name said)) None)).items
     by true room =
         let new = record body.another { shift = with_properties body.another.shift said } in
-        let names : keys_of (body.voices ++ (name, new) ∷ []) ≡ keys_of body.voices ++ name ∷ [] = keys_push body.voices name new in
+        let names : keys_of (body.voices ++ (name, new) ∷ []) ≡ keys_of body.voices ++ name ∷ [] = keys_push body.voices (name, new) in
         one_told (known_of body) (known_of (after_join body name said)) (items.Voice false name)
         (λ i. ((names ∙ sym (name_new name (keys_of body.voices) found)) i, true)) named
         (λ few. omega (arith, ltb-true _ _ room, ap length names, length-append (keys_of body.voices) (name ∷ []), keys_long body.voices))
@@ -317,9 +304,7 @@ kind_told body fields.UnitLength value place = unit_told body place (unit_of val
 kind_told body fields.Tempo value place = tempo_told body place (tempo_of value)
 kind_told body fields.Key value place = key_told body place (key_of value)
 kind_told body fields.Voice value place = voice_told body place value (voice_of value) refl
-kind_told body fields.Reference value place = nothing_told (known_of body) (known_of body) refl
-kind_told body fields.Title value place = nothing_told (known_of body) (known_of body) refl
-kind_told body fields.Other value place = nothing_told (known_of body) (known_of body) refl
+kind_told body _ value place = nothing_told (known_of body) (known_of body) refl
 
 -- what a token gives after what was given
 record Adds (before after : CellResult) : Type 0 where
@@ -427,14 +412,11 @@ kind_adds given place (kinds.Tuplet mark) ahead =
     (adds_nothing given (record given { body = body }) refl (here_known given.body (record (here given.body) { tuplet = opened.0 })))
 kind_adds given place (kinds.Broken mark) ahead = fault_if_adds given (is_bad_mark given.behind ahead) place BadBroken
 kind_adds given place kinds.Tie ahead = tie_adds given place given.after_note
-kind_adds given place kinds.Blank ahead = adds_nothing given given refl refl
-kind_adds given place kinds.NoEffect ahead = adds_nothing given given refl refl
 kind_adds given place (kinds.Dynamic dynamic) ahead =
     adds_nothing given (with_dynamic given dynamic) refl (here_known given.body (record (here given.body) { dynamic = Some dynamic }))
 kind_adds given place (kinds.Directive directive) ahead = directive_adds given place directive
 kind_adds given place (kinds.Field field) ahead = field_adds given place field
-kind_adds given place kinds.Unclosed ahead = adds_nothing given _ refl refl
-kind_adds given place kinds.BadByte ahead = adds_nothing given _ refl refl
+kind_adds given place _ ahead = adds_nothing given _ refl refl
 
 tokens_add : (given : CellResult) (tokens : List (Spanned TokenKind)) → Adds given (cell_result_from given tokens)
 tokens_add given [] = adds_nothing given given refl refl
@@ -501,7 +483,7 @@ said_keys voices at shift = by (header_voice_at voices at)
   where
     by : (known : Option Shift) → keys_of (with_shift_of voices at shift known) ≡ keys_of voices
     by None = refl
-    by (Some before) = keys_kept voices at (merge_shift shift before)
+    by (Some before) = keys_set_value_at voices at (merge_shift shift before)
 
 declared_told : (header : Header) (name : List ℕ) (shift : Shift) → bytes_eq name [] ≡ false → (found : Option ℕ) → place_of name header.voices ≡ found
     → OwnTells header (declare_result header name (declare_at header.voices name shift found))
@@ -518,7 +500,7 @@ declared_told header name shift named None found = by (nat_lt (length header.voi
         → OwnTells header (declare_result header name (cond b (header.voices ++ (name, shift) ∷ [], None) (header.voices, Some TooManyVoices)))
     by true room =
         let before = keys_of header.voices in
-        let keys = keys_push header.voices name shift in
+        let keys = keys_push header.voices (name, shift) in
         one_told (known_in_header header) _ (items.Voice true name)
         (ap with_some keys ∙ (λ i. (sym (name_new name before found) i, some_pushed before name i))) named
         (λ few. omega (arith, ltb-true _ _ room, ap length keys, length-append before (name ∷ []), keys_long header.voices))
@@ -552,13 +534,10 @@ header_key_told header (Err fault) = own_silent header (header_key_item empty_ke
 own_told : (header : Header) (kind : FieldKind) (value : List ℕ) → OwnTells header (own_result header kind value)
 own_told header fields.Reference value = reference_told header (reference_of value)
 own_told header fields.Title value = own_silent header (items.Title value) refl tt
-own_told header fields.Meter value = own_nothing header
-own_told header fields.UnitLength value = own_nothing header
-own_told header fields.Tempo value = own_nothing header
 own_told header fields.Parts value = order_told header value (parts_of value)
 own_told header fields.Voice value = header_voice_told header value (voice_of value) refl
 own_told header fields.Key value = header_key_told header (key_of value)
-own_told header fields.Other value = own_nothing header
+own_told header _ value = own_nothing header
 
 directed_told : (header : Header) (directive : Directive) → OwnTells header (own_directive_result header directive)
 directed_told header (directives.Program written) = program_told (program_of written)
@@ -595,15 +574,8 @@ known_in (entries.Header header) = known_in_header header
 known_in (entries.Body body) = known_of body
 
 behind_known : (header : Header) (kind : FieldKind) (value : List ℕ) → known_in (behind_kind header kind value) ≡ known_in_header header
-behind_known header fields.Reference value = refl
-behind_known header fields.Title value = refl
-behind_known header fields.Meter value = refl
-behind_known header fields.UnitLength value = refl
-behind_known header fields.Tempo value = refl
-behind_known header fields.Parts value = refl
-behind_known header fields.Voice value = refl
 behind_known header fields.Key value = body_known header (key_or_empty (key_of value))
-behind_known header fields.Other value = refl
+behind_known header _ value = refl
 
 behind_line_known : (header : Header) (line : HeaderLine) → known_in (behind_line header line) ≡ known_in_header header
 behind_line_known header (FieldLine field) = behind_known header (kind_of field.letter) field.value

@@ -19,9 +19,7 @@ module _ (state : VoiceState) (broken other : List Ratio) (outside : ChordContex
   kind_same : (around : NoteContext) (kind : ChordPartKind) (inside : ChordBuilder) → is_note_part kind ≡ false
       → with_kind state broken around kind inside ≡ with_kind state other around kind inside
   kind_same around (kinds.Note note) inside h = cc
-  kind_same around kinds.Tie inside h = refl
-  kind_same around kinds.NoEffect inside h = refl
-  kind_same around kinds.BadByte inside h = refl
+  kind_same around _ inside h = refl
 
   by_first : (part : Spanned ChordPartKind) (parts : List (Spanned ChordPartKind)) (inside : ChordBuilder)
       → ((later : ChordBuilder) → has_note parts ≡ false → chord_builder_from state broken outside parts later ≡ chord_builder_from state other outside parts later)

@@ -126,9 +126,7 @@ kind_result body kinds.UnitLength value place = unit_by body place (unit_of valu
 kind_result body kinds.Tempo value place = tempo_by body place (tempo_of value)
 kind_result body kinds.Key value place = key_by body place (key_of value)
 kind_result body kinds.Voice value place = voice_by body place value (voice_of value)
-kind_result body kinds.Reference value place = without_effect body
-kind_result body kinds.Title value place = without_effect body
-kind_result body kinds.Other value place = without_effect body
+kind_result body _ value place = without_effect body
 
 -- After a field with this letter and value, at this place of its line. ABC 2.1 section 3.
 abbrev pub field_result : Body → ℕ → List ℕ → ℕ → FieldResult

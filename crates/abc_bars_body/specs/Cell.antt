@@ -162,13 +162,12 @@ with_kind given place (kinds.Ending passes) ahead = with_ending given place pass
 with_kind given place (kinds.Tuplet mark) ahead = with_tuplet given place mark
 with_kind given place (kinds.Broken mark) ahead = with_fault_if given (is_bad_mark given.behind ahead) place BadBroken
 with_kind given place kinds.Tie ahead = with_tie given place
-with_kind given place kinds.Blank ahead = given
-with_kind given place kinds.NoEffect ahead = given
 with_kind given place (kinds.Dynamic dynamic) ahead = with_dynamic given dynamic
 with_kind given place (kinds.Directive directive) ahead = with_directive given place directive
 with_kind given place (kinds.Field field) ahead = with_field given place field
 with_kind given place kinds.Unclosed ahead = with_fault given place Unclosed
 with_kind given place kinds.BadByte ahead = with_fault given place BadByte
+with_kind given place _ ahead = given
 
 -- The same, with what the token is to those after it.
 abbrev pub with_token : CellResult → Spanned TokenKind → List (Spanned TokenKind) → CellResult

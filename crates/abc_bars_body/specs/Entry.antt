@@ -8,9 +8,7 @@ use Rattle.abc_bars_body.specs.declared.entry.Entry.TheVariants as entries
 -- The values in a file header; elsewhere none.
 abbrev pub defaults_of : Entry → Defaults
 defaults_of (entries.FileHeader defaults) = defaults
-defaults_of (entries.Opening defaults) = no_defaults
-defaults_of (entries.Header header) = no_defaults
-defaults_of (entries.Body body) = no_defaults
+defaults_of _ = no_defaults
 
 -- The state where a tune begins, by the state after the file header, if there is one.
 abbrev pub opening_after : Option Entry → Entry

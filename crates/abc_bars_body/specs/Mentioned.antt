@@ -26,19 +26,10 @@ behind_time (names, false) = ([] ∷ [], true)
 
 -- After an item.
 abbrev pub behind_item : Mentioned → Item → Mentioned
-behind_item known (items.Number number) = known
 behind_item known (items.Tone tones length) = behind_time known
 behind_item known (items.Rest length bar) = behind_time known
-behind_item known (items.Bar line) = known
-behind_item known (items.Ending numbers) = known
-behind_item known (items.Section letter) = known
-behind_item known (items.Tempo opening micros out) = known
-behind_item known (items.Meter opening meter) = known
-behind_item known (items.Key opening key) = known
 behind_item known (items.Voice opening name) = (behind_name known.0 name, true)
-behind_item known (items.Program opening number) = known
-behind_item known (items.Title text) = known
-behind_item known (items.Order text) = known
+behind_item known _ = known
 
 -- After items.
 abbrev pub behind_items : Mentioned → List Item → Mentioned

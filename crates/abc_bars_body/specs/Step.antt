@@ -26,23 +26,8 @@ use Rattle.abc_bars_header.specs.HeaderLine.{HeaderLine, FieldLine, DirectiveLin
 
 -- The field that a token is, if it is a field line.
 abbrev pub field_line : TokenKind → Option Field
-field_line (kinds.Note note) = None
-field_line (kinds.Rest length) = None
-field_line (kinds.BarRest bars) = None
-field_line (kinds.Chord chord) = None
-field_line (kinds.InlineField field) = None
-field_line (kinds.Bar bar) = None
-field_line (kinds.Ending passes) = None
-field_line (kinds.Tuplet tuplet) = None
-field_line (kinds.Broken mark) = None
-field_line kinds.Tie = None
-field_line kinds.Blank = None
-field_line kinds.NoEffect = None
-field_line (kinds.Dynamic dynamic) = None
-field_line (kinds.Directive directive) = None
 field_line (kinds.Field field) = Some field
-field_line kinds.Unclosed = None
-field_line kinds.BadByte = None
+field_line _ = None
 
 -- The field that a cell is, if it is a field line.
 abbrev pub field_in : List (Spanned TokenKind) → Option Field
@@ -51,23 +36,8 @@ field_in (token ∷ rest) = field_line token.kind
 
 -- The directive that a token is, if it is a directive line.
 abbrev pub directive_line : TokenKind → Option Directive
-directive_line (kinds.Note note) = None
-directive_line (kinds.Rest length) = None
-directive_line (kinds.BarRest bars) = None
-directive_line (kinds.Chord chord) = None
-directive_line (kinds.InlineField field) = None
-directive_line (kinds.Bar bar) = None
-directive_line (kinds.Ending passes) = None
-directive_line (kinds.Tuplet tuplet) = None
-directive_line (kinds.Broken mark) = None
-directive_line kinds.Tie = None
-directive_line kinds.Blank = None
-directive_line kinds.NoEffect = None
-directive_line (kinds.Dynamic dynamic) = None
 directive_line (kinds.Directive directive) = Some directive
-directive_line (kinds.Field field) = None
-directive_line kinds.Unclosed = None
-directive_line kinds.BadByte = None
+directive_line _ = None
 
 -- The directive that a cell is, if it is a directive line.
 abbrev pub directive_in : List (Spanned TokenKind) → Option Directive
@@ -95,15 +65,8 @@ body_step body cell = step_of (cell_result body cell)
 -- The state after a field of this kind in a header: a K: ends it, even one that is refused, which sets
 -- an empty signature. ABC 2.1 section 3.1.14; the refused one is not in ABC 2.1.
 abbrev pub behind_kind : Header → FieldKind → List ℕ → Entry
-behind_kind header fields.Reference value = entries.Header header
-behind_kind header fields.Title value = entries.Header header
-behind_kind header fields.Meter value = entries.Header header
-behind_kind header fields.UnitLength value = entries.Header header
-behind_kind header fields.Tempo value = entries.Header header
-behind_kind header fields.Parts value = entries.Header header
-behind_kind header fields.Voice value = entries.Header header
 behind_kind header fields.Key value = entries.Body (body_from header (key_or_empty (key_of value)))
-behind_kind header fields.Other value = entries.Header header
+behind_kind header _ value = entries.Header header
 
 -- The state after a line of a header: no directive ends it.
 abbrev pub behind_line : Header → HeaderLine → Entry

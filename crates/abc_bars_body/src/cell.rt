@@ -338,13 +338,21 @@ impl CellResult {
         }
     }
 
-    /// One more token of the cell, with those after it.
+    /// One more token of the cell, with those after it. Most tokens are notes, so they are tried first.
     #[inline(always)]
     fn token(&mut self, alloc: Global, token: &Token, ahead: &[Token]) -> Result<(), AllocError>
         ensures { OnOk result (self.new ≡ with_token self.old token.now ahead.now) }
     {
-        self.kind(alloc, token.from as usize, &token.kind, ahead)?;
-        self.behind = preceding_after(self.behind, &token.kind);
+        let place = token.from as usize;
+        if let TokenKind::Note(note) = &token.kind {
+            self.note(alloc, place, *note, ahead)?;
+            self.behind = Preceding::TimeToken;
+            self.after_note = true;
+            return Ok(());
+        }
+        let behind = preceding_after(self.behind, &token.kind);
+        self.kind(alloc, place, &token.kind, ahead)?;
+        self.behind = behind;
         self.after_note = may_be_tied(&token.kind);
         Ok(())
     }

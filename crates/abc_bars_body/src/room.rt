@@ -1,7 +1,7 @@
 //! The room for the items of a cell.
 
 use abc_bars_header::{FieldKind, kind_of};
-use abc_bars_notes::{TokenRole, token_role};
+use abc_bars_notes::has_note;
 use abc_scan::{Directive, Field, Token, TokenKind};
 
 /// Whether a field of a body gives an item, unless it is refused.
@@ -16,23 +16,18 @@ fn is_item_field(field: &Field) -> bool {
     }
 }
 
-/// Whether a token that is no note, chord or rest gives an item, unless it is refused.
-fn is_item_token(kind: &TokenKind) -> bool {
-    match kind {
-        TokenKind::Field(field) | TokenKind::InlineField(field) => is_item_field(field.get()),
-        TokenKind::Directive(directive) => matches!(directive, Directive::Program(_)),
-        TokenKind::BarRest(_) | TokenKind::Bar(_) | TokenKind::Ending(Some(_)) => true,
-        _ => false,
-    }
-}
-
 /// Whether a token gives an item, unless it is refused.
 fn may_give(token: &Token) -> bool {
-    match token_role(&token.kind) {
-        TokenRole::Sound { noted } => noted,
-        TokenRole::Rest => true,
-        TokenRole::Mark(_) | TokenRole::Tie => false,
-        TokenRole::Barrier | TokenRole::Other => is_item_token(&token.kind),
+    match &token.kind {
+        TokenKind::Note(_)
+        | TokenKind::Rest(_)
+        | TokenKind::BarRest(_)
+        | TokenKind::Bar(_)
+        | TokenKind::Ending(Some(_))
+        | TokenKind::Directive(Directive::Program(_)) => true,
+        TokenKind::Chord(chord) => has_note(chord.get().parts.as_slice()),
+        TokenKind::Field(field) | TokenKind::InlineField(field) => is_item_field(field.get()),
+        _ => false,
     }
 }
 

@@ -30,27 +30,14 @@ chord_says chord false e = (e, refl)
 says : (kind : TokenKind) → Says kind (role_of kind)
 says (kinds.Note note) = refl
 says (kinds.Rest value) = refl
-says (kinds.BarRest bars) = (refl, refl)
 says (kinds.Chord chord) = chord_says chord (has_note chord.parts) refl
-says (kinds.InlineField field) = (refl, refl)
-says (kinds.Bar bar) = (refl, refl)
-says (kinds.Ending passes) = (refl, refl)
-says (kinds.Tuplet tuplet) = (refl, refl)
 says (kinds.Broken mark) = refl
-says kinds.Tie = (refl, refl)
-says kinds.Blank = (refl, refl)
-says (kinds.Dynamic dynamic) = (refl, refl)
-says kinds.NoEffect = (refl, refl)
-says (kinds.Field field) = (refl, refl)
-says (kinds.Directive directive) = (refl, refl)
-says kinds.Unclosed = (refl, refl)
-says kinds.BadByte = (refl, refl)
+says _ = (refl, refl)
 
 time_by : (kind : TokenKind) (role : BrokenRole) → Says kind role → is_time_token kind ≡ true → role ≡ roles.Time
 time_by kind roles.Time s e = refl
 time_by kind (roles.Mark mark) s e = let no : is_time_token kind ≡ false = ap is_time_token s in cc
-time_by kind roles.Hindrance s e = let no = s.0 in cc
-time_by kind roles.Silent s e = let no = s.0 in cc
+time_by kind _ s e = let no = s.0 in cc
 
 time_role : (kind : TokenKind) → is_time_token kind ≡ true → role_of kind ≡ roles.Time
 time_role kind e = time_by kind (role_of kind) (says kind) e
@@ -103,11 +90,10 @@ first_cons token cell high free (suc j) from to = free j (omega arith)
 time_here : (token : Spanned TokenKind) (cell : List (Spanned TokenKind)) (role : BrokenRole) → Says token.kind role
     → (time_follows cell ≡ true → IsFirstTime cell) → time_or role (time_follows cell) ≡ true → IsFirstTime (token ∷ cell)
 time_here token cell roles.Time s rec e = record { place = 0; is = s; free = λ j h. absurd (omega arith) }
-time_here token cell (roles.Mark mark) s rec e = cc
-time_here token cell roles.Hindrance s rec e = cc
 time_here token cell roles.Silent s rec e =
     let first = rec e in
     record { place = suc first.place; is = first.is; free = free_cons token cell first.place s first.free }
+time_here token cell _ s rec e = cc
 
 time_first : (cell : List (Spanned TokenKind)) → time_follows cell ≡ true → IsFirstTime cell
 time_first [] e = cc
@@ -138,9 +124,7 @@ mark_by token cell mark other false is s e = cc
 
 mark_here : (token : Spanned TokenKind) (cell : List (Spanned TokenKind)) (mark : BrokenRhythm) (role : BrokenRole) → Says token.kind role
     → (mark_ahead cell ≡ Some mark → IsFirstMark cell mark) → mark_or role (time_follows cell) (mark_ahead cell) ≡ Some mark → IsFirstMark (token ∷ cell) mark
-mark_here token cell mark roles.Time s rec e = cc
 mark_here token cell mark (roles.Mark other) s rec e = mark_by token cell mark other (time_follows cell) refl s e
-mark_here token cell mark roles.Hindrance s rec e = cc
 mark_here token cell mark roles.Silent s rec e =
     let first = rec e in
     let order : first.place < first.second = first.order in
@@ -153,6 +137,7 @@ mark_here token cell mark roles.Silent s rec e =
       time = first.time;
       between = between_cons token cell first.place first.second first.between;
     }
+mark_here token cell mark _ s rec e = cc
 
 mark_first : (cell : List (Spanned TokenKind)) (mark : BrokenRhythm) → mark_ahead cell ≡ Some mark → IsFirstMark cell mark
 mark_first [] mark e = cc
@@ -218,9 +203,8 @@ record IsLastMark (cell : List (Spanned TokenKind)) (mark : BrokenRhythm) (place
   free : AreFreeBetween cell sign place
 
 no_time : (behind : Preceding) (mark : BrokenRhythm) → is_after_time (preceding_after_mark behind mark) ≡ false
-no_time precedings.Nothing mark = refl
 no_time precedings.TimeToken mark = refl
-no_time (precedings.Mark other) mark = refl
+no_time _ mark = refl
 
 free_more : (cell : List (Spanned TokenKind)) (low high : ℕ) → IsFreeAt cell high → AreFreeBetween cell low high → AreFreeBetween cell low (suc high)
 free_more cell low high here free k from to = ⊎_elim
@@ -249,16 +233,16 @@ last_time_here cell place token roles.Silent is s rec e =
     }
 
 last_time : (cell : List (Spanned TokenKind)) (place : ℕ) → place ≤ length cell → is_after_time (preceding_at cell place) ≡ true → IsLastTime cell place
-last_time cell zero builder e = cc
-last_time cell (suc place) builder e =
+last_time cell zero inside e = cc
+last_time cell (suc place) inside e =
     let here = found cell place (omega arith) in
     last_time_here cell place here.token (role_of here.token.kind) here.is (says here.token.kind) (last_time cell place (omega arith))
     (sym (ap is_after_time (step precedings.Nothing cell place here.token here.is)) ∙ e)
 
 last_time_is : (cell : List (Spanned TokenKind)) (place first : ℕ) → place ≤ length cell → first < place → IsTimeAt cell first → AreFreeBetween cell first place
     → is_after_time (preceding_at cell place) ≡ true
-last_time_is cell zero first builder before h free = absurd (omega arith)
-last_time_is cell (suc place) first builder before h free =
+last_time_is cell zero first inside before h free = absurd (omega arith)
+last_time_is cell (suc place) first inside before h free =
     let here = found cell place (omega arith) in
     ap is_after_time (step precedings.Nothing cell place here.token here.is)
     ∙ ⊎_elim
@@ -276,10 +260,9 @@ last_time_is cell (suc place) first builder before h free =
 last_mark_by : (cell : List (Spanned TokenKind)) (mark other : BrokenRhythm) (place : ℕ) (token : Spanned TokenKind) (behind : Preceding) → place ≤ length cell
     → preceding_at cell place ≡ behind → slice_get cell place ≡ Some token → token.kind ≡ kinds.Broken other
     → mark_before (preceding_after_mark behind other) ≡ Some mark → IsLastMark cell mark (suc place)
-last_mark_by cell mark other place token precedings.Nothing builder was is s e = cc
-last_mark_by cell mark other place token precedings.TimeToken builder was is s e =
+last_mark_by cell mark other place token precedings.TimeToken inside was is s e =
     let same : other ≡ mark = cc in
-    let last = last_time cell place builder (ap is_after_time was) in
+    let last = last_time cell place inside (ap is_after_time was) in
     record {
       first = last.first;
       sign = place;
@@ -290,17 +273,15 @@ last_mark_by cell mark other place token precedings.TimeToken builder was is s e
       between = last.free;
       free = λ k from to. absurd (omega arith);
     }
-last_mark_by cell mark other place token (precedings.Mark earlier) builder was is s e = cc
+last_mark_by cell mark other place token _ inside was is s e = cc
 
 last_mark_here : (cell : List (Spanned TokenKind)) (mark : BrokenRhythm) (place : ℕ) (token : Spanned TokenKind) (role : BrokenRole) → place ≤ length cell
     → slice_get cell place ≡ Some token → Says token.kind role
     → (mark_before (preceding_at cell place) ≡ Some mark → IsLastMark cell mark place) → mark_before (preceding_by (preceding_at cell place) role) ≡ Some mark
     → IsLastMark cell mark (suc place)
-last_mark_here cell mark place token roles.Time builder is s rec e = cc
-last_mark_here cell mark place token (roles.Mark other) builder is s rec e =
-    last_mark_by cell mark other place token (preceding_at cell place) builder refl is s e
-last_mark_here cell mark place token roles.Hindrance builder is s rec e = cc
-last_mark_here cell mark place token roles.Silent builder is s rec e =
+last_mark_here cell mark place token (roles.Mark other) inside is s rec e =
+    last_mark_by cell mark other place token (preceding_at cell place) inside refl is s e
+last_mark_here cell mark place token roles.Silent inside is s rec e =
     let last = rec e in
     let before : last.sign < place = last.before in
     record {
@@ -313,24 +294,24 @@ last_mark_here cell mark place token roles.Silent builder is s rec e =
       between = last.between;
       free = free_more cell last.sign place (back _ (λ t. IsFree t.kind) token is s) last.free;
     }
+last_mark_here cell mark place token _ inside is s rec e = cc
 
 last_mark : (cell : List (Spanned TokenKind)) (mark : BrokenRhythm) (place : ℕ) → place ≤ length cell → mark_before (preceding_at cell place) ≡ Some mark → IsLastMark cell mark place
-last_mark cell mark zero builder e = cc
-last_mark cell mark (suc place) builder e =
+last_mark cell mark zero inside e = cc
+last_mark cell mark (suc place) inside e =
     let here = found cell place (omega arith) in
     last_mark_here cell mark place here.token (role_of here.token.kind) (omega arith) here.is (says here.token.kind) (last_mark cell mark place (omega arith))
     (sym (ap mark_before (step precedings.Nothing cell place here.token here.is)) ∙ e)
 
 behind_time : (behind : Preceding) (mark : BrokenRhythm) → is_after_time behind ≡ true → mark_before (preceding_after_mark behind mark) ≡ Some mark
-behind_time precedings.Nothing mark e = cc
 behind_time precedings.TimeToken mark e = refl
-behind_time (precedings.Mark other) mark e = cc
+behind_time _ mark e = cc
 
 last_mark_is : (cell : List (Spanned TokenKind)) (mark : BrokenRhythm) (place first sign : ℕ) → place ≤ length cell → first < sign → sign < place
     → IsMarkAt cell sign mark → IsTimeAt cell first → AreFreeBetween cell first sign → AreFreeBetween cell sign place
     → mark_before (preceding_at cell place) ≡ Some mark
-last_mark_is cell mark zero first sign builder order before h time between free = absurd (omega arith)
-last_mark_is cell mark (suc place) first sign builder order before h time between free =
+last_mark_is cell mark zero first sign inside order before h time between free = absurd (omega arith)
+last_mark_is cell mark (suc place) first sign inside order before h time between free =
     let here = found cell place (omega arith) in
     ap mark_before (step precedings.Nothing cell place here.token here.is)
     ∙ ⊎_elim
@@ -373,7 +354,7 @@ both false b e = cc
 acts_from : (cell : List (Spanned TokenKind)) (place : ℕ) (mark : BrokenRhythm) → IsMarkAt cell place mark
     → is_bad_mark (preceding_at cell place) (drop (place + 1) cell) ≡ false → Acts cell mark place
 acts_from cell place mark h e =
-    let builder : place < length cell = within cell place (λ t. t.kind ≡ kinds.Broken mark) h in
+    let inside : place < length cell = within cell place (λ t. t.kind ≡ kinds.Broken mark) h in
     let parts = both (is_after_time (preceding_at cell place)) (time_follows (drop (place + 1) cell)) e in
     let last = last_time cell place (omega arith) parts.0 in
     let next = time_first (drop (place + 1) cell) parts.1 in
@@ -398,7 +379,7 @@ acts_to cell place mark acts =
     let a = acts.acting in
     let before : acts.first < place = a.before in
     let behind : place < acts.second = a.behind in
-    let builder : place < length cell = within cell place (λ t. t.kind ≡ kinds.Broken mark) a.mark_is in
+    let inside : place < length cell = within cell place (λ t. t.kind ≡ kinds.Broken mark) a.mark_is in
     let last : is_after_time (preceding_at cell place) ≡ true = last_time_is cell place acts.first (omega arith) before a.first_is a.free_before in
     let next : time_follows (drop (place + 1) cell) ≡ true =
     time_is (drop (place + 1) cell) (acts.second - (place + 1))
@@ -412,7 +393,7 @@ marks_act cell place mark h = (acts_from cell place mark h, acts_to cell place m
 
 pub before_from : (cell : List (Spanned TokenKind)) (place : ℕ) (mark : BrokenRhythm) → IsTimeAt cell place → mark_before (preceding_at cell place) ≡ Some mark → ActsBefore cell mark place
 before_from cell place mark h e =
-    let builder : place < length cell = within cell place (λ t. is_time_token t.kind ≡ true) h in
+    let inside : place < length cell = within cell place (λ t. is_time_token t.kind ≡ true) h in
     let last = last_mark cell mark place (omega arith) e in
     record {
       first = last.first;
@@ -431,7 +412,7 @@ before_from cell place mark h e =
 pub before_to : (cell : List (Spanned TokenKind)) (place : ℕ) (mark : BrokenRhythm) → ActsBefore cell mark place → mark_before (preceding_at cell place) ≡ Some mark
 before_to cell place mark acts =
     let a = acts.acting in
-    let builder : place < length cell = within cell place (λ t. is_time_token t.kind ≡ true) a.second_is in
+    let inside : place < length cell = within cell place (λ t. is_time_token t.kind ≡ true) a.second_is in
     last_mark_is cell mark place acts.first acts.place (omega arith) a.before a.behind a.mark_is a.first_is a.free_before a.free_behind
 
 pub behind_of : (cell : List (Spanned TokenKind)) (place : ℕ) (mark : BrokenRhythm) → IsTimeAt cell place → mark_ahead (drop (place + 1) cell) ≡ Some mark → ActsBehind cell mark place

@@ -1,7 +1,7 @@
 -- BadLength is at each of the first sixteen notes of a chord that has no length.
 use Rattle.std.proofs.Common.{◌≡◌, ◌∙◌, ◌↔◌, ℕ, suc, ◌+◌, ◌-◌, ◌<◌, ◌≤◌, Bool, true, false, List, [], ◌∷◌, ◌++◌, length, take, Option, Some, None, refl, sym, ap, subst, append-nil, append_assoc}
 use Rattle.std.proofs.Common.{length-append, arith}
-use Rattle.std.specs.Prelude.{◌||◌, nat_lt, if◌then◌else◌, filter}
+use Rattle.std.specs.Prelude.{◌||◌, nat_lt, filter}
 use Rattle.std.proofs.lemmas.Bool.Decides.{nat_tests}
 use Rattle.std.proofs.Math.Seq.{take-nil}
 use Rattle.std.proofs.lemmas.List.Elements.{filter-append}
@@ -25,13 +25,10 @@ use Rattle.abc_bars_items.specs.Column.{column_of}
 use Rattle.abc_bars_notes.specs.Lasting.{IsPlace, Lasts, factors_at}
 use Rattle.abc_bars_notes.specs.Lengths.{length_by, or_unit, texts_of}
 use Rattle.abc_bars_notes.specs.Sound.{fault_if, length_in, no_notes, note_faults, tone_in}
-use Rattle.abc_bars_notes.specs.TimeTokens.{chord_by}
-use Rattle.abc_bars_notes.specs.TokenRole.{has_note, is_note_part}
+use Rattle.abc_bars_notes.specs.TokenRole.{has_note}
 use Rattle.abc_bars_voice.specs.Tuplet.{tuplet_factors}
+use Rattle.abc_bars_notes.proofs.ChordParts.{either, filter_chord, filter_more, notes}
 use Rattle.abc_bars_notes.proofs.Lasting.{length_lasts}
-
-abbrev notes : List (Spanned ChordPartKind) → List (Spanned ChordPartKind)
-notes parts = filter (λ part. is_note_part part.kind) parts
 
 -- what one note adds
 one_note : (refused silent : Bool) (column : ℕ)
@@ -41,18 +38,11 @@ one_note true false column = refl
 one_note false true column = refl
 one_note false false column = refl
 
-more : (faults others : List (ℕ × FaultCode)) (l : List (ℕ × FaultCode)) → filter is_bad_length others ≡ []
-    → filter is_bad_length (faults ++ others) ++ l ≡ filter is_bad_length faults ++ l
-more faults others l none =
-    ap (λ f. f ++ l) (filter-append is_bad_length faults others ∙ ap (λ f. filter is_bad_length faults ++ f) none ∙ append-nil _)
-
 module _ (state : VoiceState) (broken : List Ratio) (chord_context : ChordContext) where
   -- the fault of a note of the chord
   abbrev own_fault : ℕ → ChordPartKind → List (ℕ × FaultCode)
   own_fault column (kinds.Note note) = fault_if (length_in state broken note.length (Some chord_context.length)).1 column BadLength
-  own_fault column kinds.Tie = []
-  own_fault column kinds.NoEffect = []
-  own_fault column kinds.BadByte = []
+  own_fault column _ = []
 
   abbrev own_faults : List (Spanned ChordPartKind) → List (ℕ × FaultCode)
   own_faults [] = []
@@ -61,11 +51,6 @@ module _ (state : VoiceState) (broken : List Ratio) (chord_context : ChordContex
   -- the faults that there are, and those that come
   abbrev Bads : ChordBuilder → List (Spanned ChordPartKind) → List (ℕ × FaultCode)
   Bads builder parts = filter is_bad_length builder.faults ++ own_faults (take (16 - length builder.tones) parts)
-
-  either : (b : Bool) (one other : ChordBuilder) (parts : List (Spanned ChordPartKind)) (l : List (ℕ × FaultCode))
-      → Bads one parts ≡ l → Bads other parts ≡ l → Bads (if b then one else other) parts ≡ l
-  either true one other parts l h k = h
-  either false one other parts l h k = k
 
   note_bads : (from to : ℕ) (note : Note) (tied : Bool) (builder : ChordBuilder) (parts : List (Spanned ChordPartKind)) (room : Bool)
       → nat_lt (length builder.tones) MOST_CHORD_NOTES ≡ room
@@ -91,16 +76,18 @@ module _ (state : VoiceState) (broken : List Ratio) (chord_context : ChordContex
       let same : Bads builder parts ≡ Bads builder (part ∷ parts) =
       ap (λ k. filter is_bad_length builder.faults ++ own_faults (take k parts)) none
       ∙ ap (λ k. filter is_bad_length builder.faults ++ own_faults (take k (part ∷ parts))) (sym none) in
-      rw e (either builder.big _ _ parts _ same (more builder.faults ((column, BigChord) ∷ []) (own_faults (take (16 - length builder.tones) parts)) refl ∙ same))
+      rw e (either (λ b. Bads b parts ≡ Bads builder (part ∷ parts)) builder.big _ _ same
+      (filter_more is_bad_length builder.faults ((column, BigChord) ∷ []) (own_faults (take (16 - length builder.tones) parts)) refl ∙ same))
 
   kind_bads : (kind : ChordPartKind) (from to : ℕ) (tied : Bool) (builder : ChordBuilder) (parts : List (Spanned ChordPartKind))
       → Bads (with_kind state broken (part_context chord_context from tied) kind builder) (notes parts)
       ≡ Bads builder (notes (record { kind = kind; from = from; to = to } ∷ parts))
   kind_bads (kinds.Note note) from to tied builder parts = note_bads from to note tied builder (notes parts) (nat_lt (length builder.tones) MOST_CHORD_NOTES) refl
   kind_bads kinds.Tie from to tied builder parts =
-      either builder.after_note _ _ (notes parts) _ refl (more builder.faults ((column_of (chord_context.from + from), LooseTie) ∷ []) _ refl)
+      either (λ b. Bads b (notes parts) ≡ Bads builder (notes parts)) builder.after_note _ _ refl
+      (filter_more is_bad_length builder.faults ((column_of (chord_context.from + from), LooseTie) ∷ []) _ refl)
   kind_bads kinds.NoEffect from to tied builder parts = refl
-  kind_bads kinds.BadByte from to tied builder parts = more builder.faults ((column_of (chord_context.from + from), BadByte) ∷ []) _ refl
+  kind_bads kinds.BadByte from to tied builder parts = filter_more is_bad_length builder.faults ((column_of (chord_context.from + from), BadByte) ∷ []) _ refl
 
   bads_from : (parts : List (Spanned ChordPartKind)) (builder : ChordBuilder)
       → filter is_bad_length (chord_builder_from state broken chord_context parts builder).faults ≡ Bads builder (notes parts)
@@ -138,26 +125,17 @@ module _ (state : VoiceState) (cell : List (Spanned TokenKind)) (place from : �
   one_fault : (kind : ChordPartKind) (column : ℕ) (others : List (ℕ × FaultCode)) → IsFaultOf Lasting column kind (own_fault state (factors_at cell place) outside_of column kind ++ others) others
   one_fault (kinds.Note note) column others =
       fault_of state.unit found Lasting column note others (found note) refl (λ other g. length_lasts state cell place other.length (Some chord.length) g h)
-  one_fault kinds.Tie column others = record { accepted = λ note g k l. cc; refused = λ note k none. cc }
-  one_fault kinds.NoEffect column others = record { accepted = λ note g k l. cc; refused = λ note k none. cc }
-  one_fault kinds.BadByte column others = record { accepted = λ note g k l. cc; refused = λ note k none. cc }
+  one_fault _ column others = record { accepted = λ note g k l. cc; refused = λ note k none. cc }
 
   faults_of : (parts : List (Spanned ChordPartKind)) → AreFaultsOf Lasting from parts (own_faults state (factors_at cell place) outside_of parts)
   faults_of [] = refl
   faults_of (part ∷ parts) =
       (own_faults state (factors_at cell place) outside_of parts, faults_of parts, one_fault part.kind (column_of (from + part.from)) (own_faults state (factors_at cell place) outside_of parts))
 
-  by_notes : (b : Bool) (builder : ChordBuilder) → filter is_bad_length (chord_by b state from builder).faults ≡ filter is_bad_length builder.faults
-  by_notes true builder = refl
-  by_notes false builder = refl
-
-  pub at_notes : AreFaultsOf Lasting from (take 16 (notes chord.parts))
-      (filter is_bad_length (chord_by (has_note chord.parts) state from (chord_builder_of state (factors_at cell place) outside_of chord.parts)).faults)
-  at_notes =
-      subst (AreFaultsOf Lasting from (take 16 (notes chord.parts)))
-      (sym (by_notes (has_note chord.parts) (chord_builder_of state (factors_at cell place) outside_of chord.parts)
-      ∙ bads_from state (factors_at cell place) outside_of chord.parts (no_notes state)))
-      (faults_of (take 16 (notes chord.parts)))
-
 pub bad_lengths_at_notes : BadLengthsAtNotes
-bad_lengths_at_notes state cell place from chord tied h = at_notes state cell place from chord tied h
+bad_lengths_at_notes state cell place from chord tied h =
+    let context = outside_of state cell place from chord tied h in
+    subst (AreFaultsOf (Lasting state cell place from chord tied h) from (take 16 (notes chord.parts)))
+    (sym (filter_chord is_bad_length (has_note chord.parts) state from (chord_builder_of state (factors_at cell place) context chord.parts) refl
+    ∙ bads_from state (factors_at cell place) context chord.parts (no_notes state)))
+    (faults_of state cell place from chord tied h (take 16 (notes chord.parts)))

@@ -1,11 +1,7 @@
 -- The tones of a chord sound the keys of its notes.
-use Rattle.std.proofs.Common.{◌≡◌, ◌∙◌, ℕ, suc, ◌-◌, ◌<◌, ◌≤◌, Bool, true, false, List, [], ◌∷◌, ◌++◌, length, map, take, Option, Some, None, refl, sym, ap, append-nil, append_assoc, length-append}
-use Rattle.std.proofs.Common.{arith}
-use Rattle.std.specs.Prelude.{nat_lt, if◌then◌else◌, IsSomeAnd, slice_get, option_map}
-use Rattle.std.proofs.lemmas.Bool.Decides.{nat_tests}
-use Rattle.std.proofs.lemmas.List.{map-append}
-use Rattle.std.proofs.Math.Seq.{take-nil}
-use Rattle.std.proofs.lemmas.List.Elements.{All-nil, All-push}
+use Rattle.std.proofs.Common.{◌≡◌, ◌∙◌, ℕ, ◌<◌, Bool, List, [], ◌∷◌, ◌++◌, length, map, Option, Some, None, refl, sym, ap, subst}
+use Rattle.std.specs.Prelude.{All, IsSomeAnd, slice_get, option_map}
+use Rattle.std.proofs.lemmas.List.Elements.{All-nil, All-cons, All-take}
 use Rattle.std.proofs.lemmas.Option.{same_Some, slice_get-map}
 use Rattle.abc_scan.specs.declared.chord.Chord.{Chord}
 use Rattle.abc_scan.specs.declared.note.Note.{Note}
@@ -15,19 +11,17 @@ use Rattle.abc_scan.specs.declared.spanned.Spanned.{Spanned}
 use Rattle.abc_time.specs.declared.ratio.Ratio.{Ratio}
 use Rattle.abc_bars_voice.specs.declared.accidentals.Accidentals.{Accidentals}
 use Rattle.abc_bars_notes.specs.declared.chords.ChordContext.{ChordContext}
-use Rattle.abc_bars_items.specs.declared.item.TheConstants.{MOST_CHORD_NOTES}
 use Rattle.abc_bars_items.specs.declared.item.Tone.{Tone}
 use Rattle.abc_bars_voice.specs.declared.voice_state.VoiceState.{VoiceState}
-use Rattle.abc_bars_notes.specs.declared.sound.NoteContext.{NoteContext}
 use Rattle.abc_bars_notes.specs.declared.sound.ChordBuilder.{ChordBuilder}
 use Rattle.abc_bars_voice.specs.Alteration.{alteration_of, with_own}
 use Rattle.abc_bars_notes.specs.ChordKeys.{note_in, notes_in, AreAsLoud, ChordsAreAsLoud, ChordsSoundTheirKeys, NotesAreAsLoud, SoundsKey}
-use Rattle.abc_bars_notes.specs.Chords.{part_context, chord_builder_from, chord_builder_of, tie_follows, with_chord_note, with_kind, with_part}
+use Rattle.abc_bars_notes.specs.Chords.{chord_builder_of, tie_follows}
 use Rattle.abc_bars_voice.specs.Reaching.{behind_notes}
-use Rattle.abc_bars_notes.specs.Sound.{key_in, no_notes, tone_in}
+use Rattle.abc_bars_notes.specs.Sound.{key_in, tone_in}
 use Rattle.abc_bars_notes.specs.TimeTokens.{chord_by, first_length}
 use Rattle.abc_bars_items.specs.Velocity.{velocity_of}
-use Rattle.abc_bars_notes.proofs.ChordNotes.{take_place}
+use Rattle.abc_bars_notes.proofs.ChordTones.{accidentals_after, chord_tone_at, chord_tones, tone_of, tones_of}
 use Rattle.abc_bars_notes.proofs.NoteKeys.{altered_by}
 
 abbrev key_of_tone : Tone → Option ℕ
@@ -44,80 +38,31 @@ key_at state accidentals [] behind note = refl
 key_at state accidentals (first ∷ before) behind note = key_at state (with_own accidentals first) before behind note
 
 module _ (state : VoiceState) (broken : List Ratio) (chord_context : ChordContext) where
-  -- the keys of the tones that there are, and of those that come
-  abbrev Keys : ChordBuilder → List Note → List (Option ℕ)
-  Keys builder notes = map key_of_tone builder.tones ++ take (16 - length builder.tones) (keys_of state builder.accidentals notes)
+  -- the keys of the tones are those of the notes
+  part_keys : (kind : ChordPartKind) (accidentals : Accidentals) (tied : Bool) (tones : List Tone) (notes : List Note)
+      → map key_of_tone tones ≡ keys_of state (accidentals_after kind accidentals) notes
+      → map key_of_tone (tone_of state broken chord_context accidentals kind tied ++ tones) ≡ keys_of state accidentals (note_in kind ++ notes)
+  part_keys (kinds.Note note) accidentals tied tones notes same = ap (λ keys. key_in state accidentals note ∷ keys) same
+  part_keys _ accidentals tied tones notes same = same
 
-  either-keys : (b : Bool) (one other : ChordBuilder) (notes : List Note) (l : List (Option ℕ))
-      → Keys one notes ≡ l → Keys other notes ≡ l → Keys (if b then one else other) notes ≡ l
-  either-keys true one other notes l h k = h
-  either-keys false one other notes l h k = k
-
-  -- one more tone
-  more : (tones : List Tone) (tone : Tone) (xs : List (Option ℕ)) → length tones < 16
-      → map key_of_tone (tones ++ tone ∷ []) ++ take (16 - length (tones ++ tone ∷ [])) xs
-      ≡ map key_of_tone tones ++ take (16 - length tones) (tone.key ∷ xs)
-  more tones tone xs room =
-      let left : 16 - length tones ≡ suc (16 - length (tones ++ tone ∷ [])) = omega (arith, length-append tones (tone ∷ [])) in
-      ap (λ l. l ++ take (16 - length (tones ++ tone ∷ [])) xs) (map-append key_of_tone tones (tone ∷ []))
-      ∙ append_assoc (map key_of_tone tones) (tone.key ∷ []) (take (16 - length (tones ++ tone ∷ [])) xs)
-      ∙ ap (λ k. map key_of_tone tones ++ take k (tone.key ∷ xs)) (sym left)
-
-  -- no room for one more
-  full : (tones : List Tone) (xs ys : List (Option ℕ)) → 16 ≤ length tones
-      → map key_of_tone tones ++ take (16 - length tones) xs ≡ map key_of_tone tones ++ take (16 - length tones) ys
-  full tones xs ys big =
-      let none : 16 - length tones ≡ 0 = omega arith in
-      ap (λ k. map key_of_tone tones ++ take k xs) none ∙ ap (λ k. map key_of_tone tones ++ take k ys) (sym none)
-
-  note_keys : (context : NoteContext) (note : Note) (builder : ChordBuilder) (notes : List Note) (room : Bool)
-      → nat_lt (length builder.tones) MOST_CHORD_NOTES ≡ room
-      → Keys (with_chord_note state broken context note builder) notes ≡ Keys builder (note ∷ notes)
-  note_keys context note builder notes true e =
-      let few : length builder.tones < 16 = grind (arith, nat_tests) in
-      rw e (more builder.tones (tone_in state builder.accidentals broken context.outer note context.tied) (keys_of state (with_own builder.accidentals note) notes) few)
-  note_keys context note builder notes false e =
-      let big : 16 ≤ length builder.tones = grind (arith, nat_tests) in
-      let same = full builder.tones (keys_of state builder.accidentals notes) (keys_of state builder.accidentals (note ∷ notes)) big in
-      rw e (either-keys builder.big _ _ notes _ same same)
-
-  -- a part by its kind
-  kind_keys : (kind : ChordPartKind) (context : NoteContext) (builder : ChordBuilder) (notes : List Note)
-      → Keys (with_kind state broken context kind builder) notes ≡ Keys builder (note_in kind ++ notes)
-  kind_keys (kinds.Note note) context builder notes =
-      note_keys context note builder notes (nat_lt (length builder.tones) MOST_CHORD_NOTES) refl
-  kind_keys kinds.Tie context builder notes = either-keys builder.after_note _ _ notes _ refl refl
-  kind_keys kinds.NoEffect context builder notes = refl
-  kind_keys kinds.BadByte context builder notes = refl
-
-  -- the keys of the tones of some parts
-  keys_from : (parts : List (Spanned ChordPartKind)) (builder : ChordBuilder)
-      → map key_of_tone (chord_builder_from state broken chord_context parts builder).tones ≡ Keys builder (notes_in parts)
-  keys_from [] builder = sym (ap (λ l. map key_of_tone builder.tones ++ l) (take-nil (16 - length builder.tones)) ∙ append-nil _)
-  keys_from (part ∷ parts) builder =
-      keys_from parts (with_part state broken chord_context part (tie_follows parts) builder)
-      ∙ kind_keys part.kind (part_context chord_context part.from (tie_follows parts)) builder (notes_in parts)
+  tone_keys : (parts : List (Spanned ChordPartKind)) (accidentals : Accidentals)
+      → map key_of_tone (tones_of state broken chord_context accidentals parts) ≡ keys_of state accidentals (notes_in parts)
+  tone_keys [] accidentals = refl
+  tone_keys (part ∷ parts) accidentals =
+      part_keys part.kind accidentals (tie_follows parts) _ _ (tone_keys parts (accidentals_after part.kind accidentals))
 
   -- the velocity of the tones
-  abbrev IsLoud : ChordBuilder → Type 0
-  IsLoud builder = AreAsLoud state builder.tones
+  abbrev IsLoud : Tone → Type 0
+  IsLoud tone = tone.velocity ≡ velocity_of state.dynamic
 
-  either-loud : (b : Bool) (one other : ChordBuilder) → IsLoud one → IsLoud other → IsLoud (if b then one else other)
-  either-loud true one other h k = h
-  either-loud false one other h k = k
+  part_loud : (kind : ChordPartKind) (accidentals : Accidentals) (tied : Bool) (tones : List Tone)
+      → All IsLoud tones → All IsLoud (tone_of state broken chord_context accidentals kind tied ++ tones)
+  part_loud (kinds.Note note) accidentals tied tones loud = All-cons IsLoud _ tones refl loud
+  part_loud _ accidentals tied tones loud = loud
 
-  kind_loud : (kind : ChordPartKind) (context : NoteContext) (builder : ChordBuilder) → IsLoud builder → IsLoud (with_kind state broken context kind builder)
-  kind_loud (kinds.Note note) context builder h =
-      either-loud (nat_lt (length builder.tones) MOST_CHORD_NOTES) _ _ (All-push (λ tone. tone.velocity ≡ velocity_of state.dynamic) builder.tones _ h refl) (either-loud builder.big _ _ h h)
-  kind_loud kinds.Tie context builder h = either-loud builder.after_note _ _ h h
-  kind_loud kinds.NoEffect context builder h = h
-  kind_loud kinds.BadByte context builder h = h
-
-  loud_from : (parts : List (Spanned ChordPartKind)) (builder : ChordBuilder) → IsLoud builder → IsLoud (chord_builder_from state broken chord_context parts builder)
-  loud_from [] builder h = h
-  loud_from (part ∷ parts) builder h =
-      loud_from parts (with_part state broken chord_context part (tie_follows parts) builder)
-      (kind_loud part.kind (part_context chord_context part.from (tie_follows parts)) builder h)
+  tones_loud : (parts : List (Spanned ChordPartKind)) (accidentals : Accidentals) → All IsLoud (tones_of state broken chord_context accidentals parts)
+  tones_loud [] accidentals = All-nil IsLoud
+  tones_loud (part ∷ parts) accidentals = part_loud part.kind accidentals (tie_follows parts) _ (tones_loud parts (accidentals_after part.kind accidentals))
 
 -- a tone with this key
 with_key : (state : VoiceState) (accidentals : Accidentals) (note : Note) (o : Option Tone) → option_map key_of_tone o ≡ Some (key_in state accidentals note)
@@ -137,9 +82,9 @@ module _ (state : VoiceState) (broken : List Ratio) (from : ℕ) (chord : Chord)
       → IsSomeAnd (slice_get builder.tones (length before)) (SoundsKey state (behind_notes state.accidentals before) note)
   at_note before behind note is few =
       with_key state (behind_notes state.accidentals before) note (slice_get builder.tones (length before))
-      (sym (slice_get-map key_of_tone builder.tones (length before))
-      ∙ ap (λ l. slice_get l (length before)) (keys_from state broken outside_of chord.parts (no_notes state))
-      ∙ take_place (keys_of state state.accidentals (notes_in chord.parts)) 16 (length before) few
+      (ap (option_map key_of_tone) (chord_tone_at state broken outside_of chord.parts (length before) few)
+      ∙ sym (slice_get-map key_of_tone (tones_of state broken outside_of state.accidentals chord.parts) (length before))
+      ∙ ap (λ l. slice_get l (length before)) (tone_keys state broken outside_of chord.parts state.accidentals)
       ∙ ap (λ l. slice_get (keys_of state state.accidentals l) (length before)) is
       ∙ key_at state state.accidentals before behind note)
 
@@ -154,10 +99,11 @@ chords_are_as_loud state broken from chord tied some =
       given.tones,
       first_length given.tones,
       ap (λ b. (chord_by b state from given).items) some,
-      loud_from state broken (outside_of state broken from chord tied) chord.parts (no_notes state) (All-nil (λ tone. tone.velocity ≡ velocity_of state.dynamic)),
+      subst (AreAsLoud state) (sym (chord_tones state broken (outside_of state broken from chord tied) chord.parts))
+          (All-take (λ tone. tone.velocity ≡ velocity_of state.dynamic) 16 _ (tones_loud state broken (outside_of state broken from chord tied) chord.parts state.accidentals)),
     )
 
 pub notes_are_as_loud : NotesAreAsLoud
 notes_are_as_loud state broken from note tied =
     let tone = tone_in state state.accidentals broken None note tied in
-    (tone ∷ [], tone.length, refl, All-push (λ tone. tone.velocity ≡ velocity_of state.dynamic) [] tone (All-nil _) refl)
+    (tone ∷ [], tone.length, refl, All-cons (λ tone. tone.velocity ≡ velocity_of state.dynamic) tone [] refl (All-nil _))

@@ -1,9 +1,10 @@
 -- Factors that change nothing.
-use Rattle.std.proofs.Common.{◌≡◌, ◌∙◌, ℕ, ◌*◌, List, [], ◌∷◌, ◌++◌, map, ◌≤◌, ◌↔◌, Option, Some, None, Result, Ok, Err, refl, sym, ap, subst, arith}
-use Rattle.std.specs.Prelude.{unwrap_or, option_to_list, All, IfSome, true, false, ◌==◌, ◌&&◌, length}
+use Rattle.std.proofs.Common.{◌≡◌, ◌∙◌, ℕ, ◌*◌, ◌^◌, List, [], ◌∷◌, ◌++◌, map, ◌≤◌, ◌<◌, ◌↔◌, Option, Some, None, Result, Ok, Err, refl, sym, ap, subst, arith}
+use Rattle.std.specs.Prelude.{unwrap_or, option_to_list, All, IfSome, true, false, ◌==◌, length}
 use Rattle.std.specs.Option.{ForSome, is_some}
 use Rattle.std.specs.Result.{result_ok}
-use Rattle.std.proofs.lemmas.Bool.{eqb-true, and_parts}
+use Rattle.std.proofs.lemmas.Bool.{eqb-true}
+use Rattle.std.proofs.lemmas.Nat.{mul-le}
 use Rattle.std.proofs.lemmas.List.Elements.{All-nil, All-cons}
 use Rattle.abc_time.specs.declared.grains.Grains.{Grains}
 use Rattle.abc_time.specs.declared.lengths.LengthFault.{LengthFault}
@@ -13,7 +14,9 @@ use Rattle.abc_time.specs.Length.{IsLength, length_of, quotient_of}
 use Rattle.abc_time.specs.Product.{product_of}
 use Rattle.abc_time.specs.Ratio.{IsRatio}
 use Rattle.abc_time.proofs.LengthLaws.{length_of-Ok}
+use Rattle.abc_text.proofs.Powers.{power_least}
 use Rattle.abc_bars_voice.specs.Tuplet.{OpenTuplet, tuplet_factors}
+use Rattle.abc_bars_voice.specs.Unit.{IsUnitPart}
 
 -- the factor that changes nothing
 abbrev pub once : Ratio
@@ -102,20 +105,12 @@ exact_along unit at these those r found same h is ok g =
     is ∙ (ok_or_none r (record { 0 = g })).1 ((ok g).1 (subst (λ u. IsLength u these g) (sym same) (is_length_along unit those these g (other_way these those h) e.0), e.1)) in
     (to, from)
 
--- where nothing is wanted but the factor that changes nothing
-pub unchanged : (own : Ratio) (outer : Option Ratio) (tuplet : Option OpenTuplet) (broken : List Ratio)
-    → own ≡ once → outer ≡ None → tuplet ≡ None → broken ≡ []
-    → SameProducts [] (own ∷ (option_to_list outer ++ (tuplet_factors tuplet ++ broken)))
-unchanged own outer tuplet broken own_is outer_is tuplet_is broken_is =
-    let plain : SameProducts [] (once ∷ []) = record { nums = refl; dens = refl } in
-    let list : once ∷ [] ≡ own ∷ (option_to_list outer ++ (tuplet_factors tuplet ++ broken)) =
-    λ i. sym own_is i ∷ (option_to_list (sym outer_is i) ++ (tuplet_factors (sym tuplet_is i) ++ sym broken_is i)) in
-    subst (λ l. SameProducts [] l) list plain
-
-pub once_by : (own : Ratio) → (own.num == 1 && own.den == 1) ≡ true → own ≡ once
-once_by own h =
-    let both = and_parts _ _ h in
-    λ i. record { num = eqb-true own.num 1 both.0 i; den = eqb-true own.den 1 both.1 i }
+-- where only what is written multiplies the unit, by a whole number
+pub only_own : (own : Ratio) (outer : Option Ratio) (tuplet : Option OpenTuplet) (broken : List Ratio)
+    → own.den ≡ 1 → outer ≡ None → tuplet ≡ None → broken ≡ []
+    → record { num = own.num; den = 1 } ∷ [] ≡ own ∷ (option_to_list outer ++ (tuplet_factors tuplet ++ broken))
+only_own own outer tuplet broken whole outer_is tuplet_is broken_is =
+    λ i. record { num = own.num; den = sym whole i } ∷ (option_to_list (sym outer_is i) ++ (tuplet_factors (sym tuplet_is i) ++ sym broken_is i))
 
 pub none_is : {A : Type 0} (o : Option A) → is_some o ≡ false → o ≡ None
 none_is None h = refl
@@ -125,15 +120,39 @@ pub empty_is : {A : Type 0} (l : List A) → (length l == 0) ≡ true → l ≡ 
 empty_is [] h = refl
 empty_is (x ∷ l) h = absurd (let e = eqb-true (length (x ∷ l)) 0 h in omega (arith, e))
 
--- the unit itself is the length where the factors change nothing
-pub plain_value : (unit : Ratio) (those : List Ratio) (grains : Grains) → IsRatio unit → SameProducts [] those
-    → IsLength unit [] grains.0 → grains.0 ≤ grains_of_the_longest_length → length_of unit those ≡ Ok grains
-plain_value unit those grains is h exact short =
-    sym (same_length unit [] those h) ∙ (length_of-Ok unit [] is (All-nil IsRatio) grains.0).1 (exact, short)
+-- a length that is known exactly is the one that is computed
+pub known_value : (unit : Ratio) (factors : List Ratio) (grains : Grains) → IsRatio unit → All IsRatio factors → IsExactly unit factors grains.0
+    → length_of unit factors ≡ Ok grains
+known_value unit factors grains is all exactly = (length_of-Ok unit factors is all grains.0).1 exactly
 
-pub plain_exact : (unit : Ratio) (those : List Ratio) (grains : Grains) → IsRatio unit → SameProducts [] those
-    → IsLength unit [] grains.0 → grains.0 ≤ grains_of_the_longest_length
-    → (g : ℕ) → (Some grains ≡ Some (record { 0 = g })) ↔ IsExactly unit those g
-plain_exact unit those grains is h exact short =
-    let ok : length_of unit [] ≡ Ok grains = (length_of-Ok unit [] is (All-nil IsRatio) grains.0).1 (exact, short) in
-    exact_along unit unit [] those (length_of unit []) (Some grains) refl h (sym (ap result_ok ok)) (length_of-Ok unit [] is (All-nil IsRatio))
+pub known_exact : (unit : Ratio) (factors : List Ratio) (grains : Grains) → IsRatio unit → All IsRatio factors → IsExactly unit factors grains.0
+    → (g : ℕ) → (Some grains ≡ Some (record { 0 = g })) ↔ IsExactly unit factors g
+known_exact unit factors grains is all exactly =
+    exact_along unit unit factors factors (length_of unit factors) (Some grains) refl (record { nums = refl; dens = refl })
+    (sym (ap result_ok (known_value unit factors grains is all exactly))) (length_of-Ok unit factors is all)
+
+-- so many units are a length
+pub whole_is : (own : Ratio) → IsRatio own → All IsRatio (record { num = own.num; den = 1 } ∷ [])
+whole_is own h =
+    All-cons IsRatio (record { num = own.num; den = 1 }) [] (record { num_least = h.num_least; num_most = h.num_most; den_least = omega arith; den_most = omega arith })
+    (All-nil IsRatio)
+
+pub units_exact : (unit : Ratio) (count g : ℕ) → IsLength unit [] g → IsLength unit (record { num = count; den = 1 } ∷ []) (g * count)
+units_exact unit count g exact =
+    let product : g * (unit.den * 1) * count ≡ grains_of_a_whole_note * (unit.num * 1) * count = ap (λ n. n * count) exact in
+    omega (arith, product)
+
+pub units_short : (unit : Ratio) (count g : ℕ) → IsUnitPart unit → IsLength unit [] g → count ≤ 1024 → g * count ≤ grains_of_the_longest_length
+unfolding grains_of_the_longest_length grains_of_a_whole_note
+units_short unit count g is exact few =
+    let one = is.one in
+    let whole : g * (unit.den * 1) ≡ 929901772800 * (unit.num * 1) = exact in
+    let more : g * 1 ≤ g * unit.den = mul-le g 1 g unit.den (omega arith) (power_least 9 unit.den is.power) in
+    let product : g * count ≤ 929901772800 * 1024 = mul-le g count 929901772800 1024 (omega (arith, whole, more, one)) few in
+    omega (arith, product)
+
+pub units_fit : (count g : ℕ) → g ≤ grains_of_the_longest_length → count ≤ 1024 → g * count < 2 ^ 64
+unfolding grains_of_the_longest_length grains_of_a_whole_note
+units_fit count g short few =
+    let product : g * count ≤ (1024 * 929901772800) * 1024 = mul-le g count (1024 * 929901772800) 1024 short few in
+    omega (arith, product)

@@ -184,60 +184,53 @@ two_to (suc (suc (suc (suc k)))) h = absurd (omega arith)
 parts_are : (mark : BrokenRhythm) → mark.marks ≤ 3 → ArePartsOf mark
 parts_are mark h = let e = two_to mark.marks h in record { is = e.0; least = e.1; most = e.2 }
 
-longer_range : (mark : BrokenRhythm) → mark.marks ≤ 3 → IsRatio (longer_ratio mark)
-longer_range mark h =
+-- what marks make of a note is what a rule says, and nothing else
+record Makes (Is : Ratio → Type 0) (factor : Ratio) : Type 0 where
+  to : (other : Ratio) → Is other → other ≡ factor
+  from : Is factor
+  range : IsRatio factor
+
+longer_makes : (mark : BrokenRhythm) → mark.marks ≤ 3 → Makes (IsLengthened mark.marks) (longer_ratio mark)
+longer_makes mark h =
+    let few = parts_are mark h in let least = few.least in let most = few.most in let is = few.is in
+    record {
+      to = λ other says.
+          let said : other.num + 1 ≡ 2 * 2 ^ mark.marks = says.num in
+          let num : other.num ≡ 2 * parts_of mark - 1 = omega arith in
+          λ i. record { num = num i; den = (says.den ∙ sym is) i };
+      from = record { num = omega arith; den = is };
+      range = record { num_least = omega arith; num_most = omega arith; den_least = omega arith; den_most = omega arith };
+    }
+
+shorter_makes : (mark : BrokenRhythm) → mark.marks ≤ 3 → Makes (IsShortened mark.marks) (shorter_ratio mark)
+shorter_makes mark h =
     let few = parts_are mark h in let least = few.least in let most = few.most in
-    record { num_least = omega arith; num_most = omega arith; den_least = omega arith; den_most = omega arith }
+    record {
+      to = λ other says. λ i. record { num = says.num i; den = (says.den ∙ sym few.is) i };
+      from = record { num = refl; den = few.is };
+      range = record { num_least = omega arith; num_most = omega arith; den_least = omega arith; den_most = omega arith };
+    }
 
-shorter_range : (mark : BrokenRhythm) → mark.marks ≤ 3 → IsRatio (shorter_ratio mark)
-shorter_range mark h =
-    let few = parts_are mark h in let least = few.least in let most = few.most in
-    record { num_least = omega arith; num_most = omega arith; den_least = omega arith; den_most = omega arith }
+first_in : (direction : Direction) (mark : BrokenRhythm) → mark.marks ≤ 3 → Makes (IsFirstFactor direction mark.marks) (first_by direction mark)
+first_in Right mark h = longer_makes mark h
+first_in Left mark h = shorter_makes mark h
 
-longer_from : (mark : BrokenRhythm) → mark.marks ≤ 3 → IsLengthened mark.marks (longer_ratio mark)
-longer_from mark h =
-    let few = parts_are mark h in let least = few.least in let is = few.is in
-    record { num = omega arith; den = is }
-
-longer_to : (mark : BrokenRhythm) (factor : Ratio) → mark.marks ≤ 3 → IsLengthened mark.marks factor → factor ≡ longer_ratio mark
-longer_to mark factor h says =
-    let few = parts_are mark h in let least = few.least in let is = few.is in
-    let said : factor.num + 1 ≡ 2 * 2 ^ mark.marks = says.num in
-    let num : factor.num ≡ 2 * parts_of mark - 1 = omega arith in
-    λ i. record { num = num i; den = (says.den ∙ sym is) i }
-
-shorter_from : (mark : BrokenRhythm) → mark.marks ≤ 3 → IsShortened mark.marks (shorter_ratio mark)
-shorter_from mark h = record { num = refl; den = (parts_are mark h).is }
-
-shorter_to : (mark : BrokenRhythm) (factor : Ratio) → mark.marks ≤ 3 → IsShortened mark.marks factor → factor ≡ shorter_ratio mark
-shorter_to mark factor h says = λ i. record { num = says.num i; den = (says.den ∙ sym (parts_are mark h).is) i }
+second_in : (direction : Direction) (mark : BrokenRhythm) → mark.marks ≤ 3 → Makes (IsSecondFactor direction mark.marks) (second_by direction mark)
+second_in Right mark h = shorter_makes mark h
+second_in Left mark h = longer_makes mark h
 
 -- a mark makes this of the note before it, and of the one after it
-record Says (direction : Direction) (mark : BrokenRhythm) : Type 0 where
-  first_to : (factor : Ratio) → IsFirstFactor direction mark.marks factor → factor ≡ first_by direction mark
-  first_from : IsFirstFactor direction mark.marks (first_by direction mark)
-  first_range : IsRatio (first_by direction mark)
-  second_to : (factor : Ratio) → IsSecondFactor direction mark.marks factor → factor ≡ second_by direction mark
-  second_from : IsSecondFactor direction mark.marks (second_by direction mark)
-  second_range : IsRatio (second_by direction mark)
+abbrev First : BrokenRhythm → Ratio → Type 0
+First mark = IsFirstFactor mark.direction mark.marks
 
-mark_says : (direction : Direction) (mark : BrokenRhythm) → mark.marks ≤ 3 → Says direction mark
-mark_says Right mark h = record {
-  first_to = λ factor. longer_to mark factor h;
-  first_from = longer_from mark h;
-  first_range = longer_range mark h;
-  second_to = λ factor. shorter_to mark factor h;
-  second_from = shorter_from mark h;
-  second_range = shorter_range mark h;
-}
-mark_says Left mark h = record {
-  first_to = λ factor. shorter_to mark factor h;
-  first_from = shorter_from mark h;
-  first_range = shorter_range mark h;
-  second_to = λ factor. longer_to mark factor h;
-  second_from = longer_from mark h;
-  second_range = longer_range mark h;
-}
+abbrev Second : BrokenRhythm → Ratio → Type 0
+Second mark = IsSecondFactor mark.direction mark.marks
+
+first_makes : (mark : BrokenRhythm) → mark.marks ≤ 3 → Makes (First mark) (first_factor mark)
+first_makes mark h = first_in mark.direction mark h
+
+second_makes : (mark : BrokenRhythm) → mark.marks ≤ 3 → Makes (Second mark) (second_factor mark)
+second_makes mark h = second_in mark.direction mark h
 
 -- the factor of the mark that acts, if one does
 record Found (o : Option BrokenRhythm) (Acts : BrokenRhythm → Type 0) : Type 0 where
@@ -249,23 +242,23 @@ abbrev Chosen : (BrokenRhythm → Type 0) → (BrokenRhythm → Ratio → Type 0
 Chosen Acts Is factor = (((mark : BrokenRhythm) → ¬ Acts mark) × (factor ≡ once)) ⊎ ((mark : BrokenRhythm) × Acts mark × Is mark factor)
 
 chosen_to : (o : Option BrokenRhythm) (Acts : BrokenRhythm → Type 0) (Is : BrokenRhythm → Ratio → Type 0) (by : BrokenRhythm → Ratio) (factor : Ratio)
-    → Found o Acts → ((mark : BrokenRhythm) → mark.marks ≤ 3 → Is mark factor → factor ≡ by mark)
+    → Found o Acts → ((mark : BrokenRhythm) → mark.marks ≤ 3 → Makes (Is mark) (by mark))
     → Chosen Acts Is factor → factor ≡ unwrap_or (option_map by o) once
 chosen_to None Acts Is by factor found is h = ⊎_elim (λ none. none.1) (λ some. let no = found.to some.0 some.1 in cc) h
 chosen_to (Some mark) Acts Is by factor found is h = ⊎_elim
     (λ none. absurd (none.0 mark (found.from mark refl)))
-    (λ some. let same : some.0 ≡ mark = (let e = found.to some.0 some.1 in cc) in is some.0 (found.few some.0 some.1) some.2 ∙ ap by same)
+    (λ some. let same : some.0 ≡ mark = (let e = found.to some.0 some.1 in cc) in (is some.0 (found.few some.0 some.1)).to factor some.2 ∙ ap by same)
     h
 
 chosen_from : (o : Option BrokenRhythm) (Acts : BrokenRhythm → Type 0) (Is : BrokenRhythm → Ratio → Type 0) (by : BrokenRhythm → Ratio)
-    → Found o Acts → ((mark : BrokenRhythm) → mark.marks ≤ 3 → Is mark (by mark)) → Chosen Acts Is (unwrap_or (option_map by o) once)
+    → Found o Acts → ((mark : BrokenRhythm) → mark.marks ≤ 3 → Makes (Is mark) (by mark)) → Chosen Acts Is (unwrap_or (option_map by o) once)
 chosen_from None Acts Is by found is = inl (λ mark acts. (let no = found.to mark acts in cc), refl)
-chosen_from (Some mark) Acts Is by found is = let acts = found.from mark refl in inr (mark, acts, is mark (found.few mark acts))
+chosen_from (Some mark) Acts Is by found is = let acts = found.from mark refl in inr (mark, acts, (is mark (found.few mark acts)).from)
 
-chosen_range : (o : Option BrokenRhythm) (Acts : BrokenRhythm → Type 0) (by : BrokenRhythm → Ratio)
-    → Found o Acts → ((mark : BrokenRhythm) → mark.marks ≤ 3 → IsRatio (by mark)) → IfSome (option_map by o) IsRatio
-chosen_range None Acts by found is = tt
-chosen_range (Some mark) Acts by found is = is mark (found.few mark (found.from mark refl))
+chosen_range : (o : Option BrokenRhythm) (Acts : BrokenRhythm → Type 0) (Is : BrokenRhythm → Ratio → Type 0) (by : BrokenRhythm → Ratio)
+    → Found o Acts → ((mark : BrokenRhythm) → mark.marks ≤ 3 → Makes (Is mark) (by mark)) → IfSome (option_map by o) IsRatio
+chosen_range None Acts Is by found is = tt
+chosen_range (Some mark) Acts Is by found is = (is mark (found.few mark (found.from mark refl))).range
 
 -- at a place of a cell
 found_before : (state : VoiceState) (cell : List (Spanned TokenKind)) (place : ℕ) → IsPlace state cell place
@@ -330,8 +323,8 @@ length_lasts state cell place own outer g h =
     let a = option_map first_factor behind in
     let ratios : AreRatios t b a = record {
       t_is = tuplet_range state.tuplet h.tuplet;
-      b_is = chosen_range before (λ mark. ActsBefore cell mark place) second_factor fb (λ mark few. (mark_says mark.direction mark few).second_range);
-      a_is = chosen_range behind (λ mark. ActsBehind cell mark place) first_factor fa (λ mark few. (mark_says mark.direction mark few).first_range);
+      b_is = chosen_range before (λ mark. ActsBefore cell mark place) Second second_factor fb second_makes;
+      a_is = chosen_range behind (λ mark. ActsBehind cell mark place) First first_factor fa first_makes;
     } in
     let both = made state.unit (unit_range state.unit h.unit) t b a ratios (written_ratio own) (option_map written_ratio outer) g (written_range own (written_ratio own) refl) (outer_range outer) in
     let computed : length_by state.unit (texts_of own outer) (tuplet_factors state.tuplet ++ factors_at cell place)
@@ -348,19 +341,15 @@ length_lasts state cell place own outer g h =
             own_is = ratio_says own m.w m.w_is;
             outer_is = outer_from outer m.outer m.outer_is;
             tuplet_is = tuplet_from state.tuplet;
-            before_is = chosen_from before (λ mark. ActsBefore cell mark place) (λ mark factor. IsSecondFactor mark.direction mark.marks
-                factor) second_factor fb (λ mark few. (mark_says mark.direction mark few).second_from);
-            behind_is = chosen_from behind (λ mark. ActsBehind cell mark place) (λ mark factor. IsFirstFactor mark.direction mark.marks
-                factor) first_factor fa (λ mark few. (mark_says mark.direction mark few).first_from);
+            before_is = chosen_from before (λ mark. ActsBefore cell mark place) Second second_factor fb second_makes;
+            behind_is = chosen_from behind (λ mark. ActsBehind cell mark place) First first_factor fa first_makes;
             exact = m.exact;
             short = m.short;
           },
       λ l.
           let te = tuplet_to state.tuplet l.tuplet_factor l.tuplet_is in
-          let be = chosen_to before (λ mark. ActsBefore cell mark place) (λ mark factor. IsSecondFactor mark.direction mark.marks factor) second_factor l.before_factor fb
-          (λ mark few. (mark_says mark.direction mark few).second_to l.before_factor) l.before_is in
-          let ae = chosen_to behind (λ mark. ActsBehind cell mark place) (λ mark factor. IsFirstFactor mark.direction mark.marks factor) first_factor l.behind_factor fa
-          (λ mark few. (mark_says mark.direction mark few).first_to l.behind_factor) l.behind_is in
+          let be = chosen_to before (λ mark. ActsBefore cell mark place) Second second_factor l.before_factor fb second_makes l.before_is in
+          let ae = chosen_to behind (λ mark. ActsBehind cell mark place) First first_factor l.behind_factor fa first_makes l.behind_is in
           computed ∙ both.1 (record {
             w = l.own_factor;
             outer = l.outer_factor;

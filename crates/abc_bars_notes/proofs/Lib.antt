@@ -3,6 +3,7 @@ pub mod BarCounts
 pub mod ChordFaults
 pub mod ChordKeys
 pub mod ChordNotes
+pub mod ChordParts
 pub mod ChordTones
 pub mod Factors
 pub mod ChordLoop

@@ -4,7 +4,7 @@ use Rattle.std.specs.Prelude.{◌&&◌, not, nat_lt, if◌then◌else◌, filter
 use Rattle.std.specs.Prelude.{length}
 use Rattle.std.proofs.lemmas.List.Elements.{filter-append}
 use Rattle.abc_fields.specs.declared.fault.FaultCode.{FaultCode}
-use Rattle.abc_fields.specs.declared.fault.FaultCode.TheVariants.{BadByte, BadLength, BigChord, KeyRange, LooseTie}
+use Rattle.abc_fields.specs.declared.fault.FaultCode.TheVariants.{BadByte, BigChord, LooseTie}
 use Rattle.abc_scan.specs.declared.chord_part.ChordPartKind.{ChordPartKind}
 use Rattle.abc_scan.specs.declared.chord_part.ChordPartKind.TheVariants as kinds
 use Rattle.abc_scan.specs.declared.spanned.Spanned.{Spanned}
@@ -17,26 +17,16 @@ use Rattle.abc_bars_notes.specs.declared.sound.ChordBuilder.{ChordBuilder}
 use Rattle.abc_bars_notes.specs.Chords.{part_context, chord_builder_from, chord_builder_of, is_tie, tie_follows, with_fault, with_kind, with_part}
 use Rattle.abc_bars_items.specs.Column.{column_of}
 use Rattle.abc_bars_notes.specs.LooseTies.{is_behind_note, is_loose, is_loose_tie, TiesBehindNotes}
-use Rattle.abc_bars_notes.specs.Sound.{fault_if, no_notes, note_faults}
-use Rattle.abc_bars_notes.specs.TimeTokens.{chord_by}
+use Rattle.abc_bars_notes.specs.Sound.{no_notes, note_faults}
 use Rattle.abc_bars_notes.specs.TokenRole.{has_note}
+use Rattle.abc_bars_notes.proofs.ChordParts.{either, filter_chord, filter_note}
 
 -- the loose ties among faults
 abbrev Ties : ChordBuilder → List (ℕ × FaultCode)
 Ties builder = filter is_loose_tie builder.faults
 
-none_loose : (refused silent : Bool) (column : ℕ) → filter is_loose_tie (fault_if refused column BadLength ++ fault_if silent column KeyRange) ≡ []
-none_loose true true column = refl
-none_loose true false column = refl
-none_loose false true column = refl
-none_loose false false column = refl
-
 more_ties : (faults others l : List (ℕ × FaultCode)) → filter is_loose_tie others ≡ l → filter is_loose_tie (faults ++ others) ≡ filter is_loose_tie faults ++ l
 more_ties faults others l is = filter-append is_loose_tie faults others ∙ ap (λ f. filter is_loose_tie faults ++ f) is
-
-either-ties : (b : Bool) (one other : ChordBuilder) (l : List (ℕ × FaultCode)) → Ties one ≡ l → Ties other ≡ l → Ties (if b then one else other) ≡ l
-either-ties true one other l h k = h
-either-ties false one other l h k = k
 
 -- the loose ties that there are after one part more
 abbrev one_tie : Bool → ℕ → ChordPartKind → List (ℕ × FaultCode)
@@ -53,8 +43,8 @@ tie_by column builder false = more_ties builder.faults ((column, LooseTie) ∷ [
 kind_ties : (state : VoiceState) (broken : List Ratio) (context : NoteContext) (kind : ChordPartKind) (builder : ChordBuilder)
     → Ties (with_kind state broken context kind builder) ≡ Ties builder ++ one_tie builder.after_note context.column kind
 kind_ties state broken context (kinds.Note note) builder =
-    either-ties (nat_lt (length builder.tones) MOST_CHORD_NOTES) _ _ _
-    (more_ties builder.faults (note_faults state builder.accidentals broken context.outer context.column note) [] (none_loose _ _ context.column))
+    either (λ b. Ties b ≡ Ties builder ++ []) (nat_lt (length builder.tones) MOST_CHORD_NOTES) _ _
+    (more_ties builder.faults (note_faults state builder.accidentals broken context.outer context.column note) [] (filter_note is_loose_tie _ _ context.column refl refl))
     (dropped_ties context.column builder builder.big)
 kind_ties state broken context kinds.Tie builder = tie_by context.column builder builder.after_note
 kind_ties state broken context kinds.NoEffect builder = sym (append-nil _)
@@ -82,12 +72,8 @@ ties_from state broken chord_context (part ∷ parts) before builder e =
     ∙ append_assoc (Ties builder) (one_tie (is_behind_note before) column part.kind) (loose_in chord_context.from (Some part.kind) parts)
     ∙ ap (λ l. Ties builder ++ l) (first_loose chord_context.from before part parts (is_loose (before, part)) refl)
 
-chord_ties : (b : Bool) (state : VoiceState) (from : ℕ) (builder : ChordBuilder) → filter is_loose_tie (chord_by b state from builder).faults ≡ Ties builder
-chord_ties true state from builder = refl
-chord_ties false state from builder = refl
-
 pub ties_behind_notes : TiesBehindNotes
 ties_behind_notes state broken from chord tied =
     let chord_context : ChordContext = record { length = chord.length; tied = tied; from = from } in
-    chord_ties (has_note chord.parts) state from (chord_builder_of state broken chord_context chord.parts)
+    filter_chord is_loose_tie (has_note chord.parts) state from (chord_builder_of state broken chord_context chord.parts) refl
     ∙ ties_from state broken chord_context chord.parts None (no_notes state) refl

@@ -21,9 +21,8 @@ abbrev pub broken_role : TokenRole → BrokenRole
 broken_role (tokens.Sound noted) = if noted then roles.Time else roles.Silent
 broken_role tokens.Rest = roles.Time
 broken_role (tokens.Mark mark) = roles.Mark mark
-broken_role tokens.Tie = roles.Silent
 broken_role tokens.Barrier = roles.Hindrance
-broken_role tokens.Other = roles.Silent
+broken_role _ = roles.Silent
 
 abbrev pub role_of : TokenKind → BrokenRole
 role_of kind = broken_role (token_role kind)
@@ -34,9 +33,8 @@ is_time_token kind = takes_time (token_role kind)
 
 -- After a time token a mark may act, after anything else it does not.
 abbrev pub preceding_after_mark : Preceding → BrokenRhythm → Preceding
-preceding_after_mark precedings.Nothing mark = precedings.Nothing
 preceding_after_mark precedings.TimeToken mark = precedings.Mark mark
-preceding_after_mark (precedings.Mark other) mark = precedings.Nothing
+preceding_after_mark _ mark = precedings.Nothing
 
 -- What is nearest, of what matters, after one token more of this role.
 abbrev pub preceding_by : Preceding → BrokenRole → Preceding
@@ -57,9 +55,8 @@ preceding_from behind (token ∷ rest) = preceding_from (preceding_after behind 
 -- Whether a token is a time token, or has no role and this holds of those after it.
 abbrev pub time_or : BrokenRole → Bool → Bool
 time_or roles.Time later = true
-time_or (roles.Mark mark) later = false
-time_or roles.Hindrance later = false
 time_or roles.Silent later = later
+time_or _ later = false
 
 -- Whether a time token comes first of what matters.
 abbrev pub time_follows : List (Spanned TokenKind) → Bool
@@ -68,10 +65,9 @@ time_follows (token ∷ rest) = time_or (role_of token.kind) (time_follows rest)
 
 -- The mark that a token is, if a time token follows, or if it has no role that of the tokens after it.
 abbrev pub mark_or : BrokenRole → Bool → Option BrokenRhythm → Option BrokenRhythm
-mark_or roles.Time follows later = None
 mark_or (roles.Mark mark) follows later = if follows then Some mark else None
-mark_or roles.Hindrance follows later = None
 mark_or roles.Silent follows later = later
+mark_or _ follows later = None
 
 -- The mark that comes first of what matters, if a time token follows it.
 abbrev pub mark_ahead : List (Spanned TokenKind) → Option BrokenRhythm
@@ -80,9 +76,8 @@ mark_ahead (token ∷ rest) = mark_or (role_of token.kind) (time_follows rest) (
 
 -- The mark that a place is after, which had a time token before it.
 abbrev pub mark_before : Preceding → Option BrokenRhythm
-mark_before precedings.Nothing = None
-mark_before precedings.TimeToken = None
 mark_before (precedings.Mark mark) = Some mark
+mark_before _ = None
 
 -- Into how many parts marks cut a note: two to the number of marks; more than three, which no text has, count as three.
 abbrev pub parts_of : BrokenRhythm → ℕ
@@ -122,9 +117,8 @@ factors_of behind ahead =
 
 -- Whether the last of what matters is a time token.
 abbrev pub is_after_time : Preceding → Bool
-is_after_time precedings.Nothing = false
 is_after_time precedings.TimeToken = true
-is_after_time (precedings.Mark mark) = false
+is_after_time _ = false
 
 -- Whether a mark has no two time tokens to act on. Not in ABC 2.1.
 abbrev pub is_bad_mark : Preceding → List (Spanned TokenKind) → Bool

@@ -22,9 +22,7 @@ use Rattle.abc_bars_items.specs.Velocity.{velocity_of}
 -- The note that a part of a chord is, if it is one.
 abbrev pub note_in : ChordPartKind → List Note
 note_in (parts.Note note) = note ∷ []
-note_in parts.Tie = []
-note_in parts.NoEffect = []
-note_in parts.BadByte = []
+note_in _ = []
 
 -- The notes among parts of a chord, in order.
 abbrev pub notes_in : List (Spanned ChordPartKind) → List Note

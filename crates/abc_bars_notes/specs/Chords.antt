@@ -28,10 +28,8 @@ with_dropped column builder = if builder.big then builder else record (with_faul
 
 -- Whether a part of a chord is a tie.
 abbrev pub is_tie : ChordPartKind → Bool
-is_tie (kinds.Note note) = false
 is_tie kinds.Tie = true
-is_tie kinds.NoEffect = false
-is_tie kinds.BadByte = false
+is_tie _ = false
 
 -- Whether a tie comes first.
 abbrev pub tie_follows : List (Spanned ChordPartKind) → Bool

@@ -11,11 +11,14 @@ use Rattle.abc_bars_voice.specs.declared.voice_shift.VoiceShift.{VoiceShift}
 abbrev pub total_shift : VoiceShift → ℤ
 total_shift shift = shift.clef +ℤ (OCTAVE *ℤ shift.octave) +ℤ shift.transpose
 
--- The pitch of a note with this alteration, in semitones. A capital C is the middle C, and an octave has
+-- The pitch of a note with this alteration as it is written, in semitones. A capital C is the middle C, and an octave has
 -- twelve semitones (ABC 2.1 section 4.1).
+abbrev pub written_pitch : Note → ℤ → ℤ
+written_pitch note by = pos (MIDDLE_C + semitones note.letter) +ℤ (OCTAVE *ℤ note.octave) +ℤ by
+
+-- The pitch of a note with this alteration, as the shift of its voice moves it.
 abbrev pub pitch_of : VoiceShift → Note → ℤ → ℤ
-pitch_of shift note by =
-    pos (MIDDLE_C + semitones note.letter) +ℤ (OCTAVE *ℤ note.octave) +ℤ by +ℤ total_shift shift
+pitch_of shift note by = written_pitch note by +ℤ total_shift shift
 
 -- The key of MIDI that a pitch is, from 0 to 127 (SMF 1.0).
 abbrev pub midi_key : ℤ → Option ℕ

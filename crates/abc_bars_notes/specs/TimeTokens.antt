@@ -1,7 +1,7 @@
 -- Notes, chords and rests: what each gives and what it leaves for its voice.
-use Rattle.std.specs.Prelude.{ℕ, Bool, true, false, None, List, [], ◌∷◌, ◌++◌}
+use Rattle.std.specs.Prelude.{ℕ, Bool, true, false, if◌then◌else◌, None, is_none, List, [], ◌∷◌, ◌++◌}
 use Rattle.abc_fields.specs.declared.fault.FaultCode.{FaultCode}
-use Rattle.abc_fields.specs.declared.fault.FaultCode.TheVariants.{BadLength, EmptyChord}
+use Rattle.abc_fields.specs.declared.fault.FaultCode.TheVariants.{BadLength, EmptyChord, KeyRange}
 use Rattle.abc_scan.specs.declared.chord.Chord.{Chord}
 use Rattle.abc_scan.specs.declared.length.WrittenLength.{WrittenLength}
 use Rattle.abc_scan.specs.declared.note.Note.{Note}
@@ -13,12 +13,14 @@ use Rattle.abc_bars_items.specs.declared.item.Tone.{Tone}
 use Rattle.abc_bars_voice.specs.declared.voice_state.VoiceState.{VoiceState}
 use Rattle.abc_bars_notes.specs.declared.sound.NoteContext.{NoteContext}
 use Rattle.abc_bars_notes.specs.declared.sound.ChordBuilder.{ChordBuilder}
-use Rattle.abc_bars_items.specs.Item.{Items}
+use Rattle.abc_bars_items.specs.Item.{Items, append_faults, append_item}
 use Rattle.abc_bars_notes.specs.Chords.{chord_builder_of}
 use Rattle.abc_bars_items.specs.Column.{column_of}
 use Rattle.abc_bars_notes.specs.Sound.{fault_if, length_in, no_notes, with_note}
 use Rattle.abc_bars_notes.specs.TokenRole.{has_note}
+use Rattle.abc_bars_voice.specs.Alteration.{with_own}
 use Rattle.abc_bars_voice.specs.Tuplet.{count_down}
+use Rattle.abc_bars_voice.specs.declared.tied.TiedNote.{TiedNote}
 
 -- The state of the voice after a token, and what the token gives.
 pub record TimeTokenResult : Type 0 where
@@ -43,6 +45,20 @@ sound_notes state builder = record {
   items = items.Tone builder.tones (first_length builder.tones) ∷ [];
   faults = builder.faults;
 }
+
+-- The state of a voice after a note alone, with the note as a tie goes on from it.
+abbrev pub voice_after : VoiceState → Note → Bool → TiedNote → VoiceState
+voice_after state note tied tied_note = record state {
+  accidentals = with_own state.accidentals note;
+  tuplet = count_down state.tuplet;
+  tied = if tied then tied_note ∷ [] else [];
+}
+
+-- The same and a note alone, with its faults at a column.
+abbrev pub with_tone : Items → Tone → Bool → ℕ → Items
+with_tone lists tone refused column =
+    append_item (append_faults lists (fault_if refused column BadLength ++ fault_if (is_none tone.key) column KeyRange))
+    (items.Tone (tone ∷ []) tone.length)
 
 -- What is around a note alone, at a place of its line.
 abbrev pub note_context : ℕ → Bool → NoteContext

@@ -21,55 +21,33 @@ has_note inside = list_any (λ part. is_note_part part.kind) inside
 -- What a token is to its voice.
 abbrev pub token_role : TokenKind → TokenRole
 token_role (kinds.Note note) = roles.Sound true
-token_role (kinds.Rest length) = roles.Rest
-token_role (kinds.BarRest bars) = roles.Barrier
 token_role (kinds.Chord chord) = roles.Sound (has_note chord.parts)
-token_role (kinds.InlineField field) = roles.Barrier
-token_role (kinds.Bar bar) = roles.Other
-token_role (kinds.Ending passes) = roles.Other
-token_role (kinds.Tuplet mark) = roles.Other
+token_role (kinds.Rest length) = roles.Rest
 token_role (kinds.Broken mark) = roles.Mark mark
 token_role kinds.Tie = roles.Tie
-token_role kinds.Blank = roles.Other
-token_role kinds.NoEffect = roles.Other
-token_role (kinds.Dynamic dynamic) = roles.Other
-token_role (kinds.Directive directive) = roles.Other
+token_role (kinds.BarRest bars) = roles.Barrier
+token_role (kinds.InlineField field) = roles.Barrier
 token_role (kinds.Field field) = roles.Barrier
-token_role kinds.Unclosed = roles.Other
-token_role kinds.BadByte = roles.Other
+token_role _ = roles.Other
 
 -- Whether it is a time token: a note, a rest, or a chord with a note. Not in ABC 2.1.
 abbrev pub takes_time : TokenRole → Bool
 takes_time (roles.Sound noted) = noted
 takes_time roles.Rest = true
-takes_time (roles.Mark mark) = false
-takes_time roles.Tie = false
-takes_time roles.Barrier = false
-takes_time roles.Other = false
+takes_time _ = false
 
 -- Whether no mark of broken rhythm reaches over it: a field, a bar rest, another mark. Not in ABC 2.1.
 abbrev pub hinders_marks : TokenRole → Bool
-hinders_marks (roles.Sound noted) = false
-hinders_marks roles.Rest = false
 hinders_marks (roles.Mark mark) = true
-hinders_marks roles.Tie = false
 hinders_marks roles.Barrier = true
-hinders_marks roles.Other = false
+hinders_marks _ = false
 
 -- Whether it is a tie. ABC 2.1 section 4.11.
 abbrev pub is_tie_role : TokenRole → Bool
-is_tie_role (roles.Sound noted) = false
-is_tie_role roles.Rest = false
-is_tie_role (roles.Mark mark) = false
 is_tie_role roles.Tie = true
-is_tie_role roles.Barrier = false
-is_tie_role roles.Other = false
+is_tie_role _ = false
 
 -- Whether a tie may be directly after it: after a note or a chord, even one without notes. Not in ABC 2.1.
 abbrev pub is_tieable : TokenRole → Bool
 is_tieable (roles.Sound noted) = true
-is_tieable roles.Rest = false
-is_tieable (roles.Mark mark) = false
-is_tieable roles.Tie = false
-is_tieable roles.Barrier = false
-is_tieable roles.Other = false
+is_tieable _ = false

@@ -65,7 +65,7 @@ impl BrokenFactors {
     {
         BrokenFactors {
             behind: factor_before(behind),
-            ahead: mark_ahead(ahead).map(first_factor),
+            ahead: factor_behind(ahead),
         }
     }
 
@@ -190,6 +190,18 @@ fn factor_before(behind: Preceding) -> Option<Ratio>
     match behind {
         Preceding::Mark(mark) => Some(second_factor(mark)),
         Preceding::Nothing | Preceding::TimeToken => None,
+    }
+}
+
+/// The factor of the mark that comes next. Most notes have a note directly after them, which is looked at first.
+#[inline(always)]
+fn factor_behind(ahead: &[Token]) -> Option<Ratio>
+    ensures value { result ≡ option_map first_factor (mark_ahead ahead.now) }
+    ensures range { IfSome result IsRatio }
+{
+    match ahead {
+        [token, ..] if matches!(token.kind, TokenKind::Note(_)) => None,
+        _ => mark_ahead(ahead).map(first_factor),
     }
 }
 

@@ -1,6 +1,6 @@
 //! Lengths of notes and rests.
 
-ghost use Rattle.std.specs.Prelude.{◌≡◌, ◌≤◌, ◌↔◌, ℕ, ◌∷◌, ◌++◌, false, option_to_list, IfSome};
+ghost use Rattle.std.specs.Prelude.{◌≡◌, ◌≤◌, ◌↔◌, ℕ, [], ◌∷◌, ◌++◌, false, option_to_list, IfSome};
 ghost use Rattle.std.specs.Option.{ForSome};
 ghost use Rattle.std.specs.Result.{result_ok};
 ghost use Rattle.abc_time.specs.Grains.{grains_of_the_longest_length};
@@ -18,6 +18,9 @@ use abc_time::{Grains, Ratio, length};
 
 /// The factor that changes nothing.
 const ONCE: Ratio = Ratio { num: 1, den: 1 };
+
+/// Units of a whole note that are together no longer than a note may be.
+pub(crate) const MOST_UNITS: u32 = 1_024;
 
 /// Whether a part of a ratio is in range.
 fn is_ratio_part(number: u32) -> bool
@@ -60,8 +63,20 @@ fn tuplet_ratio(tuplet: Option<OpenTuplet>) -> Option<Ratio>
     }
 }
 
+/// Several units, exactly. A unit is at most a whole note, so they are not too long.
+#[inline(always)]
+fn units_of(unit: UnitLength, count: u32) -> Grains
+    requires { count ≤ MOST_UNITS }
+    ensures exact { IsLength unit (record { num = count; den = 1 } ∷ []) result.0 }
+    ensures range { result.0 ≤ grains_of_the_longest_length }
+{
+    // For the prover: a unit is at most a whole note.
+    let _ = unit.get();
+    Grains(unit.grains().0 * u64::from(count))
+}
+
 /// The unit times the factors of the note's own text, of its chord's, of its tuplet and of the marks beside it, if that
-/// is a length.
+/// is a length. Few units are multiplied directly: so are most lengths.
 #[inline(always)]
 fn product_of(
     unit: UnitLength,
@@ -79,8 +94,13 @@ fn product_of(
     ensures range { IfSome result (λ length. length.0 ≤ grains_of_the_longest_length) }
 {
     let part = unit.get();
-    if own == ONCE && outer.is_none() && tuplet.is_none() && broken.is_empty() {
-        return Some(unit.grains());
+    if own.den == 1
+        && own.num <= MOST_UNITS
+        && outer.is_none()
+        && tuplet.is_none()
+        && broken.is_empty()
+    {
+        return Some(units_of(unit, own.num));
     }
     let factors = [
         own,

@@ -1,6 +1,7 @@
 //! The values of the constants that clauses cite by their names.
 
 use crate::broken::MOST_MARKS;
+use crate::lengths::MOST_UNITS;
 use crate::pitch::{MIDDLE_C, OCTAVE};
 use abc_bars_items::{
     FIRST_COLUMN, HIGHEST_KEY, HIGHEST_PROGRAM, HIGHEST_VELOCITY, MOST_CHORD_NOTES, MOST_VOICES,
@@ -30,5 +31,7 @@ const _: () = prove!(MOST_CHORD_NOTES == 16);
 const _: () = prove!(LARGEST_TUPLET_NUMBER == 64);
 
 const _: () = prove!(MOST_MARKS == 3);
+
+const _: () = prove!(MOST_UNITS == 1_024);
 
 const _: () = prove!(FIRST_COLUMN == 1);

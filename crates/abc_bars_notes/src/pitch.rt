@@ -1,8 +1,8 @@
 //! The keys of notes.
 
-ghost use Rattle.std.specs.Prelude.{◌≡◌, ◌^◌, ◌<◌, ◌≤◌, ◌≤ℤ◌, pos, negsuc, IfSome};
+ghost use Rattle.std.specs.Prelude.{◌≡◌, ◌^◌, ◌<◌, ◌≤◌, ◌≤ℤ◌, pos, negsuc, IfSome, IsTrue};
 ghost use Rattle.abc_text.specs.Letter.{semitones};
-ghost use Rattle.abc_bars_notes.specs.Pitch.{midi_key, pitch_of, total_shift};
+ghost use Rattle.abc_bars_notes.specs.Pitch.{midi_key, pitch_of, total_shift, written_pitch};
 
 use abc_bars_items::HIGHEST_KEY;
 use abc_bars_voice::VoiceShift;
@@ -12,7 +12,10 @@ use abc_scan::{Letter, Note};
 pub(crate) const MIDDLE_C: u8 = 60;
 
 /// The semitones of an octave.
-pub(crate) const OCTAVE: i128 = 12;
+pub(crate) const OCTAVE: i64 = 12;
+
+/// The same in as many bits as a total shift.
+const WIDE_OCTAVE: i128 = 12;
 
 /// The semitones of a letter above the C below it.
 fn semitones(letter: Letter) -> u8
@@ -31,16 +34,25 @@ fn total_shift(shift: VoiceShift) -> i128
     let clef = i128::from(shift.clef);
     let octave = i128::from(shift.octave);
     let transpose = i128::from(shift.transpose);
-    clef + OCTAVE * octave + transpose
+    clef + WIDE_OCTAVE * octave + transpose
 }
 
-/// The pitch of a note with this alteration, counted in semitones.
-fn pitch_of(shift: VoiceShift, note: Note, by: i8) -> i128
-    ensures { result ≡ pitch_of shift note by }
+/// Whether notes sound as they are written.
+fn is_unshifted(shift: VoiceShift) -> bool
+    ensures { IsTrue result → total_shift shift ≡ pos 0 }
 {
-    let written = i128::from(MIDDLE_C + semitones(note.letter)) + OCTAVE * i128::from(note.octave);
-    let altered = i128::from(by);
-    written + altered + total_shift(shift)
+    match (shift.clef, shift.octave, shift.transpose) {
+        (0, 0, 0) => true,
+        _ => false,
+    }
+}
+
+/// The pitch of a note with this alteration as it is written, counted in semitones.
+fn written_pitch(note: Note, by: i8) -> i64
+    ensures { result ≡ written_pitch note by }
+{
+    let octaves = OCTAVE * i64::from(note.octave);
+    i64::from(MIDDLE_C + semitones(note.letter)) + octaves + i64::from(by)
 }
 
 /// The key of MIDI of a pitch, if it has one.
@@ -55,11 +67,15 @@ fn midi_key(pitch: i128) -> Option<u8>
     }
 }
 
-/// The MIDI key of a note with this alteration, if MIDI has it.
+/// The MIDI key of a note with this alteration, if MIDI has it. Few voices are shifted, which takes 128 bits.
 #[inline(always)]
 pub(crate) fn key_of(shift: VoiceShift, note: Note, by: i8) -> Option<u8>
     ensures value { result ≡ midi_key (pitch_of shift note by) }
     ensures range { IfSome result (λ key. key ≤ HIGHEST_KEY) }
 {
-    midi_key(pitch_of(shift, note, by))
+    let written = i128::from(written_pitch(note, by));
+    if is_unshifted(shift) {
+        return midi_key(written);
+    }
+    midi_key(written + total_shift(shift))
 }

@@ -44,14 +44,6 @@ pub fn token_role(kind: &TokenKind) -> TokenRole
         TokenKind::BarRest(_) | TokenKind::InlineField(_) | TokenKind::Field(_) => {
             TokenRole::Barrier
         }
-        TokenKind::Bar(_)
-        | TokenKind::Ending(_)
-        | TokenKind::Tuplet(_)
-        | TokenKind::Blank
-        | TokenKind::NoEffect
-        | TokenKind::Dynamic(_)
-        | TokenKind::Directive(_)
-        | TokenKind::Unclosed
-        | TokenKind::BadByte => TokenRole::Other,
+        _ => TokenRole::Other,
     }
 }

@@ -128,6 +128,7 @@ fn push_tied_if(
 }
 
 /// A note as it sounds.
+#[derive(Clone, Copy)]
 pub(crate) struct Sounding {
     pub(crate) tone: Tone,
     /// The note as a tie goes on from it.

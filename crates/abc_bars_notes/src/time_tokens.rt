@@ -1,13 +1,14 @@
 //! Notes, chords and rests: their items and faults, and the state of the voice after them.
 
-ghost use Rattle.std.specs.Prelude.{◌≡◌, ◌∷◌, ◌++◌, [], false, All, IfOk, OnErr, OnOk, is_none, unwrap_or};
+ghost use Rattle.std.specs.Prelude.{◌≡◌, ℕ, List, ◌∷◌, ◌++◌, [], false, All, IfOk, IsTrue, OnErr, OnOk, is_none, unwrap_or};
+ghost use Rattle.abc_time.specs.declared.ratio.Ratio.{Ratio};
 ghost use Rattle.abc_fields.specs.declared.fault.FaultCode.TheVariants.{BadLength, EmptyChord, KeyRange};
 ghost use Rattle.abc_bars_items.specs.Column.{column_of};
 ghost use Rattle.abc_bars_items.specs.Item.{AreTones, IsTone, IsWithinLongest, append_faults, append_item};
 ghost use Rattle.abc_bars_notes.specs.Sound.{fault_if};
 ghost use Rattle.abc_bars_items.specs.declared.item.Item.TheVariants as item_kinds;
 ghost use Rattle.abc_bars_voice.specs.Tuplet.{count_down};
-ghost use Rattle.abc_bars_notes.specs.TimeTokens.{first_length, sound_notes, play_note, play_chord, play_rest, with_result};
+ghost use Rattle.abc_bars_notes.specs.TimeTokens.{first_length, sound_notes, play_note, play_chord, play_rest, voice_after, with_result, with_tone};
 
 use crate::broken::BrokenFactors;
 use crate::chords::{ChordContext, chord_builder_of};
@@ -82,9 +83,7 @@ fn push_note(
     column: u32,
 ) -> Result<(), AllocError>
     requires { IsTone tone }
-    ensures ok { OnOk result (items.new ≡ append_item (append_faults items.old
-        (fault_if refused column BadLength ++ fault_if (is_none tone.key) column KeyRange)) (item_kinds.Tone (tone
-        ∷ []) tone.length)) }
+    ensures ok { OnOk result (items.new ≡ with_tone items.old tone refused column) }
     ensures unchanged { OnErr result (items.new ≡ items.old) }
 {
     let item = Item::Tone {
@@ -98,6 +97,17 @@ fn push_note(
         (true, Some(_)) => items.push_with_faults(item, &[length]),
         (false, None) => items.push_with_faults(item, &[key]),
         (true, None) => items.push_with_faults(item, &[length, key]),
+    }
+}
+
+/// Whether a note leaves the state of its voice as it is. Most notes do.
+#[inline(always)]
+fn leaves_voice(state: &VoiceState, note: Note, tied: bool) -> bool
+    ensures { (broken : List Ratio) (from : ℕ) → IsTrue result → (play_note state.now broken tied from note).state ≡ state.now }
+{
+    match (tied, note.accidental, state.tuplet, state.tied.as_slice()) {
+        (false, None, None, []) => true,
+        _ => false,
     }
 }
 
@@ -124,6 +134,33 @@ fn update_voice(
     }
 }
 
+/// Adds a note that changes the state of its voice. Few notes do, so it is not inlined into what each note runs.
+#[inline(never)]
+fn push_changing_note(
+    alloc: Global,
+    state: &mut VoiceState,
+    items: &mut ItemsBuilder,
+    note: Note,
+    sounding: Sounding,
+    column: u32,
+) -> Result<(), AllocError>
+    requires { IsTone sounding.tone }
+    ensures state { OnOk result (state.new ≡ voice_after state.old note sounding.tone.tied sounding.tied_note) }
+    ensures items { OnOk result (items.new ≡ with_tone items.old sounding.tone sounding.refused column) }
+    ensures unchanged { OnErr result ((state.new ≡ state.old) × (items.new ≡ items.old)) }
+{
+    let Sounding {
+        tone,
+        tied_note,
+        refused,
+    } = sounding;
+    let accidentals = accidentals_after(state, note)?;
+    let tied = tied_notes_after(alloc, state, tone.tied, tied_note)?;
+    push_note(items, tone, refused, column)?;
+    update_voice(state, accidentals, tied);
+    Ok(())
+}
+
 /// Adds a note.
 #[inline(always)]
 pub fn play_note(
@@ -144,16 +181,11 @@ pub fn play_note(
         column,
         tied: place.tied,
     };
-    let Sounding {
-        tone,
-        tied_note,
-        refused,
-    } = sounding_of(state, &state.accidentals, broken, context, note);
-    let accidentals = accidentals_after(state, note)?;
-    let tied = tied_notes_after(alloc, state, place.tied, tied_note)?;
-    push_note(items, tone, refused, column)?;
-    update_voice(state, accidentals, tied);
-    Ok(())
+    let sounding = sounding_of(state, &state.accidentals, broken, context, note);
+    if leaves_voice(state, note, place.tied) {
+        return push_note(items, sounding.tone, sounding.refused, column);
+    }
+    push_changing_note(alloc, state, items, note, sounding, column)
 }
 
 /// The faults of a chord without a note; its own comes first.

@@ -1,10 +1,10 @@
-use Rattle.std.proofs.Common.{◌∷◌, [], ◌++◌, ◌≡◌, ap, ◌∙◌, subst, sym}
+use Rattle.std.proofs.Common.{ℕ, ◌∷◌, [], ◌++◌, ◌≡◌, ◌↔◌, Some, ap, ◌∙◌, subst, sym}
 use Rattle.std.specs.Prelude.{option_to_list}
 use Rattle.std.specs.Result.{result_ok}
 use Rattle.abc_time.specs.Length.{length_of}
 use Rattle.abc_time.specs.Ratio.{IsRatio}
 use Rattle.abc_bars_voice.specs.Tuplet.{tuplet_factors}
-use Rattle.abc_bars_notes.proofs.Factors.{SameProducts, exact_along, same_length, same_products, all_ratios, for_some, unchanged, once_by, none_is, empty_is, plain_value, plain_exact}
+use Rattle.abc_bars_notes.proofs.Factors.{IsExactly, SameProducts, exact_along, same_length, same_products, all_ratios, for_some, known_exact, known_value, none_is, only_own, empty_is, whole_is}
 use Rattle.abc_bars_notes.proofs.lengths.product_of.Goals as goal
 
 pub length-requires-clause-factors : goal.length-requires-clause-factors
@@ -33,19 +33,22 @@ returns-clause-exact c =
     (subst (λ l. SameProducts (c.args.own ∷ c.unwrap_or.result ∷ c.unwrap_or-2.result ∷ c.unwrap_or-3.result ∷ c.unwrap_or-4.result ∷ []) l) list same)
     c.ok.ensures.value c.length.ensures.ok
 
--- nothing changes the unit
-plain : (c : goal.After-grains) → SameProducts [] (c.args.own ∷ (option_to_list c.args.outer ++ (tuplet_factors c.args.tuplet ++ c.args.broken.now)))
-plain c =
-    unchanged c.args.own c.args.outer c.args.tuplet c.args.broken.now
-    (once_by c.args.own (sym c.eq.ensures ∙ c.if-eq.true))
+-- only what is written multiplies the unit
+only : (c : goal.After-units_of) → record { num = c.args.own.num; den = 1 } ∷ [] ≡ c.args.own ∷ (option_to_list c.args.outer ++ (tuplet_factors c.args.tuplet ++ c.args.broken.now))
+only c =
+    only_own c.args.own c.args.outer c.args.tuplet c.args.broken.now c.if-own-eq1.true
     (none_is c.args.outer c.if-is_none.ensures)
     (none_is c.args.tuplet c.if-is_none-2.ensures)
     (empty_is c.args.broken.now (sym c.is_empty.ensures ∙ c.if-is_empty.true))
 
 pub returns-then-is_empty-clause-value : goal.returns-then-is_empty-clause-value
 returns-then-is_empty-clause-value c =
-    sym (ap result_ok (plain_value c.args.unit _ c.grains.result (subst IsRatio c.get-part.ensures.value c.get-part.ensures.range) (plain c) c.grains.ensures.exact c.grains.ensures.range))
+    subst (λ l. Some c.units_of.result ≡ result_ok (length_of c.args.unit l)) (only c)
+    (sym (ap result_ok (known_value c.args.unit (record { num = c.args.own.num; den = 1 } ∷ []) c.units_of.result (subst IsRatio c.get-part.ensures.value c.get-part.ensures.range) (whole_is c.args.own c.requires.own)
+    (c.units_of.ensures.exact, c.units_of.ensures.range))))
 
 pub returns-then-is_empty-clause-exact : goal.returns-then-is_empty-clause-exact
 returns-then-is_empty-clause-exact c =
-    plain_exact c.args.unit _ c.grains.result (subst IsRatio c.get-part.ensures.value c.get-part.ensures.range) (plain c) c.grains.ensures.exact c.grains.ensures.range
+    subst (λ l. (g : ℕ) → (Some c.units_of.result ≡ Some (record { 0 = g })) ↔ IsExactly c.args.unit l g) (only c)
+    (known_exact c.args.unit (record { num = c.args.own.num; den = 1 } ∷ []) c.units_of.result (subst IsRatio c.get-part.ensures.value c.get-part.ensures.range) (whole_is c.args.own c.requires.own)
+    (c.units_of.ensures.exact, c.units_of.ensures.range))
