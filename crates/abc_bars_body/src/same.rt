@@ -4,12 +4,10 @@ ghost use Rattle.std.specs.Prelude.{◌≡◌, ◌↔◌, IsTrue};
 
 use crate::body::{Body, Current};
 use crate::entry::Entry;
+use abc_bars_voice::Same;
 
-impl Current {
-    /// Whether both are the same voice; before it is mentioned, with equal states.
-    fn same(&self, other: &Current) -> bool
-        ensures { IsTrue result ↔ (self.now ≡ other.now) }
-    {
+impl Same for Current {
+    fn same(&self, other: &Current) -> bool {
         match (self, other) {
             (Current::Unnamed(state), Current::Unnamed(with)) => state.same(with),
             (Current::At(at), Current::At(place)) => at == place,
@@ -18,11 +16,8 @@ impl Current {
     }
 }
 
-impl Body {
-    /// Whether both bodies are equal.
-    fn same(&self, other: &Body) -> bool
-        ensures { IsTrue result ↔ (self.now ≡ other.now) }
-    {
+impl Same for Body {
+    fn same(&self, other: &Body) -> bool {
         self.voices.same(&other.voices)
             && self.current.same(&other.current)
             && self.another.same(&other.another)

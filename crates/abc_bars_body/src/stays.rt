@@ -9,7 +9,7 @@ ghost use Rattle.abc_bars_header.specs.Voices.{voice_at};
 use crate::body::{Body, Current};
 use crate::entry::Entry;
 use abc_bars_header::Voices;
-use abc_bars_voice::VoiceState;
+use abc_bars_voice::{Same, VoiceState};
 use abc_scan::Token;
 
 /// Whether both states are equal, if the comparison is cheap.

@@ -50,15 +50,10 @@ set_tempo defaults value =
 
 -- The values after a field with this value, of which only M:, L: and Q: set any.
 abbrev pub setting_result : Defaults → FieldKind → List ℕ → SettingResult
-setting_result defaults kinds.Reference value = record { defaults = defaults; fault = None }
-setting_result defaults kinds.Title value = record { defaults = defaults; fault = None }
 setting_result defaults kinds.Meter value = set_meter defaults value
 setting_result defaults kinds.UnitLength value = set_unit defaults value
 setting_result defaults kinds.Tempo value = set_tempo defaults value
-setting_result defaults kinds.Parts value = record { defaults = defaults; fault = None }
-setting_result defaults kinds.Voice value = record { defaults = defaults; fault = None }
-setting_result defaults kinds.Key value = record { defaults = defaults; fault = None }
-setting_result defaults kinds.Other value = record { defaults = defaults; fault = None }
+setting_result defaults _ value = record { defaults = defaults; fault = None }
 
 -- The values after a directive with this program, if it is one that MIDI has, or those before it and its fault.
 abbrev pub set_program : Defaults → Option ℕ → SettingResult

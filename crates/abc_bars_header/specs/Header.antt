@@ -134,14 +134,7 @@ own_line_result header (DirectiveLine directive) = own_directive_result header d
 -- The program that a field of this kind adds: an X:, with which a tune begins, adds the program of the file header.
 abbrev pub opening_program : FieldKind → Defaults → Option ℕ
 opening_program kinds.Reference defaults = defaults.program
-opening_program kinds.Title defaults = None
-opening_program kinds.Meter defaults = None
-opening_program kinds.UnitLength defaults = None
-opening_program kinds.Tempo defaults = None
-opening_program kinds.Parts defaults = None
-opening_program kinds.Voice defaults = None
-opening_program kinds.Key defaults = None
-opening_program kinds.Other defaults = None
+opening_program _ defaults = None
 
 -- The program that a line adds beside its own item.
 abbrev pub line_program : HeaderLine → Defaults → Option ℕ

@@ -1,5 +1,4 @@
 pub mod Defaults
-pub mod Equality
 pub mod FieldFault
 pub mod FieldKind
 pub mod FileHeader
@@ -9,6 +8,5 @@ pub mod Names
 pub mod Opening
 pub mod Reference
 pub mod SameDefaults
-pub mod SameHeader
 pub mod Voices
 pub mod VoicesLent

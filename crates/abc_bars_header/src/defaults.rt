@@ -120,12 +120,7 @@ pub(crate) fn setting_result(defaults: Defaults, kind: FieldKind, value: &[u8]) 
         FieldKind::Meter => set_meter(defaults, value),
         FieldKind::UnitLength => set_unit(defaults, value),
         FieldKind::Tempo => set_tempo(defaults, value),
-        FieldKind::Reference
-        | FieldKind::Title
-        | FieldKind::Parts
-        | FieldKind::Voice
-        | FieldKind::Key
-        | FieldKind::Other => SettingResult::accept(defaults),
+        _ => SettingResult::accept(defaults),
     }
 }
 

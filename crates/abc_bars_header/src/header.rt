@@ -311,14 +311,7 @@ fn opening_program(kind: FieldKind, defaults: &Defaults) -> Option<TuneProgram>
 {
     match kind {
         FieldKind::Reference => defaults.program,
-        FieldKind::Title
-        | FieldKind::Meter
-        | FieldKind::UnitLength
-        | FieldKind::Tempo
-        | FieldKind::Parts
-        | FieldKind::Voice
-        | FieldKind::Key
-        | FieldKind::Other => None,
+        _ => None,
     }
 }
 

@@ -3,7 +3,6 @@
 #![tactic(auto)]
 
 mod defaults;
-mod equal_defaults;
 mod field_fault;
 mod field_kind;
 mod file_header;
@@ -20,7 +19,6 @@ pub use defaults::{Defaults, NO_DEFAULTS, meter_in, unit_in};
 pub use field_kind::{FieldKind, kind_of};
 pub use file_header::{FileHeaderResult, file_header_directive_result, file_header_result};
 pub use header::{Header, HeaderResult, OwnResult, header_directive_result, header_result};
-pub use same_header::Known;
 pub use tune_program::TuneProgram;
 pub use voice_name::VoiceName;
 pub use voices::Voices;

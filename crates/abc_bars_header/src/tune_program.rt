@@ -1,10 +1,11 @@
 //! The program of a tune.
 
-ghost use Rattle.std.specs.Prelude.{◌≡◌, ◌≤◌, ◌↔◌, IsTrue};
+ghost use Rattle.std.specs.Prelude.{◌≡◌, ◌≤◌};
 ghost use Rattle.abc_bars_items.specs.Program.{program_of};
 ghost use Rattle.abc_bars_items.specs.declared.program.TheConstants.{HIGHEST_PROGRAM};
 
 use abc_bars_items::program_of;
+use abc_bars_voice::Same;
 use std::marker::Model;
 
 /// A program of MIDI (SMF 1.0). Contracts see its number.
@@ -42,11 +43,10 @@ impl TuneProgram {
     {
         self.number
     }
+}
 
-    /// Whether both are the same program.
-    pub fn same(self, other: TuneProgram) -> bool
-        ensures { IsTrue result ↔ (self ≡ other) }
-    {
+impl Same for TuneProgram {
+    fn same(&self, other: &TuneProgram) -> bool {
         self.get() == other.get()
     }
 }

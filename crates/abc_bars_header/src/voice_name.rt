@@ -1,12 +1,13 @@
 //! The names of voices.
 
-ghost use Rattle.std.specs.Prelude.{◌≡◌, ◌↔◌, IfOk, IsTrue, bytes_eq};
+ghost use Rattle.std.specs.Prelude.{◌≡◌, IfOk, bytes_eq};
 ghost use Rattle.std.specs.Cmp.{on_equiv, on_per, partial_equiv_from_equiv};
 ghost use Rattle.std.specs.Cmp.Lexicographic.{nat_list_eq_equiv};
 ghost use Rattle.std.specs.Cmp.Rules.{hashing};
 ghost use Rattle.std.specs.Hash as fed;
 ghost use Rattle.std.proofs.Common.{rules};
 
+use abc_bars_voice::Same;
 use abc_fold::Shared;
 use abc_text::Sequence;
 use std::alloc::{AllocError, Global};
@@ -40,11 +41,10 @@ impl VoiceName {
         let bytes = Shared::new(alloc, bytes)?;
         Ok(VoiceName { bytes })
     }
+}
 
-    /// Whether both are the same name.
-    pub fn same(&self, other: &VoiceName) -> bool
-        ensures { IsTrue result ↔ (self.now ≡ other.now) }
-    {
+impl Same for VoiceName {
+    fn same(&self, other: &VoiceName) -> bool {
         *self == *other
     }
 }

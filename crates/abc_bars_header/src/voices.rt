@@ -59,7 +59,7 @@ impl<S> Voices<S> {
     pub fn is_empty(&self) -> bool
         ensures { result ≡ (length self.now == 0) }
     {
-        self.names.len() == 0
+        self.len() == 0
     }
 
     /// The index of the voice with this name.

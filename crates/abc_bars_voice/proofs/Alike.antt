@@ -1,28 +1,30 @@
 -- Values that have the same parts.
-use Rattle.std.proofs.Common.{◌≡◌, ◌&&◌, int_eq, ℕ, suc, ◌<◌, List, [], ◌∷◌, Some, length, slice_get, refl, ap, arith}
-use Rattle.std.specs.Bool.{Decides}
-use Rattle.std.proofs.lemmas.Bool.Decides.{Decides-and, Decides-int_eq}
+use Rattle.std.proofs.Common.{◌≡◌, ℕ, suc, ◌<◌, List, [], ◌∷◌, Some, length, slice_get, refl, arith}
 use Rattle.std.proofs.lemmas.Option.{same_Some}
+use denote.Enum.Bare.{sameb, same_true, true_same}
+use Rattle.abc_fields.specs.declared.shift.Shift.{Shift}
 use Rattle.abc_fields.specs.declared.signature.Signature.{Signature}
+use Rattle.abc_text.specs.contracts.letter.Letter.{the_type}
+use Rattle.abc_text.specs.declared.letter.Letter.{Letter}
 use Rattle.abc_bars_voice.specs.declared.accidentals.LetterAccidentals.{LetterAccidentals}
+use Rattle.abc_bars_voice.specs.declared.tied.TiedNote.{TiedNote}
+use Rattle.abc_bars_voice.specs.Equality.{Equality, by_parts, options, pairs, sevens, threes, wholes}
 
--- The derived test of signatures decides whether they are the same.
-pub signature_tested : (x y : Signature)
-    → Decides (int_eq x.a y.a && (int_eq x.b y.b && (int_eq x.c y.c && (int_eq x.d y.d && (int_eq x.e y.e && (int_eq x.f y.f && int_eq x.g y.g)))))) (x ≡ y)
-signature_tested x y =
-    let all =
-    Decides-and _ _ (Decides-int_eq x.a y.a)
-    (Decides-and _ _ (Decides-int_eq x.b y.b)
-    (Decides-and _ _ (Decides-int_eq x.c y.c)
-    (Decides-and _ _ (Decides-int_eq x.d y.d)
-    (Decides-and _ _ (Decides-int_eq x.e y.e)
-    (Decides-and _ _ (Decides-int_eq x.f y.f) (Decides-int_eq x.g y.g)))))) in (
-      λ told.
-          let same = all.0 told in λ i.
-          record { a = same.0 i; b = same.1.0 i; c = same.1.1.0 i; d = same.1.1.1.0 i; e = same.1.1.1.1.0 i; f = same.1.1.1.1.1.0 i; g = same.1.1.1.1.1.1 i },
-      λ same.
-          all.1 (ap (λ s. s.a) same, (ap (λ s. s.b) same, (ap (λ s. s.c) same, (ap (λ s. s.d) same, (ap (λ s. s.e) same, (ap (λ s. s.f) same, ap (λ s. s.g) same)))))),
-    )
+-- What `==` compares of a signature, of a shift and of a tied note.
+abbrev pub signatures : Equality Signature
+signatures = by_parts (sevens wholes) (λ s. (s.a, (s.b, (s.c, (s.d, (s.e, (s.f, s.g)))))))
+    (λ p. record { a = p.0; b = p.1.0; c = p.1.1.0; d = p.1.1.1.0; e = p.1.1.1.1.0; f = p.1.1.1.1.1.0; g = p.1.1.1.1.1.1 }) (λ _. refl)
+
+abbrev pub shifts : Equality Shift
+shifts =
+    by_parts (threes (options wholes)) (λ s. (s.clef, (s.octave, s.transpose))) (λ p. record { clef = p.0; octave = p.1.0; transpose = p.1.1 }) (λ _. refl)
+
+abbrev letters : Equality Letter
+letters = record { same = sameb the_type; exact = λ a b. (same_true the_type tt a b, true_same the_type a b) }
+
+abbrev pub tied_notes : Equality TiedNote
+tied_notes = by_parts (pairs wholes (pairs letters wholes)) (λ t. (t.octave, (t.letter, t.alteration)))
+    (λ p. record { octave = p.0; letter = p.1.0; alteration = p.1.1 }) (λ _. refl)
 
 -- Accidentals that alter each letter alike are the same.
 pub accidentals_of_parts : (x y : LetterAccidentals) → x.a ≡ y.a → x.b ≡ y.b → x.c ≡ y.c → x.d ≡ y.d → x.e ≡ y.e → x.f ≡ y.f → x.g ≡ y.g → x ≡ y

@@ -6,15 +6,15 @@ use Rattle.std.specs.BTreeMap.{insert_entry, is_at}
 use Rattle.std.specs.Map.{lookup}
 use Rattle.std.specs.Cmp.{int_chain}
 use Rattle.std.specs.Int.Signed.{◌<ℤ◌, <ℤ_irrefl, lt_z_yes}
+use Rattle.std.proofs.lemmas.Bool.{false_from_ne_true}
 use Rattle.std.proofs.lemmas.Bool.Decides.{Decides-int_eq}
 use Rattle.std.proofs.lemmas.Cmp.{int_ranked}
 use Rattle.std.proofs.Math.Dec.{ltb→lt, lt→ltb}
 use Rattle.abc_bars_voice.specs.OctaveGroups.{AllAbove, AreGrouped, LieIn, group_at, group_of, octaves_of, with_value}
-use Rattle.abc_bars_voice.proofs.Reaching.{false_by}
 
 -- Keys that differ are not equal by their test.
 pub apart : (x y : ℤ) → ¬ (x ≡ y) → int_eq x y ≡ false
-apart x y h = false_by (int_eq x y) (λ e. h ((Decides-int_eq x y).0 e))
+apart x y h = false_from_ne_true (int_eq x y) (λ e. h ((Decides-int_eq x y).0 e))
 
 pub above_apart : (x y : ℤ) → x <ℤ y → int_eq x y ≡ false
 above_apart x y below = apart x y (λ e. <ℤ_irrefl (subst (λ z. x <ℤ z) (sym e) below))

@@ -1,6 +1,5 @@
 pub mod Alike
 pub mod Canonical
 pub mod Groups
-pub mod SameOctaves
 pub mod Reaching
 pub mod WholeParts

@@ -5,6 +5,7 @@ use Rattle.std.specs.Ordering.{match_ordering}
 use Rattle.std.specs.declared.cmp.Ordering.TheVariants.{Less, Equal, Greater}
 use Rattle.std.specs.BTreeMap.{insert_entry, is_at}
 use Rattle.std.specs.Map.{lookup}
+use Rattle.std.proofs.lemmas.Bool.{false_from_ne_true}
 use Rattle.std.proofs.lemmas.Bool.Decides.{Decides-int_eq, Decides-eqb}
 use Rattle.std.proofs.lemmas.Cmp.{int_ranked}
 use Rattle.std.proofs.lemmas.List.Elements.{All-head, All-tail}
@@ -63,10 +64,6 @@ seen_by : (letters : LetterAccidentals) (letter : Letter) (by : ℤ) (other : Le
     → on_letter (with_letter letters letter by) other ≡ (if same then Some by else on_letter letters other)
 seen_by letters letter by other same e = on_letters letters letter by other ∙ ap (λ b. if b then Some by else on_letter letters other) e
 
-pub false_by : (b : Bool) → (b ≡ true → ⊥) → b ≡ false
-false_by true h = absurd (h refl)
-false_by false h = refl
-
 -- on the letter that it is on
 pub on_its_letter : (letters : LetterAccidentals) (letter : Letter) (by : ℤ) (other : Letter) → capital letter ≡ capital other
     → on_letter (with_letter letters letter by) other ≡ Some by
@@ -76,7 +73,7 @@ on_its_letter letters letter by other e = seen_by letters letter by other true (
 pub on_another : (letters : LetterAccidentals) (letter : Letter) (by : ℤ) (other : Letter) → ¬ (capital letter ≡ capital other)
     → on_letter (with_letter letters letter by) other ≡ on_letter letters other
 on_another letters letter by other h =
-    seen_by letters letter by other false (false_by (capital letter == capital other) (λ e. h ((Decides-eqb (capital letter) (capital other)).0 e)))
+    seen_by letters letter by other false (false_from_ne_true (capital letter == capital other) (λ e. h ((Decides-eqb (capital letter) (capital other)).0 e)))
 
 -- an entry is found if it was put
 abbrev Octaves : Type 0

@@ -12,10 +12,6 @@ use Rattle.abc_fields.specs.Spelling.Unit.{IsUnit}
 use Rattle.abc_fields.specs.Unit.{part_as_unit}
 use Rattle.abc_bars_voice.specs.Unit.{IsUnitPart, unit_grains}
 
--- a number of grains that code computes
-abbrev pub cut_in : ℕ → Grains
-cut_in n = record { 0 = 929901772800 / n }
-
 -- a whole note is cut into 512 parts, and into as many parts as a lower power of two
 pub cut_exactly : (den : ℕ) → IsPowerUpTo 9 den → grains_of_a_whole_note / den * den ≡ grains_of_a_whole_note
 unfolding grains_of_a_whole_note
@@ -48,7 +44,7 @@ read_part text part h = record {
 }
 
 -- a part is known by how many there are in a whole note, and these are few
-pub by_parts : (part : Ratio) → IsUnitPart part → part_as_unit part.den ≡ part
+by_parts : (part : Ratio) → IsUnitPart part → part_as_unit part.den ≡ part
 by_parts part h = let one = sym h.one in λ i. record { num = one i; den = part.den }
 
 pub part_in_parts : (text : List ℕ) (part : Ratio) → IsUnit text part → IsUnitPart (part_as_unit part.den)
@@ -74,37 +70,24 @@ pub sixteenth : IsUnitPart (record { num = 1; den = 16 })
 sixteenth = record { one = refl; power = record { power = 4; small = omega arith; value = refl } }
 
 -- a unit is no longer than a whole note
-pub unit_short : (part : Ratio) → (unit_grains part).0 ≤ grains_of_the_longest_length
+unit_short : (part : Ratio) → (unit_grains part).0 ≤ grains_of_the_longest_length
 unfolding unit_grains grains_of_the_longest_length grains_of_a_whole_note
 unit_short part = let below = div-le_self 929901772800 part.den in omega (arith, below)
-
--- a quotient of grains, by a part that is a unit's
-pub unit_value : (n : ℕ) (inside self : Ratio) → n ≡ inside.den → inside ≡ self → cut_in n ≡ unit_grains self
-unfolding unit_grains grains_of_a_whole_note
-unit_value n inside self e v = ap cut_in (e ∙ ap (λ (r : Ratio). r.den) v)
-
-pub unit_exact_at : (n : ℕ) (inside self : Ratio) → n ≡ inside.den → inside ≡ self → IsUnitPart inside → IsLength self [] (cut_in n).0
-unit_exact_at n inside self e v part =
-    subst (λ (g : Grains). IsLength self [] g.0) (sym (unit_value n inside self e v)) (unit_exact self (subst IsUnitPart v part))
-
-pub unit_short_at : (n : ℕ) (inside self : Ratio) → n ≡ inside.den → inside ≡ self → (cut_in n).0 ≤ grains_of_the_longest_length
-unit_short_at n inside self e v =
-    subst (λ (g : Grains). g.0 ≤ grains_of_the_longest_length) (sym (unit_value n inside self e v)) (unit_short self)
 
 -- the shortest units that code counts
 abbrev pub part_in : ℕ → Grains
 part_in n = record { 0 = 1816214400 * n }
 
-part_is : (n : ℕ) (inside : Ratio) → n ≡ 512 / inside.den → IsUnitPart inside → part_in n ≡ cut_in inside.den
-part_is n inside e part = λ i. record { 0 = (ap (λ m. 1816214400 * m) e ∙ cut_by_parts inside.den part.power) i }
-
 pub part_value : (n : ℕ) (inside self : Ratio) → n ≡ 512 / inside.den → inside ≡ self → IsUnitPart inside → part_in n ≡ unit_grains self
-part_value n inside self e v part = part_is n inside e part ∙ unit_value inside.den inside self refl v
+unfolding unit_grains grains_of_a_whole_note
+part_value n inside self e v part =
+    let grains = ap (λ m. 1816214400 * m) e ∙ cut_by_parts inside.den part.power ∙ ap (λ (r : Ratio). 929901772800 / r.den) v in
+    λ i. record { 0 = grains i }
 
 pub part_exact : (n : ℕ) (inside self : Ratio) → n ≡ 512 / inside.den → inside ≡ self → IsUnitPart inside → IsLength self [] (part_in n).0
 part_exact n inside self e v part =
-    subst (λ (g : Grains). IsLength self [] g.0) (sym (part_is n inside e part)) (unit_exact_at inside.den inside self refl v part)
+    subst (λ (g : Grains). IsLength self [] g.0) (sym (part_value n inside self e v part)) (unit_exact self (subst IsUnitPart v part))
 
 pub part_short : (n : ℕ) (inside self : Ratio) → n ≡ 512 / inside.den → inside ≡ self → IsUnitPart inside → (part_in n).0 ≤ grains_of_the_longest_length
 part_short n inside self e v part =
-    subst (λ (g : Grains). g.0 ≤ grains_of_the_longest_length) (sym (part_is n inside e part)) (unit_short_at inside.den inside self refl v)
+    subst (λ (g : Grains). g.0 ≤ grains_of_the_longest_length) (sym (part_value n inside self e v part)) (unit_short self)

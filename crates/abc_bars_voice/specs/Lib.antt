@@ -1,5 +1,6 @@
 pub mod Accidentals
 pub mod Alteration
+pub mod Equality
 pub mod OctaveGroups
 pub mod Reaching
 pub mod VoiceState

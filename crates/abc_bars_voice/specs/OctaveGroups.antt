@@ -1,14 +1,12 @@
 -- How the accidentals of octaves are stored: in groups of adjacent octaves. Not in ABC 2.1.
-use Rattle.std.specs.Prelude.{◌≡◌, ℤ, pos, Bool, ◌&&◌, List, [], ◌∷◌, ◌++◌, Option, Some, None, unwrap_or}
+use Rattle.std.specs.Prelude.{◌≡◌, ℤ, pos, List, [], ◌∷◌, ◌++◌, Option, Some, None, unwrap_or, refl}
 use Rattle.std.specs.BTreeMap.{BTreeMap, insert_entry, is_at}
-use Rattle.std.specs.Cmp.{IsPartialEquivalence, and_per, int_eq_equiv, on_per, partial_equiv_from_equiv}
-use Rattle.std.specs.Cmp.Lexicographic.{lists_per, options_equiv, pointwise}
 use Rattle.std.specs.Int.{int_div_euclid}
 use Rattle.std.specs.Int.Signed.{◌<ℤ◌}
 use Rattle.std.specs.Map.{lookup}
-use Rattle.std.specs.Option.{option_eq}
-use Rattle.std.specs.Ordering.{int_cmp, int_eq}
+use Rattle.std.specs.Ordering.{int_cmp}
 use Rattle.abc_bars_voice.specs.declared.accidentals.LetterAccidentals.{LetterAccidentals}
+use Rattle.abc_bars_voice.specs.Equality.{Equality, by_parts, lists, options, pairs, sevens, wholes}
 
 -- The number of the group of an octave.
 abbrev pub group_of : ℤ → ℤ
@@ -48,28 +46,19 @@ abbrev pub AreGrouped : {V : Type 0} → List (ℤ × List (ℤ × V)) → Type 
 AreGrouped [] = Unit {0}
 AreGrouped (group ∷ groups) = AllAbove group.0 groups × LieIn group.0 group.1 × (¬ (group.1 ≡ [])) × AreGrouped groups
 
--- Whether both alter the same letters, each alike.
-abbrev pub same_letters : LetterAccidentals → LetterAccidentals → Bool
-same_letters x y =
-    option_eq int_eq x.c y.c && (option_eq int_eq x.d y.d && (option_eq int_eq x.e y.e && (option_eq int_eq x.f y.f
-    && (option_eq int_eq x.g y.g && (option_eq int_eq x.a y.a && option_eq int_eq x.b y.b)))))
+-- The accidentals on letters, letter by letter.
+abbrev pub letters_equality : Equality LetterAccidentals
+letters_equality = by_parts (sevens (options wholes)) (λ l. (l.c, (l.d, (l.e, (l.f, (l.g, (l.a, l.b)))))))
+    (λ p. record {
+      c = p.0;
+      d = p.1.0;
+      e = p.1.1.0;
+      f = p.1.1.1.0;
+      g = p.1.1.1.1.0;
+      a = p.1.1.1.1.1.0;
+      b = p.1.1.1.1.1.1;
+    }) (λ _. refl)
 
--- Whether both have the same accidentals in each octave.
-abbrev pub same_octaves : List (ℤ × LetterAccidentals) → List (ℤ × LetterAccidentals) → Bool
-same_octaves = pointwise (λ p q. int_eq p.0 q.0 && same_letters p.1 q.1)
-
--- Both tests are symmetric and transitive.
-letter_per : IsPartialEquivalence (option_eq int_eq)
-letter_per = partial_equiv_from_equiv (options_equiv int_eq_equiv)
-
-letters_per : IsPartialEquivalence same_letters
-letters_per =
-    and_per (on_per (λ l. l.c) letter_per)
-    (and_per (on_per (λ l. l.d) letter_per)
-    (and_per (on_per (λ l. l.e) letter_per)
-    (and_per (on_per (λ l. l.f) letter_per)
-    (and_per (on_per (λ l. l.g) letter_per)
-    (and_per (on_per (λ l. l.a) letter_per) (on_per (λ l. l.b) letter_per))))))
-
-pub octaves_per : IsPartialEquivalence same_octaves
-octaves_per = lists_per (and_per (on_per (λ p. p.0) (partial_equiv_from_equiv int_eq_equiv)) (on_per (λ p. p.1) letters_per))
+-- The accidentals of octaves, octave by octave.
+abbrev pub octaves_equality : Equality (List (ℤ × LetterAccidentals))
+octaves_equality = lists (pairs wholes letters_equality)

@@ -1,10 +1,11 @@
 //! The accidentals of a bar.
 
-ghost use Rattle.std.specs.Prelude.{◌≡◌, ◌↔◌, [], IsTrue, OnErr, OnOk};
+ghost use Rattle.std.specs.Prelude.{◌≡◌, [], OnErr, OnOk};
 ghost use Rattle.abc_bars_voice.specs.Accidentals.{letters_in, no_accidentals, on_letter, reach_of, with_accidental, with_letter};
 ghost use Rattle.abc_bars_voice.specs.Accidentals.{with_octave, written_on};
 
 use crate::octave_groups::OctaveGroups;
+use crate::same::Same;
 use abc_scan::{Letter, Note, Reach};
 use std::alloc::{AllocError, Global};
 use std::marker::Model;
@@ -136,11 +137,10 @@ impl OctaveAccidentals {
     {
         self.groups = self.groups.without_groups();
     }
+}
 
-    /// Whether both have the same accidentals in each octave.
-    pub(crate) fn same(&self, other: &OctaveAccidentals) -> bool
-        ensures { IsTrue result ↔ (self.now ≡ other.now) }
-    {
+impl Same for OctaveAccidentals {
+    fn same(&self, other: &OctaveAccidentals) -> bool {
         self.groups.same(&other.groups)
     }
 }

@@ -17,9 +17,10 @@ mod unit;
 mod voice_shift;
 mod voice_state;
 
-pub use accidentals::{Accidentals, LetterAccidentals, OctaveAccidentals};
+pub use accidentals::{Accidentals, LetterAccidentals};
 pub use alteration::{alteration_of, write_own};
 pub use meter::TuneMeter;
+pub use same::Same;
 pub use tempo::TuneTempo;
 pub use tempo_change::{is_out_of_range, tempo_item};
 pub use tied::TiedNote;

@@ -2,9 +2,11 @@
 
 ghost use Rattle.std.specs.Prelude.{◌≡◌, [], ◌∷◌, IfOk};
 ghost use Rattle.std.specs.BTreeMap.{insert_entry};
+ghost use Rattle.std.specs.Cmp.{partial_equiv_from_equiv};
 ghost use Rattle.std.specs.Ordering.{int_cmp};
 ghost use Rattle.abc_bars_voice.specs.Accidentals.{letters_in};
-ghost use Rattle.abc_bars_voice.specs.OctaveGroups.{octaves_per, same_octaves};
+ghost use Rattle.abc_bars_voice.specs.Equality.{equivalence};
+ghost use Rattle.abc_bars_voice.specs.OctaveGroups.{octaves_equality};
 
 use crate::accidentals::{LetterAccidentals, NO_LETTERS};
 use abc_fold::Shared;
@@ -85,9 +87,9 @@ impl Clone for OctaveGroup {
 }
 
 impl PartialEq for OctaveGroup {
-    ghost eq = { same_octaves };
+    ghost eq = { octaves_equality.same };
 
-    ghost laws = { octaves_per };
+    ghost laws = { partial_equiv_from_equiv (equivalence octaves_equality) };
 
     fn eq(&self, other: &OctaveGroup) -> bool {
         self.octaves.get() == other.octaves.get()

@@ -1,6 +1,6 @@
 //! The accidentals of all octaves, group by group.
 
-ghost use Rattle.std.specs.Prelude.{◌≡◌, ◌↔◌, [], IfOk, IsTrue};
+ghost use Rattle.std.specs.Prelude.{◌≡◌, [], IfOk};
 ghost use Rattle.std.specs.Option.{option_copied};
 ghost use Rattle.std.specs.BTreeMap.{insert_entry, is_at};
 ghost use Rattle.std.specs.Map.{lookup};
@@ -10,6 +10,7 @@ ghost use Rattle.abc_bars_voice.specs.OctaveGroups.{group_at, group_of, with_val
 
 use crate::accidentals::{LetterAccidentals, NO_LETTERS};
 use crate::octave_group::OctaveGroup;
+use crate::same::Same;
 use abc_fold::Shared;
 use std::alloc::{AllocError, Global};
 use std::collections::BTreeMap;
@@ -134,11 +135,10 @@ impl OctaveGroups {
         let group = self.group_with(octave, letters)?;
         self.with_group(group_of(octave), group)
     }
+}
 
-    /// Whether both have the same groups.
-    pub(crate) fn same(&self, other: &OctaveGroups) -> bool
-        ensures { IsTrue result ↔ (self.now ≡ other.now) }
-    {
+impl Same for OctaveGroups {
+    fn same(&self, other: &OctaveGroups) -> bool {
         match (&self.groups, &other.groups) {
             (Some(groups), Some(with)) => groups.get() == with.get(),
             (Some(groups), None) | (None, Some(groups)) => groups.get().is_empty(),

@@ -3,7 +3,7 @@
 use abc_scan::Letter;
 
 /// A note of a voice's last note or chord that is tied, as it was written (ABC 2.1 section 4.11).
-#[derive(Clone, Copy)]
+#[derive(Clone, Copy, PartialEq, Eq)]
 pub struct TiedNote {
     /// Octaves above that of the capital letters.
     pub octave: i32,

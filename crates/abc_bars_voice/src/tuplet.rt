@@ -1,11 +1,12 @@
 //! Open tuplets.
 
-ghost use Rattle.std.specs.Prelude.{◌≡◌, ◌↔◌, IsTrue};
+ghost use Rattle.std.specs.Prelude.{◌≡◌};
 ghost use Rattle.abc_bars_voice.specs.Tuplet.{is_tuplet_number, is_compound, default_q, tuplet_with, tuplet_by, begin_tuplet};
 ghost use Rattle.abc_bars_voice.specs.Tuplet.{count_down, tuplet_ratio};
 ghost use Rattle.abc_time.specs.Ratio.{IsRatio};
 
 use crate::meter::TuneMeter;
+use crate::same::Same;
 use abc_fields::{FaultCode, Meter};
 use abc_scan::Tuplet;
 use abc_time::Ratio;
@@ -70,11 +71,10 @@ impl OpenTuplet {
             den: u32::from(self.p),
         }
     }
+}
 
-    /// Whether both are the same tuplet, with the same count left.
-    pub(crate) fn same(self, other: OpenTuplet) -> bool
-        ensures { IsTrue result ↔ (self ≡ other) }
-    {
+impl Same for OpenTuplet {
+    fn same(&self, other: &OpenTuplet) -> bool {
         self.p == other.p && self.q == other.q && self.left == other.left
     }
 }

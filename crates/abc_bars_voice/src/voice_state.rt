@@ -33,6 +33,11 @@ pub struct VoiceState {
 }
 
 impl VoiceState {
+    /// Whether a comparison is cheap: it has accidentals of at most two groups of octaves. No result depends on it.
+    pub fn is_small(&self) -> bool {
+        self.accidentals.is_small()
+    }
+
     /// Ends the accidentals, at a bar line, a key or a part.
     pub fn clear_accidentals(&mut self)
         ensures { self.new ≡ without_accidentals self.old }

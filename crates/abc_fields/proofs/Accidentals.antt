@@ -16,6 +16,7 @@ use Rattle.abc_text.proofs.Letters.{accidental_of-is, letter_exact}
 use Rattle.abc_fields.specs.declared.accidental.Change.{Change}
 use Rattle.abc_fields.specs.Accidental.{is_letter, and_change, at_letter, changes_with, changes_of}
 use Rattle.abc_fields.specs.Spelling.Accidental.{IsChange, AreChanges}
+use Rattle.abc_fields.proofs.Readings.{bound, map_some}
 
 abbrev first : List ℕ → ℕ
 first text = position_or_len is_letter text
@@ -118,28 +119,6 @@ record First (text : List ℕ) (changes : List Change) : Type 0 where
   there : changes_of rest ≡ Some more
   are : changes ≡ change ∷ more
 
-record FirstParts (letter : Option Letter) (accidental : Option Accidental) (behind : Option (List Change)) (changes : List Change) : Type 0 where
-  change : Change
-  more : List Change
-  letter_is : letter ≡ Some change.letter
-  accidental_is : accidental ≡ Some change.accidental
-  behind_is : behind ≡ Some more
-  are : changes ≡ change ∷ more
-
-first_parts : (letter : Option Letter) (accidental : Option Accidental) (behind : Option (List Change)) (changes : List Change) → option_and_then (Behind accidental behind) letter ≡ Some changes
-    → FirstParts letter accidental behind changes
-first_parts None accidental behind changes e = cc
-first_parts (Some l) None behind changes e = cc
-first_parts (Some l) (Some a) None changes e = cc
-first_parts (Some l) (Some a) (Some more) changes e = record {
-  change = record { accidental = a; letter = l };
-  more = more;
-  letter_is = refl;
-  accidental_is = refl;
-  behind_is = refl;
-  are = cc;
-}
-
 first_of_changes : (text : List ℕ) (changes : List Change) → changes_of text ≡ Some changes → ((text ≡ []) × (changes ≡ [])) ⊎ First text changes
 unfolding changes_of
 first_of_changes [] changes e = inl (refl, cc)
@@ -147,18 +126,22 @@ first_of_changes (b ∷ bs) changes e = ⊎_elim
     (λ inside.
     let text = b ∷ bs in
     let at = first text in
-    let parts = first_parts (letter_of (get_or text at 0)) (accidental_of (take at text)) (changes_of (drop (at + 1) text)) changes (sym (marks_first text [] inside) ∙ e) in
+    let behind = changes_of (drop (at + 1) text) in
+    let letter = bound (Behind (accidental_of (take at text)) behind) (letter_of (get_or text at 0)) changes (sym (marks_first text [] inside) ∙ e) in
+    let accidental = bound (and_change letter.0 behind) (accidental_of (take at text)) changes letter.2 in
+    let change : Change = record { accidental = accidental.0; letter = letter.0 } in
+    let more = map_some (λ (more : List Change). change ∷ more) behind changes accidental.2 in
     inr record {
-      change = parts.change;
-      more = parts.more;
+      change = change;
+      more = more.0;
       rest = drop (at + 1) text;
       here = record {
         byte = get_or text at 0;
-        spelling = split_at_first is_letter text 0 inside ∙ ap (λ marks. marks ++ get_or text at 0 ∷ drop (at + 1) text) (accidental_of-is (take at text) parts.change.accidental parts.accidental_is);
-        letter = (letter_exact (get_or text at 0) parts.change.letter).0 parts.letter_is;
+        spelling = split_at_first is_letter text 0 inside ∙ ap (λ marks. marks ++ get_or text at 0 ∷ drop (at + 1) text) (accidental_of-is (take at text) accidental.0 accidental.1);
+        letter = (letter_exact (get_or text at 0) letter.0).0 letter.1;
       };
-      there = parts.behind_is;
-      are = parts.are;
+      there = more.1;
+      are = more.2;
     })
     (λ past. let none : None ≡ Some changes = sym (no_letter (b ∷ bs) [] past (omega arith)) ∙ e in cc)
     (cases_lt (first (b ∷ bs)) (length (b ∷ bs)))

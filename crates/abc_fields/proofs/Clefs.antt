@@ -12,7 +12,7 @@ use Rattle.std.proofs.lemmas.List.Prefix.{end_rest}
 use Rattle.std.proofs.lemmas.Slice.Eq.{ends_is}
 use Rattle.abc_text.proofs.Fronts.{last_split}
 use Rattle.abc_fields.specs.Clef.{mark_of, clef_of, names_clef, without_line, is_clef_name}
-use Rattle.abc_fields.proofs.Readings.{named}
+use Rattle.abc_fields.proofs.Readings.{branches, named}
 use Rattle.abc_fields.specs.Spelling.Clef.{EndsIn, HasMark, HasNoMark, IsClef, clef_names, IsClefName}
 
 -- the mark of a clef
@@ -31,14 +31,12 @@ one_end text low high =
 pub mark_read : (text : List ℕ) (n : ℤ) → mark_of text ≡ Some n → HasMark text n
 unfolding mark_of
 mark_read text n e = ⊎_elim
-    (λ high. inl (ends_true text _ high, let same : Some (pos 12) ≡ Some n = sym (cond-true _ _ _ high) ∙ e in cc))
-    (λ no_high.
-    let rest = sym (cond-false _ _ _ no_high) ∙ e in
-    ⊎_elim
-    (λ low. inr (ends_true text _ low, let same : Some (negsuc 11) ≡ Some n = sym (cond-true _ _ _ low) ∙ rest in cc))
-    (λ no_low. let none : None ≡ Some n = sym (cond-false _ _ _ no_low) ∙ rest in cc)
-    (cases_Bool (ends_with nat_eq text (codes "-8"))))
-    (cases_Bool (ends_with nat_eq text (codes "+8")))
+    (λ high. inl (ends_true text _ high.0, let same : Some (pos 12) ≡ Some n = high.1 in cc))
+    (λ rest. ⊎_elim
+    (λ low. inr (ends_true text _ low.0, let same : Some (negsuc 11) ≡ Some n = low.1 in cc))
+    (λ no_low. let none : None ≡ Some n = no_low.1 in cc)
+    (branches (ends_with nat_eq text (codes "-8")) _ _ _ rest.1))
+    (branches (ends_with nat_eq text (codes "+8")) _ _ _ e)
 
 pub mark_known : (text : List ℕ) (n : ℤ) → HasMark text n → mark_of text ≡ Some n
 unfolding mark_of

@@ -19,7 +19,7 @@ use Rattle.abc_text.specs.Word.{bytes_before_blank}
 use Rattle.abc_fields.specs.Tempo.{part_of, fraction_of, word_in_front, behind_word, added, sum_with, sum_of}
 use Rattle.abc_fields.specs.Spelling.Tempo.{IsFraction, IsSum}
 use Rattle.abc_text.proofs.Powers.{power_from, power_to}
-use Rattle.abc_fields.proofs.Readings.{bound}
+use Rattle.abc_fields.proofs.Readings.{bound, map_some}
 use Rattle.abc_text.proofs.Numbers.{number_of-spells, number_of-spelled}
 use Rattle.abc_text.proofs.Fronts.{front_stops, front_exact, front_none, front_other, take_exact, drop_exact}
 use Rattle.abc_text.proofs.Cuts.{cut_at-found, cut_at-cuts}
@@ -201,10 +201,6 @@ sum_of-zero : (text : List ℕ) → sum_of 0 text ≡ None
 unfolding sum_of
 sum_of-zero text = refl
 
-added_parts : (part sum : ℕ) (o : Option ℕ) → added part o ≡ Some sum → (n : ℕ) × (o ≡ Some n) × (sum ≡ part + n)
-added_parts part sum None e = cc
-added_parts part sum (Some n) e = (n, refl, cc)
-
 -- by what follows the first word
 sum_by : (most : ℕ) (text : List ℕ) (sum : ℕ) → ((rest : List ℕ) (n : ℕ) → sum_of most rest ≡ Some n → IsSum most rest n) → (behind : List ℕ) → behind_word text ≡ behind
     → (part : ℕ) → IsFraction (word_in_front text) part → sum_with (sum_of most) (behind_word text) part ≡ Some sum → IsWord text → IsSum (suc most) text sum
@@ -219,7 +215,7 @@ sum_by most text sum rest_is [] b part word total cut =
       gap_is = cut.gap_is;
     })
 sum_by most text sum rest_is (x ∷ xs) b part word total cut =
-    let more = added_parts part sum (sum_of most (x ∷ xs)) (sym (ap (λ l. sum_with (sum_of most) l part) b) ∙ total) in
+    let more = map_some (λ n. part + n) (sum_of most (x ∷ xs)) sum (sym (ap (λ l. sum_with (sum_of most) l part) b) ∙ total) in
     inr (record {
       word = word_in_front text;
       gap = cut.gap;

@@ -1,5 +1,5 @@
 -- What the front of an order plays, byte by byte: how many groups are open, and how great a count is.
-use Rattle.std.proofs.Common.{◌≡◌, ℕ, zero, suc, ◌+◌, ◌-◌, ◌*◌, ◌^◌, ◌<◌, ◌≤◌, ◌≢◌, Bool, true, false, not, ◌&&◌, ◌||◌, ◌==◌, cond, ltb, List, [], ◌∷◌, length, take, get_or, Option, Some, None, Ok}
+use Rattle.std.proofs.Common.{◌≡◌, ℕ, zero, suc, ◌+◌, ◌-◌, ◌*◌, ◌^◌, ◌<◌, ◌≤◌, ◌≢◌, Bool, true, false, not, ◌||◌, ◌==◌, cond, ltb, List, [], ◌∷◌, length, take, get_or, Option, Some, None, Ok}
 use Rattle.std.proofs.Common.{refl, sym, ap, ◌∙◌, subst, ⊎_elim, arith}
 use Rattle.std.specs.List.{fold}
 use Rattle.std.specs.Char.{is_ascii_digit, is_ascii_uppercase}
@@ -15,7 +15,7 @@ use Rattle.abc_fields.specs.declared.parts.Place.{Place}
 use Rattle.abc_fields.specs.Parts.{is_ignored, order_bytes, ends_item, begins_item, with_digit, at, behind_digit, next, next_of, ends_order, is_order, parts_of}
 use Rattle.abc_fields.specs.Letters.{Played, nothing_played, count_or_once, letters_so_far, with_item, close_group, count_on, play_on, letters_of, is_order_byte, read_on, front_of}
 use Rattle.abc_fields.proofs.LetterLaws.{plays_letter, plays_open, plays_close, plays_digit}
-use Rattle.abc_fields.proofs.Orders.{order_lost, begins_too, positive_step, guarded, guarded_digit, branches, accepts}
+use Rattle.abc_fields.proofs.Orders.{order_lost, begins_too, positive_step, guarded_digit, Follows, by_letter, by_open, by_close, by_digit, follows, accepts}
 
 -- the number of digits of the count after an item; one digit is not 0 if the count is positive
 abbrev CountFits : LastItem → Option ℕ → Type 0
@@ -225,33 +225,13 @@ digit_leads depth (Item digits positive) played b after fits digit e =
           (subst (Fits (at depth longer)) (sym (plays_digit played b digit)) (record { groups = fits.groups; few = fits.few; counted = counted }));
     }
 
-next_leads : (place : Place) (played : Played) (b : ℕ) (after : Place) → Fits place played → next place b ≡ Some after → Leads played b after
-unfolding next
-next_leads place played b after fits e = ⊎_elim
-    (λ letter.
-    let given = guarded (begins_item place.before) (at place.depth (Item 0 false)) after letter.1 in
-    subst (Leads played b) given.1 (letter_leads place played b fits letter.0 given.0))
-    (λ other. ⊎_elim
-    (λ opens.
-    let given = guarded (begins_item place.before && ltb place.depth 32) (at (place.depth + 1) Nothing) after opens.1 in
-    let both = and_parts (begins_item place.before) (ltb place.depth 32) given.0 in
-    let is : b ≡ 40 = eqb-true b 40 opens.0 in
-    subst (Leads played b) given.1
-    (subst (λ k. Leads played k (at (place.depth + 1) Nothing)) (sym is) (open_leads place played fits both.0 (ltb-true place.depth 32 both.1))))
-    (λ others. ⊎_elim
-    (λ closes.
-    let given = guarded (ends_item place.before && ltb 0 place.depth) (at (place.depth - 1) (Item 0 false)) after closes.1 in
-    let both = and_parts (ends_item place.before) (ltb 0 place.depth) given.0 in
-    let is : b ≡ 41 = eqb-true b 41 closes.0 in
-    subst (Leads played b) given.1
-    (subst (λ k. Leads played k (at (place.depth - 1) (Item 0 false))) (sym is) (close_leads place played fits both.0 (ltb-true 0 place.depth both.1))))
-    (λ rest. ⊎_elim
-    (λ digit. digit_leads place.depth place.before played b after fits digit.0 digit.1)
-    (λ none. cc)
-    (branches (is_ascii_digit b) _ _ after rest.1))
-    (branches (b == 41) _ _ after others.1))
-    (branches (b == 40) _ _ after other.1))
-    (branches (is_ascii_uppercase b) _ _ after e)
+next_leads : (place : Place) (played : Played) (b : ℕ) (after : Place) → Fits place played → Follows place b after → Leads played b after
+next_leads place played b after fits (by_letter upper begins to) = subst (Leads played b) to (letter_leads place played b fits upper begins)
+next_leads place played b after fits (by_open is begins few to) =
+    subst (λ k. Leads played k after) (sym is) (subst (Leads played 40) to (open_leads place played fits begins few))
+next_leads place played b after fits (by_close is ends some to) =
+    subst (λ k. Leads played k after) (sym is) (subst (Leads played 41) to (close_leads place played fits ends some))
+next_leads place played b after fits (by_digit digit to) = digit_leads place.depth place.before played b after fits digit to
 
 -- a byte that is not ignored
 read_step : (place : Place) (played : Played) (b : ℕ) (rest : List ℕ) → Fits place played → is_ignored b ≡ false
@@ -264,7 +244,7 @@ read_step place played b rest fits read ends =
       | None ↦ λ is ended. absurd (both_ways (ends_order (fold next_of None (order_bytes rest))) (ap ends_order (order_lost (order_bytes rest))) ended)
       | Some after ↦
           λ is ended.
-          let leads = next_leads place played b after fits is in
+          let leads = next_leads place played b after fits (follows place b after is) in
           let goes : play_on played b ≡ read_on played b = sym (ap (λ t. cond t (play_on played b) played) leads.says) in
           record {
             accepts_it = leads.accepts_it;

@@ -4,13 +4,12 @@ use Rattle.std.proofs.Common.{arith}
 use Rattle.std.specs.Prelude.{int_lt, IfSome}
 use Rattle.std.specs.Option.{option_map}
 use Rattle.std.specs.Str.{bytes_eq}
-use Rattle.std.proofs.lemmas.Bool.{cond-true, cond-false, cases_Bool, or_cases, or_parts, or_from, false_from_ne_true, both_ways}
+use Rattle.std.proofs.lemmas.Bool.{cond-true, cond-false, or_cases, or_parts, or_from, false_from_ne_true, both_ways}
 use Rattle.std.proofs.lemmas.Int.{ints}
 use Rattle.std.proofs.lemmas.Slice.Eq.{bytes_eq-Decides}
 use Rattle.abc_fields.specs.declared.fault.FaultCode.{FaultCode}
 use Rattle.abc_fields.specs.declared.fault.FaultCode.TheVariants.{BadKey}
 use Rattle.abc_fields.specs.declared.key.Key.{Key}
-use Rattle.abc_fields.specs.declared.shift.Shift.{Shift}
 use Rattle.abc_fields.specs.declared.signature.Signature.{Signature}
 use Rattle.abc_fields.specs.declared.tonic.Basis.{Basis}
 use Rattle.abc_fields.specs.declared.tonic.Basis.TheVariants.{Named, Explicit}
@@ -35,7 +34,7 @@ use Rattle.abc_fields.proofs.Tonics.{no_length, tonic_from, tonic_to, basis_from
 use Rattle.abc_fields.proofs.Starts.{begins_from, begins_to, sets_from, sets_to}
 use Rattle.abc_fields.proofs.Signatures.{natural_range, signature_of_range}
 use Rattle.abc_fields.proofs.Listings.{listed_from, listed_to, listed_range}
-use Rattle.abc_fields.proofs.Readings.{Reads, reads}
+use Rattle.abc_fields.proofs.Readings.{branches, map_some, Reads, reads}
 
 -- the key on a tonic
 in_range : (sharps : ℤ) → int_lt sharps (negsuc 6) ≡ false → int_lt (pos 7) sharps ≡ false → IsSharps sharps
@@ -53,12 +52,12 @@ key_of_sharps sharps minor = record { signature = Some (signature_of sharps); sh
 with_from : (sharps : ℤ) (minor : Bool) (key : Key) → key_with sharps minor ≡ Some key → IsSharps sharps × (key ≡ key_of_sharps sharps minor)
 unfolding key_with
 with_from sharps minor key e = ⊎_elim
-    (λ t. let none : None ≡ Some key = sym (cond-true _ None (Some (key_of_sharps sharps minor)) t) ∙ e in cc)
-    (λ t.
-    let known : Some (key_of_sharps sharps minor) ≡ Some key = sym (cond-false _ None (Some (key_of_sharps sharps minor)) t) ∙ e in
-    let parts = or_parts (int_lt sharps (negsuc 6)) (int_lt (pos 7) sharps) t in
+    (λ h. let none : None ≡ Some key = h.1 in cc)
+    (λ h.
+    let known : Some (key_of_sharps sharps minor) ≡ Some key = h.1 in
+    let parts = or_parts (int_lt sharps (negsuc 6)) (int_lt (pos 7) sharps) h.0 in
     (in_range sharps parts.0 parts.1, cc))
-    (cases_Bool (int_lt sharps (negsuc 6) || int_lt (pos 7) sharps))
+    (branches (int_lt sharps (negsuc 6) || int_lt (pos 7) sharps) _ _ _ e)
 
 with_to : (sharps : ℤ) (minor : Bool) → IsSharps sharps → key_with sharps minor ≡ Some (key_of_sharps sharps minor)
 unfolding key_with
@@ -86,39 +85,31 @@ first_from value first rest e = let are = (words_exact value (first ∷ rest)).0
 first_to : (value first behind : List ℕ) → IsFirstWord value first behind → words_of value ≡ first ∷ words_of behind
 first_to value first behind is = (words_exact value (first ∷ words_of behind)).1 (behind, is, (words_exact behind (words_of behind)).0 refl)
 
-toneless_from : (value first behind : List ℕ) (found : Key × List ℕ) → HasNoTonic value → IsFirstWord value first behind
-    → option_map {T = Key} {U = Key × List ℕ} (λ key. (key, value)) (toneless_start first) ≡ Some found → IsStart value found.0 found.1
-toneless_from value first behind found toneless is e = ⊎_elim
-    (λ t.
-    let known : Some (empty_key, value) ≡ Some found = sym (ap (option_map {T = Key} {U = Key × List ℕ} (λ key. (key, value))) (cond-true (begins_accidental first) _ _ t)) ∙ e in
-    let same : (empty_key, value) ≡ found = cc in
-    subst (λ (p : Key × List ℕ). IsStart value p.0 p.1) same (listed first behind toneless is (begins_from first t) refl refl))
-    (λ t.
-    let later = sym (ap (option_map {T = Key} {U = Key × List ℕ} (λ key. (key, value))) (cond-false (begins_accidental first) _ _ t)) ∙ e in
-    ⊎_elim
-    (λ u.
-    let known : Some (unchanged_key, value) ≡ Some found = sym (ap (option_map {T = Key} {U = Key × List ℕ} (λ key. (key, value))) (cond-true (sets_properties first) _ _ u)) ∙ later in
-    let same : (unchanged_key, value) ≡ found = cc in
-    subst (λ (p : Key × List ℕ). IsStart value p.0 p.1) same
-    (properties first behind toneless is (λ begins. both_ways (begins_accidental first) t (begins_to first begins)) (sets_from first u) refl refl))
-    (λ u. let none : None ≡ Some found = sym (ap (option_map {T = Key} {U = Key × List ℕ} (λ key. (key, value))) (cond-false (sets_properties first) _ _ u)) ∙ later in cc)
-    (cases_Bool (sets_properties first)))
-    (cases_Bool (begins_accidental first))
+toneless_from : (value first behind : List ℕ) (start : Key) → HasNoTonic value → IsFirstWord value first behind → toneless_start first ≡ Some start → IsStart value start value
+toneless_from value first behind start toneless is e = ⊎_elim
+    (λ h. let known : Some empty_key ≡ Some start = h.1 in listed first behind toneless is (begins_from first h.0) (cc) refl)
+    (λ h. ⊎_elim
+    (λ k.
+    let known : Some unchanged_key ≡ Some start = k.1 in
+    properties first behind toneless is (λ begins. both_ways (begins_accidental first) h.0 (begins_to first begins)) (sets_from first k.0) (cc) refl)
+    (λ k. let none : None ≡ Some start = k.1 in cc)
+    (branches (sets_properties first) _ _ _ h.1))
+    (branches (begins_accidental first) _ _ _ e)
 
 by_words : (value : List ℕ) (found : Key × List ℕ) (words : List (List ℕ)) → words_of value ≡ words → HasNoTonic value → start_by_words value words ≡ Some found → IsStart value found.0 found.1
 by_words value found [] w toneless e = cc
-by_words value found (first ∷ rest) w toneless e = let is = first_from value first rest w in toneless_from value first is.0 found toneless is.1 e
+by_words value found (first ∷ rest) w toneless e =
+    let is = first_from value first rest w in
+    let start = map_some {A = Key} {B = Key × List ℕ} (λ key. (key, value)) (toneless_start first) found e in
+    subst (λ (p : Key × List ℕ). IsStart value p.0 p.1) (sym start.2) (toneless_from value first is.0 start.0 toneless is.1 start.1)
 
 tonal_from : (value : List ℕ) (found : Key × List ℕ) (major : ℤ) (behind : List ℕ) (o : Option (Basis × List ℕ)) → basis_at behind ≡ o → IsTonic value major behind
     → tonal_start major o ≡ Some found → IsStart value found.0 found.1
 tonal_from value found major behind None b is e = cc
-tonal_from value found major behind (Some basis) b is e = by_key (key_on major basis.0) refl e
-  where
-    by_key : (o : Option Key) → key_on major basis.0 ≡ o → option_map {T = Key} {U = Key × List ℕ} (λ key. (key, basis.1)) o ≡ Some found → IsStart value found.0 found.1
-    by_key None k e = cc
-    by_key (Some key) k e =
-        let same : (key, basis.1) ≡ found = cc in
-        subst (λ (p : Key × List ℕ). IsStart value p.0 p.1) same (tonal major behind basis.0 is (basis_from behind basis.0 basis.1 b) (key_on_from major basis.0 key k))
+tonal_from value found major behind (Some basis) b is e =
+    let key = map_some {A = Key} {B = Key × List ℕ} (λ key. (key, basis.1)) (key_on major basis.0) found e in
+    subst (λ (p : Key × List ℕ). IsStart value p.0 p.1) (sym key.2)
+    (tonal major behind basis.0 is (basis_from behind basis.0 basis.1 b) (key_on_from major basis.0 key.0 key.1))
 
 by_tonic : (value : List ℕ) (found : Key × List ℕ) (o : Option (ℤ × List ℕ)) → tonic_at value ≡ o → start_by value o ≡ Some found → IsStart value found.0 found.1
 by_tonic value found None t e = by_words value found (words_of value) refl (no_tonic_from value t) e
@@ -163,20 +154,16 @@ pub record Completes (start : Key) (words : List (List ℕ)) (key : Key) : Type 
   pub minor : key.minor ≡ start.minor
   pub shift : IsShift words key.shift
 
-by_shift : (start : Key) (words : List (List ℕ)) (key : Key) (o : Option Shift) → shift_of words ≡ o → option_map (key_after start words) o ≡ Some key → Completes start words key
-by_shift start words key None s e = cc
-by_shift start words key (Some shift) s e =
-    let same : key_after start words shift ≡ key = cc in
-    subst (Completes start words) same (record {
+completed_from : (start : Key) (words : List (List ℕ)) (key : Key) → complete_key start words ≡ Some key → Completes start words key
+unfolding complete_key
+completed_from start words key e =
+    let shift = map_some (key_after start words) (shift_of words) key e in
+    subst (Completes start words) (sym shift.2) (record {
       signature = signature_from start.signature words;
       sharps = refl;
       minor = refl;
-      shift = (shift_exact words shift).0 s;
+      shift = (shift_exact words shift.0).0 shift.1;
     })
-
-completed_from : (start : Key) (words : List (List ℕ)) (key : Key) → complete_key start words ≡ Some key → Completes start words key
-unfolding complete_key
-completed_from start words key e = by_shift start words key (shift_of words) refl e
 
 completed_to : (start : Key) (words : List (List ℕ)) (key : Key) → Completes start words key → complete_key start words ≡ Some key
 unfolding complete_key
@@ -222,12 +209,9 @@ by_start value key (Some start) s e =
 key_in_from : (value : List ℕ) (key : Key) → key_in value ≡ Some key → IsKey value key
 unfolding key_in
 key_in_from value key e = ⊎_elim
-    (λ t.
-    let known : Some empty_key ≡ Some key = sym (cond-true _ (Some empty_key) (spelled_key (start_of value)) t) ∙ e in
-    let same : key ≡ empty_key = cc in
-    nothing (nothing_from value t) same)
-    (λ t. spelled (by_start value key (start_of value) refl (sym (cond-false _ (Some empty_key) (spelled_key (start_of value)) t) ∙ e)))
-    (cases_Bool ((length value == 0) || bytes_eq value (codes "none")))
+    (λ h. let known : Some empty_key ≡ Some key = h.1 in nothing (nothing_from value h.0) (cc))
+    (λ h. spelled (by_start value key (start_of value) refl h.1))
+    (branches ((length value == 0) || bytes_eq value (codes "none")) _ _ _ e)
 
 key_in_to : (value : List ℕ) (key : Key) → IsKey value key → key_in value ≡ Some key
 unfolding key_in

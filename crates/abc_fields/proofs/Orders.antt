@@ -1,11 +1,12 @@
 -- Laws of orders of parts: the places of an order, and its grammar.
-use Rattle.std.proofs.Common.{◌≡◌, ℕ, suc, ◌+◌, ◌-◌, ◌*◌, ◌<◌, ◌≤◌, ◌⊎◌, ◌↔◌, Bool, true, false, not, ◌&&◌, ◌||◌, ◌==◌, cond, ltb, List, [], ◌∷◌, ◌++◌, length, length-append, append-nil, drop, get_or}
-use Rattle.std.proofs.Common.{replicate, Option, Some, None, Result, Ok, Err, refl, sym, ap, ◌∙◌, subst, inl, inr, ⊎_elim, arith, append_assoc, add-one, add-zero, drop-cons}
+use Rattle.std.proofs.Common.{◌≡◌, ℕ, suc, ◌+◌, ◌-◌, ◌*◌, ◌<◌, ◌≤◌, ◌↔◌, Bool, true, false, not, ◌&&◌, ◌||◌, ◌==◌, cond, ltb, List, [], ◌∷◌, ◌++◌, length, length-append, append-nil, drop, get_or}
+use Rattle.std.proofs.Common.{replicate, Option, Some, None, Result, Ok, Err, refl, sym, ap, ◌∙◌, subst, ⊎_elim, arith, append_assoc, add-one, add-zero, drop-cons}
 use Rattle.std.specs.List.{AllPass, fold, concat}
 use Rattle.std.specs.Char.{is_ascii_digit, is_ascii_uppercase}
 use Rattle.std.proofs.lemmas.Bool.{both_ways, false_from_ne_true, and_parts, or_cases, or_right, ne_eqb, ltb-true, lt-ltb, eqb-true}
 use Rattle.std.proofs.lemmas.Bool.Decides.{nat_tests}
 use Rattle.std.proofs.lemmas.List.Sums.{fold-append}
+use Rattle.std.proofs.lemmas.Option.{cond_some}
 use Rattle.std.proofs.lemmas.List.Folds.{fold_stays}
 use Rattle.std.proofs.lemmas.List.Elements.{All-head, All-tail, All-append, All-cons, All-nil}
 use Rattle.abc_text.specs.Digit.{decimal}
@@ -18,6 +19,7 @@ use Rattle.abc_fields.specs.declared.parts.LastItem.TheVariants.{Nothing, Item}
 use Rattle.abc_fields.specs.declared.parts.Place.{Place}
 use Rattle.abc_fields.specs.Parts.{is_ignored, order_bytes, ends_item, begins_item, with_digit, at, behind_digit, next, next_of, is_whole, place_behind, ends_order, is_order, parts_of}
 use Rattle.abc_fields.specs.Spelling.Parts.{IsCount, once, times, IsOrder, part, group, behind, IsParts}
+use Rattle.abc_fields.proofs.Readings.{branches}
 
 -- the place after a text, from this place on
 abbrev read : Option Place → List ℕ → Option Place
@@ -277,14 +279,6 @@ after_digit b (at_item {depth} {digits} {positive} {outer} {inner} {bare} {count
 abbrev Leads : List ℕ → Place → Type 0
 Leads text place = Reached place.depth place.before text
 
-pub guarded : (t : Bool) (x after : Place) → ◌≡◌ {A = Option Place} (cond t (Some x) None) (Some after) → (t ≡ true) × (x ≡ after)
-guarded true x after e = (refl, cc)
-guarded false x after e = cc
-
-pub branches : (t : Bool) (x y : Option Place) (after : Place) → cond t x y ≡ Some after → ((t ≡ true) × (x ≡ Some after)) ⊎ ((t ≡ false) × (y ≡ Some after))
-branches true x y after e = inl (refl, e)
-branches false x y after e = inr (refl, e)
-
 pub guarded_digit : (t : Bool) (depth : ℕ) (before : LastItem) (after : Place) → behind_digit depth (cond t (Some before) None) ≡ Some after → (t ≡ true) × (at depth before ≡ after)
 guarded_digit true depth before after e = (refl, cc)
 guarded_digit false depth before after e = cc
@@ -296,33 +290,42 @@ digit_leads depth (Item digits positive) b text after reached digit e =
     let given = guarded_digit (ltb digits 9) depth (Item (digits + 1) (positive || not (b == 48))) after e in
     subst (Leads (text ++ b ∷ [])) given.1 (after_digit b reached digit (ltb-true digits 9 given.0))
 
-leads_on : (place : Place) (b : ℕ) (text : List ℕ) (after : Place) → Leads text place → next place b ≡ Some after → Leads (text ++ b ∷ []) after
+-- what a byte that may come at a place is, and the place after it
+pub data Follows (place : Place) (b : ℕ) (after : Place) : Type 0 where
+  by_letter : is_ascii_uppercase b ≡ true → begins_item place.before ≡ true → at place.depth (Item 0 false) ≡ after → Follows place b after
+  by_open : b ≡ 40 → begins_item place.before ≡ true → place.depth < 32 → at (place.depth + 1) Nothing ≡ after → Follows place b after
+  by_close : b ≡ 41 → ends_item place.before ≡ true → 0 < place.depth → at (place.depth - 1) (Item 0 false) ≡ after → Follows place b after
+  by_digit : is_ascii_digit b ≡ true → behind_digit place.depth (with_digit place.before b) ≡ Some after → Follows place b after
+
+pub follows : (place : Place) (b : ℕ) (after : Place) → next place b ≡ Some after → Follows place b after
 unfolding next
-leads_on place b text after reached e = ⊎_elim
-    (λ letter.
-    let given = guarded (begins_item place.before) (at place.depth (Item 0 false)) after letter.1 in
-    subst (Leads (text ++ b ∷ [])) given.1 (after_letter place.depth b place.before text reached given.0 letter.0))
+follows place b after e = ⊎_elim
+    (λ letter. let given = cond_some (begins_item place.before) (at place.depth (Item 0 false)) after letter.1 in by_letter letter.0 given.0 given.1)
     (λ other. ⊎_elim
     (λ opens.
-    let given = guarded (begins_item place.before && ltb place.depth 32) (at (place.depth + 1) Nothing) after opens.1 in
+    let given = cond_some (begins_item place.before && ltb place.depth 32) (at (place.depth + 1) Nothing) after opens.1 in
     let both = and_parts (begins_item place.before) (ltb place.depth 32) given.0 in
-    let is : b ≡ 40 = eqb-true b 40 opens.0 in
-    subst (Leads (text ++ b ∷ [])) given.1
-    (subst (λ c. Reached (place.depth + 1) Nothing (text ++ c ∷ [])) (sym is) (after_open place.depth place.before text reached both.0 (ltb-true place.depth 32 both.1))))
+    by_open (eqb-true b 40 opens.0) both.0 (ltb-true place.depth 32 both.1) given.1)
     (λ others. ⊎_elim
     (λ closes.
-    let given = guarded (ends_item place.before && ltb 0 place.depth) (at (place.depth - 1) (Item 0 false)) after closes.1 in
+    let given = cond_some (ends_item place.before && ltb 0 place.depth) (at (place.depth - 1) (Item 0 false)) after closes.1 in
     let both = and_parts (ends_item place.before) (ltb 0 place.depth) given.0 in
-    let is : b ≡ 41 = eqb-true b 41 closes.0 in
-    subst (Leads (text ++ b ∷ [])) given.1
-    (subst (λ c. Reached (place.depth - 1) (Item 0 false) (text ++ c ∷ [])) (sym is) (after_close place.depth place.before text reached both.0 (ltb-true 0 place.depth both.1))))
+    by_close (eqb-true b 41 closes.0) both.0 (ltb-true 0 place.depth both.1) given.1)
     (λ rest. ⊎_elim
-    (λ digit. digit_leads place.depth place.before b text after reached digit.0 digit.1)
+    (λ digit. by_digit digit.0 digit.1)
     (λ none. cc)
-    (branches (is_ascii_digit b) _ _ after rest.1))
-    (branches (b == 41) _ _ after others.1))
-    (branches (b == 40) _ _ after other.1))
-    (branches (is_ascii_uppercase b) _ _ after e)
+    (branches (is_ascii_digit b) _ _ _ rest.1))
+    (branches (b == 41) _ _ _ others.1))
+    (branches (b == 40) _ _ _ other.1))
+    (branches (is_ascii_uppercase b) _ _ _ e)
+
+leads_on : (place : Place) (b : ℕ) (text : List ℕ) (after : Place) → Leads text place → Follows place b after → Leads (text ++ b ∷ []) after
+leads_on place b text after reached (by_letter upper begins to) = subst (Leads (text ++ b ∷ [])) to (after_letter place.depth b place.before text reached begins upper)
+leads_on place b text after reached (by_open is begins few to) =
+    subst (λ c. Leads (text ++ c ∷ []) after) (sym is) (subst (Leads (text ++ 40 ∷ [])) to (after_open place.depth place.before text reached begins few))
+leads_on place b text after reached (by_close is ends some to) =
+    subst (λ c. Leads (text ++ c ∷ []) after) (sym is) (subst (Leads (text ++ 41 ∷ [])) to (after_close place.depth place.before text reached ends some))
+leads_on place b text after reached (by_digit digit to) = digit_leads place.depth place.before b text after reached digit to
 
 leads_through : (rest text : List ℕ) (place after : Place) → Leads text place → read (Some place) rest ≡ Some after → Leads (text ++ rest) after
 leads_through [] text place after reached e = let same : place ≡ after = cc in subst (λ t. Leads t after) (sym (append-nil text)) (subst (Leads text) same reached)
@@ -330,7 +333,7 @@ leads_through (b ∷ rest) text place after reached e =
     elim (next place b) as (λ o. next place b ≡ o → read o rest ≡ Some after → Leads (text ++ b ∷ rest) after) [
       | None ↦ λ is leads. let lost = order_lost rest in cc
       | Some between ↦
-          λ is leads. subst (λ t. Leads t after) (append_assoc text (b ∷ []) rest) (leads_through rest (text ++ b ∷ []) between after (leads_on place b text between reached is) leads)
+          λ is leads. subst (λ t. Leads t after) (append_assoc text (b ∷ []) rest) (leads_through rest (text ++ b ∷ []) between after (leads_on place b text between reached (follows place b between is)) leads)
     ] refl e
 
 order_from : (text : List ℕ) (place : Place) → Leads text place → is_whole place ≡ true → (letters : List ℕ) × IsOrder 0 text letters

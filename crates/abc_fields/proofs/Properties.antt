@@ -19,6 +19,7 @@ use Rattle.abc_fields.specs.Clef.{mark_of, clef_of}
 use Rattle.abc_text.proofs.Fronts.{last_split}
 use Rattle.abc_text.proofs.Numbers.{number_of-spells, number_of-spelled}
 use Rattle.abc_fields.proofs.Clefs.{mark_read, mark_known, no_mark_read, no_mark_known, clef_by, clef_known}
+use Rattle.abc_fields.proofs.Readings.{branches, map_some}
 
 -- quotes
 quoted_of : (text value : List ℕ) → text ≡ 34 ∷ (value ++ 34 ∷ []) → (is_quoted text ≡ true) × (slice_range text 1 (length text - 1) ≡ value)
@@ -60,10 +61,6 @@ unquoted_known text value is = ⊎_elim
     is
 
 -- signs and numbers
-map_some : {A B : Type 0} (f : A → B) (o : Option A) (y : B) → option_map f o ≡ Some y → (x : A) × (o ≡ Some x) × (y ≡ f x)
-map_some f None y e = cc
-map_some f (Some x) y e = (x, refl, cc)
-
 no_number : (n : ℕ) → IsNumber [] n → ⊥
 no_number n is = let some : 1 ≤ 0 = is.some in omega arith
 
@@ -72,39 +69,24 @@ no_sign_first b bs n is sign =
     let digit : is_ascii_digit b ≡ true = All-head (λ x. is_ascii_digit x ≡ true) b bs is.digits in
     ⊎_elim (λ e. true≢false (sym digit ∙ ap is_ascii_digit e)) (λ e. true≢false (sym digit ∙ ap is_ascii_digit e)) sign
 
+abbrev Sign : List ℕ → List ℕ → ℤ → ℕ → Type 0
+Sign text digits n size = ((text ≡ digits) × (n ≡ pos size)) ⊎ (((text ≡ 43 ∷ digits) × (n ≡ pos size)) ⊎ ((text ≡ 45 ∷ digits) × (n ≡ neg_ℤ (pos size))))
+
+number_signed : (text digits : List ℕ) (n : ℤ) (f : ℕ → ℤ) → option_map f (number_of digits) ≡ Some n → ((size : ℕ) → n ≡ f size → Sign text digits n size) → IsSignedNumber text n
+number_signed text digits n f e sign =
+    let parts = map_some f (number_of digits) n e in
+    record { digits = digits; size = parts.0; number = number_of-spells digits parts.0 parts.1; sign = sign parts.0 parts.2 }
+
 signed_read : (text : List ℕ) (n : ℤ) → signed_number text ≡ Some n → IsSignedNumber text n
 unfolding signed_number
 signed_read [] n e = cc
 signed_read (b ∷ bs) n e = ⊎_elim
-    (λ minus.
-    let parts = map_some (λ k. neg_ℤ (pos k)) (number_of bs) n (sym (cond-true _ _ _ minus) ∙ e) in
-    record {
-      digits = bs;
-      size = parts.0;
-      number = number_of-spells bs parts.0 parts.1;
-      sign = inr (inr (ap (λ x. x ∷ bs) (eqb-true b 45 minus), parts.2));
-    })
-    (λ no_minus.
-    let rest = sym (cond-false _ _ _ no_minus) ∙ e in
-    ⊎_elim
-    (λ plus.
-    let parts = map_some pos (number_of bs) n (sym (cond-true _ _ _ plus) ∙ rest) in
-    record {
-      digits = bs;
-      size = parts.0;
-      number = number_of-spells bs parts.0 parts.1;
-      sign = inr (inl (ap (λ x. x ∷ bs) (eqb-true b 43 plus), parts.2));
-    })
-    (λ no_plus.
-    let parts = map_some pos (number_of (b ∷ bs)) n (sym (cond-false _ _ _ no_plus) ∙ rest) in
-    record {
-      digits = b ∷ bs;
-      size = parts.0;
-      number = number_of-spells (b ∷ bs) parts.0 parts.1;
-      sign = inl (refl, parts.2);
-    })
-    (cases_Bool (eqb b 43)))
-    (cases_Bool (eqb b 45))
+    (λ h. number_signed (b ∷ bs) bs n (λ k. neg_ℤ (pos k)) h.1 (λ size is. inr (inr (ap (λ x. x ∷ bs) (eqb-true b 45 h.0), is))))
+    (λ h. ⊎_elim
+    (λ k. number_signed (b ∷ bs) bs n pos k.1 (λ size is. inr (inl (ap (λ x. x ∷ bs) (eqb-true b 43 k.0), is))))
+    (λ k. number_signed (b ∷ bs) (b ∷ bs) n pos k.1 (λ size is. inl (refl, is)))
+    (branches (eqb b 43) _ _ _ h.1))
+    (branches (eqb b 45) _ _ _ e)
 
 unsigned_known : (text : List ℕ) (size : ℕ) → IsNumber text size → signed_number text ≡ Some (pos size)
 unfolding signed_number
@@ -166,28 +148,24 @@ unfolding property_of
 property_read word p e = ⊎_elim
     (λ clef.
     let value = unquote (drop 5 word) in
-    let same : Clef (clef_of value) ≡ p = (let chosen : Some (Clef (clef_of value)) ≡ Some p = sym (cond-true _ _ _ clef) ∙ e in cc) in
-    subst (IsProperty word) same (inl (value, given clef_name word clef, clef_by value (mark_of value) refl)))
-    (λ no_clef.
-    let rest = sym (cond-false _ _ _ no_clef) ∙ e in
-    ⊎_elim
+    let same : Clef (clef_of value) ≡ p = (let chosen : Some (Clef (clef_of value)) ≡ Some p = clef.1 in cc) in
+    subst (IsProperty word) same (inl (value, given clef_name word clef.0, clef_by value (mark_of value) refl)))
+    (λ no_clef. ⊎_elim
     (λ octave.
     let value = unquote (drop 7 word) in
-    let parts = map_some Octave (signed_number value) p (sym (cond-true _ _ _ octave) ∙ rest) in
-    subst (IsProperty word) (sym parts.2) (value, given octave_name word octave, signed_read value parts.0 parts.1))
-    (λ no_octave.
-    let rest2 = sym (cond-false _ _ _ no_octave) ∙ rest in
-    ⊎_elim
+    let parts = map_some Octave (signed_number value) p octave.1 in
+    subst (IsProperty word) (sym parts.2) (value, given octave_name word octave.0, signed_read value parts.0 parts.1))
+    (λ no_octave. ⊎_elim
     (λ transpose.
     let value = unquote (drop 10 word) in
-    let parts = map_some Transpose (signed_number value) p (sym (cond-true _ _ _ transpose) ∙ rest2) in
-    subst (IsProperty word) (sym parts.2) (value, given transpose_name word transpose, signed_read value parts.0 parts.1))
-    (λ no_transpose.
-    let same : option_map_or Clef (mark_of word) Other ≡ p = (let chosen : Some (option_map_or Clef (mark_of word) Other) ≡ Some p = sym (cond-false _ _ _ no_transpose) ∙ rest2 in cc) in
-    subst (IsProperty word) same (plain_read word (mark_of word) (no_begin clef_name word no_clef, no_begin octave_name word no_octave, no_begin transpose_name word no_transpose) refl))
-    (cases_Bool (begins_with transpose_name word)))
-    (cases_Bool (begins_with octave_name word)))
-    (cases_Bool (begins_with clef_name word))
+    let parts = map_some Transpose (signed_number value) p transpose.1 in
+    subst (IsProperty word) (sym parts.2) (value, given transpose_name word transpose.0, signed_read value parts.0 parts.1))
+    (λ none.
+    let same : option_map_or Clef (mark_of word) Other ≡ p = (let chosen : Some (option_map_or Clef (mark_of word) Other) ≡ Some p = none.1 in cc) in
+    subst (IsProperty word) same (plain_read word (mark_of word) (no_begin clef_name word no_clef.0, no_begin octave_name word no_octave.0, no_begin transpose_name word none.0) refl))
+    (branches (begins_with transpose_name word) _ _ _ no_octave.1))
+    (branches (begins_with octave_name word) _ _ _ no_clef.1))
+    (branches (begins_with clef_name word) _ _ _ e)
 
 clef_named : (word : List ℕ) → begins_with clef_name word ≡ true → property_of word ≡ Some (Clef (clef_of (unquote (drop 5 word))))
 unfolding property_of

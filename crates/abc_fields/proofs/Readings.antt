@@ -1,6 +1,6 @@
 -- What a reader goes on with, and what it refuses.
-use Rattle.std.proofs.Common.{◌≡◌, ℕ, true, List, Option, Some, None, Result, Ok, Err, refl, sym, subst, IfOk}
-use Rattle.std.specs.Prelude.{◌↔◌, option_and_then, ok_or}
+use Rattle.std.proofs.Common.{◌≡◌, ◌⊎◌, ℕ, Bool, true, false, cond, List, Option, Some, None, Result, Ok, Err, refl, sym, subst, inl, inr, IfOk}
+use Rattle.std.specs.Prelude.{◌↔◌, option_and_then, option_map, ok_or}
 use Rattle.std.specs.Str.{bytes_eq}
 use Rattle.std.proofs.lemmas.Slice.Eq.{bytes_eq-Decides}
 use Rattle.abc_fields.specs.declared.fault.FaultCode.{FaultCode}
@@ -9,6 +9,16 @@ use Rattle.abc_fields.specs.declared.fault.FaultCode.{FaultCode}
 pub bound : {A B : Type 0} (f : A → Option B) (o : Option A) (y : B) → option_and_then f o ≡ Some y → (x : A) × (o ≡ Some x) × (f x ≡ Some y)
 bound f None y e = cc
 bound f (Some x) y e = (x, refl, e)
+
+-- so has a step that maps
+pub map_some : {A B : Type 0} (f : A → B) (o : Option A) (y : B) → option_map f o ≡ Some y → (x : A) × (o ≡ Some x) × (y ≡ f x)
+map_some f None y e = cc
+map_some f (Some x) y e = (x, refl, cc)
+
+-- a choice is one of its branches
+pub branches : {A : Type 0} (t : Bool) (x y z : A) → cond t x y ≡ z → ((t ≡ true) × (x ≡ z)) ⊎ ((t ≡ false) × (y ≡ z))
+branches true x y z e = inl (refl, e)
+branches false x y z e = inr (refl, e)
 
 -- a text that equals a name is that name
 pub named : (text name : List ℕ) → bytes_eq text name ≡ true → name ≡ text

@@ -26,7 +26,7 @@ use Rattle.abc_text.proofs.Cuts.{cut_at-found, cut_at-none, cut_at-cuts}
 use Rattle.abc_text.proofs.Blanks.{back_other, trim_start-gap, trim_start-parts, trim_end-gap, trim_end-parts}
 use Rattle.abc_fields.proofs.LowestTerms.{IsHalved, lowest_is, IsLowest-halve, lowest_terms-one}
 use Rattle.abc_fields.proofs.Fractions.{number_bytes, sum_bytes, digit_visible, digit_other, sum_begins, sum_of-Some, sum_of-is, IsWithin, sum_within}
-use Rattle.abc_fields.proofs.Readings.{bound, Reads, reads}
+use Rattle.abc_fields.proofs.Readings.{bound, map_some, Reads, reads}
 
 -- numbers from 1
 pub record IsPositive (text : List ℕ) (n : ℕ) : Type 0 where
@@ -107,20 +107,20 @@ bare_IsPlain text (Units n) is = units_IsPlain text n is.0
 bare_IsPlain text (Beat beat n) is = beats_IsPlain text beat n is
 
 -- a tempo without a text
-units_found : (text : List ℕ) (m : Tempo) (o : Option ℕ) → o ≡ positive_number text → option_map (λ n. Units n) o ≡ Some m → IsBareTempo text m
-units_found text m None e f = cc
-units_found text m (Some n) e f =
-    let is = positive_number-Some text n (sym e) in
-    subst (IsBareTempo text) (same_Some (Units n) m f) (is.number, is.least)
+units_found : (text : List ℕ) (m : Tempo) → option_map (λ n. Units n) (positive_number text) ≡ Some m → IsBareTempo text m
+units_found text m e =
+    let number = map_some {A = ℕ} (λ n. Units n) (positive_number text) m e in
+    let is = positive_number-Some text number.0 number.1 in
+    subst (IsBareTempo text) (sym number.2) (is.number, is.least)
 
-beats_found : (text : List ℕ) (m : Tempo) (parts : List ℕ × List ℕ) (sum : ℕ) (o : Option ℕ) → IsCut 61 text parts.0 parts.1 → IsSum 16 parts.0 sum
-    → o ≡ positive_number (trim_start parts.1) → beats sum o ≡ Some m → IsBareTempo text m
-beats_found text m parts sum None cut front e f = cc
-beats_found text m parts sum (Some n) cut front e f =
-    let is = positive_number-Some (trim_start parts.1) n (sym e) in
+beats_found : (text : List ℕ) (m : Tempo) (parts : List ℕ × List ℕ) (sum : ℕ) → IsCut 61 text parts.0 parts.1 → IsSum 16 parts.0 sum
+    → beats sum (positive_number (trim_start parts.1)) ≡ Some m → IsBareTempo text m
+beats_found text m parts sum cut front e =
+    let number = map_some {A = ℕ} (λ n. Beat (lowest_terms sum) n) (positive_number (trim_start parts.1)) m e in
+    let is = positive_number-Some (trim_start parts.1) number.0 number.1 in
     let trim_blanks = trim_start-parts parts.1 in
     let terms = lowest_is sum in
-    subst (IsBareTempo text) (same_Some (Beat (lowest_terms sum) n) m f) (record {
+    subst (IsBareTempo text) (sym number.2) (record {
       front = parts.0;
       gap = trim_blanks.0;
       number = trim_start parts.1;
@@ -135,10 +135,10 @@ beats_found text m parts sum (Some n) cut front e f =
     })
 
 bare_found : (text : List ℕ) (m : Tempo) (o : Option (List ℕ × List ℕ)) → cut_at 61 text ≡ o → bare_by text o ≡ Some m → IsBareTempo text m
-bare_found text m None cut e = units_found text m (positive_number text) refl e
+bare_found text m None cut e = units_found text m e
 bare_found text m (Some parts) cut e =
     let found = bound (λ sum. beats sum (positive_number (trim_start parts.1))) (sum_of 16 parts.0) m e in
-    beats_found text m parts found.0 (positive_number (trim_start parts.1)) (cut_at-cuts 61 text parts cut) (sum_of-Some 16 parts.0 found.0 found.1) refl found.2
+    beats_found text m parts found.0 (cut_at-cuts 61 text parts cut) (sum_of-Some 16 parts.0 found.0 found.1) found.2
 
 pub bare_tempo-Some : (text : List ℕ) (m : Tempo) → bare_tempo text ≡ Some m → IsBareTempo text m
 unfolding bare_tempo

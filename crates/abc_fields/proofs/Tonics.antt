@@ -7,7 +7,7 @@ use Rattle.std.specs.Option.{option_map, option_and_then}
 use Rattle.std.specs.Str.{bytes_eq}
 use Rattle.std.specs.Char.{is_ascii_alphabetic}
 use Rattle.std.proofs.Math.Seq.{take-append_seam, drop-append_seam}
-use Rattle.std.proofs.lemmas.Bool.{cond-true, cond-false, cond_both, cases_Bool, eqb-true, eqb-false, eq-eqb, ne_eqb, false_from_ne_true}
+use Rattle.std.proofs.lemmas.Bool.{cond-true, cond-false, cond_both, cases_Bool, eqb-true, eqb-false, eq-eqb, ne_eqb, false_from_ne_true, both_ways}
 use Rattle.std.proofs.lemmas.List.{take-append-drop}
 use Rattle.std.proofs.lemmas.Option.{cond_some}
 use Rattle.std.proofs.lemmas.Slice.Eq.{bytes_eq-Decides}
@@ -20,7 +20,7 @@ use Rattle.abc_text.specs.Blank.{is_blank}
 use Rattle.abc_text.specs.Letter.{capital, letter_of}
 use Rattle.abc_text.proofs.Fronts.{empty_list, front_exact, front_none, front_passes, front_stops}
 use Rattle.abc_text.proofs.Letters.{letter_of-capital}
-use Rattle.abc_fields.proofs.Readings.{bound}
+use Rattle.abc_fields.proofs.Readings.{bound, branches, map_some}
 use Rattle.abc_fields.specs.Mode.{mode_named, mode_of}
 use Rattle.abc_fields.specs.Spelling.Mode.{IsMode}
 use Rattle.abc_fields.specs.Tonic.{if_capital, tonic_letter, major_sharps, sign_at, tonic_at, basis_by, basis_at}
@@ -64,23 +64,18 @@ sign_to text added rest (none unsigned e h) = no_sign text unsigned ∙ (λ i. (
 abbrev with_sign : List ℕ → Letter → ℤ × List ℕ
 with_sign behind letter = (major_sharps letter +ℤ (sign_at behind).0, (sign_at behind).1)
 
-tonic_by : (b : ℕ) (behind : List ℕ) (s : ℤ) (rest : List ℕ) (o : Option Letter) → tonic_letter b ≡ o
-    → option_map (with_sign behind) o ≡ Some (s, rest) → IsTonic (b ∷ behind) s rest
-tonic_by b behind s rest None o e = cc
-tonic_by b behind s rest (Some letter) o e =
-    let same : with_sign behind letter ≡ (s, rest) = cc in
-    subst (λ (p : ℤ × List ℕ). IsTonic (b ∷ behind) p.0 p.1) same (record {
-      letter = letter;
+pub tonic_from : (text : List ℕ) (s : ℤ) (rest : List ℕ) → tonic_at text ≡ Some (s, rest) → IsTonic text s rest
+tonic_from [] s rest e = cc
+tonic_from (b ∷ behind) s rest e =
+    let letter = map_some (with_sign behind) (tonic_letter b) (s, rest) e in
+    subst (λ (p : ℤ × List ℕ). IsTonic (b ∷ behind) p.0 p.1) (sym letter.2) (record {
+      letter = letter.0;
       behind = behind;
-      spelling = ap (λ x. x ∷ behind) (tonic_letter-is b letter o);
+      spelling = ap (λ x. x ∷ behind) (tonic_letter-is b letter.0 letter.1);
       added = (sign_at behind).0;
       sign = sign_from behind;
       sharps_are = refl;
     })
-
-pub tonic_from : (text : List ℕ) (s : ℤ) (rest : List ℕ) → tonic_at text ≡ Some (s, rest) → IsTonic text s rest
-tonic_from [] s rest e = cc
-tonic_from (b ∷ behind) s rest e = tonic_by b behind s rest (tonic_letter b) refl e
 
 pub tonic_to : (text : List ℕ) (s : ℤ) (rest : List ℕ) → IsTonic text s rest → tonic_at text ≡ Some (s, rest)
 tonic_to text s rest h =
@@ -178,18 +173,14 @@ at_pair text a b e h = let same : a ≡ b = cc in subst (λ (p : Basis × List �
 basis_later : (text blanks run behind : List ℕ) (found : Basis × List ℕ) → IsRun text blanks run behind → ((mode : Mode) → IsMode run mode → ⊥) → (length blanks == 0) ≡ false
     → cond (bytes_eq run (codes "exp")) (Some (Explicit, behind)) (Some (Named Ionian, text)) ≡ Some found → IsBasis text found.0 found.1
 basis_later text blanks run behind found is nameless some e = ⊎_elim
-    (λ t. at_pair text (Explicit, behind) found (sym (cond-true (bytes_eq run (codes "exp")) _ _ t) ∙ e)
-    (explicit blanks (subst (λ r. IsRun text blanks r behind) ((bytes_eq-Decides run (codes "exp")).0 t) is) (some_blanks blanks some) refl))
-    (λ t. at_pair text (Named Ionian, text) found (sym (cond-false (bytes_eq run (codes "exp")) _ _ t) ∙ e)
-    (major blanks run behind is nameless (inr (some_blanks blanks some, λ same. true_not_false (bytes_eq run (codes "exp")) t ((bytes_eq-Decides run (codes "exp")).1 same))) refl refl))
-    (cases_Bool (bytes_eq run (codes "exp")))
+    (λ h. at_pair text (Explicit, behind) found h.1 (explicit blanks (subst (λ r. IsRun text blanks r behind) ((bytes_eq-Decides run (codes "exp")).0 h.0) is) (some_blanks blanks some) refl))
+    (λ h. at_pair text (Named Ionian, text) found h.1
+    (major blanks run behind is nameless (inr (some_blanks blanks some, λ same. both_ways (bytes_eq run (codes "exp")) h.0 ((bytes_eq-Decides run (codes "exp")).1 same))) refl refl))
+    (branches (bytes_eq run (codes "exp")) _ _ _ e)
   where
     some_blanks : (blanks : List ℕ) → (length blanks == 0) ≡ false → 0 < length blanks
     some_blanks [] t = cc
     some_blanks (b ∷ bs) t = omega arith
-
-    true_not_false : (t : Bool) → t ≡ false → t ≡ true → ⊥
-    true_not_false t e h = cc
 
 basis_by_mode : (text blanks run behind : List ℕ) (found : Basis × List ℕ) (o : Option Mode) → mode_of run ≡ o → IsRun text blanks run behind
     → basis_by o (length blanks) run text behind ≡ Some found → IsBasis text found.0 found.1
@@ -197,13 +188,12 @@ basis_by_mode text blanks run behind found (Some mode) o is e = at_pair text (Na
 basis_by_mode text blanks run behind found None o is e =
     let nameless : (mode : Mode) → IsMode run mode → ⊥ = λ mode m. let known : Some mode ≡ None = sym (mode_to run mode m) ∙ o in cc in
     ⊎_elim
-    (λ t. at_pair text (Named Ionian, text) found (sym (cond-true (length run == 0) _ _ t) ∙ e) (major blanks run behind is nameless (inl (no_length run t)) refl refl))
-    (λ t. let later = sym (cond-false (length run == 0) _ _ t) ∙ e in
-    ⊎_elim
-    (λ u. let none : None ≡ Some found = sym (cond-true (length blanks == 0) _ _ u) ∙ later in cc)
-    (λ u. basis_later text blanks run behind found is nameless u (sym (cond-false (length blanks == 0) _ _ u) ∙ later))
-    (cases_Bool (length blanks == 0)))
-    (cases_Bool (length run == 0))
+    (λ h. at_pair text (Named Ionian, text) found h.1 (major blanks run behind is nameless (inl (no_length run h.0)) refl refl))
+    (λ h. ⊎_elim
+    (λ k. let none : None ≡ Some found = k.1 in cc)
+    (λ k. basis_later text blanks run behind found is nameless k.0 k.1)
+    (branches (length blanks == 0) _ _ _ h.1))
+    (branches (length run == 0) _ _ _ e)
 
 pub basis_from : (text : List ℕ) (basis : Basis) (rest : List ℕ) → basis_at text ≡ Some (basis, rest) → IsBasis text basis rest
 basis_from text basis rest e =

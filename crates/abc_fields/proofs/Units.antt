@@ -11,7 +11,7 @@ use Rattle.abc_fields.specs.Unit.{part_after_one, part_of, part_as_unit, unit_in
 use Rattle.abc_fields.specs.Spelling.Unit.{IsPartOfWhole, IsUnit}
 use Rattle.abc_text.proofs.Numbers.{number_of-spells, number_of-spelled}
 use Rattle.abc_text.proofs.Powers.{power_least, power_most, power_up_to-from, power_up_to-to}
-use Rattle.abc_fields.proofs.Readings.{Reads, reads}
+use Rattle.abc_fields.proofs.Readings.{map_some, Reads, reads}
 
 same_ratio : (u : Ratio) (n d : ℕ) → u.num ≡ n → u.den ≡ d → u ≡ record { num = n; den = d }
 same_ratio u n d e f = ap (λ x. record { num = x; den = u.den }) e ∙ ap (λ x. record { num = n; den = x }) f
@@ -42,13 +42,9 @@ part_to text n h = ⊎_elim
 
 -- and the unit is that part
 unit_from : (text : List ℕ) (u : Ratio) → unit_in text ≡ Some u → IsUnit text u
-unit_from text u e = by_part (part_of text) refl e
-  where
-    by_part : (o : Option ℕ) → o ≡ part_of text → option_map part_as_unit o ≡ Some u → IsUnit text u
-    by_part None f h = cc
-    by_part (Some n) f h =
-        let same : part_as_unit n ≡ u = cc in
-        subst (IsUnit text) same (record { one = refl; part = part_from text n (sym f) })
+unit_from text u e =
+    let part = map_some part_as_unit (part_of text) u e in
+    subst (IsUnit text) (sym part.2) (record { one = refl; part = part_from text part.0 part.1 })
 
 unit_to : (text : List ℕ) (u : Ratio) → IsUnit text u → unit_in text ≡ Some u
 unit_to text u h = ap (option_map part_as_unit) (part_to text u.den h.part) ∙ ap Some (sym (same_ratio u 1 u.den h.one refl))

@@ -1,5 +1,5 @@
 -- Laws of the field V:.
-use Rattle.std.proofs.Common.{◌≡◌, ℕ, ◌+◌, List, length, drop, Option, Some, None, Result, refl, sym, ap, ◌∙◌, subst}
+use Rattle.std.proofs.Common.{◌≡◌, ℕ, ◌+◌, List, length, drop, Some, Result, sym, ap, ◌∙◌, subst}
 use Rattle.std.specs.List.{slice_range}
 use Rattle.std.specs.Option.{option_and_then, option_map}
 use Rattle.abc_fields.specs.declared.fault.FaultCode.{FaultCode}
@@ -12,31 +12,24 @@ use Rattle.abc_fields.specs.Voice.{voice_at, voice_in, voice_of}
 use Rattle.abc_fields.specs.Spelling.Voice.{IsVoice}
 use Rattle.abc_fields.proofs.Shifts.{shift_exact, shift_small}
 use Rattle.abc_text.proofs.Words.{first_at, first_known}
-use Rattle.abc_fields.proofs.Readings.{Reads, reads}
+use Rattle.abc_fields.proofs.Readings.{bound, map_some, Reads, reads}
 
-with_shift : (text : List ℕ) (from to : ℕ) (shift : Option Shift) (voice : Voice) → Some (from, to) ≡ first_word text → shift_of (words_of (drop to text)) ≡ shift
-    → option_map (λ (s : Shift). record { from = from; to = to; shift = s }) shift ≡ Some voice → IsVoice text voice
-with_shift text from to None voice place said e = cc
-with_shift text from to (Some shift) voice place said e =
-    let at = first_at text from to place in
-    let v : Voice = record { from = from; to = to; shift = shift } in
-    let same : v ≡ voice = cc in
-    subst (IsVoice text) same record {
+voice_from : (text : List ℕ) (voice : Voice) → voice_in text ≡ Some voice → IsVoice text voice
+unfolding voice_in
+voice_from text voice e =
+    let place = bound (voice_at text) (first_word text) voice e in
+    let from : ℕ = place.0.0 in
+    let to : ℕ = place.0.1 in
+    let shift = map_some {A = Shift} {B = Voice} (λ s. record { from = from; to = to; shift = s }) (shift_of (words_of (drop to text))) voice place.2 in
+    let at = first_at text from to (sym place.1) in
+    subst (IsVoice text) (sym shift.2) record {
       identifier = slice_range text from to;
       behind = drop to text;
       first = at.first;
       from = at.from_is;
       to = at.to_is;
-      shift = (shift_exact (words_of (drop to text)) shift).0 said;
+      shift = (shift_exact (words_of (drop to text)) shift.0).0 shift.1;
     }
-
-at_place : (text : List ℕ) (o : Option (ℕ × ℕ)) (voice : Voice) → o ≡ first_word text → option_and_then (voice_at text) o ≡ Some voice → IsVoice text voice
-at_place text None voice place e = cc
-at_place text (Some w) voice place e = with_shift text w.0 w.1 (shift_of (words_of (drop w.1 text))) voice place refl e
-
-voice_from : (text : List ℕ) (voice : Voice) → voice_in text ≡ Some voice → IsVoice text voice
-unfolding voice_in
-voice_from text voice e = at_place text (first_word text) voice refl e
 
 voice_to : (text : List ℕ) (voice : Voice) → IsVoice text voice → voice_in text ≡ Some voice
 unfolding voice_in

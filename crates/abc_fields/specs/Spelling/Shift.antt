@@ -3,30 +3,24 @@ use Rattle.std.specs.Prelude.{◌≡◌, ℕ, ℤ, Option, Some, None, List, [],
 use Rattle.std.specs.List.{AllZip}
 use Rattle.std.specs.Option.{option_or}
 use Rattle.abc_fields.specs.declared.property.Property.{Property}
-use Rattle.abc_fields.specs.declared.property.Property.TheVariants.{Clef, Octave, Transpose, Other}
+use Rattle.abc_fields.specs.declared.property.Property.TheVariants.{Clef, Octave, Transpose}
 use Rattle.abc_fields.specs.declared.shift.Shift.{Shift}
 use Rattle.abc_fields.specs.Spelling.Property.{IsProperty}
 
 -- What a property says of the clef.
 abbrev pub clef_in : Property → Option ℤ
 clef_in (Clef n) = Some n
-clef_in (Octave n) = None
-clef_in (Transpose n) = None
-clef_in Other = None
+clef_in _ = None
 
 -- What it says of the octave.
 abbrev pub octave_in : Property → Option ℤ
-octave_in (Clef n) = None
 octave_in (Octave n) = Some n
-octave_in (Transpose n) = None
-octave_in Other = None
+octave_in _ = None
 
 -- What it says of the transposition.
 abbrev pub transpose_in : Property → Option ℤ
-transpose_in (Clef n) = None
-transpose_in (Octave n) = None
 transpose_in (Transpose n) = Some n
-transpose_in Other = None
+transpose_in _ = None
 
 -- The last thing that is said of a part. Not in ABC 2.1.
 abbrev pub last_said : (Property → Option ℤ) → List Property → Option ℤ

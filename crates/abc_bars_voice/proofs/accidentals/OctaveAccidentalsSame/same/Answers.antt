@@ -1,7 +1,7 @@
 use Rattle.std.proofs.Common.{◌∙◌, ap, sym}
 use Rattle.abc_bars_voice.specs.OctaveGroups.{octaves_of}
 use Rattle.abc_bars_voice.proofs.Groups.{one_grouping}
-use Rattle.abc_bars_voice.proofs.accidentals.OctaveAccidentals.same.Goals as goal
+use Rattle.abc_bars_voice.proofs.accidentals.OctaveAccidentalsSame.same.Goals as goal
 
 pub returns : goal.returns
 returns c = (

@@ -1,6 +1,6 @@
 use Rattle.std.proofs.Common.{◌≡◌, length, refl, arith}
 use Rattle.abc_bars_voice.proofs.Alike.{same_by_places}
-use Rattle.abc_bars_header.proofs.voices.Voices.same.Goals as goal
+use Rattle.abc_bars_header.proofs.same_header.VoicesSame.same.Goals as goal
 
 pub returns : goal.returns
 returns g c =

@@ -1,5 +1,5 @@
 use Rattle.std.proofs.Common.{◌≡◌, ℕ, ◌<◌, length, slice_get}
-use Rattle.abc_bars_header.proofs.voices.Voices.same.Given as goal
+use Rattle.abc_bars_header.proofs.same_header.VoicesSame.same.Given as goal
 
 abbrev pub invariant-loop-at : goal.invariant-loop-at
 invariant-loop-at g l = record {
