@@ -56,9 +56,8 @@ sign_outer opened numbers ms strains (run_to_bar run rest endings bar later inne
     with_endings opened [] rest (record { numbers = numbers; run = run } ∷ endings) bar later (All-nil (λ m. in_common opened m ≡ true)) (another numbers run endings (Some bar) inner are) stops behind
 
 pub with_plain : (m : Mark) (strain : Strain) → is_ending m ≡ false → with_mark m strain ≡ record strain { common = m ∷ strain.common }
-with_plain marks.Play strain e = refl
-with_plain (marks.Bar closes opens double) strain e = refl
 with_plain (marks.Ending numbers) strain e = cc
+with_plain _ strain e = refl
 
 -- a mark before a run
 run_more : (m : Mark) (run : List Mark) → in_ending m ≡ true → IsInnerRun run → IsInnerRun (m ∷ run)
@@ -94,9 +93,8 @@ outside_more o m ms strains e plain (with_endings same common rest endings bar l
 
 -- what an ending leads by: marks that are neither signs nor single bars do not
 leads_single : (m : Mark) (rest : List Mark) → in_ending m ≡ true → leads_to_ending (m ∷ rest) ≡ true → (is_single m && leads_to_ending rest) ≡ true
-leads_single marks.Play rest e f = cc
 leads_single (marks.Bar closes opens double) rest e f = f
-leads_single (marks.Ending numbers) rest e f = cc
+leads_single _ rest e f = cc
 
 -- a body that leads to an ending after it is a gap, and so is what follows it up to that sign
 body_gap : (body rest : List Mark) → AllPass in_ending body → leads_to_ending (body ++ rest) ≡ true → AllPass is_single body × (leads_to_ending rest ≡ true)
@@ -107,7 +105,6 @@ body_gap (m ∷ body) rest h e =
     (All-cons (λ x. is_single x ≡ true) m body here.0 behind.0, behind.1)
 
 closing_single : (m : Mark) → closes_ending m ≡ true → is_single m ≡ false
-closing_single marks.Play e = cc
 closing_single (marks.Bar closes opens double) e = elim (is_single (marks.Bar closes opens double)) as (λ b. is_single (marks.Bar closes opens double) ≡ b → b ≡ false) [
   | true ↦ λ s. absurd (both (single_stays (marks.Bar closes opens double) s) e)
   | false ↦ λ s. refl
@@ -115,14 +112,13 @@ closing_single (marks.Bar closes opens double) e = elim (is_single (marks.Bar cl
   where
     both : {b : Bool} → b ≡ false → b ≡ true → ⊥
     both f g = cc
-closing_single (marks.Ending numbers) e = cc
+closing_single _ e = cc
 
 -- a bar that closes leads to no ending
 closing_leads : (bar : Mark) (rest : List Mark) → closes_ending bar ≡ true → leads_to_ending (bar ∷ rest) ≡ true → ⊥
-closing_leads marks.Play rest e f = cc
 closing_leads (marks.Bar closes opens double) rest e f = let no = closing_single (marks.Bar closes opens double) e in let yes =
     (and_parts (is_single (marks.Bar closes opens double)) (leads_to_ending rest) f).0 in cc
-closing_leads (marks.Ending numbers) rest e f = cc
+closing_leads _ rest e f = cc
 
 inner_gap : (run rest : List Mark) → IsInnerRun run → leads_to_ending (run ++ rest) ≡ true → AllPass is_single run
 inner_gap run rest (straight body h) e = (body_gap body rest h e).0

@@ -56,9 +56,8 @@ single_stays (marks.Bar closes opens double) e =
 single_stays (marks.Ending numbers) e = refl
 
 in_ending_stays : (m : Mark) → in_ending m ≡ true → closes_ending m ≡ false
-in_ending_stays marks.Play e = refl
 in_ending_stays (marks.Bar closes opens double) e = single_stays (marks.Bar closes opens double) e
-in_ending_stays (marks.Ending numbers) e = refl
+in_ending_stays _ e = refl
 
 pub inside_stays : (opened : Bool) (m : Mark) (rest : List Mark) → closes_ending m ≡ false → texts_of opened true (m ∷ rest) ≡ put_first m (texts_of opened true rest)
 inside_stays opened m rest e = stays opened true m rest (ap (λ b. b && not (goes_on m rest)) e)
@@ -175,27 +174,23 @@ plain_passes p (m ∷ ms) f h =
     All-cons (λ x. not (is_ending x) ≡ true) m ms (f m (All-head (λ x. p x ≡ true) m ms h)) (plain_passes p ms f (All-tail (λ x. p x ≡ true) m ms h))
 
 ending_plain : (m : Mark) → in_ending m ≡ true → not (is_ending m) ≡ true
-ending_plain marks.Play e = refl
-ending_plain (marks.Bar closes opens double) e = refl
 ending_plain (marks.Ending numbers) e = cc
+ending_plain _ e = refl
 
 single_plain : (m : Mark) → is_single m ≡ true → not (is_ending m) ≡ true
-single_plain marks.Play e = refl
-single_plain (marks.Bar closes opens double) e = refl
 single_plain (marks.Ending numbers) e = cc
+single_plain _ e = refl
 
 closing_plain : (m : Mark) → closes_ending m ≡ true → not (is_ending m) ≡ true
-closing_plain marks.Play e = refl
-closing_plain (marks.Bar closes opens double) e = refl
 closing_plain (marks.Ending numbers) e = cc
+closing_plain _ e = refl
 
 common_plain : (opened : Bool) (m : Mark) → in_common opened m ≡ true → not (is_ending m) ≡ true
 common_plain opened m e = (and_parts (not (is_ending m)) (not (closes_common opened m)) e).0
 
 common_bar_plain : (opened : Bool) (m : Mark) → closes_common opened m ≡ true → not (is_ending m) ≡ true
-common_bar_plain opened marks.Play e = refl
-common_bar_plain opened (marks.Bar closes opens double) e = refl
 common_bar_plain opened (marks.Ending numbers) e = cc
+common_bar_plain opened _ e = refl
 
 one_plain : (m : Mark) → not (is_ending m) ≡ true → AllPass (λ x. not (is_ending x)) (m ∷ [])
 one_plain m e = All-cons (λ x. not (is_ending x) ≡ true) m [] e (All-nil (λ x. not (is_ending x) ≡ true))

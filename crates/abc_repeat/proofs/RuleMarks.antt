@@ -41,19 +41,16 @@ repeat_tested (marks.Bar closes opens double) h =
 repeat_tested (marks.Ending numbers) h = absurd h
 
 repeat_told : (m : Mark) → is_repeat m ≡ true → IsRepeatBar m
-repeat_told marks.Play e = cc
 repeat_told (marks.Bar closes opens double) e = ⊎_elim (λ k. inl (test_some closes k)) (λ k. inr (test_some opens k)) (or_cases (ltb 0 closes) (ltb 0 opens) e)
-repeat_told (marks.Ending numbers) e = cc
+repeat_told _ e = cc
 
 double_tested : (m : Mark) → IsDoubleBar m → is_double m ≡ true
-double_tested marks.Play h = absurd h
 double_tested (marks.Bar closes opens double) h = h
-double_tested (marks.Ending numbers) h = absurd h
+double_tested _ h = absurd h
 
 double_told : (m : Mark) → is_double m ≡ true → IsDoubleBar m
-double_told marks.Play e = cc
 double_told (marks.Bar closes opens double) e = e
-double_told (marks.Ending numbers) e = cc
+double_told _ e = cc
 
 pub end_tested : (m : Mark) → IsEndBar m → closes_ending m ≡ true
 end_tested m h = ⊎_elim (λ k. or_left (is_repeat m) (is_double m) (repeat_tested m k)) (λ k. or_right (is_repeat m) (is_double m) (double_tested m k)) h
@@ -91,9 +88,8 @@ inside_tested (marks.Ending numbers) h = absurd (h (inl tt))
 
 -- a mark between a bar and the next sign
 pub between_told : (m : Mark) → is_single m ≡ true → IsBetween m
-between_told marks.Play e = cc
 between_told (marks.Bar closes opens double) e = ((λ k. cc), inside_told (marks.Bar closes opens double) e)
-between_told (marks.Ending numbers) e = cc
+between_told _ e = cc
 
 pub between_tested : (m : Mark) → IsBetween m → is_single m ≡ true
 between_tested marks.Play h = absurd (h.0 refl)
@@ -101,14 +97,12 @@ between_tested (marks.Bar closes opens double) h = inside_tested (marks.Bar clos
 between_tested (marks.Ending numbers) h = absurd (h.1 (inl tt))
 
 sign_told : (m : Mark) → is_ending m ≡ false → ¬ IsSign m
-sign_told marks.Play e h = h
-sign_told (marks.Bar closes opens double) e h = h
 sign_told (marks.Ending numbers) e h = cc
+sign_told _ e h = h
 
 sign_tested : (m : Mark) → ¬ IsSign m → is_ending m ≡ false
-sign_tested marks.Play h = refl
-sign_tested (marks.Bar closes opens double) h = refl
 sign_tested (marks.Ending numbers) h = absurd (h tt)
+sign_tested _ h = refl
 
 -- a mark inside a common part
 pub common_inside_told : (before : ℕ) (m : Mark) → in_common (ltb 0 before) m ≡ true → ¬ EndsCommon before m

@@ -181,9 +181,8 @@ passes_one at strain _ _ (once_more n before ending earlier now) =
     let first : before ≡ passes_to at strain n = passes_one at strain n before earlier in
     let second : ending ≡ first_ending (n + 1) (at + length strain.common) strain.endings =
     ending_one (n + 1) (at + length strain.common) strain.endings (all_placed (at + length strain.common) strain.endings) ending (omega arith) refl now in
-    ap (λ l. l ++ (turns_from at strain.common ++ ending)) first
-    ∙ ap (λ l. passes_to at strain n ++ (l ++ ending)) (turns_are at strain.common)
-    ∙ ap (λ l. passes_to at strain n ++ (places_from at strain.common ++ l)) (second ∙ ap (λ k. first_ending k (at + length strain.common) strain.endings) next)
+    (λ i. first i ++ (turns_are at strain.common i ++ second i))
+    ∙ ap (λ k. passes_to at strain n ++ (places_from at strain.common ++ first_ending k (at + length strain.common) strain.endings)) next
     ∙ sym (passes_more at strain n)
     ∙ ap (passes_to at strain) (sym next)
 

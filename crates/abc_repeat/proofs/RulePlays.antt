@@ -24,8 +24,6 @@ past : (at numbers : ℕ) (body gap : List Mark) (bar : Mark) (endings : List En
     → AllPass in_ending body → closes_ending bar ≡ true → opens_next bar ≡ false → AllPass is_single gap
     → AreEndingsFrom (at + 1 + length (body ++ bar ∷ gap)) (all_placed (at + 1 + length (body ++ bar ∷ gap)) endings) (endings_text endings) closing
     → AreEndingsFrom at (all_placed at (ended numbers (body ++ bar ∷ gap) ∷ endings)) (endings_text (ended numbers (body ++ bar ∷ gap) ∷ endings)) closing
-past at numbers body gap marks.Play endings closing h closes opens singles behind = cc
-past at numbers body gap (marks.Ending other) endings closing h closes opens singles behind = cc
 past at numbers body gap (marks.Bar c o double) endings closing h closes opens singles behind =
     let none : 0 ≡ o = sym (test_none o opens) in
     let Past : ℕ → Type 0 = λ k. IsEndBar (marks.Bar c k double)
@@ -34,6 +32,7 @@ past at numbers body gap (marks.Bar c o double) endings closing h closes opens s
     let zero : Past 0 = λ is more. past_bar at numbers c double body gap (endings_text endings) (all_placed (at + 1 + length (body ++ marks.Bar c 0 double ∷ gap)) endings) closing
     (all_inside_told body h) is (all_between_told gap singles) more in
     subst Past none zero (end_told (marks.Bar c o double) closes) behind
+past at numbers body gap _ endings closing h closes opens singles behind = cc
 
 -- an ending with another one after it
 inner_placed : (at numbers : ℕ) {run : List Mark} (endings : List Ending) (closing : Option Mark) → IsInnerRun run

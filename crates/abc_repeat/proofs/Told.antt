@@ -84,7 +84,7 @@ more_told found at items marks.Play text told here rest =
     let next : at + length (marks.Play ∷ common) ≡ at + 1 + length common = omega arith in
     record {
       passes = ap (max 1) rest.passes;
-      common = ap (λ l. l ++ flat_map found (places_from (at + 1) common)) here ∙ ap (λ l. items ++ l) rest.common;
+      common = λ i. here i ++ rest.common i;
       ending = λ pass. ap (λ k. flat_map found (first_ending pass k (strain_of text).endings)) next ∙ rest.ending pass;
     }
 more_told found at items (marks.Bar closes opens double) text told here rest =
@@ -138,11 +138,8 @@ passes_told found at text told [] is = refl
 passes_told found at text told (pass ∷ passes) is =
     let strain = strain_of text in
     flat_map-append found (pass_of at strain pass) (flat_map (pass_of at strain) passes)
-    ∙ ap (λ l. l ++ flat_map found (flat_map (pass_of at strain) passes))
-    (flat_map-append found (places_from at strain.common) (ending_of at strain pass)
-    ∙ ap (λ l. l ++ flat_map found (ending_of at strain pass)) is.common
-    ∙ ap (λ l. told.common ++ l) (is.ending pass))
-    ∙ ap (λ l. told_pass told pass ++ l) (passes_told found at text told passes is)
+    ∙ ap (λ l. l ++ flat_map found (flat_map (pass_of at strain) passes)) (flat_map-append found (places_from at strain.common) (ending_of at strain pass))
+    ∙ (λ i. (is.common i ++ is.ending pass i) ++ passes_told found at text told passes is i)
 
 strain_told : {A : Type 0} (found : ℕ → List A) (at : ℕ) (text : List Mark) (told : Told A)
     → IsTold found at text told → flat_map found (strain_play at (strain_of text)) ≡ told_play told
@@ -156,8 +153,7 @@ plays_told : {A : Type 0} (found : ℕ → List A) (at : ℕ) (texts : List (Lis
 plays_told found _ _ _ (none at) = refl
 plays_told found _ _ _ (one at text texts told others is rest) =
     flat_map-append found (strain_play at (strain_of text)) (plays_from (at + length (text_of (strain_of text))) (map strain_of texts))
-    ∙ ap (λ l. l ++ flat_map found (plays_from (at + length (text_of (strain_of text))) (map strain_of texts))) (strain_told found at text told is)
-    ∙ ap (λ l. told_play told ++ flat_map found (plays_from (at + length l) (map strain_of texts))) (text_back text)
+    ∙ (λ i. strain_told found at text told is i ++ flat_map found (plays_from (at + length (text_back text i)) (map strain_of texts)))
     ∙ ap (λ l. told_play told ++ l) (plays_told found (at + length text) texts others rest)
 
 -- what stands one place further on

@@ -22,15 +22,9 @@ one_before : {A : Type 0} (run : Run A) (runs others : List (Run A)) → AreAlik
 one_before run runs others alike = record {
   leads = ap (λ b. is_ending run.mark || (is_single run.mark && b)) alike.leads;
   strains = λ opened inside.
-      ap (λ b. cond (ends_by opened inside run.mark b)
-      (told_with run.items run.mark nothing ∷ tolds (opens_next run.mark) false runs)
-      (told_first run (tolds opened (inside || is_ending run.mark) runs))) alike.leads
-      ∙ ap (λ l. cond (ends_strain opened inside run.mark (marks_in others))
-      (told_with run.items run.mark nothing ∷ l)
-      (told_first run (tolds opened (inside || is_ending run.mark) runs))) (alike.strains (opens_next run.mark) false)
-      ∙ ap (λ l. cond (ends_strain opened inside run.mark (marks_in others))
-      (told_with run.items run.mark nothing ∷ tolds (opens_next run.mark) false others)
-      (told_first run l)) (alike.strains opened (inside || is_ending run.mark));
+      λ i. cond (ends_by opened inside run.mark (alike.leads i))
+      (told_with run.items run.mark nothing ∷ alike.strains (opens_next run.mark) false i)
+      (told_first run (alike.strains opened (inside || is_ending run.mark) i));
 }
 
 some_before : {A : Type 0} (before runs others : List (Run A)) → AreAlike runs others → AreAlike (before ++ runs) (before ++ others)
@@ -48,8 +42,7 @@ two_told : {A : Type 0} (first second : List A) (told : Told A)
     → told_with first marks.Play (told_with second marks.Play told) ≡ told_with (first ++ second) marks.Play told
 two_told first second told =
     let passes : max 1 (max 1 told.passes) ≡ max 1 told.passes = omega arith in
-    ap (λ (k : ℕ). record { passes = k; common = first ++ (second ++ told.common); endings = told.endings }) passes
-    ∙ ap (λ l. record { passes = max 1 told.passes; common = l; endings = told.endings }) (sym (append_assoc first second told.common))
+    λ i. record { passes = passes i; common = sym (append_assoc first second told.common) i; endings = told.endings }
 
 two_first : {A : Type 0} (first second : List A) (strains : List (Told A))
     → told_first (turn first) (told_first (turn second) strains) ≡ told_first (turn (first ++ second)) strains
@@ -73,14 +66,11 @@ joined before behind first second =
 
 -- a single bar has no colons and is not double
 plain : (mark : Mark) → is_single mark ≡ true → mark ≡ marks.Bar 0 0 false
-plain marks.Play h = cc
 plain (marks.Bar closes opens double) h =
     let both = and_parts ((closes == 0) && (opens == 0)) (not double) h in
     let zeros = and_parts (closes == 0) (opens == 0) both.0 in
-    ap (λ n. marks.Bar n opens double) (eqb-true closes 0 zeros.0)
-    ∙ ap (λ n. marks.Bar 0 n double) (eqb-true opens 0 zeros.1)
-    ∙ ap (λ b. marks.Bar 0 0 b) (not-true double both.1)
-plain (marks.Ending numbers) h = cc
+    λ i. marks.Bar (eqb-true closes 0 zeros.0 i) (eqb-true opens 0 zeros.1 i) (not-true double both.1 i)
+plain _ h = cc
 
 bar_told : {A : Type 0} (items own : List A) (mark : Mark) (told : Told A)
     → told_with items (marks.Bar 0 0 false) (told_with own mark told) ≡ told_with own mark told

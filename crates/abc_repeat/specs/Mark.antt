@@ -8,38 +8,32 @@ use Rattle.abc_repeat.specs.declared.mark.Mark.TheVariants as marks
 -- A note, a chord, a rest, a bar rest, a field or a program.
 abbrev pub is_play : Mark → Bool
 is_play marks.Play = true
-is_play (marks.Bar closes opens double) = false
-is_play (marks.Ending numbers) = false
+is_play _ = false
 
 -- The beginning of a first, second or later ending. ABC 2.1 section 4.9.
 abbrev pub is_ending : Mark → Bool
-is_ending marks.Play = false
-is_ending (marks.Bar closes opens double) = false
 is_ending (marks.Ending numbers) = true
+is_ending _ = false
 
 -- A bar line with colons on either side. ABC 2.1 section 4.8.
 abbrev pub is_repeat : Mark → Bool
-is_repeat marks.Play = false
 is_repeat (marks.Bar closes opens double) = nat_lt 0 closes || nat_lt 0 opens
-is_repeat (marks.Ending numbers) = false
+is_repeat _ = false
 
 -- A bar line whose middle is not a single thin line. ABC 2.1 section 4.8; what double means is not in ABC 2.1.
 abbrev pub is_double : Mark → Bool
-is_double marks.Play = false
 is_double (marks.Bar closes opens double) = double
-is_double (marks.Ending numbers) = false
+is_double _ = false
 
 -- A bar line that is neither.
 abbrev pub is_single : Mark → Bool
-is_single marks.Play = false
 is_single (marks.Bar closes opens double) = (closes == 0) && (opens == 0) && not double
-is_single (marks.Ending numbers) = false
+is_single _ = false
 
 -- A repeat bar with colons after it opens the strain that follows. ABC 2.1 section 4.8; strains are not in ABC 2.1.
 abbrev pub opens_next : Mark → Bool
-opens_next marks.Play = false
 opens_next (marks.Bar closes opens double) = nat_lt 0 opens
-opens_next (marks.Ending numbers) = false
+opens_next _ = false
 
 -- The common part of a strain runs to a repeat bar or, if the strain is not opened, a double bar. Not in ABC 2.1.
 abbrev pub closes_common : Bool → Mark → Bool
@@ -72,6 +66,5 @@ passes_of (marks.Ending numbers) = greatest_number numbers
 
 -- A mark that begins an ending for a pass.
 abbrev pub is_for : ℕ → Mark → Bool
-is_for pass marks.Play = false
-is_for pass (marks.Bar closes opens double) = false
 is_for pass (marks.Ending numbers) = has_number numbers pass
+is_for pass _ = false

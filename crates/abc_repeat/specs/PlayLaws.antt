@@ -10,21 +10,18 @@ use Rattle.abc_repeat.specs.Play.{play_of}
 
 -- The sign of an ending, as `[1`. ABC 2.1 section 4.9.
 abbrev pub IsSign : Mark → Type 0
-IsSign marks.Play = ⊥
-IsSign (marks.Bar closes opens double) = ⊥
 IsSign (marks.Ending numbers) = ⊤
+IsSign _ = ⊥
 
 -- A repeat bar: a bar line with colons before or after it. ABC 2.1 section 4.8.
 abbrev pub IsRepeatBar : Mark → Type 0
-IsRepeatBar marks.Play = ⊥
 IsRepeatBar (marks.Bar closes opens double) = (0 < closes) ⊎ (0 < opens)
-IsRepeatBar (marks.Ending numbers) = ⊥
+IsRepeatBar _ = ⊥
 
 -- A double bar: a bar line whose middle is not a single thin line. Not in ABC 2.1.
 abbrev pub IsDoubleBar : Mark → Type 0
-IsDoubleBar marks.Play = ⊥
 IsDoubleBar (marks.Bar closes opens double) = double ≡ true
-IsDoubleBar (marks.Ending numbers) = ⊥
+IsDoubleBar _ = ⊥
 
 -- A bar that ends an ending, or the common part of a strain that is not opened. Not in ABC 2.1.
 abbrev pub IsEndBar : Mark → Type 0

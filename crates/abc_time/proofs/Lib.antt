@@ -6,4 +6,5 @@ pub mod LengthLaws
 pub mod Numerators
 pub mod Products
 pub mod Quotients
+pub mod Steps
 pub mod Tempos

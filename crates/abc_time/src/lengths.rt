@@ -1,6 +1,6 @@
 //! The length that a unit and its factors make.
 
-ghost use Rattle.std.specs.Prelude.{◌≡◌, ◌<◌, ◌≤◌, ◌*◌, ◌↔◌, ℕ, All, OnErr, OnOk, length};
+ghost use Rattle.std.specs.Prelude.{◌≡◌, ◌<◌, ◌≤◌, ◌*◌, ◌↔◌, ℕ, All, IfSome, OnErr, OnOk, length};
 ghost use Rattle.std.specs.Int.{◌∣◌};
 ghost use Rattle.abc_time.specs.Grains.{grains_of_a_whole_note, grains_of_the_longest_length};
 ghost use Rattle.abc_time.specs.Length.{IsLength, denominator_of, length_of, numerator_of};
@@ -11,6 +11,7 @@ use crate::cancel::cancel;
 use crate::grains::{Grains, LONGEST_LENGTH, WHOLE_NOTE};
 use crate::product::product_within;
 use crate::ratio::Ratio;
+use crate::ratio_product::times_ratios;
 use thiserror::Error;
 
 /// Why there is no length.
@@ -38,6 +39,33 @@ pub fn length(unit: Ratio, factors: &[Ratio]) -> Result<Grains, LengthFault>
     ensures not_whole { (result ≡ Err LengthFault.NotWhole) ↔ ((g : ℕ) → ¬ IsLength unit factors.now g) }
     ensures too_long { (result ≡ Err LengthFault.TooLong)
         ↔ ((g : ℕ) × IsLength unit factors.now g × (grains_of_the_longest_length < g)) }
+{
+    match length_in_steps(unit, factors) {
+        Some(grains) => Ok(grains),
+        None => length_by_cancelling(unit, factors),
+    }
+}
+
+/// The length, if it is found by a division and a product for each ratio, as nearly all are.
+fn length_in_steps(unit: Ratio, factors: &[Ratio]) -> Option<Grains>
+    requires unit { IsRatio unit }
+    requires factors { All IsRatio factors.now }
+    ensures { IfSome result (λ grains. Ok grains ≡ length_of unit factors.now) }
+{
+    let grains = times_ratios(WHOLE_NOTE.0, unit, factors)?;
+    if grains <= LONGEST_LENGTH.0 {
+        Some(Grains(grains))
+    } else {
+        None
+    }
+}
+
+/// The length, by cancelling the common divisors of all numerators and denominators.
+fn length_by_cancelling(unit: Ratio, factors: &[Ratio]) -> Result<Grains, LengthFault>
+    requires unit { IsRatio unit }
+    requires factors { All IsRatio factors.now }
+    requires few { length factors.now ≤ 5 }
+    ensures { result ≡ length_of unit factors.now }
 {
     let mut numerators = numerators_of(unit, factors);
     divide_by_denominators(&mut numerators, unit, factors)?;

@@ -10,6 +10,7 @@ pub mod laws;
 mod lengths;
 mod product;
 mod ratio;
+mod ratio_product;
 mod tempo;
 
 pub use abc_text::LARGEST_NUMBER;

@@ -71,51 +71,15 @@ opens past says usual one tune =
 
 tempo_said : (value : Option ℕ) (item : Item) → tempo_after value item ≡ unwrap_or (opening_tempo_of item) value
 tempo_said value (items.Tempo true micros out) = refl
-tempo_said value (items.Tempo false micros out) = refl
-tempo_said value (items.Meter opening meter) = refl
-tempo_said value (items.Key opening key) = refl
-tempo_said value (items.Program opening number) = refl
-tempo_said value (items.Number number) = refl
-tempo_said value (items.Tone tones length) = refl
-tempo_said value (items.Rest length bar) = refl
-tempo_said value (items.Bar line) = refl
-tempo_said value (items.Ending numbers) = refl
-tempo_said value (items.Section letter) = refl
-tempo_said value (items.Voice opening name) = refl
-tempo_said value (items.Title text) = refl
-tempo_said value (items.Order text) = refl
+tempo_said value _ = refl
 
 meter_said : (value : Option Meter) (item : Item) → meter_after value item ≡ unwrap_or (opening_meter_of item) value
-meter_said value (items.Tempo opening micros out) = refl
 meter_said value (items.Meter true meter) = refl
-meter_said value (items.Meter false meter) = refl
-meter_said value (items.Key opening key) = refl
-meter_said value (items.Program opening number) = refl
-meter_said value (items.Number number) = refl
-meter_said value (items.Tone tones length) = refl
-meter_said value (items.Rest length bar) = refl
-meter_said value (items.Bar line) = refl
-meter_said value (items.Ending numbers) = refl
-meter_said value (items.Section letter) = refl
-meter_said value (items.Voice opening name) = refl
-meter_said value (items.Title text) = refl
-meter_said value (items.Order text) = refl
+meter_said value _ = refl
 
 key_said : (value : Option (ℤ × Bool)) (item : Item) → key_after value item ≡ unwrap_or (opening_key_of item) value
-key_said value (items.Tempo opening micros out) = refl
-key_said value (items.Meter opening meter) = refl
 key_said value (items.Key true key) = refl
-key_said value (items.Key false key) = refl
-key_said value (items.Program opening number) = refl
-key_said value (items.Number number) = refl
-key_said value (items.Tone tones length) = refl
-key_said value (items.Rest length bar) = refl
-key_said value (items.Bar line) = refl
-key_said value (items.Ending numbers) = refl
-key_said value (items.Section letter) = refl
-key_said value (items.Voice opening name) = refl
-key_said value (items.Title text) = refl
-key_said value (items.Order text) = refl
+key_said value _ = refl
 
 -- changes of one kind
 either : {X : Type 0} (f : X → Change) (here : Bool) (x : X) (xs : List X) → cond here (f x ∷ map f xs) (map f xs) ≡ map f (cond here (x ∷ xs) xs)

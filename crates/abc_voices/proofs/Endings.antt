@@ -364,19 +364,12 @@ walks [] = record {
   ahead = λ opened held h. refl;
   astray = λ opened held h. sym (append-nil held);
 }
-walks (items.Number number ∷ rest) = plain_step (items.Number number) rest refl refl (walks rest)
-walks (items.Tone tones length ∷ rest) = plain_step (items.Tone tones length) rest refl refl (walks rest)
-walks (items.Rest length bar ∷ rest) = plain_step (items.Rest length bar) rest refl refl (walks rest)
-walks (items.Bar line ∷ rest) = plain_step (items.Bar line) rest refl refl (walks rest)
 walks (items.Ending numbers ∷ rest) = sign_step numbers rest (walks rest)
-walks (items.Section letter ∷ rest) = plain_step (items.Section letter) rest refl refl (walks rest)
 walks (items.Tempo opening micros out ∷ rest) = field_step (items.Tempo opening micros out) rest refl refl (walks rest)
 walks (items.Meter opening meter ∷ rest) = field_step (items.Meter opening meter) rest refl refl (walks rest)
 walks (items.Key opening key ∷ rest) = field_step (items.Key opening key) rest refl refl (walks rest)
-walks (items.Voice opening name ∷ rest) = plain_step (items.Voice opening name) rest refl refl (walks rest)
-walks (items.Title title ∷ rest) = plain_step (items.Title title) rest refl refl (walks rest)
-walks (items.Order text ∷ rest) = plain_step (items.Order text) rest refl refl (walks rest)
 walks (items.Program opening number ∷ rest) = field_step (items.Program opening number) rest refl refl (walks rest)
+walks (item ∷ rest) = plain_step item rest refl refl (walks rest)
 
 pub moves_by_strains : MovesByStrains
 moves_by_strains part strains are =

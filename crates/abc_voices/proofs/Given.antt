@@ -10,7 +10,8 @@ use Rattle.abc_fields.specs.declared.meter.Meter.{Meter}
 use Rattle.abc_fields.specs.declared.meter.Meter.TheVariants as meters
 use Rattle.abc_repeat.specs.Order.{sections_of, has_unknown}
 use Rattle.abc_time.specs.declared.grains.Grains.{Grains}
-use Rattle.abc_voices.specs.Turns.{set_by_all, set_by_one, programs_along, score_along}
+use Rattle.abc_voices.specs.ScoreChanges.{changes_in_force}
+use Rattle.abc_voices.specs.Turns.{set_by_all, set_by_one, voices_along, programs_along, end_along, score_along}
 use Rattle.abc_voices.specs.Arrange.{or_else, usual_tempo}
 use Rattle.abc_voices.specs.Change.{tempo_of, meter_of, key_of}
 use Rattle.abc_voices.specs.Fields.{is_music, without_music}
@@ -18,7 +19,6 @@ use Rattle.abc_voices.specs.Opening.{tempo_after, meter_after, key_after, progra
 use Rattle.abc_voices_sections.specs.Section.{letter_of, letters, declared_or, opening_voice}
 use Rattle.abc_voices_sections.specs.declared.stage.Stage.{Stage}
 use Rattle.abc_voices.specs.Track.{names_after, names_from, voice_names}
-use Rattle.abc_voices.proofs.Alike.{conductor_same, score_same}
 
 -- what is alike at a note or chord, a rest, a bar line and the beginning of an ending is alike at all music
 pub of_music : {V : Type 0} (f : Item → V) (v : V) → ((tones : List Tone) (length : Grains) → f (items.Tone tones length) ≡ v)
@@ -69,18 +69,23 @@ from_right f before goes kept [] = refl
 from_right f before goes kept (step ∷ tune) =
     right_step f before goes kept step tune (from_right f before goes kept tune) (is_music step) refl
 
+-- what fields say one after another
+after_given : {V : Type 0} (past : Option V → Item → Option V) → ((item : Item) → is_music item ≡ true → (v : Option V) → past v item ≡ v)
+    → (tune : List Item) → after_all past None (without_music tune) ≡ after_all past None tune
+after_given past kept tune = from_left (after_all past) past (λ _ _ _. refl) kept None tune
+
 -- the order of the parts
 order_kept : (item : Item) → is_music item ≡ true → (v : Option (List ℕ)) → order_after v item ≡ v
 order_kept item music v = of_music (order_after v) v (λ _ _. refl) (λ _ _. refl) (λ _. refl) (λ _. refl) item music
 
 order_given : (tune : List Item) → after_all order_after None (without_music tune) ≡ after_all order_after None tune
-order_given tune = from_left (after_all order_after) order_after (λ _ _ _. refl) order_kept None tune
+order_given = after_given order_after order_kept
 
 -- the letters of the parts
 letter_kept : (item : Item) → is_music item ≡ true → (v : List ℕ) → cons_option (letter_of item) v ≡ v
 letter_kept item music v = of_music (λ i. cons_option (letter_of i) v) v (λ _ _. refl) (λ _ _. refl) (λ _. refl) (λ _. refl) item music
 
-letters_given : (tune : List Item) → letters (without_music tune) ≡ letters tune
+pub letters_given : (tune : List Item) → letters (without_music tune) ≡ letters tune
 letters_given tune = from_right (letters) (λ v item. cons_option (letter_of item) v) (λ _ _. refl) letter_kept tune
 
 -- the voices
@@ -102,27 +107,15 @@ opening_given tune given is =
 tempo_kept : (item : Item) → is_music item ≡ true → (v : Option ℕ) → tempo_after v item ≡ v
 tempo_kept item music v = of_music (tempo_after v) v (λ _ _. refl) (λ _ _. refl) (λ _. refl) (λ _. refl) item music
 
-tempo_given : (tune : List Item) → after_all tempo_after None (without_music tune) ≡ after_all tempo_after None tune
-tempo_given tune = from_left (after_all tempo_after) tempo_after (λ _ _ _. refl) tempo_kept None tune
-
 meter_kept : (item : Item) → is_music item ≡ true → (v : Option Meter) → meter_after v item ≡ v
 meter_kept item music v = of_music (meter_after v) v (λ _ _. refl) (λ _ _. refl) (λ _. refl) (λ _. refl) item music
-
-meter_given : (tune : List Item) → after_all meter_after None (without_music tune) ≡ after_all meter_after None tune
-meter_given tune = from_left (after_all meter_after) meter_after (λ _ _ _. refl) meter_kept None tune
 
 key_kept : (item : Item) → is_music item ≡ true → (v : Option (ℤ × Bool)) → key_after v item ≡ v
 key_kept item music v = of_music (key_after v) v (λ _ _. refl) (λ _ _. refl) (λ _. refl) (λ _. refl) item music
 
-key_given : (tune : List Item) → after_all key_after None (without_music tune) ≡ after_all key_after None tune
-key_given tune = from_left (after_all key_after) key_after (λ _ _ _. refl) key_kept None tune
-
 -- the program with which the tune opens
 program_kept : (item : Item) → is_music item ≡ true → (v : Option ℕ) → program_after v item ≡ v
 program_kept item music v = of_music (program_after v) v (λ _ _. refl) (λ _ _. refl) (λ _. refl) (λ _. refl) item music
-
-program_given : (tune : List Item) → after_all program_after None (without_music tune) ≡ after_all program_after None tune
-program_given tune = from_left (after_all program_after) program_after (λ _ _ _. refl) program_kept None tune
 
 -- the title
 title_kept : (item : Item) → is_music item ≡ true → (v : List ℕ) → title_before v item ≡ v
@@ -134,13 +127,17 @@ title_given tune = from_right (title_of) title_before (λ _ _. refl) title_kept 
 -- the score of stages
 score_fields : (tune : List Item) (first count : ℕ) (stages : List Stage) → score_along (without_music tune) first count stages ≡ score_along tune first count stages
 score_fields tune first count stages =
-    score_same _ _ _ _ _ _ _ _ _ _ (title_given tune) refl
-    (conductor_same _ _ _ _ _ _
-    (ap (λ v. (record { 0 = 0 }, or_else usual_tempo v) ∷ set_by_all tempo_of 0 stages) (tempo_given tune))
-    (ap (λ v. (record { 0 = 0 }, or_else meters.Free v) ∷ set_by_one meter_of first 0 stages) (meter_given tune))
-    (ap (λ v. (record { 0 = 0 }, or_else (pos 0, false) v) ∷ set_by_one key_of first 0 stages) (key_given tune)))
-    refl
-    (ap (λ v. programs_along v stages first (count - first)) (program_given tune))
+    let voices = voices_along stages first (count - first) in
+    λ i. record {
+      title = title_given tune i;
+      end = record { 0 = end_along stages voices };
+      conductor = changes_in_force
+          ((record { 0 = 0 }, or_else usual_tempo (after_given tempo_after tempo_kept tune i)) ∷ set_by_all tempo_of 0 stages)
+          ((record { 0 = 0 }, or_else meters.Free (after_given meter_after meter_kept tune i)) ∷ set_by_one meter_of first 0 stages)
+          ((record { 0 = 0 }, or_else (pos 0, false) (after_given key_after key_kept tune i)) ∷ set_by_one key_of first 0 stages);
+      voices = voices;
+      programs = programs_along (after_given program_after program_kept tune i) stages first (count - first);
+    }
 
 pub score_given : (tune given : List Item) (first count : ℕ) (stages : List Stage) → given ≡ without_music tune
     → score_along given first count stages ≡ score_along tune first count stages
@@ -151,16 +148,12 @@ score_given tune given first count stages is =
 pub played_given : (tune given : List Item) → given ≡ without_music tune
     → sections_of (after_all order_after None given) (letters given) ≡ sections_of (after_all order_after None tune) (letters tune)
 played_given tune given is =
-    ap (λ g. sections_of (after_all order_after None g) (letters g)) is
-    ∙ ap (λ order. sections_of order (letters (without_music tune))) (order_given tune)
-    ∙ ap (sections_of (after_all order_after None tune)) (letters_given tune)
+    (λ i. sections_of (after_all order_after None (is i)) (letters (is i))) ∙ (λ i. sections_of (order_given tune i) (letters_given tune i))
 
 pub unknown_given : (tune given : List Item) → given ≡ without_music tune
     → has_unknown (after_all order_after None given) (letters given) ≡ has_unknown (after_all order_after None tune) (letters tune)
 unknown_given tune given is =
-    ap (λ g. has_unknown (after_all order_after None g) (letters g)) is
-    ∙ ap (λ order. has_unknown order (letters (without_music tune))) (order_given tune)
-    ∙ ap (has_unknown (after_all order_after None tune)) (letters_given tune)
+    (λ i. has_unknown (after_all order_after None (is i)) (letters (is i))) ∙ (λ i. has_unknown (order_given tune i) (letters_given tune i))
 
 -- each field is an item of the tune
 pub items_given : (P : Item → Type 0) (tune given : List Item) → given ≡ without_music tune → All P tune → All P given

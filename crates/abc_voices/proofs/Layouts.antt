@@ -26,11 +26,11 @@ use Rattle.abc_voices_sections.specs.PlayedSection.{play_in, longest}
 use Rattle.abc_voices.specs.Change.{tempo_of, meter_of, key_of, program_of, set_from, after_opening}
 use Rattle.abc_voices.specs.ScoreChanges.{programs_in_force}
 use Rattle.abc_voices.specs.TiedNotes.{notes_from}
-use Rattle.abc_voices.specs.Opening.{tempo_after, meter_after, key_after, program_after, order_after, after_all}
+use Rattle.abc_voices.specs.Opening.{tempo_after, meter_after, key_after, program_after, order_after, after_all, title_of}
 use Rattle.abc_voices_sections.specs.Stage.{part_of, stage_of}
 use Rattle.abc_voices.specs.Track.{voice_names, has_unnamed_track, names_from, names_after, tracks}
 use Rattle.abc_voices.proofs.Fitting.Kept.{played_kept}
-use Rattle.abc_voices.proofs.Alike.{conductor_same, score_same, laid_same}
+use Rattle.abc_voices.specs.ScoreChanges.{changes_in_force}
 use Rattle.abc_voices.proofs.Staged.{stages_are, total_within}
 
 abbrev Sectioned : Type 0
@@ -66,8 +66,7 @@ notes_here : (voices : List (List ℕ)) (k : ℕ) (voice : List ℕ) (at : ℕ) 
     → notes_along k at (map (stage_of voices) played) ≡ voice_notes voices voice at played
 notes_here voices k voice at [] e = refl
 notes_here voices k voice at (section ∷ played) e =
-    ap (λ steps. notes_from at steps (notes_along k (at + longest voices section) (map (stage_of voices) played))) (steps_here section voices k voice e)
-    ∙ ap (notes_from at (play_in section voice)) (notes_here voices k voice (at + longest voices section) played e)
+    λ i. notes_from at (steps_here section voices k voice e i) (notes_here voices k voice (at + longest voices section) played e i)
 
 -- what there is for the voices from a place on, where it is known for each by what is left of them there
 voices_here : {X : Type 0} (one : ℕ → X) (own : List ℕ → X) (voices : List (List ℕ))
@@ -75,8 +74,7 @@ voices_here : {X : Type 0} (one : ℕ → X) (own : List ℕ → X) (voices : Li
     → (k : ℕ) (rest : List (List ℕ)) → drop k voices ≡ rest → for_voices one k (length rest) ≡ map own rest
 voices_here one own voices same k [] e = refl
 voices_here one own voices same k (voice ∷ rest) e =
-    ap (λ x. x ∷ for_voices one (k + 1) (length rest)) (same k voice rest e)
-    ∙ ap (λ l. own voice ∷ l) (voices_here one own voices same (k + 1) rest (front voices k voice rest e).behind)
+    λ i. same k voice rest e i ∷ voices_here one own voices same (k + 1) rest (front voices k voice rest e).behind i
 
 -- the notes of the voice at a place, by what is left of the voices there
 all_here_of : (voices : List (List ℕ)) (played : List Sectioned) (k : ℕ) (voice : List ℕ) (rest : List (List ℕ)) → drop k voices ≡ voice ∷ rest
@@ -88,10 +86,7 @@ all_here : {V : Type 0} (value_of : Item → Option V) (voices : List (List ℕ)
     → set_by_all value_of at (map (stage_of voices) played) ≡ set_in value_of voices voices at played
 all_here value_of voices at [] = refl
 all_here value_of voices at (section ∷ played) =
-    ap (λ l. l ++ set_by_all value_of (at + longest voices section) (map (stage_of voices) played))
-    (flat_map-map (λ (part : Part). set_from value_of at part.steps) (part_of section) voices)
-    ∙ ap (λ l. flat_map (λ voice. set_from value_of at (play_in section voice)) voices ++ l)
-    (all_here value_of voices (at + longest voices section) played)
+    λ i. flat_map-map (λ (part : Part). set_from value_of at part.steps) (part_of section) voices i ++ all_here value_of voices (at + longest voices section) played i
 
 -- what the voice at a place sets in a stage
 track_here : {V : Type 0} (value_of : Item → Option V) (section : Sectioned) (voices : List (List ℕ)) (k at : ℕ) (rest : List (List ℕ)) → drop k voices ≡ rest
@@ -110,10 +105,7 @@ one_here : {V : Type 0} (value_of : Item → Option V) (voices : List (List ℕ)
     → set_by_one value_of k at (map (stage_of voices) played) ≡ set_in value_of voices (first_of (drop k voices)) at played
 one_here value_of voices k at [] = refl
 one_here value_of voices k at (section ∷ played) =
-    ap (λ l. l ++ set_by_one value_of k (at + longest voices section) (map (stage_of voices) played))
-    (track_here value_of section voices k at (drop k voices) refl)
-    ∙ ap (λ l. flat_map (λ voice. set_from value_of at (play_in section voice)) (first_of (drop k voices)) ++ l)
-    (one_here value_of voices k (at + longest voices section) played)
+    λ i. track_here value_of section voices k at (drop k voices) refl i ++ one_here value_of voices k (at + longest voices section) played i
 
 -- the programs of the voice at a place, by what is left of the voices there
 programs_here : (opening : Option ℕ) (voices : List (List ℕ)) (played : List Sectioned) (k : ℕ) (voice : List ℕ) (rest : List (List ℕ)) → drop k voices ≡ voice ∷ rest
@@ -124,7 +116,7 @@ programs_here opening voices played k voice rest e =
 
 any_map : {X Y : Type 0} (p : Y → Bool) (q : X → Bool) (f : X → Y) → ((x : X) → p (f x) ≡ q x) → (xs : List X) → list_any p (map f xs) ≡ list_any q xs
 any_map p q f h [] = refl
-any_map p q f h (x ∷ xs) = ap (λ b. b || list_any p (map f xs)) (h x) ∙ ap (λ b. q x || b) (any_map p q f h xs)
+any_map p q f h (x ∷ xs) = λ i. h x i || any_map p q f h xs i
 
 -- whether voices are uneven in the stage of a section, and in one of some
 uneven_here : (voices : List (List ℕ)) (section : Sectioned) → is_stage_uneven (stage_of voices section) ≡ is_uneven voices section
@@ -196,27 +188,32 @@ pub end_of_stages : (tune : List Item)
     ≡ end_of tune
 end_of_stages tune =
     let stages = map (stage_of (voice_names tune)) (played_sections tune) in
-    ap (end_along stages) (voices_of tune)
-    ∙ ap (λ n. last_off n (flat_map (λ notes. notes) (voices_notes tune))) (total_of (voice_names tune) (played_sections tune))
+    λ i. last_off (total_of (voice_names tune) (played_sections tune) i) (flat_map (λ notes. notes) (voices_of tune i))
 
 -- the changes
 changes_here : (tune : List Item) → changes_along tune (first_place tune) (map (stage_of (voice_names tune)) (played_sections tune)) ≡ changes_of tune
 changes_here tune =
     let voices = voice_names tune in
     let played = played_sections tune in
-    let first = ap first_of (tracks_here (has_unnamed_track tune) voices) in
-    conductor_same _ _ _ _ _ _
-    (ap (λ sets. (record { 0 = 0 }, or_else usual_tempo (after_all tempo_after None tune)) ∷ sets) (all_here tempo_of voices 0 played))
-    (ap (λ sets. (record { 0 = 0 }, or_else meters.Free (after_all meter_after None tune)) ∷ sets)
-    (one_here meter_of voices (first_place tune) 0 played ∙ ap (λ those. set_in meter_of voices those 0 played) first))
-    (ap (λ sets. (record { 0 = 0 }, or_else (pos 0, false) (after_all key_after None tune)) ∷ sets)
-    (one_here key_of voices (first_place tune) 0 played ∙ ap (λ those. set_in key_of voices those 0 played) first))
+    let first = tracks_here (has_unnamed_track tune) voices in
+    let meter_sets = one_here meter_of voices (first_place tune) 0 played ∙ ap (λ those. set_in meter_of voices (first_of those) 0 played) first in
+    let key_sets = one_here key_of voices (first_place tune) 0 played ∙ ap (λ those. set_in key_of voices (first_of those) 0 played) first in
+    λ i. changes_in_force
+    ((record { 0 = 0 }, or_else usual_tempo (after_all tempo_after None tune)) ∷ all_here tempo_of voices 0 played i)
+    ((record { 0 = 0 }, or_else meters.Free (after_all meter_after None tune)) ∷ meter_sets i)
+    ((record { 0 = 0 }, or_else (pos 0, false) (after_all key_after None tune)) ∷ key_sets i)
 
 -- the score of the stages that are played
 pub score_of_stages : (tune : List Item)
     → score_along tune (first_place tune) (length (voice_names tune)) (map (stage_of (voice_names tune)) (played_sections tune)) ≡ score_of tune
 score_of_stages tune =
-    score_same _ _ _ _ _ _ _ _ _ _ refl (end_of_stages tune) (changes_here tune) (voices_of tune) (programs_are tune)
+    λ i. record {
+      title = title_of tune;
+      end = record { 0 = end_of_stages tune i };
+      conductor = changes_here tune i;
+      voices = voices_of tune i;
+      programs = programs_are tune i;
+    }
 
 -- the stages of the sections that a tune plays
 abbrev pub AreOf : List Item → List Stage → Type 0
@@ -224,7 +221,7 @@ AreOf tune stages = stages ≡ map (stage_of (voice_names tune)) (played_section
 
 pub played_here : (tune : List Item) (found : List Sectioned) (order : List ℕ) → found ≡ sections tune
     → order ≡ sections_of (after_all order_after None tune) (letters tune) → filter_map (slice_get found) order ≡ played_sections tune
-played_here tune found order p q = ap (λ f. filter_map (slice_get f) order) p ∙ ap (filter_map (slice_get (sections tune))) q
+played_here tune found order p q = λ i. filter_map (slice_get (p i)) (q i)
 
 pub alike : {X Y : Type 0} (P : X → Y → Type 0) (a b : X) (u v : Y) → a ≡ b → u ≡ v → P a u → P b v
 alike P a b u v p q h = subst (P b) q (subst (λ x. P x u) p h)
@@ -242,11 +239,7 @@ late_total tune stages is late =
 pub end_is : (tune : List Item) (stages : List Stage) (first count : ℕ) → AreOf tune stages → first ≡ first_place tune → count ≡ length (voice_names tune)
     → end_along stages (voices_along stages first (count - first)) ≡ end_of tune
 end_is tune stages first count is p q =
-    ap (λ s. end_along s (voices_along s first (count - first))) is
-    ∙ ap (λ n. end_along (map (stage_of (voice_names tune)) (played_sections tune)) (voices_along (map (stage_of (voice_names tune)) (played_sections tune)) n (count - n))) p
-    ∙ ap (λ n. end_along (map (stage_of (voice_names tune)) (played_sections tune))
-    (voices_along (map (stage_of (voice_names tune)) (played_sections tune)) (first_place tune) (n - first_place tune))) q
-    ∙ end_of_stages tune
+    (λ i. end_along (is i) (voices_along (is i) (p i) (q i - p i))) ∙ end_of_stages tune
 
 pub late_end : (tune : List Item) (stages : List Stage) (first count : ℕ) → AreOf tune stages → first ≡ first_place tune → count ≡ length (voice_names tune)
     → grains_of_the_latest_end < end_along stages (voices_along stages first (count - first)) → grains_of_the_latest_end < end_of tune
@@ -255,10 +248,7 @@ late_end tune stages first count is p q late = omega (arith, end_is tune stages 
 pub score_is : (tune : List Item) (stages : List Stage) (first count : ℕ) → AreOf tune stages → first ≡ first_place tune → count ≡ length (voice_names tune)
     → score_along tune first count stages ≡ score_of tune
 score_is tune stages first count is p q =
-    ap (score_along tune first count) is
-    ∙ ap (λ n. score_along tune n count (map (stage_of (voice_names tune)) (played_sections tune))) p
-    ∙ ap (λ n. score_along tune (first_place tune) n (map (stage_of (voice_names tune)) (played_sections tune))) q
-    ∙ score_of_stages tune
+    (λ i. score_along tune (p i) (q i) (is i)) ∙ score_of_stages tune
 
 pub uneven_is : (tune : List Item) (stages : List Stage) → AreOf tune stages
     → list_any is_stage_uneven stages ≡ list_any (is_uneven (voice_names tune)) (played_sections tune)
@@ -273,4 +263,4 @@ pub arranged_is : (tune : List Item) (score : Score) (uneven unknown : Bool) →
     → unknown ≡ has_unknown (after_all order_after None tune) (letters tune)
     → record { score = score; uneven = uneven; unknown = unknown } ≡ arranged_of tune
 unfolding arranged_of
-arranged_is tune score uneven unknown p q r = laid_same _ _ _ _ _ _ p q r
+arranged_is tune score uneven unknown p q r = λ i. record { score = p i; uneven = q i; unknown = r i }

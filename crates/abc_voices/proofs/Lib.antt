@@ -1,4 +1,3 @@
-pub mod Alike
 pub mod Chains
 pub mod Conductor
 pub mod Endings

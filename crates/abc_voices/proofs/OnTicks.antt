@@ -58,10 +58,7 @@ is_on tick set = tick_at set.0.0 == tick
 one_stands : {V : Type 0} (tick : ℕ) (standing : List (Grains × V)) (set : Grains × V) (last : Option (Grains × V)) (later here : Bool) → is_on tick set ≡ here
     → filter (is_on tick) standing ≡ option_to_list last → (here ≡ true → later ≡ is_some last)
     → filter (is_on tick) (cond later standing (standing ++ set ∷ [])) ≡ option_to_list (or_said last (cond here (Some set) None))
-one_stands tick standing set None true true e those same = absurd (same refl)
-  where
-    absurd : {X : Type 0} → true ≡ false → X
-    absurd h = cc
+one_stands tick standing set None true true e those same = let h : true ≡ false = same refl in cc
 one_stands tick standing set None true false e those same = those
 one_stands tick standing set None false true e those same =
     filter-append (is_on tick) standing (set ∷ []) ∙ (λ i. those i ++ cond (e i) (set ∷ []) [])
@@ -69,10 +66,7 @@ one_stands tick standing set None false false e those same =
     filter-append (is_on tick) standing (set ∷ []) ∙ (λ i. those i ++ cond (e i) (set ∷ []) [])
 one_stands tick standing set (Some value) true true e those same = those
 one_stands tick standing set (Some value) true false e those same = those
-one_stands tick standing set (Some value) false true e those same = absurd (same refl)
-  where
-    absurd : {X : Type 0} → false ≡ true → X
-    absurd h = cc
+one_stands tick standing set (Some value) false true e those same = let h : false ≡ true = same refl in cc
 one_stands tick standing set (Some value) false false e those same =
     filter-append (is_on tick) standing (set ∷ []) ∙ (λ i. those i ++ cond (e i) (set ∷ []) [])
 

@@ -158,9 +158,7 @@ pub staged : (voices : List (List ℕ)) (sections : List Section) (table : List 
 staged voices sections table [] h = refl
 staged voices sections table (place ∷ places) h =
     let P : ℕ → Type 0 = λ k. stage_at table k ≡ stage_for voices sections k in
-    let rest : filter_map (stage_at table) places ≡ map (stage_of voices) (sections_at sections places) = staged voices sections table places (All-tail P place places h) in
-    ap (λ one. cons_option one (filter_map (stage_at table) places)) (All-head P place places h)
-    ∙ ap (cons_option (stage_for voices sections place)) rest
+    (λ i. cons_option (All-head P place places h i) (staged voices sections table places (All-tail P place places h) i))
     ∙ one_stage voices (slice_get sections place) (sections_at sections places)
     ∙ ap (λ one. map (stage_of voices) (cons_option one (sections_at sections places))) (sym (slice_get-map content sections place))
 

@@ -2,6 +2,7 @@
 use Rattle.std.proofs.Common.{◌≡◌, ℕ, zero, suc, ◌+◌, Bool, true, false, cond, List, [], ◌∷◌, ◌++◌, map, Option, Some, None, refl, sym, ap, subst, ◌∙◌}
 use Rattle.std.specs.Prelude.{ℤ, pos, is_some, unwrap_or, not, ◌&&◌, bytes_eq, All, IfSome, slice_get}
 use Rattle.std.specs.List.{cons_option, flat_map, list_all}
+use Rattle.std.proofs.lemmas.Bool.{and_parts, not-true}
 use Rattle.std.proofs.lemmas.List.Elements.{All-nil, All-cons, All-head, All-tail}
 use Rattle.abc_bars_items.specs.declared.item.Item.{Item}
 use Rattle.abc_bars_items.specs.declared.item.Item.TheVariants as items
@@ -21,29 +22,14 @@ use Rattle.abc_voices_sections.specs.Step.{is_field, length_of}
 use Rattle.abc_voices.specs.Track.{voice_names}
 use Rattle.abc_voices.proofs.Fitting.Kept.{got, part_played, played_kept}
 use Rattle.abc_voices.proofs.Given.{of_music}
-use Rattle.abc_voices.proofs.Alike.{conductor_same}
 
 -- such a step sets nothing
-sets_no_tempo : (item : Item) → is_field item ≡ false → tempo_of item ≡ None
-sets_no_tempo (items.Tempo opening micros out) h = cc
-sets_no_tempo (items.Meter opening meter) h = cc
-sets_no_tempo (items.Key opening key) h = cc
-sets_no_tempo (items.Program opening number) h = cc
-sets_no_tempo _ h = refl
-
-sets_no_meter : (item : Item) → is_field item ≡ false → meter_of item ≡ None
-sets_no_meter (items.Tempo opening micros out) h = cc
-sets_no_meter (items.Meter opening meter) h = cc
-sets_no_meter (items.Key opening key) h = cc
-sets_no_meter (items.Program opening number) h = cc
-sets_no_meter _ h = refl
-
-sets_no_key : (item : Item) → is_field item ≡ false → key_of item ≡ None
-sets_no_key (items.Tempo opening micros out) h = cc
-sets_no_key (items.Meter opening meter) h = cc
-sets_no_key (items.Key opening key) h = cc
-sets_no_key (items.Program opening number) h = cc
-sets_no_key _ h = refl
+sets_no_change : (item : Item) → is_field item ≡ false → (tempo_of item ≡ None) × (meter_of item ≡ None) × (key_of item ≡ None)
+sets_no_change (items.Tempo opening micros out) h = absurd (cc)
+sets_no_change (items.Meter opening meter) h = absurd (cc)
+sets_no_change (items.Key opening key) h = absurd (cc)
+sets_no_change (items.Program opening number) h = absurd (cc)
+sets_no_change _ h = (refl, refl, refl)
 
 -- nor do steps, parts and stages of such steps
 module _ {V : Type 0} (value_of : Item → Option V) (kind : Item → Bool) (sets_none : (item : Item) → kind item ≡ false → value_of item ≡ None) where
@@ -82,18 +68,6 @@ module _ {V : Type 0} (value_of : Item → Option V) (kind : Item → Bool) (set
       (set_by_part at (slice_get stage.parts voice) (got SetsNonePart stage.parts voice (All-head (PlaysNone kind) stage stages steady)))
       ∙ one_sets_nothing voice (at + stage.longest.0) stages (All-tail (PlaysNone kind) stage stages steady)
 
-and_first : (a b : Bool) → (a && b) ≡ true → a ≡ true
-and_first true b h = refl
-and_first false b h = h
-
-and_rest : (a b : Bool) → (a && b) ≡ true → b ≡ true
-and_rest true b h = h
-and_rest false b h = cc
-
-not_true : (a : Bool) → not a ≡ true → a ≡ false
-not_true true h = cc
-not_true false h = refl
-
 plain_step : (field takes : Bool) → (field && takes) ≡ false → takes ≡ true → field ≡ false
 plain_step true takes h e = sym e ∙ h
 plain_step false takes h e = refl
@@ -113,10 +87,9 @@ module _ (kind : Item → Bool) (music_not : (item : Item) → is_music item ≡
       → none_of (cond (not music) (step ∷ without_music tune) (without_music tune)) ≡ true
       → ChangesNothing step × (none_of (without_music tune) ≡ true)
   steady_step step tune true e steady = (music_not step e, steady)
-  steady_step step tune false e steady = (
-    not_true (kind step && is_step step) (and_first (not (kind step && is_step step)) (none_of (without_music tune)) steady),
-    and_rest (not (kind step && is_step step)) (none_of (without_music tune)) steady,
-  )
+  steady_step step tune false e steady =
+      let both = and_parts (not (kind step && is_step step)) (none_of (without_music tune)) steady in
+      (not-true (kind step && is_step step) both.0, both.1)
 
   steady_steps : (tune : List Item) → none_of (without_music tune) ≡ true → All ChangesNothing tune
   steady_steps [] steady = All-nil ChangesNothing
@@ -187,13 +160,10 @@ pub steady_changes : (given : List Item) (first : ℕ) (stages : List Stage) (te
     → key ≡ or_else (pos 0, false) (after_all key_after None given)
     → changes_in_force ((record { 0 = 0 }, tempo) ∷ []) ((record { 0 = 0 }, meter) ∷ []) ((record { 0 = 0 }, key) ∷ []) ≡ changes_along given first stages
 steady_changes given first stages tempo meter key steady p q r =
-    conductor_same _ _ _ _ _ _
-    (ap (λ v. (record { 0 = 0 }, v) ∷ []) p ∙ ap (λ l. (record { 0 = 0 }, or_else usual_tempo (after_all tempo_after None given))
-    ∷ l) (sym (all_set_nothing tempo_of is_field sets_no_tempo 0 stages steady)))
-    (ap (λ v. (record { 0 = 0 }, v) ∷ []) q ∙ ap (λ l. (record { 0 = 0 }, or_else meters.Free (after_all meter_after None given))
-    ∷ l) (sym (one_sets_nothing meter_of is_field sets_no_meter first 0 stages steady)))
-    (ap (λ v. (record { 0 = 0 }, v) ∷ []) r ∙ ap (λ l. (record { 0 = 0 }, or_else (pos 0, false) (after_all key_after None given))
-    ∷ l) (sym (one_sets_nothing key_of is_field sets_no_key first 0 stages steady)))
+    let tempos = sym (all_set_nothing tempo_of is_field (λ item h. (sets_no_change item h).0) 0 stages steady) in
+    let meter_sets = sym (one_sets_nothing meter_of is_field (λ item h. (sets_no_change item h).1) first 0 stages steady) in
+    let keys = sym (one_sets_nothing key_of is_field (λ item h. (sets_no_change item h).2) first 0 stages steady) in
+    λ i. changes_in_force ((record { 0 = 0 }, p i) ∷ tempos i) ((record { 0 = 0 }, q i) ∷ meter_sets i) ((record { 0 = 0 }, r i) ∷ keys i)
 
 -- the programs of stages that set none are those with which their tune opens
 no_program : (value : Option ℕ) → is_some value ≡ false → value ≡ None
@@ -208,5 +178,4 @@ pub programs_kept : (opening : Option ℕ) (voice count : ℕ) (stages : List St
     → programs_along opening [] voice count ≡ programs_along opening stages voice count
 programs_kept opening voice zero stages kept = refl
 programs_kept opening voice (suc count) stages kept =
-    ap (λ own. own ∷ programs_along opening [] (voice + 1) count) (one_keeps opening voice stages kept)
-    ∙ ap (λ others. programs_by opening stages voice ∷ others) (programs_kept opening (voice + 1) count stages kept)
+    λ i. one_keeps opening voice stages kept i ∷ programs_kept opening (voice + 1) count stages kept i

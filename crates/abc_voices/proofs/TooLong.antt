@@ -41,16 +41,8 @@ told tune (of_title h) = inr h
 
 past : (a b c d e : ℕ) → Decides (nat_lt MOST_SECTIONS a || nat_lt MOST_PLACES b || nat_lt grains_of_the_latest_end c || nat_lt MOST_VOICES d || nat_lt LONGEST_TITLE e) (Passed a b c d e)
 past a b c d e =
-    let sections = nat_lt MOST_SECTIONS a in
-    let places = nat_lt MOST_PLACES b in
-    let time = nat_lt grains_of_the_latest_end c in
-    let voices = nat_lt MOST_VOICES d in
-    Decides-or (sections || places || time || voices) (nat_lt LONGEST_TITLE e)
-    (Decides-or (sections || places || time) voices
-    (Decides-or (sections || places) time
-    (Decides-or sections places (Decides-ltb MOST_SECTIONS a) (Decides-ltb MOST_PLACES b))
-    (Decides-ltb grains_of_the_latest_end c))
-    (Decides-ltb MOST_VOICES d))
+    Decides-or _ _
+    (Decides-or _ _ (Decides-or _ _ (Decides-or _ _ (Decides-ltb MOST_SECTIONS a) (Decides-ltb MOST_PLACES b)) (Decides-ltb grains_of_the_latest_end c)) (Decides-ltb MOST_VOICES d))
     (Decides-ltb LONGEST_TITLE e)
 
 decides : (tune : List Item) → Decides (is_too_long tune) (PassesALimit tune)
@@ -88,12 +80,9 @@ short_enough tune short =
 pub fits : (tune : List Item) → All IsItem tune → IsShort tune → IsWithinLimits (score_of tune)
 fits tune each short = fits_a_file tune each short.places short.time short.voices short.title
 
--- the counts of a score are those of its tune
+-- the count of a score's voices is that of its tune
 voices_of : (tune : List Item) (score : Score) → score ≡ score_of tune → length score.voices ≡ length (tracks tune)
 voices_of tune score is = ap (λ (s : Score). length s.voices) is ∙ length-map (tracks tune) _
-
-title_is : (tune : List Item) (score : Score) → score ≡ score_of tune → length score.title ≡ length (title_of tune)
-title_is tune score is = ap (λ (s : Score). length s.title) is
 
 -- what the test of voices and title tells of a tune
 pub record AreFew (tune : List Item) : Type 0 where
@@ -106,12 +95,12 @@ few tune score is h =
     let both = and_parts (nat_le (length score.voices) MOST_VOICES) (nat_le (length score.title) LONGEST_TITLE) h in
     record {
       voices = subst (λ (n : ℕ). n ≤ MOST_VOICES) (voices_of tune score is) (leb-true (length score.voices) MOST_VOICES both.0);
-      title = subst (λ (n : ℕ). n ≤ LONGEST_TITLE) (title_is tune score is) (leb-true (length score.title) LONGEST_TITLE both.1);
+      title = subst (λ (s : Score). length s.title ≤ LONGEST_TITLE) is (leb-true (length score.title) LONGEST_TITLE both.1);
     }
 
 pub many : (tune : List Item) (score : Score) → score ≡ score_of tune
     → (nat_le (length score.voices) MOST_VOICES && nat_le (length score.title) LONGEST_TITLE) ≡ false → is_too_long tune ≡ true
 many tune score is h = long_by tune (⊎_elim
     (λ e. of_voices (subst (λ (n : ℕ). MOST_VOICES < n) (voices_of tune score is) (leb-false (length score.voices) MOST_VOICES e)))
-    (λ e. of_title (subst (λ (n : ℕ). LONGEST_TITLE < n) (title_is tune score is) (leb-false (length score.title) LONGEST_TITLE e)))
+    (λ e. of_title (subst (λ (s : Score). LONGEST_TITLE < length s.title) is (leb-false (length score.title) LONGEST_TITLE e)))
     (and_cases (nat_le (length score.voices) MOST_VOICES) (nat_le (length score.title) LONGEST_TITLE) h))

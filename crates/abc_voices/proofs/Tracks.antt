@@ -63,18 +63,7 @@ names_are known past [] are = sym (append-nil known)
 names_are known past (items.Voice opening name ∷ rest) are =
     mention_step known past rest opening name are (λ names more. names_are names (items.Voice opening name ∷ past) rest more) (is_in known name) refl
     ∙ ap (λ b. known ++ cons_option (cond b None (Some name)) (filter_map mentioned_first (with_items_before (items.Voice opening name ∷ past) rest))) (are name)
-names_are known past (items.Number number ∷ rest) are = names_are known (items.Number number ∷ past) rest are
-names_are known past (items.Tone tones length ∷ rest) are = names_are known (items.Tone tones length ∷ past) rest are
-names_are known past (items.Rest length bar ∷ rest) are = names_are known (items.Rest length bar ∷ past) rest are
-names_are known past (items.Bar line ∷ rest) are = names_are known (items.Bar line ∷ past) rest are
-names_are known past (items.Ending numbers ∷ rest) are = names_are known (items.Ending numbers ∷ past) rest are
-names_are known past (items.Section letter ∷ rest) are = names_are known (items.Section letter ∷ past) rest are
-names_are known past (items.Tempo opening micros out ∷ rest) are = names_are known (items.Tempo opening micros out ∷ past) rest are
-names_are known past (items.Meter opening meter ∷ rest) are = names_are known (items.Meter opening meter ∷ past) rest are
-names_are known past (items.Key opening key ∷ rest) are = names_are known (items.Key opening key ∷ past) rest are
-names_are known past (items.Title text ∷ rest) are = names_are known (items.Title text ∷ past) rest are
-names_are known past (items.Order text ∷ rest) are = names_are known (items.Order text ∷ past) rest are
-names_are known past (items.Program opening number ∷ rest) are = names_are known (items.Program opening number ∷ past) rest are
+names_are known past (item ∷ rest) are = names_are known (item ∷ past) rest are
 
 -- a name is after items where one was after fewer
 still : (one : Option (List ℕ)) (past : Option (List ℕ)) → is_none past ≡ false → is_none (or_said one past) ≡ false
@@ -119,17 +108,7 @@ plays_as tune past (items.Rest length bar ∷ rest) none =
     plays_here tune past (plays_first rest) _ none (plays_as tune (items.Rest length bar ∷ past) rest none)
 plays_as tune past (items.Voice false name ∷ rest) none =
     none_behind tune (items.Voice false name ∷ past) rest refl ∙ and_false (bytes_eq (unwrap_or (first_said declared_by tune) []) [])
-plays_as tune past (items.Number number ∷ rest) none = plays_as tune (items.Number number ∷ past) rest none
-plays_as tune past (items.Bar line ∷ rest) none = plays_as tune (items.Bar line ∷ past) rest none
-plays_as tune past (items.Ending numbers ∷ rest) none = plays_as tune (items.Ending numbers ∷ past) rest none
-plays_as tune past (items.Section letter ∷ rest) none = plays_as tune (items.Section letter ∷ past) rest none
-plays_as tune past (items.Tempo opening micros out ∷ rest) none = plays_as tune (items.Tempo opening micros out ∷ past) rest none
-plays_as tune past (items.Meter opening meter ∷ rest) none = plays_as tune (items.Meter opening meter ∷ past) rest none
-plays_as tune past (items.Key opening key ∷ rest) none = plays_as tune (items.Key opening key ∷ past) rest none
-plays_as tune past (items.Voice true name ∷ rest) none = plays_as tune (items.Voice true name ∷ past) rest none
-plays_as tune past (items.Title text ∷ rest) none = plays_as tune (items.Title text ∷ past) rest none
-plays_as tune past (items.Order text ∷ rest) none = plays_as tune (items.Order text ∷ past) rest none
-plays_as tune past (items.Program opening number ∷ rest) none = plays_as tune (items.Program opening number ∷ past) rest none
+plays_as tune past (item ∷ rest) none = plays_as tune (item ∷ past) rest none
 
 by_nameless : (b : Bool) (names : List (List ℕ)) → cond b ([] ∷ names) names ≡ cond b ([] ∷ []) [] ++ names
 by_nameless true names = refl

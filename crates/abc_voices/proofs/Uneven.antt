@@ -2,7 +2,7 @@
 use Rattle.std.proofs.Common.{◌≡◌, ℕ, ◌&&◌, Bool, true, false, List, refl, ap}
 use Rattle.std.specs.Prelude.{◌==◌, not, Any}
 use Rattle.std.specs.List.{list_any}
-use Rattle.std.proofs.lemmas.Bool.{and_parts, eqb-false, ne_eqb}
+use Rattle.std.proofs.lemmas.Bool.{and_parts, eqb-false, ne_eqb, not-true}
 use Rattle.std.proofs.lemmas.List.Folds.{Any-from_list_any, list_any-from_Any}
 use Rattle.abc_bars_items.specs.declared.item.Item.{Item}
 use Rattle.abc_bars_items.specs.declared.item.Item.TheVariants as items
@@ -32,10 +32,6 @@ played : (section : List ℕ × List Item) (voice : List ℕ) → Any TakesTime 
 played section voice any =
     list_any-from_Any takes_time (play_in section voice) (some TakesTime (λ item. takes_time item ≡ true) taken (play_in section voice) any)
 
-is_not : (b : Bool) → not b ≡ true → b ≡ false
-is_not true is = absurd cc
-is_not false is = refl
-
 uneven : (section : List ℕ × List Item) (one other : List ℕ) → lengths_differ section one other ≡ true → AreUneven section one other
 uneven section one other is =
     let unequal : Bool = not (length_in section one == length_in section other) in
@@ -44,7 +40,7 @@ uneven section one other is =
     record {
       one_plays = plays section one play.0;
       other_plays = plays section other play.1;
-      lengths_differ = eqb-false (length_in section one) (length_in section other) (is_not (length_in section one == length_in section other) both.1);
+      lengths_differ = eqb-false (length_in section one) (length_in section other) (not-true (length_in section one == length_in section other) both.1);
     }
 
 told : (section : List ℕ × List Item) (one other : List ℕ) → AreUneven section one other → lengths_differ section one other ≡ true

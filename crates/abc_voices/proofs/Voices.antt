@@ -12,54 +12,19 @@ is_letter one = is_section one.1
 -- the first declared voice
 pub declared : (tune : List Item) → opening_voice tune ≡ unwrap_or (first_said declared_by tune) []
 declared [] = refl
-declared (items.Number number ∷ tune) = declared tune
-declared (items.Tone tones length ∷ tune) = declared tune
-declared (items.Rest length bar ∷ tune) = declared tune
-declared (items.Bar line ∷ tune) = declared tune
-declared (items.Ending numbers ∷ tune) = declared tune
-declared (items.Section letter ∷ tune) = declared tune
-declared (items.Tempo opening micros out ∷ tune) = declared tune
-declared (items.Meter opening meter ∷ tune) = declared tune
-declared (items.Key opening key ∷ tune) = declared tune
 declared (items.Voice true name ∷ tune) = refl
-declared (items.Voice false name ∷ tune) = declared tune
-declared (items.Title text ∷ tune) = declared tune
-declared (items.Order text ∷ tune) = declared tune
-declared (items.Program opening number ∷ tune) = declared tune
+declared (_ ∷ tune) = declared tune
 
 -- one item more to look back at
 one_more : (opening : List ℕ) (item : Item) (past : List Item)
     → voice_after (unwrap_or (first_said named_by past) opening) item ≡ unwrap_or (first_said named_by (item ∷ past)) opening
-one_more opening (items.Number number) past = refl
-one_more opening (items.Tone tones length) past = refl
-one_more opening (items.Rest length bar) past = refl
-one_more opening (items.Bar line) past = refl
-one_more opening (items.Ending numbers) past = refl
-one_more opening (items.Section letter) past = refl
-one_more opening (items.Tempo at micros out) past = refl
-one_more opening (items.Meter at meter) past = refl
-one_more opening (items.Key at key) past = refl
-one_more opening (items.Voice true name) past = refl
 one_more opening (items.Voice false name) past = refl
-one_more opening (items.Title text) past = refl
-one_more opening (items.Order text) past = refl
-one_more opening (items.Program at number) past = refl
+one_more opening _ past = refl
 
 -- a letter leaves the voice
 same_voice : (voice : List ℕ) (item : Item) → is_section item ≡ true → voice_after voice item ≡ voice
-same_voice voice (items.Number number) h = cc
-same_voice voice (items.Tone tones length) h = cc
-same_voice voice (items.Rest length bar) h = cc
-same_voice voice (items.Bar line) h = cc
-same_voice voice (items.Ending numbers) h = cc
 same_voice voice (items.Section letter) h = refl
-same_voice voice (items.Tempo opening micros out) h = cc
-same_voice voice (items.Meter opening meter) h = cc
-same_voice voice (items.Key opening key) h = cc
-same_voice voice (items.Voice opening name) h = cc
-same_voice voice (items.Title text) h = cc
-same_voice voice (items.Order text) h = cc
-same_voice voice (items.Program opening number) h = cc
+same_voice voice _ h = cc
 
 -- the current voice after items
 abbrev after : List ℕ → List Item → List ℕ

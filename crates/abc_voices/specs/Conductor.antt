@@ -102,18 +102,15 @@ key_on tune tick =
 -- The three kinds of changes.
 abbrev pub is_tempo : ChangeKind → Bool
 is_tempo (kinds.Tempo micros) = true
-is_tempo (kinds.Meter num den) = false
-is_tempo (kinds.Key sharps minor) = false
+is_tempo _ = false
 
 abbrev pub is_meter : ChangeKind → Bool
-is_meter (kinds.Tempo micros) = false
 is_meter (kinds.Meter num den) = true
-is_meter (kinds.Key sharps minor) = false
+is_meter _ = false
 
 abbrev pub is_key : ChangeKind → Bool
-is_key (kinds.Tempo micros) = false
-is_key (kinds.Meter num den) = false
 is_key (kinds.Key sharps minor) = true
+is_key _ = false
 
 -- Whether a change is of a kind, on a tick.
 abbrev pub is_there : (ChangeKind → Bool) → ℕ → Change → Bool

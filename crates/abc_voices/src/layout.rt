@@ -18,8 +18,8 @@ ghost use Rattle.abc_voices.specs.Fields.{without_music};
 ghost use Rattle.abc_voices_score.specs.Limits.{IsWithinLimits};
 ghost use Rattle.abc_voices_score.specs.declared.limits.TheConstants.{LONGEST_TITLE};
 ghost use Rattle.abc_voices.specs.Opening.{order_after, after_all};
-ghost use Rattle.abc_voices_sections.specs.Section.{letters};
-ghost use Rattle.abc_voices_sections.specs.Stage.{stage_of};
+ghost use Rattle.abc_voices_sections.specs.Section.{letters, sections};
+ghost use Rattle.abc_voices_sections.specs.Stage.{content, stage_of};
 ghost use Rattle.abc_voices.specs.Stages.{at_places};
 ghost use Rattle.abc_voices.specs.Track.{voice_names};
 
@@ -33,7 +33,9 @@ use crate::turns::{Turn, is_uneven, length_along};
 use abc_bars_items::{Item, Items, MOST_VOICES};
 use abc_repeat::{OrderFault, Played, play_order};
 use abc_voices_score::{LONGEST_TITLE, Score};
-use abc_voices_sections::{Stage, StageFault, letters, opening_voice, sections};
+use abc_voices_sections::{
+    Section, Stage, StageFault, has_one_section, letters, only_section, opening_voice, sections,
+};
 use std::alloc::{AllocError, Global};
 
 /// Appends items to those of a tune.
@@ -103,6 +105,22 @@ fn first_track(tune: &[&Item], given: &[&Item]) -> usize
     }
 }
 
+/// Returns the sections of a tune. Most tunes have one, which their fields tell.
+fn sections_of<'s, 't>(
+    alloc: Global,
+    tune: &'s [&'t Item],
+    given: &[&'t Item],
+) -> Result<Vec<Section<'s, 't>>, AllocError>
+    requires { items_of given.now ≡ without_music (items_of tune.now) }
+    ensures { IfOk result (λ found. map content found.items ≡ sections (items_of tune.entry.now)) }
+{
+    let first = opening_voice(given);
+    if has_one_section(given) {
+        return only_section(alloc, tune, first);
+    }
+    sections(alloc, tune, first)
+}
+
 /// Returns the stages of the sections of a tune that are played.
 fn stages_of<'t>(
     alloc: Global,
@@ -120,7 +138,7 @@ fn stages_of<'t>(
     ensures too_many { result ≡ Err TooMany → MOST_PLACES < places_played (items_of tune.now) }
     ensures too_late { result ≡ Err TooLate → grains_of_the_latest_end < end_of (items_of tune.now) }
 {
-    let found = sections(alloc, tune, opening_voice(given))?;
+    let found = sections_of(alloc, tune, given)?;
     stages(alloc, &found, voices, played)
 }
 

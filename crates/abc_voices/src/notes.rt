@@ -1,6 +1,8 @@
 //! The notes of the items that a voice plays.
 
-ghost use Rattle.std.specs.Prelude.{◌≡◌, ◌-◌, ◌≤◌, All, Some, IfOk, OnOk};
+ghost use Rattle.std.specs.Prelude.{◌≡◌, ◌-◌, ◌≤◌, List, All, Some, IfOk, OnOk};
+ghost use Rattle.abc_bars_items.specs.declared.item.Tone.{Tone};
+ghost use Rattle.abc_time.specs.declared.grains.Grains.{Grains};
 ghost use Rattle.abc_bars_items.specs.Item.{IsItem, IsTone};
 ghost use Rattle.abc_time.specs.Grains.{grains_of_the_latest_end};
 ghost use Rattle.abc_voices_sections.specs.Items.{items_of};
@@ -25,6 +27,33 @@ fn put_tones(notes: &mut ReverseNotes, at: Grains, tones: &Tones) -> Result<(), 
     }
 }
 
+/// Puts an item without tones that ends at a moment before the notes after it, and returns the moment at which it begins. It
+/// is a call of its own, since most items that are played are notes and chords.
+#[inline(never)]
+fn put_without_tones(
+    notes: &mut ReverseNotes,
+    end: Grains,
+    item: &Item,
+) -> Result<Grains, AllocError>
+    requires end { end.0 ≤ grains_of_the_latest_end }
+    requires length { length_of item.now ≤ end.0 }
+    requires item { (tones : List Tone) (length : Grains) → ¬ (item.now ≡ Item.Tone tones length) }
+    ensures begin { IfOk result (λ begin. begin.0 ≡ end.0 - length_of item.now) }
+    ensures put { OnOk result (notes_in notes.new
+        ≡ before (end.0 - length_of item.now) (tones_of item.now) (notes_in notes.old)) }
+{
+    match item {
+        Item::Rest { length, bar } => {
+            let begin = Grains(end.0 - length.0);
+            if !*bar {
+                notes.put_token(begin, &[])?;
+            }
+            Ok(begin)
+        }
+        _ => Ok(end),
+    }
+}
+
 /// Puts an item that ends at a moment before the notes after it, and returns the moment at which it begins.
 fn put_item(notes: &mut ReverseNotes, end: Grains, item: &Item) -> Result<Grains, AllocError>
     requires end { end.0 ≤ grains_of_the_latest_end }
@@ -40,14 +69,7 @@ fn put_item(notes: &mut ReverseNotes, end: Grains, item: &Item) -> Result<Grains
             put_tones(notes, begin, tones)?;
             Ok(begin)
         }
-        Item::Rest { length, bar } => {
-            let begin = Grains(end.0 - length.0);
-            if !*bar {
-                notes.put_token(begin, &[])?;
-            }
-            Ok(begin)
-        }
-        _ => Ok(end),
+        _ => put_without_tones(notes, end, item),
     }
 }
 

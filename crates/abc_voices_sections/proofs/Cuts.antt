@@ -1,10 +1,11 @@
 -- The sections of a tune, one item further.
-use Rattle.std.proofs.Common.{◌≡◌, ℕ, ◌+◌, ◌-◌, ◌<◌, ◌≤◌, true, false, cond, List, [], ◌∷◌, ◌++◌, length, take, drop, get_or, sym, ap, ◌∙◌, arith, append_assoc, length-drop}
+use Rattle.std.proofs.Common.{◌≡◌, ℕ, ◌+◌, ◌-◌, ◌<◌, ◌≤◌, true, false, cond, List, [], ◌∷◌, ◌++◌, length, take, drop, get_or, sym, ap, ◌∙◌, arith, append_assoc, append-nil, length-drop}
 use Rattle.std.specs.Borrow.{Bor}
 use Rattle.std.proofs.lemmas.List.{map-append, drop_more, take_more, get_or-drop}
 use Rattle.abc_bars_items.specs.declared.item.Item.{Item}
+use Rattle.abc_bars_items.specs.declared.item.Item.TheVariants as items
 use Rattle.abc_voices_sections.specs.Items.{items_of}
-use Rattle.abc_voices_sections.specs.Section.{is_section, voice_after, sections_from}
+use Rattle.abc_voices_sections.specs.Section.{is_section, letters, voice_after, sections_from}
 
 -- what is left of a list, from an element on
 pub front : {X : Type 0} (xs : List X) (i : ℕ) (x : X) → i < length xs → x ≡ get_or xs i x → drop i xs ≡ x ∷ drop (i + 1) xs
@@ -19,6 +20,13 @@ held_more xs begin at x inside within is =
     let short : at - begin < length (drop begin xs) = omega (arith, length-drop begin xs) in
     ap (λ k. take k (drop begin xs)) next ∙ take_more (drop begin xs) (at - begin) x short
     ∙ ap (λ y. take (at - begin) (drop begin xs) ++ y ∷ []) (get_or-drop begin xs (at - begin) x ∙ ap (λ k. get_or xs k x) place ∙ sym is)
+
+-- a tune without letters is one section
+pub one_section : (opening : List ℕ) (held : List Item) (voice : List ℕ) (tune : List Item) → letters tune ≡ [] → sections_from opening held voice tune ≡ (opening, held ++ tune) ∷ []
+one_section opening held voice [] none = ap (λ l. (opening, l) ∷ []) (sym (append-nil held))
+one_section opening held voice (items.Section letter ∷ tune) none = cc
+one_section opening held voice (item ∷ tune) none =
+    one_section opening (held ++ item ∷ []) (voice_after voice item) tune none ∙ ap (λ l. (opening, l) ∷ []) (append_assoc held (item ∷ []) tune)
 
 -- a section ends before an item with a letter
 pub ends_more : (tune : List (Bor Item)) (seen : List (List ℕ × List Item)) (opening voice : List ℕ) (begin at : ℕ) (x : Bor Item) (whole : List (List ℕ × List Item))

@@ -7,20 +7,8 @@ use Rattle.abc_voices_sections.specs.OwnItems.{is_own_after, own_from}
 use Rattle.abc_voices_sections.specs.Section.{is_step, part_from, voice_after}
 
 own_is : (voice current : List ℕ) (item : Item) → is_own_after voice (bytes_eq current voice) item ≡ bytes_eq (voice_after current item) voice
-own_is voice current (items.Number number) = refl
-own_is voice current (items.Tone tones length) = refl
-own_is voice current (items.Rest length bar) = refl
-own_is voice current (items.Bar line) = refl
-own_is voice current (items.Ending numbers) = refl
-own_is voice current (items.Section letter) = refl
-own_is voice current (items.Tempo opening micros out) = refl
-own_is voice current (items.Meter opening meter) = refl
-own_is voice current (items.Key opening key) = refl
-own_is voice current (items.Voice true name) = refl
 own_is voice current (items.Voice false name) = refl
-own_is voice current (items.Title text) = refl
-own_is voice current (items.Order text) = refl
-own_is voice current (items.Program opening number) = refl
+own_is voice current _ = refl
 
 both : (a b : Bool) → (a && b) ≡ (b && a)
 both true true = refl

@@ -50,18 +50,15 @@ bars_played before (step ∷ steps) = one_played before step steps (is_single (m
 -- only after an ending's bar something waits
 abbrev MayWait : Region → List Item → Type 0
 MayWait AfterBar held = ⊤
-MayWait Common held = held ≡ []
-MayWait Inside held = held ≡ []
+MayWait _ held = held ≡ []
 
 none_waits : (region : Region) → MayWait region []
 none_waits AfterBar = tt
-none_waits Common = refl
-none_waits Inside = refl
+none_waits _ = refl
 
 no_sign : (mark : Mark) → is_single mark ≡ true → is_ending mark ≡ false
-no_sign marks.Play h = refl
-no_sign (marks.Bar closes opens double) h = refl
 no_sign (marks.Ending numbers) h = cc
+no_sign _ h = refl
 
 abbrev order : Region → List Item → List Item → List Item
 order region held steps = with_fields_in_endings_from region held steps
@@ -97,8 +94,7 @@ goes_alike : (region : Region) (held steps : List Item) (step : Item) → is_sin
     ≡ put_with_waiting (without_single_bars held) step ++ order (region_after region (mark_of step)) [] (without_single_bars steps)
 goes_alike region held steps step h rest =
     filter-append matters (put_with_waiting held step) (order (region_after region (mark_of step)) [] steps)
-    ∙ ap (λ l. l ++ without_single_bars (order (region_after region (mark_of step)) [] steps)) (set_alike held step h)
-    ∙ ap (λ l. put_with_waiting (without_single_bars held) step ++ l) rest
+    ∙ (λ i. set_alike held step h i ++ rest i)
 
 -- what is moved is the same without single bars
 abbrev MovedAlike : Region → List Item → List Item → Type 0
@@ -127,21 +123,11 @@ behind_other held steps step h waiting going =
     ∙ ap (order AfterBar (without_single_bars held)) (sym (kept step steps h))
 
 -- where nothing waits
-common_single : (steps : List Item) (step : Item) → is_single (mark_of step) ≡ true → MovedAlike Common [] steps → MovedAlike Common [] (step ∷ steps)
-common_single steps step h rest =
-    ap (λ l. without_single_bars (l ++ order (region_after Common (mark_of step)) [] steps)) (single_alone step h)
-    ∙ left_out step (order (region_after Common (mark_of step)) [] steps) h
-    ∙ ap (λ region. without_single_bars (order region [] steps)) (single_common (mark_of step) h)
-    ∙ rest
-    ∙ ap (order Common []) (sym (left_out step steps h))
-
-inside_single : (steps : List Item) (step : Item) → is_single (mark_of step) ≡ true → MovedAlike Inside [] steps → MovedAlike Inside [] (step ∷ steps)
-inside_single steps step h rest =
-    ap (λ l. without_single_bars (l ++ order (region_after Inside (mark_of step)) [] steps)) (single_alone step h)
-    ∙ left_out step (order (region_after Inside (mark_of step)) [] steps) h
-    ∙ ap (λ region. without_single_bars (order region [] steps)) (single_inside (mark_of step) h)
-    ∙ rest
-    ∙ ap (order Inside []) (sym (left_out step steps h))
+alone : (region : Region) (steps : List Item) (step : Item) → is_single (mark_of step) ≡ true → region_after region (mark_of step) ≡ region → MovedAlike region [] steps
+    → without_single_bars (put_with_waiting [] step ++ order (region_after region (mark_of step)) [] steps) ≡ order region [] (without_single_bars (step ∷ steps))
+alone region steps step h same rest =
+    (λ i. without_single_bars (single_alone step h i ++ order (same i) [] steps))
+    ∙ left_out step (order region [] steps) h ∙ rest ∙ ap (order region []) (sym (left_out step steps h))
 
 common_other : (steps : List Item) (step : Item) → is_single (mark_of step) ≡ false → MovedAlike (region_after Common (mark_of step)) [] steps → MovedAlike Common [] (step ∷ steps)
 common_other steps step h going = goes_alike Common [] steps step h going ∙ ap (order Common []) (sym (kept step steps h))
@@ -156,12 +142,12 @@ moved_more AfterBar held steps step true h may rest = behind_single held steps s
 moved_more AfterBar held steps step false h may rest =
     behind_other held steps step h (rest AfterBar (held ++ step ∷ []) tt) (rest (region_after AfterBar (mark_of step)) [] (none_waits (region_after AfterBar (mark_of step))))
 moved_more Common held steps step true h may rest =
-    subst (λ l. MovedAlike Common l (step ∷ steps)) (sym may) (common_single steps step h (rest Common [] refl))
+    subst (λ l. MovedAlike Common l (step ∷ steps)) (sym may) (alone Common steps step h (single_common (mark_of step) h) (rest Common [] refl))
 moved_more Common held steps step false h may rest =
     subst (λ l. MovedAlike Common l (step ∷ steps)) (sym may)
     (common_other steps step h (rest (region_after Common (mark_of step)) [] (none_waits (region_after Common (mark_of step)))))
 moved_more Inside held steps step true h may rest =
-    subst (λ l. MovedAlike Inside l (step ∷ steps)) (sym may) (inside_single steps step h (rest Inside [] refl))
+    subst (λ l. MovedAlike Inside l (step ∷ steps)) (sym may) (alone Inside steps step h (single_inside (mark_of step) h) (rest Inside [] refl))
 moved_more Inside held steps step false h may rest =
     subst (λ l. MovedAlike Inside l (step ∷ steps)) (sym may)
     (inside_other steps step h (rest (region_after Inside (mark_of step)) [] (none_waits (region_after Inside (mark_of step)))))

@@ -17,8 +17,7 @@ use Rattle.abc_voices_sections.specs.Stretches.{items_in, single_run, AllTakeTur
 
 pub takes_turn : (mark : Mark) → is_play mark ≡ true → mark ≡ marks.Play
 takes_turn marks.Play h = refl
-takes_turn (marks.Bar closes opens double) h = cc
-takes_turn (marks.Ending numbers) h = cc
+takes_turn _ h = cc
 
 turn_alone : (item : Item) → is_play (mark_of item) ≡ true → single_run item ≡ turn (item ∷ [])
 turn_alone item h = ap (λ (mark : Mark). record { mark = mark; items = item ∷ [] }) (takes_turn (mark_of item) h)

@@ -9,6 +9,8 @@ mod step;
 mod stretches;
 
 pub use ending_fields::Region;
-pub use section::{Section, is_step, letters, opening_voice, sections};
+pub use section::{
+    Section, has_one_section, is_step, letters, only_section, opening_voice, sections,
+};
 pub use stage::{Part, Stage, StageFault};
 pub use step::{is_field, length_of};

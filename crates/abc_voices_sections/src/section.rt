@@ -1,6 +1,6 @@
 //! The sections of a tune, and the items of a voice in each.
 
-ghost use Rattle.std.specs.Prelude.{◌≡◌, ◌&&◌, not, IfOk, map};
+ghost use Rattle.std.specs.Prelude.{◌≡◌, ◌&&◌, [], not, IfOk, IsTrue, map};
 ghost use Rattle.abc_repeat.specs.Mark.{is_single};
 ghost use Rattle.abc_voices_sections.specs.Items.{items_of};
 ghost use Rattle.abc_voices_sections.specs.OwnItems.{is_own_after};
@@ -144,6 +144,36 @@ pub fn sections<'s, 't>(
     found.push(Section {
         voice: opening,
         items: &tune[begin..],
+    })?;
+    Ok(found)
+}
+
+/// Whether the opening section is a tune's only one.
+pub fn has_one_section(tune: &[&Item]) -> bool
+    ensures { IsTrue result → letters (items_of tune.now) ≡ [] }
+{
+    for item in tune {
+        if let Item::Section(_) = item {
+            return false;
+        }
+    }
+    true
+}
+
+/// Returns the only section of a tune without reading its items. `first` is the current voice before the first V: of the body.
+pub fn only_section<'s, 't>(
+    alloc: Global,
+    tune: &'s [&'t Item],
+    first: &'t [u8],
+) -> Result<Vec<Section<'s, 't>>, AllocError>
+    requires first { first.now ≡ opening_voice (items_of tune.now) }
+    requires none { letters (items_of tune.now) ≡ [] }
+    ensures { IfOk result (λ found. map content found.items ≡ sections (items_of tune.entry.now)) }
+{
+    let mut found = Vec::new(alloc);
+    found.push(Section {
+        voice: first,
+        items: tune,
     })?;
     Ok(found)
 }

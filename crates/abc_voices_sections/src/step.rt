@@ -50,8 +50,19 @@ pub(crate) fn is_single_bar(item: &Item) -> bool
     }
 }
 
-/// Returns the time of an item.
+/// Returns the time of an item. Most items that are played are notes and chords, so these are tested first.
 pub fn length_of(item: &Item) -> Grains
+    ensures { result.0 ≡ length_of item.now }
+{
+    match item {
+        Item::Tone { length, .. } => *length,
+        _ => length_of_any(item),
+    }
+}
+
+/// Returns the time of an item of any kind. It is a call of its own, since few items need it.
+#[inline(never)]
+fn length_of_any(item: &Item) -> Grains
     ensures { result.0 ≡ length_of item.now }
 {
     match item {

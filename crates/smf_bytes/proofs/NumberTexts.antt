@@ -1,5 +1,5 @@
 -- Reading a variable-length quantity undoes its text, and finds nothing else.
-use Rattle.std.proofs.Common.{◌≡◌, ℕ, ◌+◌, ◌*◌, ◌/◌, ◌%◌, ◌^◌, ◌<◌, ◌≤◌, inl, inr, List, [], ◌∷◌, ◌++◌, length, get_or, Result, Some, Ok, Err, arith, refl, sym, ap, subst, ◌∙◌}
+use Rattle.std.proofs.Common.{◌≡◌, ℕ, ◌+◌, ◌*◌, ◌/◌, ◌%◌, ◌^◌, ◌<◌, ◌≤◌, ◌↔◌, inl, inr, List, [], ◌∷◌, ◌++◌, length, get_or, Result, Some, Ok, Err, arith, refl, sym, ap, subst, ◌∙◌}
 use Rattle.std.proofs.lemmas.List.Elements.{All-nil, All-cons}
 use Rattle.smf_bytes.specs.declared.number.NumberFault.{NumberFault}
 use Rattle.smf_bytes.specs.declared.number.NumberFault.TheVariants.{Padded, TooLong, Truncated}
@@ -42,7 +42,7 @@ unfolding read_result
 read_4 a b c d rest e f g h = grind (arith, nat_tests)
 
 -- the number is read from its text, whatever follows
-pub reading-text : (n : ℕ) (rest : List ℕ) → n < 2 ^ 28 → read_result (number_text n ++ rest) ≡ Ok (n, length (number_text n))
+reading-text : (n : ℕ) (rest : List ℕ) → n < 2 ^ 28 → read_result (number_text n ++ rest) ≡ Ok (n, length (number_text n))
 reading-text n rest h =
     elim (cases_eq (n / 128) 0) [
       | inl one ↦ rw (text_of_1 n one, read_1 (n % 128) rest (omega arith)) (ap (λ k. Ok (k, 1)) (omega arith))
@@ -204,7 +204,7 @@ sound_1 a rest h ne =
     ]
 
 -- what reading answers is so, for bytes
-pub sound : (bytes : List ℕ) → ((i : ℕ) → get_or bytes i 0 < 256) → Means bytes (read_result bytes)
+sound : (bytes : List ℕ) → ((i : ℕ) → get_or bytes i 0 < 256) → Means bytes (read_result bytes)
 unfolding read_result
 sound [] h =
     means_by [] (Err Truncated) refl (record { not_padded = λ e. cc; short = omega arith; top_bits = All-nil (λ byte. 128 ≤ byte) })
@@ -215,32 +215,49 @@ sound (a ∷ rest) h =
     ]
 
 -- the answers that the text, or a fault of the bytes, settles
-pub complete : (bytes : List ℕ) (n used : ℕ) → StartsWithNumber bytes n used → read_result bytes ≡ Ok (n, used)
+complete : (bytes : List ℕ) (n used : ℕ) → StartsWithNumber bytes n used → read_result bytes ≡ Ok (n, used)
 complete bytes n used h =
     ap read_result h.spelled ∙ reading-text n h.rest h.in_range ∙ ap (λ k. Ok (n, k)) (sym h.counted)
 
-pub padded : (bytes : List ℕ) → IsPadded bytes → read_result bytes ≡ Err Padded
-padded [] h = cc
-padded (a ∷ rest) h = is_padded a rest cc
+is_padded_at : (bytes : List ℕ) → IsPadded bytes → read_result bytes ≡ Err Padded
+is_padded_at [] h = cc
+is_padded_at (a ∷ rest) h = is_padded a rest cc
 
 past_128 : (a : ℕ) (rest : List ℕ) → ¬ IsPadded (a ∷ rest) → 128 ≤ a → 128 < a
 past_128 a rest n h = elim (cases_eq a 128) [ inl e ↦ absurd (n (ap Some e)) | inr ne ↦ omega arith ]
 
-pub too_long : (bytes : List ℕ) → IsTooLong bytes → read_result bytes ≡ Err TooLong
-too_long [] h = absurd (omega (arith, h.four))
-too_long (a ∷ []) h = absurd (omega (arith, h.four))
-too_long (a ∷ b ∷ []) h = absurd (omega (arith, h.four))
-too_long (a ∷ b ∷ c ∷ []) h = absurd (omega (arith, h.four))
-too_long (a ∷ b ∷ c ∷ d ∷ rest) h =
+is_too_long : (bytes : List ℕ) → IsTooLong bytes → read_result bytes ≡ Err TooLong
+is_too_long [] h = absurd (omega (arith, h.four))
+is_too_long (a ∷ []) h = absurd (omega (arith, h.four))
+is_too_long (a ∷ b ∷ []) h = absurd (omega (arith, h.four))
+is_too_long (a ∷ b ∷ c ∷ []) h = absurd (omega (arith, h.four))
+is_too_long (a ∷ b ∷ c ∷ d ∷ rest) h =
     long_4 a b c d rest (past_128 a (b ∷ c ∷ d ∷ rest) h.not_padded (h.top_bits 0 0 (omega arith))) (h.top_bits 1 0 (omega arith)) (h.top_bits 2 0 (omega arith)) (h.top_bits 3 0 (omega arith))
 
-pub truncated : (bytes : List ℕ) → IsTruncated bytes → read_result bytes ≡ Err Truncated
+is_truncated : (bytes : List ℕ) → IsTruncated bytes → read_result bytes ≡ Err Truncated
 unfolding read_result
-truncated [] h = refl
-truncated (a ∷ []) h = cut_1 a (past_128 a [] h.not_padded (h.top_bits 0 0 (omega arith)))
-truncated (a ∷ b ∷ []) h = cut_2 a b (past_128 a (b ∷ []) h.not_padded (h.top_bits 0 0 (omega arith))) (h.top_bits 1 0 (omega arith))
-truncated (a ∷ b ∷ c ∷ []) h = cut_3 a b c (past_128 a (b ∷ c ∷ []) h.not_padded (h.top_bits 0 0 (omega arith))) (h.top_bits 1 0 (omega arith)) (h.top_bits 2 0 (omega arith))
-truncated (a ∷ b ∷ c ∷ d ∷ rest) h = absurd (omega (arith, h.short))
+is_truncated [] h = refl
+is_truncated (a ∷ []) h = cut_1 a (past_128 a [] h.not_padded (h.top_bits 0 0 (omega arith)))
+is_truncated (a ∷ b ∷ []) h = cut_2 a b (past_128 a (b ∷ []) h.not_padded (h.top_bits 0 0 (omega arith))) (h.top_bits 1 0 (omega arith))
+is_truncated (a ∷ b ∷ c ∷ []) h = cut_3 a b c (past_128 a (b ∷ c ∷ []) h.not_padded (h.top_bits 0 0 (omega arith))) (h.top_bits 1 0 (omega arith)) (h.top_bits 2 0 (omega arith))
+is_truncated (a ∷ b ∷ c ∷ d ∷ rest) h = absurd (omega (arith, h.short))
 
-pub meant : (bytes : List ℕ) (r : Result (ℕ × ℕ) NumberFault) → ((i : ℕ) → get_or bytes i 0 < 256) → r ≡ read_result bytes → Means bytes r
+meant : (bytes : List ℕ) (r : Result (ℕ × ℕ) NumberFault) → ((i : ℕ) → get_or bytes i 0 < 256) → r ≡ read_result bytes → Means bytes r
 meant bytes r h e = subst (Means bytes) (sym e) (sound bytes h)
+
+-- each answer is given exactly where the bytes say so
+pub record Answers (bytes : List ℕ) (r : Result (ℕ × ℕ) NumberFault) : Type 0 where
+  pub ok : (n used : ℕ) → (r ≡ Ok (n, used)) ↔ StartsWithNumber bytes n used
+  pub padded : (r ≡ Err Padded) ↔ IsPadded bytes
+  pub too_long : (r ≡ Err TooLong) ↔ IsTooLong bytes
+  pub truncated : (r ≡ Err Truncated) ↔ IsTruncated bytes
+
+pub answers : (bytes : List ℕ) (r : Result (ℕ × ℕ) NumberFault) → ((i : ℕ) → get_or bytes i 0 < 256) → r ≡ read_result bytes → Answers bytes r
+answers bytes r h e =
+    let means = meant bytes r h e in
+    record {
+      ok = λ n used. (λ is. subst (Means bytes) is means, λ starts. e ∙ complete bytes n used starts);
+      padded = (λ is. subst (Means bytes) is means, λ it. e ∙ is_padded_at bytes it);
+      too_long = (λ is. subst (Means bytes) is means, λ it. e ∙ is_too_long bytes it);
+      truncated = (λ is. subst (Means bytes) is means, λ it. e ∙ is_truncated bytes it);
+    }

@@ -5,7 +5,7 @@ use Rattle.std.proofs.lemmas.List.{get_or-set_same, get_or-set_other}
 use Rattle.std.specs.Cmp.{IsTotalOrder, IsStrictWeakOrder}
 use Rattle.std.specs.Ordering.{nat_cmp, ordering_reverse, is_lt}
 use Rattle.std.specs.declared.cmp.Ordering.{Ordering}
-use Rattle.std.specs.declared.cmp.Ordering.TheVariants.{Less, Equal, Greater}
+use Rattle.std.specs.declared.cmp.Ordering.TheVariants.{Equal}
 use Rattle.std.specs.Cmp.Lexicographic.{slice_cmp}
 use Rattle.std.specs.List.{swap}
 use Rattle.std.specs.List.Sorted.{IsPermutation, IsSorted}
@@ -44,9 +44,8 @@ less_itself : (a : Event) → less a a ≡ false
 less_itself a = ap is_lt (tied_itself total a)
 
 tied : (o p : Ordering) → o ≡ ordering_reverse p → is_lt o ≡ false → is_lt p ≡ false → o ≡ Equal
-tied o Less e f g = cc
 tied o Equal e f g = e
-tied o Greater e f g = cc
+tied o _ e f g = cc
 
 same : (a b : Event) → less a b ≡ false → less b a ≡ false → a ≡ b
 same a b f g = exact a b (tied (event_cmp a b) (event_cmp b a) (total.antisymm a b) f g)
@@ -185,7 +184,7 @@ rises_from (x ∷ y ∷ xs) h = (
   rises_from (y ∷ xs) (λ k d g i. subst (λ (j : ℕ). less (get_or (x ∷ y ∷ xs) j d) (get_or (y ∷ xs) k d) ≡ false) (next k) (h (suc k) d (omega arith) (omega arith))),
 )
 
-sorted_from : (xs : List Event) → Rises xs → IsSorted event_cmp xs
+pub sorted_from : (xs : List Event) → Rises xs → IsSorted event_cmp xs
 sorted_from [] h k d g i = absurd (omega arith)
 sorted_from (x ∷ []) h k d g i = absurd (omega arith)
 sorted_from (x ∷ y ∷ xs) h zero d g i = h.0
@@ -199,7 +198,7 @@ inserted_after a x (y ∷ xs) g h i =
       | inr after ↦ let e = here a y xs after in subst (λ l. Rises (x ∷ l)) (sym e) (g, subst Rises e i)
     ]
 
-tail_rises : (x : Event) (xs : List Event) → Rises (x ∷ xs) → Rises xs
+pub tail_rises : (x : Event) (xs : List Event) → Rises (x ∷ xs) → Rises xs
 tail_rises x [] h = tt
 tail_rises x (y ∷ xs) h = h.1
 

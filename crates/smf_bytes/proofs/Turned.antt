@@ -69,10 +69,11 @@ own_all channel programs notes =
     ∙ ap (λ l. l ++ map (event_at channel) (all_ends notes)) (own_programs channel programs)
     ∙ ap (λ l. map (program_event channel) programs ++ l) (own_notes channel notes)
 
-pub in_events : (channel : ℕ) (programs : List ProgramChange) (notes : List Sounding) (events : List VoiceEvent) → IsPermutation (all_of programs notes) events
-    → IsPermutation (voice_events channel programs notes) (map (event_at channel) events)
-in_events channel programs notes events p =
-    subst (λ (l : List Event). IsPermutation l (map (event_at channel) events)) (own_all channel programs notes) (IsPermutation-map (event_at channel) (all_of programs notes) events p)
+pub in_events : (channel : ℕ) (programs programs' : List ProgramChange) (notes notes' : List Sounding) (events : List VoiceEvent) → programs' ≡ programs → notes' ≡ notes
+    → IsPermutation (all_of programs' notes') events → IsPermutation (voice_events channel programs notes) (map (event_at channel) events)
+in_events channel programs programs' notes notes' events e f p =
+    subst (λ (l : List Event). IsPermutation l (map (event_at channel) events))
+    (own_all channel programs' notes' ∙ (λ i. voice_events channel (e i) (f i))) (IsPermutation-map (event_at channel) (all_of programs' notes') events p)
 
 -- events in another order make the same track
 pub same_body : (end : ℕ) (xs ys : List Event) → IsPermutation xs ys → track_body end xs ≡ track_body end ys

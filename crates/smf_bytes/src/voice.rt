@@ -107,8 +107,7 @@ fn put_ends(events: &mut Vec<VoiceEvent>, on: VoiceEvent, off: VoiceEvent) -> Re
 {
     let place = events.len();
     let is_last = events.last().is_none_or(|last| last.tick <= on.tick);
-    events.push(on)?;
-    events.push(off)?;
+    events.extend_from_slice(&[on, off])?;
     if !is_last {
         move_back(events, place);
         move_back(events, place + 1);

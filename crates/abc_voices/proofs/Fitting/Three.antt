@@ -1,8 +1,8 @@
 -- A step sets a tempo, a meter or a key, and at most one of them: so many changes there are at most.
-use Rattle.std.proofs.Common.{ℕ, ℤ, ◌+◌, ◌≤◌, Bool, List, [], ◌∷◌, length, drop, Option, Some, None, arith, length-append}
+use Rattle.std.proofs.Common.{ℕ, ℤ, ◌+◌, ◌≤◌, Bool, List, [], ◌∷◌, length, Option, Some, None, arith, length-append}
 use Rattle.std.specs.Prelude.{All, sum_by}
 use Rattle.std.specs.List.{cons_option, flat_map}
-use Rattle.std.proofs.lemmas.List.Elements.{All-nil, All-cons, All-head, All-drop, All-weaker}
+use Rattle.std.proofs.lemmas.List.Elements.{All-head}
 use Rattle.std.proofs.lemmas.List.Sums.{sum_by-cons}
 use Rattle.abc_bars_items.specs.declared.item.Item.{Item}
 use Rattle.abc_bars_items.specs.declared.item.Item.TheVariants as items
@@ -15,10 +15,9 @@ use Rattle.abc_voices_sections.specs.EndingFields.{with_fields_in_endings}
 use Rattle.abc_voices_sections.specs.Play.{places_of}
 use Rattle.abc_voices_sections.specs.Section.{part}
 use Rattle.abc_voices_sections.specs.Step.{length_of}
-use Rattle.abc_voices.specs.Track.{voice_names, tracks, has_unnamed_track}
+use Rattle.abc_voices.specs.Track.{voice_names, tracks}
 use Rattle.abc_voices.proofs.Fitting.Count.{picked_few}
-use Rattle.abc_voices.proofs.Fitting.Kept.{either}
-use Rattle.abc_voices.proofs.Fitting.Voices.{IsHeard, size_of}
+use Rattle.abc_voices.proofs.Fitting.Voices.{each_track, each_voice, IsHeard, size_of}
 
 one_of_three : (at : ℕ) (item : Item) (tempos : List (Grains × ℕ)) (meters : List (Grains × Meter)) (keys : List (Grains × (ℤ × Bool)))
     → length (cons_option (at_moment at (tempo_of item)) tempos) + length (cons_option (at_moment at (meter_of item)) meters)
@@ -98,16 +97,11 @@ room_more voice voices other room at section =
       length-append (set_from tempo_of at (play_in section voice)) (flat_map (λ v. set_from tempo_of at (play_in section v)) voices),
     )
 
-pub all_room : (voices : List (List ℕ)) → All (HasRoom voices) voices
-all_room [] = All-nil (HasRoom [])
-all_room (voice ∷ voices) =
-    All-cons (HasRoom (voice ∷ voices)) voice voices (room_first voice voices)
-    (All-weaker (HasRoom voices) (HasRoom (voice ∷ voices)) (room_more voice voices) voices (all_room voices))
+all_room : (voices : List (List ℕ)) → All (HasRoom voices) voices
+all_room = each_voice HasRoom room_first room_more
 
 pub tracks_room : (tune : List Item) → All (HasRoom (voice_names tune)) (tracks tune)
-tracks_room tune =
-    let P : List ℕ → Type 0 = HasRoom (voice_names tune) in
-    either P (has_unnamed_track tune) (voice_names tune) (drop 1 (voice_names tune)) (all_room (voice_names tune)) (All-drop P 1 (voice_names tune) (all_room (voice_names tune)))
+tracks_room = each_track HasRoom all_room
 
 -- with the meters and keys of the first of these, if there is one
 section_few : (at : ℕ) (section : List ℕ × List Item) (voices those : List (List ℕ)) → All (HasRoom voices) those

@@ -44,17 +44,23 @@ heard_more voice voices other heard_notes = record {
   plays = λ section. omega (arith, heard_notes.plays section, sum_by-cons (size_in section) voice voices);
 }
 
-pub all_heard : (voices : List (List ℕ)) → All (IsHeard voices) voices
-all_heard [] = All-nil (IsHeard [])
-all_heard (voice ∷ voices) =
-    All-cons (IsHeard (voice ∷ voices)) voice voices (heard_first voice voices)
-    (All-weaker (IsHeard voices) (IsHeard (voice ∷ voices)) (heard_more voice voices) voices (all_heard voices))
+-- what each voice has among all that are known, those with a track have
+pub each_voice : (P : List (List ℕ) → List ℕ → Type 0) → ((voice : List ℕ) (voices : List (List ℕ)) → P (voice ∷ voices) voice)
+    → ((voice : List ℕ) (voices : List (List ℕ)) (other : List ℕ) → P voices other → P (voice ∷ voices) other) → (voices : List (List ℕ)) → All (P voices) voices
+each_voice P first more [] = All-nil (P [])
+each_voice P first more (voice ∷ voices) =
+    All-cons (P (voice ∷ voices)) voice voices (first voice voices) (All-weaker (P voices) (P (voice ∷ voices)) (more voice voices) voices (each_voice P first more voices))
 
--- the voices that have a track are heard
+pub each_track : (P : List (List ℕ) → List ℕ → Type 0) → ((voices : List (List ℕ)) → All (P voices) voices) → (tune : List Item) → All (P (voice_names tune)) (tracks tune)
+each_track P all tune =
+    let voices = voice_names tune in
+    either (P voices) (has_unnamed_track tune) voices (drop 1 voices) (all voices) (All-drop (P voices) 1 voices (all voices))
+
+pub all_heard : (voices : List (List ℕ)) → All (IsHeard voices) voices
+all_heard = each_voice IsHeard heard_first heard_more
+
 pub tracks_heard : (tune : List Item) → All (IsHeard (voice_names tune)) (tracks tune)
-tracks_heard tune =
-    let P : List ℕ → Type 0 = IsHeard (voice_names tune) in
-    either P (has_unnamed_track tune) (voice_names tune) (drop 1 (voice_names tune)) (all_heard (voice_names tune)) (All-drop P 1 (voice_names tune) (all_heard (voice_names tune)))
+tracks_heard = each_track IsHeard all_heard
 
 abbrev pub ItemsIn : List ℕ × List Item → Type 0
 ItemsIn section = All IsItem section.1

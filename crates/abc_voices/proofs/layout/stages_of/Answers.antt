@@ -8,13 +8,9 @@ use Rattle.abc_voices_sections.specs.declared.stage.StageFault.TheVariants.{TooM
 use Rattle.abc_voices.specs.Stages.{at_places}
 use Rattle.abc_voices_sections.specs.PlayedSection.{size_in, longest}
 use Rattle.abc_voices_sections.specs.Stage.{content, stage_of}
-use Rattle.abc_voices.proofs.Given.{opening_given}
 use Rattle.abc_voices.proofs.Layouts.{played_here, alike}
 use Rattle.abc_voices.proofs.Staged.{total_within}
 use Rattle.abc_voices.proofs.layout.stages_of.Goals as goal
-
-pub sections-requires : goal.sections-requires
-sections-requires c = c.opening_voice.ensures ∙ opening_given (items_of c.args.tune.now) (items_of c.args.given.now) c.requires.given
 
 pub returns-clause-value : goal.returns-clause-value
 returns-clause-value c =
