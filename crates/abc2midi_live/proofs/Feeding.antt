@@ -13,7 +13,7 @@ use Rattle.abc_fold.specs.Work.{raised}
 use Rattle.abc_publish.specs.Publisher.{Directory}
 use Rattle.abc2midi_live.specs.Cut.{IsCut}
 use Rattle.abc2midi_live.specs.Machine.{Future, future_change, IsClean, Answers, AsksNothing, CarriesOut, EndsOneAtMost}
-use Rattle.abc2midi_live.specs.Machine.{future_of_bytes}
+use Rattle.abc2midi_live.specs.Machine.{between, future_of_bytes, MachineState}
 use Rattle.abc2midi_live.specs.Outcome.{RunEnds, Outlets, outlets, Serves, Tells, TellsFirst, FailsToFeed, FailsToServe, FailsAtEnd}
 use Rattle.abc2midi_live.specs.Outcome.{AnswersInput, Turn, Leaves, Within, AtTheEnd, InHand, LastInHand, read_counts, Reads}
 use Rattle.abc2midi_live.specs.Outcome.{Failed, read_faults}
@@ -27,7 +27,7 @@ use Rattle.abc2midi_live.proofs.Counts.{raised_none, raised_twice}
 use Rattle.abc2midi_live.proofs.InputLines.{input_lines-line, input_lines-kept, input_lines-begun, input_lines-last}
 use Rattle.abc2midi_live.proofs.InputLines.{input_lines-nil}
 use Rattle.abc2midi_live.proofs.Storing.{follows_none, follows_same, follows_both}
-use Rattle.abc2midi_live.proofs.RunOutputs.{behind_none, answers_both, answers_none, ended_with, continued_with}
+use Rattle.abc2midi_live.proofs.RunOutputs.{no_text_before, answers_both, answers_none, ended_with, continued_with}
 
 abbrev OfLines : Type 0
 OfLines = Future (List ℕ)
@@ -77,7 +77,7 @@ piece_kept future d begun piece begun' clean clean_piece e extent rest later =
     ahead_is future begun extent (piece ++ rest) ((begun ++ piece) ++ rest) later (sym (append_assoc begun piece rest))
     ∙ sym (ap (λ l. future extent l later) (input_lines-kept (is_whole extent) (begun ++ piece) rest (All-append (λ b. (b == 10) ≡ false) begun piece clean clean_piece)))
     ∙ sym (ahead_is future begun' extent rest (take most_kept (begun ++ piece) ++ rest) later (ap (λ b. b ++ rest) e))
-    ∙ sym (behind_none (future_of_bytes future begun' extent rest later))
+    ∙ sym (no_text_before (future_of_bytes future begun' extent rest later))
 
 -- nothing is asked for before the store answers
 pub unasked_ahead : (future : OfLines) (d : Directory) (begun bytes : List ℕ) (s : StoreSeen)
@@ -112,9 +112,13 @@ last_alone future begun line extent stored clean short e =
 none_ahead : (future : OfLines) (begun : List ℕ) (stored : List StoreAnswer) → length begun ≤ 0 → future_of_bytes future begun Whole [] stored ≡ future Whole [] stored
 none_ahead future begun stored none = ahead_is future begun Whole [] [] stored (append-nil begun ∙ no_length begun none) ∙ ap (λ l. future Whole l stored) (input_lines-nil true)
 
+-- how a machine stands towards lines
+abbrev pub LineState : Type 0
+LineState = MachineState (List ℕ)
+
 -- what serving a line says, as clauses have it
-abbrev pub Served : OfLines → OfLines → Directory → Directory → List ℕ → Outlets → Outlets → Bool → Type 0
-Served before after d e line old new goes_on = Serves d (future_change before after e) (line ∷ []) old new goes_on
+abbrev pub Served : LineState → LineState → List ℕ → Outlets → Outlets → Bool → Type 0
+Served before after line old new goes_on = Serves before.directory (between before after) (line ∷ []) old new goes_on
 
 -- two pieces are served
 serves_both : {X : Type 0} (before mid after : Future X) (d e f : Directory) (a b : List X) (old w new : Outlets) (goes_on : Bool)
@@ -133,9 +137,9 @@ serves_none : {X : Type 0} (before after : Future X) (d : Directory) (w : Outlet
 serves_none before after d w same = ([], [], Appends-nil w.output, answers_none before after d same, follows_none w.store d)
 
 -- what is written after a piece that is served
-tells_behind : {X : Type 0} (before mid : Future X) (d e : Directory) (piece : List X) (extent : Extent) (rest : List X) (old w new : Outlets)
+tells_after : {X : Type 0} (before mid : Future X) (d e : Directory) (piece : List X) (extent : Extent) (rest : List X) (old w new : Outlets)
     → Serves d (future_change before mid e) piece old w true → Tells e (mid extent rest) w new → Tells d (before extent (piece ++ rest)) old new
-tells_behind before mid d e piece extent rest old w new (text, stored, wrote, says, follows) (stored', t, is, wrote', follows') = (
+tells_after before mid d e piece extent rest old w new (text, stored, wrote, says, follows) (stored', t, is, wrote', follows') = (
   stored ++ stored',
   run_output (text ++ t.text) t.directory,
   continued_with before mid e piece stored stored' text t extent rest says is,
@@ -159,7 +163,7 @@ tells_all : {X : Type 0} (before mid : Future X) (d e : Directory) (piece : List
     → Serves d (future_change before mid e) piece old new true → mid SoFar [] [] ≡ Some (run_output [] e) → Tells d (before SoFar piece) old new
 tells_all before mid d e piece old new served none =
     subst (λ p. Tells d (before SoFar p) old new) (append-nil piece)
-    (tells_behind before mid d e piece SoFar [] old new new served ([], run_output [] e, none, Appends-nil new.output, follows_none new.store e))
+    (tells_after before mid d e piece SoFar [] old new new served ([], run_output [] e, none, Appends-nil new.output, follows_none new.store e))
 
 -- a piece that the store has answered is carried out, where nothing is to be written yet after it
 pub carried_all : {X : Type 0} (before after : Future X) (d e : Directory) (piece : List X) (stored : List StoreAnswer) (text : List ℕ) (old new : StoreSeen)
@@ -173,10 +177,10 @@ carried_all before after d e piece stored text old new says follows none =
     )
 
 -- a piece after one that is served is carried out
-carried_behind : {X : Type 0} (before mid : Future X) (d e : Directory) (piece rest : List X) (old w new : Outlets)
+carried_after : {X : Type 0} (before mid : Future X) (d e : Directory) (piece rest : List X) (old w new : Outlets)
     → Serves d (future_change before mid e) piece old w true → CarriesOut e (mid SoFar rest) w.store new.store
     → CarriesOut d (before SoFar (piece ++ rest)) old.store new.store
-carried_behind before mid d e piece rest old w new (text, stored, wrote, says, follows) (stored', t, is, follows') = (
+carried_after before mid d e piece rest old w new (text, stored, wrote, says, follows) (stored', t, is, follows') = (
   stored ++ stored',
   run_output (text ++ t.text) t.directory,
   continued_with before mid e piece stored stored' text t SoFar rest says is,
@@ -189,46 +193,50 @@ pub record Fed (before now : Ahead) (d e : Directory) (piece rest : List ℕ) (o
   pub split : piece ≡ front ++ rest
   pub served : Serves d (future_change before now e) front old new true
 
-pub fed_none : (before : Ahead) (d : Directory) (piece : List ℕ) (w : Outlets) → Fed before before d d piece piece w w
-fed_none before d piece w = record { front = []; split = refl; served = serves_none before before d w refl }
+pub fed_none : {before : Ahead} {d : Directory} {piece : List ℕ} {w : Outlets} → Fed before before d d piece piece w w
+fed_none {before} {d} {piece} {w} = record { front = []; split = refl; served = serves_none before before d w refl }
 
 -- the piece by its front and a line
-fed_split : (piece front rest line behind : List ℕ) → piece ≡ front ++ rest → rest ≡ line ++ 10 ∷ behind → piece ≡ (front ++ (line ++ 10 ∷ [])) ++ behind
-fed_split piece front rest line behind split e = split ∙ ap (λ l. front ++ l) (e ∙ sym (append_assoc line (10 ∷ []) behind)) ∙ sym (append_assoc front (line ++ 10 ∷ []) behind)
+fed_split : (piece front rest line back : List ℕ) → piece ≡ front ++ rest → rest ≡ line ++ 10 ∷ back → piece ≡ (front ++ (line ++ 10 ∷ [])) ++ back
+fed_split piece front rest line back split e = split ∙ ap (λ l. front ++ l) (e ∙ sym (append_assoc line (10 ∷ []) back)) ∙ sym (append_assoc front (line ++ 10 ∷ []) back)
 
-pub fed_more : (before mid after : Ahead) (d e f : Directory) (piece rest line behind : List ℕ) (old w new : Outlets) → Fed before mid d e piece rest old w → rest ≡ line ++ 10 ∷ behind
-    → Serves e (future_change mid after f) (line ++ 10 ∷ []) w new true → Fed before after d f piece behind old new
-fed_more before mid after d e f piece rest line behind old w new fed is served = record {
+pub fed_more : {before mid after : Ahead} {d e f : Directory} {piece rest : List ℕ} (line : List ℕ) {back : List ℕ} {old w new : Outlets} {goes_on : Bool}
+    → Fed before mid d e piece rest old w → rest ≡ line ++ 10 ∷ back → goes_on ≡ true
+    → Serves e (future_change mid after f) (line ++ 10 ∷ []) w new goes_on → Fed before after d f piece back old new
+fed_more {before} {mid} {after} {d} {e} {f} {piece} {rest} line {back} {old} {w} {new} fed is more served = record {
   front = fed.front ++ (line ++ 10 ∷ []);
-  split = fed_split piece fed.front rest line behind fed.split is;
-  served = serves_both before mid after d e f fed.front (line ++ 10 ∷ []) old w new true fed.served served;
+  split = fed_split piece fed.front rest line back fed.split is;
+  served = serves_both before mid after d e f fed.front (line ++ 10 ∷ []) old w new true fed.served
+      (subst (Serves e (future_change mid after f) (line ++ 10 ∷ []) w new) more served);
 }
 
 -- the machine ends
-pub fed_end : (before mid after : Ahead) (d e f : Directory) (piece rest line behind : List ℕ) (old w new : Outlets) → Fed before mid d e piece rest old w → rest ≡ line ++ 10 ∷ behind
-    → Serves e (future_change mid after f) (line ++ 10 ∷ []) w new false → Serves d (future_change before after f) piece old new false
-fed_end before mid after d e f piece rest line behind old w new fed is served =
+pub fed_end : {before mid : Ahead} (after : Ahead) {d e : Directory} (f : Directory) {piece rest : List ℕ} (line back : List ℕ) {old w : Outlets} (new : Outlets)
+    {goes_on : Bool} → Fed before mid d e piece rest old w → rest ≡ line ++ 10 ∷ back → goes_on ≡ false
+    → Serves e (future_change mid after f) (line ++ 10 ∷ []) w new goes_on → Serves d (future_change before after f) piece old new false
+fed_end {before} {mid} after {d} {e} f {piece} {rest} line back {old} {w} new fed is ends served =
     let front = fed.front ++ (line ++ 10 ∷ []) in
-    let all = serves_both before mid after d e f fed.front (line ++ 10 ∷ []) old w new false fed.served served in (
+    let all = serves_both before mid after d e f fed.front (line ++ 10 ∷ []) old w new false fed.served
+    (subst (Serves e (future_change mid after f) (line ++ 10 ∷ []) w new) ends served) in (
       all.0,
       all.1,
       all.2,
-      λ extent more later. ap (λ p. before extent (p ++ more) (all.1 ++ later)) (fed_split piece fed.front rest line behind fed.split is)
-          ∙ ap (λ p. before extent p (all.1 ++ later)) (append_assoc front behind more) ∙ all.3 extent (behind ++ more) later,
+      λ extent more later. ap (λ p. before extent (p ++ more) (all.1 ++ later)) (fed_split piece fed.front rest line back fed.split is)
+          ∙ ap (λ p. before extent p (all.1 ++ later)) (append_assoc front back more) ∙ all.3 extent (back ++ more) later,
       all.4,
     )
 
 -- the rest of the piece is kept
-pub fed_all : (before mid after : Ahead) (d e : Directory) (piece rest line : List ℕ) (old new : Outlets) → Fed before mid d e piece rest old new → rest ≡ line
+pub fed_all : {before mid : Ahead} (after : Ahead) {d e : Directory} {piece rest line : List ℕ} {old new : Outlets} → Fed before mid d e piece rest old new → rest ≡ line
     → Answers (future_change mid after e) line [] [] true → Serves d (future_change before after e) piece old new true
-fed_all before mid after d e piece rest line old new fed is says =
+fed_all {before} {mid} after {d} {e} {piece} {rest} {line} {old} {new} fed is says =
     subst (λ p. Serves d (future_change before after e) p old new true) (sym (fed.split ∙ ap (λ l. fed.front ++ l) is))
     (serves_both before mid after d e e fed.front line old new new true fed.served ([], [], Appends-nil new.output, says, follows_none new.store e))
 
 -- what is written first, after a piece that is served
-pub first_behind : (before mid : Ahead) (d e : Directory) (piece front next : List ℕ) (old w new : Outlets) → Serves d (future_change before mid e) piece old w true
+pub first_after : (before mid : Ahead) (d e : Directory) (piece front next : List ℕ) (old w new : Outlets) → Serves d (future_change before mid e) piece old w true
     → TellsFirst e (mid SoFar front) (mid Stopped (front ++ next)) w new → TellsFirst d (before SoFar (piece ++ front)) (before Stopped ((piece ++ front) ++ next)) old new
-first_behind before mid d e piece front next old w new (text, stored, wrote, says, follows) (stored', t, between, is, wrote', follows', (more, t', is', follows'')) = (
+first_after before mid d e piece front next old w new (text, stored, wrote, says, follows) (stored', t, between, is, wrote', follows', (more, t', is', follows'')) = (
   stored ++ stored',
   run_output (text ++ t.text) t.directory,
   between,
@@ -256,75 +264,77 @@ pub none_ends : EndsOneAtMost []
 none_ends = ([], All-nil (λ b. (b == 10) ≡ false), inl refl)
 
 -- memory is short
-pub fed_broken : (before mid : Ahead) (d e : Directory) (piece rest next behind : List ℕ) (old w new : Outlets) → Fed before mid d e piece rest old w → rest ≡ next ++ behind → EndsOneAtMost next
-    → Keeps w.output new.output → CarriesOut e (mid Stopped next) w.store new.store → mid SoFar [] [] ≡ Some (run_output [] e) → FailsToFeed d before piece old new Memory
-fed_broken before mid d e piece rest next behind old w new fed is one kept asked none = (
+pub fed_broken : {before mid : Ahead} {d e : Directory} {piece rest : List ℕ} (next back : List ℕ) {old w : Outlets} (new : Outlets)
+    → Fed before mid d e piece rest old w → rest ≡ next ++ back → EndsOneAtMost next → Keeps w.output new.output
+    → CarriesOut e (mid Stopped next) w.store new.store → mid SoFar [] [] ≡ Some (run_output [] e) → FailsToFeed d before piece old new Memory
+fed_broken {before} {mid} {d} {e} next back {old} {w} new fed is one kept asked none = (
   fed.front,
   next,
-  behind,
+  back,
   fed.split ∙ ap (λ r. fed.front ++ r) is,
   one,
   subst (λ p. TellsFirst d (before SoFar p) (before Stopped (p ++ next)) old new) (append-nil fed.front)
-      (first_behind before mid d e fed.front [] next old w new fed.served (kept_first mid e next w new kept asked none)),
+      (first_after before mid d e fed.front [] next old w new fed.served (kept_first mid e next w new kept asked none)),
 )
 
 -- a line that a piece ends is carried out, or so far as the run goes
-line_carried : (before before' : OfLines) (d d' : Directory) (begun piece line : List ℕ) (extent : Extent) (old new : StoreSeen)
-    → before' ≡ before → d' ≡ d → IsClean begun → IsClean piece → line ≡ take most_kept (begun ++ piece)
-    → CarriesOut d' (before' extent (line ∷ [])) old new → CarriesOut d (future_of_bytes before begun extent (piece ++ 10 ∷ [])) old new
-line_carried before before' d d' begun piece line extent old new same same' clean clean_piece is (stored, t, says, follows) = (
+line_carried : (before before' : LineState) (begun piece line : List ℕ) (extent : Extent) (old new : StoreSeen) → before' ≡ before → IsClean begun
+    → IsClean piece → line ≡ take most_kept (begun ++ piece) → CarriesOut before'.directory (before'.future extent (line ∷ [])) old new
+    → CarriesOut before.directory (future_of_bytes before.future begun extent (piece ++ 10 ∷ [])) old new
+line_carried before before' begun piece line extent old new same clean clean_piece is (stored, t, says, follows) = (
   stored,
   t,
-  line_alone before begun piece line extent stored clean clean_piece is ∙ sym (ap (λ f. f extent (line ∷ []) stored) same) ∙ says,
-  subst (λ d. Follows old new stored d t.directory) same' follows,
+  line_alone before.future begun piece line extent stored clean clean_piece is ∙ sym (ap (λ (s : LineState). s.future extent (line ∷ []) stored) same) ∙ says,
+  subst (λ (s : LineState). Follows old new stored s.directory t.directory) same follows,
 )
 
 -- a line that a piece ends is served, or a fault comes
-pub serve_line : (r : Result Bool RunFault) (before before' after : OfLines) (d d' e : Directory) (begun piece line begun' : List ℕ)
-    (old new : Outlets) → before' ≡ before → d' ≡ d → IsClean begun → IsClean piece
+pub serve_line : (r : Result Bool RunFault) (before before' after : LineState) (begun piece line begun' : List ℕ) (old new : Outlets) → before' ≡ before → IsClean begun → IsClean piece
     → line ≡ take most_kept (begun ++ piece) → begun' ≡ []
-    → MatchResult r (Served before' after d' e line old new) (FailsToServe d' (λ x. before' x (line ∷ [])) old new)
-    → MatchResult r (Serves d (future_change (future_of_bytes before begun) (future_of_bytes after begun') e)
-    (piece ++ 10 ∷ []) old new) (FailsToServe d (λ x. future_of_bytes before begun x (piece ++ 10 ∷ [])) old new)
-serve_line (Ok goes_on) before before' after d d' e begun piece line begun' old new same same' clean clean_piece is none (text, stored, wrote, says, follows) = (
+    → MatchResult r (Served before' after line old new) (FailsToServe before'.directory (λ x. before'.future x (line ∷ [])) old new)
+    → MatchResult r (Serves before.directory (future_change (future_of_bytes before.future begun) (future_of_bytes after.future begun') after.directory)
+    (piece ++ 10 ∷ []) old new) (FailsToServe before.directory (λ x. future_of_bytes before.future begun x (piece ++ 10 ∷ [])) old new)
+serve_line (Ok goes_on) before before' after begun piece line begun' old new same clean clean_piece is none (text, stored, wrote, says, follows) = (
   text,
   stored,
   wrote,
-  line_ended before after e begun piece line begun' stored text goes_on clean clean_piece is none (subst (λ f. Answers (future_change f after e) (line ∷ []) stored text goes_on) same says),
-  subst (λ d. Follows old.store new.store stored d e) same' follows,
+  line_ended before.future after.future after.directory begun piece line begun' stored text goes_on clean clean_piece is none
+      (subst (λ (s : LineState). Answers (between s after) (line ∷ []) stored text goes_on) same says),
+  subst (λ (s : LineState). Follows old.store new.store stored s.directory after.directory) same follows,
 )
-serve_line (Err Read) before before' after d d' e begun piece line begun' old new same same' clean clean_piece is none h = absurd h
-serve_line (Err Write) before before' after d d' e begun piece line begun' old new same same' clean clean_piece is none h =
-    line_carried before before' d d' begun piece line SoFar old.store new.store same same' clean clean_piece is h
-serve_line (Err Memory) before before' after d d' e begun piece line begun' old new same same' clean clean_piece is none h =
-    (h.0, line_carried before before' d d' begun piece line Stopped old.store new.store same same' clean clean_piece is h.1)
+serve_line (Err Read) before before' after begun piece line begun' old new same clean clean_piece is none h = absurd h
+serve_line (Err Write) before before' after begun piece line begun' old new same clean clean_piece is none h =
+    line_carried before before' begun piece line SoFar old.store new.store same clean clean_piece is h
+serve_line (Err Memory) before before' after begun piece line begun' old new same clean clean_piece is none h =
+    (h.0, line_carried before before' begun piece line Stopped old.store new.store same clean clean_piece is h.1)
 
 -- the last line is served: what is then told is what is written after the line that has begun
-last_line : (before before' : OfLines) (d d' : Directory) (begun line : List ℕ) (old new : Outlets) → before' ≡ before → d' ≡ d
-    → line ≡ begun → IsClean begun → 0 < length begun → length begun ≤ most_kept
-    → Tells d' (before' Whole (line ∷ [])) old new → Tells d (future_of_bytes before begun Whole []) old new
-last_line before before' d d' begun line old new same same' e clean some short (stored, t, is, wrote, follows) = (
+last_line : (before before' : LineState) (begun line : List ℕ) (old new : Outlets) → before' ≡ before → line ≡ begun → IsClean begun → 0 < length begun → length begun ≤ most_kept
+    → Tells before'.directory (before'.future Whole (line ∷ [])) old new → Tells before.directory (future_of_bytes before.future begun Whole []) old new
+last_line before before' begun line old new same e clean some short (stored, t, is, wrote, follows) = (
   stored,
   t,
-  last_ahead before begun stored clean some short ∙ ap (λ l. before Whole (l ∷ []) stored) (sym e) ∙ sym (ap (λ f. f Whole (line ∷ []) stored) same) ∙ is,
+  last_ahead before.future begun stored clean some short ∙ ap (λ l. before.future Whole (l ∷ []) stored) (sym e)
+      ∙ sym (ap (λ (s : LineState). s.future Whole (line ∷ []) stored) same) ∙ is,
   wrote,
-  subst (λ d. Follows old.store new.store stored d t.directory) same' follows,
+  subst (λ (s : LineState). Follows old.store new.store stored s.directory t.directory) same follows,
 )
 
 -- the last line, if the machine ends with it
-pub last_served : (before before' after : OfLines) (d d' e : Directory) (begun line : List ℕ) (old new : Outlets) → before' ≡ before
-    → d' ≡ d → line ≡ begun → IsClean begun → 0 < length begun → length begun ≤ most_kept
-    → Served before' after d' e line old new false → Tells d (future_of_bytes before begun Whole []) old new
-last_served before before' after d d' e begun line old new same same' is clean some short served =
-    last_line before before' d d' begun line old new same same' is clean some short (tells_ended before' after d' e (line ∷ []) Whole [] old new served)
+pub last_served : (before before' after : LineState) (begun line : List ℕ) (old new : Outlets) → before' ≡ before → line ≡ begun → IsClean begun
+    → 0 < length begun → length begun ≤ most_kept → Served before' after line old new false → Tells before.directory (future_of_bytes before.future begun Whole []) old new
+last_served before before' after begun line old new same is clean some short served =
+    last_line before before' begun line old new same is clean some short
+    (tells_ended before'.future after.future before'.directory after.directory (line ∷ []) Whole [] old new served)
 
 -- the last line, and then the last words
-last_said : (before before' after : OfLines) (d d' e : Directory) (begun line words : List ℕ) (old w : Outlets)
-    (new : Option (List ℕ)) → before' ≡ before → d' ≡ d → line ≡ begun → IsClean begun → 0 < length begun → length begun ≤ most_kept
-    → Served before' after d' e line old w true → after Whole [] [] ≡ Some (run_output words e) → Appends w.output new words → Tells d (future_of_bytes before begun Whole []) old (outlets new w.store)
-last_said before before' after d d' e begun line words old w new same same' is clean some short served words_are said =
-    last_line before before' d d' begun line old (outlets new w.store) same same' is clean some short
-    (tells_behind before' after d' e (line ∷ []) Whole [] old w (outlets new w.store) served ([], run_output words e, words_are, said, follows_none w.store e))
+last_said : (before before' after : LineState) (begun line words : List ℕ) (old w : Outlets) (new : Option (List ℕ)) → before' ≡ before → line ≡ begun → IsClean begun → 0 < length begun
+    → length begun ≤ most_kept → Served before' after line old w true → after.future Whole [] [] ≡ Some (run_output words after.directory)
+    → Appends w.output new words → Tells before.directory (future_of_bytes before.future begun Whole []) old (outlets new w.store)
+last_said before before' after begun line words old w new same is clean some short served words_are said =
+    last_line before before' begun line old (outlets new w.store) same is clean some short
+    (tells_after before'.future after.future before'.directory after.directory (line ∷ []) Whole [] old w (outlets new w.store) served
+    ([], run_output words after.directory, words_are, said, follows_none w.store after.directory))
 
 -- the exit of a `?`, by the fault that it passes on
 pub fault_exit : {T : Type 0} (r : Result T RunFault) (P : T → Type 0) (Q : RunFault → Type 0) (fault : RunFault) → IsErr r × IsErrAnd r (λ e. e ≡ fault) → Q fault → MatchResult r P Q
@@ -332,69 +342,69 @@ fault_exit (Ok x) P Q fault h q = let e = h.0 in cc
 fault_exit (Err e) P Q fault h q = subst Q (sym h.1) q
 
 -- what a cut with a rest says
-pub cut_some : (text front : List ℕ) (rest : Option (Bor (List ℕ))) (behind : Bor (List ℕ)) → IsCut 10 text front (option_map (λ r. r.now) rest) → rest ≡ Some behind → text ≡ front ++ 10 ∷ behind.now
-cut_some text front None behind c e = cc
-cut_some text front (Some b) behind c e = let same : b ≡ behind = cc in c.joined ∙ ap (λ r. front ++ 10 ∷ r.now) same
+pub cut_some : (text front : List ℕ) (rest : Option (Bor (List ℕ))) (back : Bor (List ℕ)) → IsCut 10 text front (option_map (λ r. r.now) rest) → rest ≡ Some back → text ≡ front ++ 10 ∷ back.now
+cut_some text front None back c e = cc
+cut_some text front (Some b) back c e = let same : b ≡ back = cc in c.joined ∙ ap (λ r. front ++ 10 ∷ r.now) same
 
 pub cut_none : (text front : List ℕ) (rest : Option (Bor (List ℕ))) → IsCut 10 text front (option_map (λ r. r.now) rest) → rest ≡ None → text ≡ front
 cut_none text front None c e = c.joined
 cut_none text front (Some b) c e = cc
 
 -- a fault while a line is served breaks the piece off
-pub fed_fault : (before mid : Ahead) (d e : Directory) (piece rest line behind : List ℕ) (old w new : Outlets) (fault : RunFault) → Fed before mid d e piece rest old w → rest ≡ line ++ 10 ∷ behind
-    → IsClean line → FailsToServe e (λ x. mid x (line ++ 10 ∷ [])) w new fault → mid SoFar [] [] ≡ Some (run_output [] e) → FailsToFeed d before piece old new fault
-fed_fault before mid d e piece rest line behind old w new Read fed is clean h none = h
-fed_fault before mid d e piece rest line behind old w new Write fed is clean h none = (
+pub fed_fault : {before mid : Ahead} {d e : Directory} {piece rest : List ℕ} (line back : List ℕ) {old w : Outlets} (new : Outlets) (fault : RunFault)
+    → Fed before mid d e piece rest old w → rest ≡ line ++ 10 ∷ back → IsClean line → FailsToServe e (λ x. mid x (line ++ 10 ∷ [])) w new fault
+    → mid SoFar [] [] ≡ Some (run_output [] e) → FailsToFeed d before piece old new fault
+fed_fault line back new Read fed is clean h none = h
+fed_fault {before} {mid} {d} {e} {piece} {rest} line back {old} {w} new Write fed is clean h none = (
   fed.front ++ (line ++ 10 ∷ []),
-  behind,
-  fed_split piece fed.front rest line behind fed.split is,
-  carried_behind before mid d e fed.front (line ++ 10 ∷ []) old w new fed.served h,
+  back,
+  fed_split piece fed.front rest line back fed.split is,
+  carried_after before mid d e fed.front (line ++ 10 ∷ []) old w new fed.served h,
 )
-fed_fault before mid d e piece rest line behind old w new Memory fed is clean h none =
-    fed_broken before mid d e piece rest (line ++ 10 ∷ []) behind old w new fed (is ∙ sym (append_assoc line (10 ∷ []) behind)) (line, clean, inr refl) h.0 h.1 none
+fed_fault line back new Memory fed is clean h none =
+    fed_broken (line ++ 10 ∷ []) back new fed (is ∙ sym (append_assoc line (10 ∷ []) back)) (line, clean, inr refl) h.0 h.1 none
 
 -- the last line is carried out, or so far as the run goes
-last_carried : (before before' : OfLines) (d d' : Directory) (begun line : List ℕ) (extent : Extent) (old new : StoreSeen)
-    → before' ≡ before → d' ≡ d → line ≡ begun → IsClean begun → length begun ≤ most_kept
-    → CarriesOut d' (before' extent (line ∷ [])) old new → CarriesOut d (future_of_bytes before begun extent (10 ∷ [])) old new
-last_carried before before' d d' begun line extent old new same same' is clean short (stored, t, says, follows) = (
+last_carried : (before before' : LineState) (begun line : List ℕ) (extent : Extent) (old new : StoreSeen) → before' ≡ before → line ≡ begun → IsClean begun → length begun ≤ most_kept
+    → CarriesOut before'.directory (before'.future extent (line ∷ [])) old new → CarriesOut before.directory (future_of_bytes before.future begun extent (10 ∷ [])) old new
+last_carried before before' begun line extent old new same is clean short (stored, t, says, follows) = (
   stored,
   t,
-  last_alone before begun line extent stored clean short is ∙ sym (ap (λ f. f extent (line ∷ []) stored) same) ∙ says,
-  subst (λ d. Follows old new stored d t.directory) same' follows,
+  last_alone before.future begun line extent stored clean short is ∙ sym (ap (λ (s : LineState). s.future extent (line ∷ []) stored) same) ∙ says,
+  subst (λ (s : LineState). Follows old new stored s.directory t.directory) same follows,
 )
 
 -- a fault while the last line is served leaves the end of the input unserved
-pub last_fault : (fault : RunFault) (before before' : OfLines) (d d' : Directory) (begun line : List ℕ) (old new : Outlets)
-    → before' ≡ before → d' ≡ d → line ≡ begun → IsClean begun → length begun ≤ most_kept
-    → FailsToServe d' (λ x. before' x (line ∷ [])) old new fault → FailsAtEnd d (future_of_bytes before begun) old new fault
-last_fault Read before before' d d' begun line old new same same' is clean short h = h
-last_fault Write before before' d d' begun line old new same same' is clean short h =
-    inr (last_carried before before' d d' begun line SoFar old.store new.store same same' is clean short h)
-last_fault Memory before before' d d' begun line old new same same' is clean short h =
-    (h.0, last_carried before before' d d' begun line Stopped old.store new.store same same' is clean short h.1)
+pub last_fault : (fault : RunFault) (before before' : LineState) (begun line : List ℕ) (old new : Outlets) → before' ≡ before → line ≡ begun → IsClean begun → length begun ≤ most_kept
+    → FailsToServe before'.directory (λ x. before'.future x (line ∷ [])) old new fault → FailsAtEnd before.directory (future_of_bytes before.future begun) old new fault
+last_fault Read before before' begun line old new same is clean short h = h
+last_fault Write before before' begun line old new same is clean short h = inr (last_carried before before' begun line SoFar old.store new.store same is clean short h)
+last_fault Memory before before' begun line old new same is clean short h = (h.0, last_carried before before' begun line Stopped old.store new.store same is clean short h.1)
 
 -- where nothing has come of a last line, the last words are written
-pub finish_none : (r : Result (Unit {0}) RunFault) (future : OfLines) (d : Directory) (begun words : List ℕ) (old : Outlets)
-    (new : Option (List ℕ)) → length begun ≤ 0 → future Whole [] [] ≡ Some (run_output words d)
-    → future_of_bytes future begun SoFar [] [] ≡ Some (run_output [] d) → MatchResult r (λ _. Appends old.output new words) (λ fault. fault ≡ Write)
-    → MatchResult r (λ _. Tells d (future_of_bytes future begun Whole []) old (outlets new old.store)) (FailsAtEnd d (future_of_bytes future begun) old (outlets new old.store))
-finish_none (Ok x) future d begun words old new none e waits said = ([], run_output words d, none_ahead future begun [] none ∙ e, said, follows_none old.store d)
-finish_none (Err fault) future d begun words old new none e waits said =
-    subst (FailsAtEnd d (future_of_bytes future begun) old (outlets new old.store)) (sym said) (inl ([], run_output [] d, waits, follows_none old.store d))
+pub finish_none : (r : Result (Unit {0}) RunFault) (s : LineState) (begun words : List ℕ) (old : Outlets) (new : Option (List ℕ)) → length begun ≤ 0
+    → s.future Whole [] [] ≡ Some (run_output words s.directory) → future_of_bytes s.future begun SoFar [] [] ≡ Some (run_output [] s.directory)
+    → MatchResult r (λ _. Appends old.output new words) (λ fault. fault ≡ Write)
+    → MatchResult r (λ _. Tells s.directory (future_of_bytes s.future begun Whole []) old (outlets new old.store))
+    (FailsAtEnd s.directory (future_of_bytes s.future begun) old (outlets new old.store))
+finish_none (Ok x) s begun words old new none e waits said = ([], run_output words s.directory, none_ahead s.future begun [] none ∙ e, said, follows_none old.store s.directory)
+finish_none (Err fault) s begun words old new none e waits said =
+    subst (FailsAtEnd s.directory (future_of_bytes s.future begun) old (outlets new old.store)) (sym said) (inl ([], run_output [] s.directory, waits, follows_none old.store s.directory))
 
 -- else they are written after the answer to the last line
-pub finish_said : (r : Result (Unit {0}) RunFault) (before before' after : OfLines) (d d' e : Directory) (begun line words : List ℕ)
-    (old w : Outlets) (new : Option (List ℕ)) → before' ≡ before → d' ≡ d → line ≡ begun → IsClean begun → 0 < length begun → length begun ≤ most_kept
-    → Served before' after d' e line old w true → after Whole [] [] ≡ Some (run_output words e) → after SoFar [] [] ≡ Some (run_output [] e)
+pub finish_said : (r : Result (Unit {0}) RunFault) (before before' after : LineState) (begun line words : List ℕ) (old w : Outlets) (new : Option (List ℕ)) {goes_on : Bool}
+    → before' ≡ before → line ≡ begun → IsClean begun → 0 < length begun → length begun ≤ most_kept → goes_on ≡ true → Served before' after line old w goes_on
+    → after.future Whole [] [] ≡ Some (run_output words after.directory) → after.future SoFar [] [] ≡ Some (run_output [] after.directory)
     → MatchResult r (λ _. Appends w.output new words) (λ fault. fault ≡ Write)
-    → MatchResult r (λ _. Tells d (future_of_bytes before begun Whole []) old (outlets new w.store)) (FailsAtEnd d (future_of_bytes before begun) old (outlets new w.store))
-finish_said (Ok x) before before' after d d' e begun line words old w new same same' is clean some short served are waits said =
-    last_said before before' after d d' e begun line words old w new same same' is clean some short served are said
-finish_said (Err fault) before before' after d d' e begun line words old w new same same' is clean some short served are waits said =
-    subst (FailsAtEnd d (future_of_bytes before begun) old (outlets new w.store)) (sym said)
-    (last_fault Write before before' d d' begun line old (outlets new w.store) same same' is clean short
-    (carried_all before' after d' e (line ∷ []) served.1 served.0 old.store w.store served.3 served.4 waits))
+    → MatchResult r (λ _. Tells before.directory (future_of_bytes before.future begun Whole []) old (outlets new w.store))
+    (FailsAtEnd before.directory (future_of_bytes before.future begun) old (outlets new w.store))
+finish_said (Ok x) before before' after begun line words old w new same is clean some short more served are waits said =
+    last_said before before' after begun line words old w new same is clean some short (subst (Served before' after line old w) more served) are said
+finish_said (Err fault) before before' after begun line words old w new same is clean some short more served are waits said =
+    let whole : Served before' after line old w true = subst (Served before' after line old w) more served in
+    subst (FailsAtEnd before.directory (future_of_bytes before.future begun) old (outlets new w.store)) (sym said)
+    (last_fault Write before before' begun line old (outlets new w.store) same is clean short
+    (carried_all before'.future after.future before'.directory after.directory (line ∷ []) whole.1 whole.0 old.store w.store whole.3 whole.4 waits))
 
 -- a test of whether anything has come
 pub is_empty : (begun : List ℕ) (len : ℕ) → len ≡ length begun → (len == 0) ≡ true → length begun ≤ 0
@@ -415,22 +425,24 @@ pub record Heard (made : ℕ) (before now : Ahead) (d e : Directory) (input left
   pub took : Consumes input left taken
   pub served : Serves d (future_change before now e) taken old new true
 
-pub heard_none : (before now : Ahead) (d e : Directory) (input : Option (List ℕ)) (w : Outlets) → now ≡ before → e ≡ d → Heard 0 before now d e input input w w
-heard_none before now d e input w same same' = record {
+pub heard_none : {before now : Ahead} {d e : Directory} {input : Option (List ℕ)} {w : Outlets} → now ≡ before → e ≡ d → Heard 0 before now d e input input w w
+heard_none {before} {now} {d} {e} {input} {w} same same' = record {
   taken = [];
   enough = omega arith;
   took = Consumes-nil input;
   served = subst (λ e. Serves d (future_change before now e) [] w w true) (sym same') (serves_none before now d w same);
 }
 
-pub heard_turn : (made : ℕ) (before mid after : Ahead) (d e f : Directory) (input left left' : Option (List ℕ)) (old w new : Outlets) → Heard made before mid d e input left old w
-    → Turn e (future_change mid after f) (at left w) (at left' new) true → Heard (made + 1) before after d f input left' old new
-heard_turn made before mid after d e f input left left' old w new h (taken, some, took, served) = record {
-  taken = h.taken ++ taken;
-  enough = omega (arith, h.enough, some, length-append h.taken taken);
-  took = Consumes-trans input left left' h.taken taken h.took took;
-  served = serves_both before mid after d e f h.taken taken old w new true h.served served;
-}
+pub heard_turn : {made : ℕ} {before mid after : Ahead} {d e f : Directory} {input left left' : Option (List ℕ)} {old w new : Outlets} {goes_on : Bool}
+    → Heard made before mid d e input left old w → goes_on ≡ true
+    → Turn e (future_change mid after f) (at left w) (at left' new) goes_on → Heard (made + 1) before after d f input left' old new
+heard_turn {before} {mid} {after} {d} {e} {f} {input} {left} {left'} {old} {w} {new} h more turn =
+    let t : Turn e (future_change mid after f) (at left w) (at left' new) true = subst (Turn e (future_change mid after f) (at left w) (at left' new)) more turn in record {
+      taken = h.taken ++ t.0;
+      enough = omega (arith, h.enough, t.1, length-append h.taken t.0);
+      took = Consumes-trans input left left' h.taken t.0 h.took t.2;
+      served = serves_both before mid after d e f h.taken t.0 old w new true h.served t.3;
+    }
 
 -- all of the input is answered
 heard_text : (before mid : Ahead) (taken : List ℕ) (first second : List StoreAnswer) (text : List ℕ) (t : RunOutput)
@@ -443,50 +455,53 @@ heard_text before mid taken first second text t (Some bytes) None old w new took
 heard_text before mid taken first second text t (Some bytes) (Some rest) old w new took wrote says h =
     (ap (λ b. before Whole b (first ++ second)) took ∙ says rest h.0, Appends-trans old w new text t.text wrote h.1)
 
-pub heard_end : {made : ℕ} (before mid after : Ahead) (d e f : Directory) (input left left' : Option (List ℕ)) (old w new : Outlets) → Heard made before mid d e input left old w
-    → Turn e (future_change mid after f) (at left w) (at left' new) false → AnswersInput d before (at input old) (at left' new)
-heard_end before mid after d e f input left left' old w new h (stored', t, follows', rest) =
+pub heard_end : {made : ℕ} {before mid : Ahead} (after : Ahead) {d e : Directory} (f : Directory) {input left : Option (List ℕ)} (left' : Option (List ℕ)) {old w : Outlets}
+    (new : Outlets) {goes_on : Bool} → Heard made before mid d e input left old w → goes_on ≡ false
+    → Turn e (future_change mid after f) (at left w) (at left' new) goes_on → AnswersInput d before (at input old) (at left' new)
+heard_end {before} {mid} after {d} {e} f {input} {left} left' {old} {w} new h ends turn =
+    let rest : AnswersInput e mid (at left w) (at left' new) = subst (Turn e (future_change mid after f) (at left w) (at left' new)) ends turn in
     let stored = h.served.1 in
     let text = h.served.0 in (
-      stored ++ stored',
-      run_output (text ++ t.text) t.directory,
-      follows_both old.store w.store new.store stored stored' d e t.directory h.served.4 follows',
-      heard_text before mid h.taken stored stored' text t input left old.output w.output new.output h.took h.served.2
-          (λ more is. continued_with before mid e h.taken stored stored' text t Whole more h.served.3 is) rest,
+      stored ++ rest.0,
+      run_output (text ++ rest.1.text) rest.1.directory,
+      follows_both old.store w.store new.store stored rest.0 d e rest.1.directory h.served.4 rest.2,
+      heard_text before mid h.taken stored rest.0 text rest.1 input left old.output w.output new.output h.took h.served.2
+          (λ more is. continued_with before mid e h.taken stored rest.0 text rest.1 Whole more h.served.3 is) rest.3,
     )
 
 -- a fault leaves what it leaves of the rest
-pub heard_left : {made : ℕ} (before mid : Ahead) (d e : Directory) (input left left' : Option (List ℕ)) (old w new : Outlets) (fault : RunFault) → Heard made before mid d e input left old w
+pub heard_left : {made : ℕ} {before mid : Ahead} {d e : Directory} {input left : Option (List ℕ)} (left' : Option (List ℕ)) {old w : Outlets} (new : Outlets)
+    (fault : RunFault) → Heard made before mid d e input left old w
     → Leaves e mid (at left w) (at left' new) fault → Leaves d before (at input old) (at left' new) fault
-heard_left before mid d e input left left' old w new Read h (taken, took, tells) = (
+heard_left {before} {mid} {d} {e} {input} {left} left' {old} {w} new Read h (taken, took, tells) = (
   h.taken ++ taken,
   Consumes-trans input left left' h.taken taken h.took took,
-  tells_behind before mid d e h.taken SoFar taken old w new h.served tells,
+  tells_after before mid d e h.taken SoFar taken old w new h.served tells,
 )
-heard_left before mid d e input left left' old w new Write h (Within front behind took carried) =
-    Within (h.taken ++ front) behind (subst (Consumes input left') (sym (append_assoc h.taken front behind)) (Consumes-trans input left left' h.taken (front ++ behind) h.took took))
-    (carried_behind before mid d e h.taken front old w new h.served carried)
-heard_left before mid d e input left left' old w new Write h (AtTheEnd taken took end carried) =
+heard_left {before} {mid} {d} {e} {input} {left} left' {old} {w} new Write h (Within front back took carried) =
+    Within (h.taken ++ front) back (subst (Consumes input left') (sym (append_assoc h.taken front back)) (Consumes-trans input left left' h.taken (front ++ back) h.took took))
+    (carried_after before mid d e h.taken front old w new h.served carried)
+heard_left {before} {mid} {d} {e} {input} {left} left' {old} {w} new Write h (AtTheEnd taken took end carried) =
     AtTheEnd (h.taken ++ taken) (Consumes-trans input left left' h.taken taken h.took took) end
-    (subst (λ b. CarriesOut d (before SoFar b) old.store new.store) (sym (append_assoc h.taken taken (10 ∷ []))) (carried_behind before mid d e h.taken (taken ++ 10 ∷ []) old w new h.served carried))
-heard_left before mid d e input left left' old w new Memory h (InHand front next behind took one first) =
-    InHand (h.taken ++ front) next behind
-    (subst (Consumes input left') (sym (append_assoc h.taken front (next ++ behind))) (Consumes-trans input left left' h.taken (front ++ (next ++ behind)) h.took took))
-    one (first_behind before mid d e h.taken front next old w new h.served first)
-heard_left before mid d e input left left' old w new Memory h (LastInHand taken took end first) =
-    LastInHand (h.taken ++ taken) (Consumes-trans input left left' h.taken taken h.took took) end (first_behind before mid d e h.taken taken (10 ∷ []) old w new h.served first)
+    (subst (λ b. CarriesOut d (before SoFar b) old.store new.store) (sym (append_assoc h.taken taken (10 ∷ []))) (carried_after before mid d e h.taken (taken ++ 10 ∷ []) old w new h.served carried))
+heard_left {before} {mid} {d} {e} {input} {left} left' {old} {w} new Memory h (InHand front next back took one first) =
+    InHand (h.taken ++ front) next back
+    (subst (Consumes input left') (sym (append_assoc h.taken front (next ++ back))) (Consumes-trans input left left' h.taken (front ++ (next ++ back)) h.took took))
+    one (first_after before mid d e h.taken front next old w new h.served first)
+heard_left {before} {mid} {d} {e} {input} {left} left' {old} {w} new Memory h (LastInHand taken took end first) =
+    LastInHand (h.taken ++ taken) (Consumes-trans input left left' h.taken taken h.took took) end (first_after before mid d e h.taken taken (10 ∷ []) old w new h.served first)
 
 -- so many reads were made
-pub heard_so_far : {made : ℕ} (before mid : Ahead) (d e : Directory) (input left : Option (List ℕ)) (old new : Outlets) → Heard made before mid d e input left old new
+pub heard_so_far : {made : ℕ} {before mid : Ahead} {d e : Directory} {input left : Option (List ℕ)} {old new : Outlets} → Heard made before mid d e input left old new
     → mid SoFar [] [] ≡ Some (run_output [] e) → Leaves d before (at input old) (at left new) Read
-heard_so_far before mid d e input left old new h none = (h.taken, h.took, tells_all before mid d e h.taken old new h.served none)
+heard_so_far {before} {mid} {d} {e} {input} {left} {old} {new} h none = (h.taken, h.took, tells_all before mid d e h.taken old new h.served none)
 
 -- each of the reads took a byte or more of the input
-pub heard_enough : (made : ℕ) (before now : Ahead) (d e : Directory) (input left : Option (List ℕ)) (old new : Outlets)
+pub heard_enough : {made : ℕ} {before now : Ahead} {d e : Directory} {input left : Option (List ℕ)} {old new : Outlets}
     → Heard made before now d e input left old new → IfSome input (λ bytes. made ≤ length bytes)
-heard_enough made before now d e None left old new h = tt
-heard_enough made before now d e (Some bytes) None old new h = absurd h.took
-heard_enough made before now d e (Some bytes) (Some rest) old new h = omega (arith, h.enough, ap length h.took, length-append h.taken rest)
+heard_enough {input = None} h = tt
+heard_enough {input = Some bytes} {left = None} h = absurd h.took
+heard_enough {input = Some bytes} {left = Some rest} h = omega (arith, h.enough, ap length h.took, length-append h.taken rest)
 
 -- a read failed
 pub turn_failed : (before : Ahead) (d : Directory) (input left : Option (List ℕ)) (w : Outlets) → Keeps input left
@@ -498,12 +513,12 @@ pub some_read : (count : ℕ) (buffer : List ℕ) → 0 < count → count ≤ le
 some_read count buffer some within = omega (arith, length-take count buffer)
 
 -- the machine extent with a piece
-all_told : (future : List ℕ → Option RunOutput) (piece : List ℕ) (t : RunOutput) (input left old new : Option (List ℕ))
+whole_output : (future : List ℕ → Option RunOutput) (piece : List ℕ) (t : RunOutput) (input left old new : Option (List ℕ))
     → Consumes input left piece → Appends old new t.text → ((rest : List ℕ) → future (piece ++ rest) ≡ Some t)
     → IfSome input (λ bytes. (future bytes ≡ Some t) × Appends old new t.text)
-all_told future piece t None left old new took wrote says = tt
-all_told future piece t (Some bytes) None old new took wrote says = absurd took
-all_told future piece t (Some bytes) (Some rest) old new took wrote says = (ap future took ∙ says rest, wrote)
+whole_output future piece t None left old new took wrote says = tt
+whole_output future piece t (Some bytes) None old new took wrote says = absurd took
+whole_output future piece t (Some bytes) (Some rest) old new took wrote says = (ap future took ∙ says rest, wrote)
 
 -- a piece was fed
 pub turn_fed : (r : Result Bool RunFault) (before after : Ahead) (d e : Directory) (piece : List ℕ) (input left : Option (List ℕ)) (old new : Outlets) → 0 < length piece → Consumes input left piece
@@ -514,7 +529,7 @@ turn_fed (Ok false) before after d e piece input left old new some took (text, s
   stored,
   run_output text e,
   follows,
-  all_told (λ bytes. before Whole bytes stored) piece (run_output text e) input left old.output new.output took wrote (λ rest. ended_with before after e piece stored text Whole rest says),
+  whole_output (λ bytes. before Whole bytes stored) piece (run_output text e) input left old.output new.output took wrote (λ rest. ended_with before after e piece stored text Whole rest says),
 )
 turn_fed (Err Read) before after d e piece input left old new some took h = absurd h
 turn_fed (Err Write) before after d e piece input left old new some took (front, back, split, carried) =
@@ -523,28 +538,31 @@ turn_fed (Err Memory) before after d e piece input left old new some took (front
     InHand front next back (subst (Consumes input left) split took) one first
 
 -- the end of the input came
-end_told : (future : List ℕ → Option RunOutput) (t : RunOutput) (input left old new : Option (List ℕ)) → Consumes input left [] → IsAtEnd left → Appends old new t.text → future [] ≡ Some t
+end_output : (future : List ℕ → Option RunOutput) (t : RunOutput) (input left old new : Option (List ℕ)) → Consumes input left [] → IsAtEnd left → Appends old new t.text → future [] ≡ Some t
     → IfSome input (λ bytes. (future bytes ≡ Some t) × Appends old new t.text)
-end_told future t None left old new took end wrote is = tt
-end_told future t (Some bytes) None old new took end wrote is = absurd took
-end_told future t (Some bytes) (Some rest) old new took end wrote is = (ap future (took ∙ end) ∙ is, wrote)
+end_output future t None left old new took end wrote is = tt
+end_output future t (Some bytes) None old new took end wrote is = absurd took
+end_output future t (Some bytes) (Some rest) old new took end wrote is = (ap future (took ∙ end) ∙ is, wrote)
 
-pub turn_ended : (before : Ahead) (d : Directory) (input left : Option (List ℕ)) (old new : Outlets) → Consumes input left []
-    → IsAtEnd left → Tells d (before Whole []) old new → AnswersInput d before (at input old) (at left new)
-turn_ended before d input left old new took end (stored, t, is, wrote, follows) =
-    (stored, t, follows, end_told (λ bytes. before Whole bytes stored) t input left old.output new.output took end wrote is)
+pub turn_ended : (before : Ahead) (d : Directory) (input left : Option (List ℕ)) (old new : Outlets) → Consumes input left [] × IsAtEnd left
+    → Tells d (before Whole []) old new → AnswersInput d before (at input old) (at left new)
+turn_ended before d input left old new (took, end) (stored, t, is, wrote, follows) =
+    (stored, t, follows, end_output (λ bytes. before Whole bytes stored) t input left old.output new.output took end wrote is)
 
 pub turn_unserved : (before : Ahead) (d : Directory) (input left : Option (List ℕ)) (old new : Outlets) (fault : RunFault)
-    → Consumes input left [] → IsAtEnd left → before SoFar [] [] ≡ Some (run_output [] d)
+    → Consumes input left [] × IsAtEnd left → before SoFar [] [] ≡ Some (run_output [] d)
     → FailsAtEnd d before old new fault → Leaves d before (at input old) (at left new) fault
-turn_unserved before d input left old new Read took end none h = absurd h
-turn_unserved before d input left old new Write took end none (inl carried) = Within [] [] took carried
-turn_unserved before d input left old new Write took end none (inr carried) = AtTheEnd [] took end carried
-turn_unserved before d input left old new Memory took end none h = LastInHand [] took end (kept_first before d (10 ∷ []) old new h.0 h.1 none)
+turn_unserved before d input left old new Read (took, end) none h = absurd h
+turn_unserved before d input left old new Write (took, end) none (inl carried) = Within [] [] took carried
+turn_unserved before d input left old new Write (took, end) none (inr carried) = AtTheEnd [] took end carried
+turn_unserved before d input left old new Memory (took, end) none h = LastInHand [] took end (kept_first before d (10 ∷ []) old new h.0 h.1 none)
 
--- nothing was read
-pub nothing_read : (count : ℕ) (buffer : List ℕ) (input left : Option (List ℕ)) → count ≤ 0 → Consumes input left (take count buffer) → Consumes input left []
-nothing_read count buffer input left none took = let e : count ≡ 0 = omega arith in subst (λ n. Consumes input left (take n buffer)) e took
+-- a read that gives nothing found the end of the input
+pub nothing_read : (count : ℕ) (buffer : List ℕ) (input left : Option (List ℕ)) → count ≤ 0 → 0 < length buffer → Consumes input left (take count buffer)
+    → (count ≡ 0 → 0 < length buffer → IsAtEnd left) → Consumes input left [] × IsAtEnd left
+nothing_read count buffer input left none room took end =
+    let e : count ≡ 0 = omega arith in
+    (subst (λ n. Consumes input left (take n buffer)) e took, end e room)
 
 -- the fault of an exit
 pub fault_is : {T : Type 0} (r : Result T RunFault) (fault : RunFault) → IsErr r × IsErrAnd r (λ e. e ≡ fault) → r ≡ Err fault

@@ -15,10 +15,9 @@ use Rattle.abc_publish.specs.declared.slot.Stored.TheVariants.{Unknown}
 use Rattle.abc_tune_compiler.specs.Files.{Files, file_at}
 use Rattle.abc2midi_live.specs.Answer.{end_line, failed_line, stored_line}
 use Rattle.abc2midi_live.specs.Book.{files_of}
-use Rattle.abc2midi_live.specs.Building.{answer_line, answer_of, entry_behind, numbers_from, pending_from, pending_numbers, stage}
+use Rattle.abc2midi_live.specs.Building.{answer_line, answer_of, entry_after, numbers_from, pending_from, pending_numbers, stage}
 use Rattle.abc2midi_live.specs.Building.{build_outcome, build_outcome_at, Builds, BuildStops, Stage, IsIdle, StopsAtOnce, StopsBy}
-use Rattle.abc2midi_live.specs.Building.{Stores}
-use Rattle.abc2midi_live.specs.Building.{StoresOneAtMost}
+use Rattle.abc2midi_live.specs.Building.{Stores, StoresOne, StoresOneAtMost}
 use Rattle.abc2midi_live.specs.Storing.{StoreAnswer, Done, Fault, StoreSeen, Follows, file_name}
 use Rattle.abc2midi_live.specs.Streams.{Puts, TakesOut, KeepsOthers, faults}
 use Rattle.abc2midi_live.specs.declared.streams.StoreFault.{StoreFault}
@@ -73,8 +72,8 @@ same_kept p q first (suc count) same =
     ∙ ap (λ r. cond (q first) (first ∷ r) r) (same_kept p q (first + 1) count (λ n from. same n (omega arith)))
 
 -- an entry leaves what is pending after its number
-pending_behind : (d : Directory) (files : Files) (m : ℕ) (entry : Option Stored) (n : ℕ) → m + 1 ≤ n → is_pending d files n ≡ is_pending (with_entry d m entry) files n
-pending_behind d files m entry n h =
+pending_after : (d : Directory) (files : Files) (m : ℕ) (entry : Option Stored) (n : ℕ) → m + 1 ≤ n → is_pending d files n ≡ is_pending (with_entry d m entry) files n
+pending_after d files m entry n h =
     let e : with_entry d m entry n ≡ d n = grind (arith, nat_tests) in
     ap (λ s. differs s (file_at files n)) (sym e)
 
@@ -89,14 +88,14 @@ fits_or_not : (m : ℕ) → (m + 1 < 2 ^ 32) ⊎ ((m + 1 < 2 ^ 32) → ⊥)
 fits_or_not m = grind arith
 
 -- the number to go on from after one
-abbrev pub IsBehind : ℕ → Option ℕ → Type 0
-IsBehind m next = SomeIff next (m + 1 < 2 ^ 32) (m + 1)
+abbrev pub IsNumberAfter : ℕ → Option ℕ → Type 0
+IsNumberAfter m next = SomeIff next (m + 1 < 2 ^ 32) (m + 1)
 
 no_numbers : (first : ℕ) → numbers_from first 0 ≡ []
 unfolding numbers_from
 no_numbers first = refl
 
-pending_next : (d : Directory) (files : Files) (m : ℕ) (next : Option ℕ) → m < 2 ^ 32 → IsBehind m next
+pending_next : (d : Directory) (files : Files) (m : ℕ) (next : Option ℕ) → m < 2 ^ 32 → IsNumberAfter m next
     → filter (is_pending d files) (numbers_from (m + 1) (2 ^ 32 - (m + 1))) ≡ pending_from d files next
 unfolding pending_from
 pending_next d files m None small h =
@@ -105,17 +104,17 @@ pending_next d files m None small h =
 pending_next d files m (Some n) small h = let same : m + 1 ≡ n = sym h.1 in ap (λ k. filter (is_pending d files) (numbers_from k (2 ^ 32 - k))) same
 
 -- the first of what is pending is the least, and an entry there leaves the others
-first_pending : (p : Publishing) (files : Files) (from m : ℕ) (next : Option ℕ) (entry : Option Stored) → IsIdle p → IsNext p files from m → m < 2 ^ 32 → IsBehind m next
+first_pending : (p : Publishing) (files : Files) (from m : ℕ) (next : Option ℕ) (entry : Option Stored) → IsIdle p → IsNext p files from m → m < 2 ^ 32 → IsNumberAfter m next
     → pending_from p.directory files (Some from) ≡ m ∷ pending_from (with_entry p.directory m entry) files next
 unfolding pending_from
-first_pending p files from m next entry idle is small behind =
+first_pending p files from m next entry idle is small next_is =
     let d = p.directory in
     let low : from ≤ m = is.inside in
     let rest : from + (2 ^ 32 - from) - (m + 1) ≡ 2 ^ 32 - (m + 1) = omega arith in
     first_kept (is_pending d files) from (2 ^ 32 - from) m low (omega arith) (λ n above below. sym (wanted_idle p files n idle) ∙ is.least n above below) (sym (wanted_idle p files m idle) ∙ is.wanted)
     ∙ ap (λ k. m ∷ filter (is_pending d files) (numbers_from (m + 1) k)) rest
-    ∙ ap (λ ns. m ∷ ns) (same_kept (is_pending d files) (is_pending (with_entry d m entry) files) (m + 1) (2 ^ 32 - (m + 1)) (λ n h. pending_behind d files m entry n h)
-    ∙ pending_next (with_entry d m entry) files m next small behind)
+    ∙ ap (λ ns. m ∷ ns) (same_kept (is_pending d files) (is_pending (with_entry d m entry) files) (m + 1) (2 ^ 32 - (m + 1)) (λ n h. pending_after d files m entry n h)
+    ∙ pending_next (with_entry d m entry) files m next small next_is)
 
 none_pending : (p : Publishing) (files : Files) (from : ℕ) → from < 2 ^ 32 → IsIdle p → HasNone p files from → pending_from p.directory files (Some from) ≡ []
 unfolding pending_from
@@ -130,17 +129,17 @@ stores_none text p files from e small idle none = λ extent later.
 
 -- the file of the least number is stored, and the build goes on after it
 pub stores_done : (text : Text) (p : Publishing) (files : Files) (from m : ℕ) (bytes : Option (List ℕ)) (next : Option ℕ) → files ≡ files_of text → m < 2 ^ 32 → IsIdle p → IsNext p files from m
-    → bytes ≡ file_at files m → IsBehind m next
+    → bytes ≡ file_at files m → IsNumberAfter m next
     → Stores text (stage p.directory (Some from)) (Done ∷ []) (stored_line m bytes) (stage (with_entry p.directory m (stored_as bytes)) next)
 unfolding build_outcome
-stores_done text p files from m bytes next e small idle is file behind = λ extent later.
+stores_done text p files from m bytes next e small idle is file next_is = λ extent later.
     let d = p.directory in
     let same : file_at (files_of text) m ≡ bytes = sym (file ∙ ap (λ fs. file_at fs m) e) in
     ap (λ ns. build_outcome extent text d ns (Done ∷ later))
-    (first_pending p (files_of text) from m next (stored_as (file_at (files_of text) m)) idle (subst (λ fs. IsNext p fs from m) e is) small behind)
+    (first_pending p (files_of text) from m next (stored_as (file_at (files_of text) m)) idle (subst (λ fs. IsNext p fs from m) e is) small next_is)
     ∙ ap (λ b. line_before (stored_line m b) (build_outcome extent text (with_entry d m (stored_as b)) (pending_from (with_entry d m (stored_as b)) (files_of text) next) later)) same
 
-some_next : (m : ℕ) → (next : Option ℕ) × IsBehind m next
+some_next : (m : ℕ) → (next : Option ℕ) × IsNumberAfter m next
 some_next m = ⊎_elim (λ fits. (Some (m + 1), (fits, refl))) (λ not. (None, not)) (fits_or_not m)
 
 -- the store failed, and the build ends
@@ -149,7 +148,7 @@ pub stores_fault : (text : Text) (p : Publishing) (files : Files) (from m : ℕ)
 unfolding build_outcome pending_from
 stores_fault text p files from m e small idle is = λ extent later.
     let d = p.directory in
-    let some : (next : Option ℕ) × IsBehind m next = some_next m in
+    let some : (next : Option ℕ) × IsNumberAfter m next = some_next m in
     ap (λ ns. build_outcome extent text d ns (Fault ∷ later)) (first_pending p (files_of text) from m some.0 (Some Unknown) idle (subst (λ fs. IsNext p fs from m) e is) small some.1)
 
 line_before_both : (a b : List ℕ) (rest : Option RequestOutcome) → line_before a (line_before b rest) ≡ line_before (a ++ b) rest
@@ -190,10 +189,10 @@ stops_first text at s =
     (([], none.0, none.1, none.2, follows_same s d none.0.after.directory none.3), refl)
 
 -- it stops after what was stored
-pub stops_behind : (text : Text) (d e : Directory) (at next : Option ℕ) (now more : List StoreAnswer) (run_output : List ℕ)
+pub stops_after : (text : Text) (d e : Directory) (at next : Option ℕ) (now more : List StoreAnswer) (run_output : List ℕ)
     (old mid new : StoreSeen) → Stores text (stage d at) now run_output (stage e next) → Follows old mid now d e
     → StopsWith text (stage e next) more mid new → StopsWith text (stage d at) (now ++ more) old new
-stops_behind text d e at next now more run_output old mid new stores follows ((later, a, is, left, follows'), same) = (
+stops_after text d e at next now more run_output old mid new stores follows ((later, a, is, left, follows'), same) = (
   (
     now ++ later,
     request_outcome (run_output ++ a.text) a.after a.left,
@@ -217,24 +216,24 @@ stops_called text at answer old new h =
 
 -- It was called for the least number, if it was called.
 pub stops_once : (text : Text) (p : Publishing) (from m : ℕ) (bytes : Option (List ℕ)) (old new : StoreSeen) → m < 2 ^ 32 → IsIdle p
-    → IsNext p (files_of text) from m → bytes ≡ file_at (files_of text) m
+    → IsNext p (files_of text) from m × (bytes ≡ file_at (files_of text) m)
     → StoresOneAtMost old new m bytes → StopsAtOnce text (stage p.directory (Some from)) old new
-stops_once text p from m bytes old new small idle least file (inl same) =
+stops_once text p from m bytes old new small idle least (inl same) =
     let at = stage p.directory (Some from) in
     subst (λ (new : StoreSeen). StopsAtOnce text at old new) (sym same) (stops_uncalled text at old)
-stops_once text p from m bytes old new small idle least file (inr (Done, one)) =
+stops_once text p from m bytes old new small idle least (inr (Done, one)) =
     let d = p.directory in
     let e = with_entry d m (stored_as bytes) in
-    let next : (next : Option ℕ) × IsBehind m next = some_next m in
+    let next : (next : Option ℕ) × IsNumberAfter m next = some_next m in
     stops_called text (stage d (Some from)) Done old new
-    (stops_behind text d e (Some from) next.0 (Done ∷ []) [] (stored_line m bytes) old new new
-    (stores_done text p (files_of text) from m bytes next.0 refl small idle least file next.1) (one d) (stops_first text (stage e next.0) new))
-stops_once text p from m bytes old new small idle least file (inr (Fault, one)) =
+    (stops_after text d e (Some from) next.0 (Done ∷ []) [] (stored_line m bytes) old new new
+    (stores_done text p (files_of text) from m bytes next.0 refl small idle least.0 least.1 next.1) (one d) (stops_first text (stage e next.0) new))
+stops_once text p from m bytes old new small idle least (inr (Fault, one)) =
     let d = p.directory in
     let e = with_entry d m (Some Unknown) in
     stops_called text (stage d (Some from)) Fault old new
-    (stops_behind text d e (Some from) None (Fault ∷ []) [] (failed_line m) old new new
-    (stores_fault text p (files_of text) from m refl small idle least) (one d) (stops_first text (stage e None) new))
+    (stops_after text d e (Some from) None (Fault ∷ []) [] (failed_line m) old new new
+    (stores_fault text p (files_of text) from m refl small idle least.0) (one d) (stops_first text (stage e None) new))
 
 -- how many numbers there are from one on
 abbrev pub left_from : Option ℕ → ℕ
@@ -255,43 +254,48 @@ left_small None from h = tt
 left_small (Some n) from h = h.1
 
 -- the number to go on from lies after
-pub onward : (from m : ℕ) (next : Option ℕ) → from ≤ m → IsBehind m next → IfSome next (λ n. (from < n) × (n < 2 ^ 32))
+pub onward : (from m : ℕ) (next : Option ℕ) → from ≤ m → IsNumberAfter m next → IfSome next (λ n. (from < n) × (n < 2 ^ 32))
 onward from m None low h = tt
 onward from m (Some n) low h = let e : n ≡ m + 1 = h.1 in (omega arith, let fits : m + 1 < 2 ^ 32 = h.0 in omega arith)
 
 -- the file of a number was put, or the store failed
 pub follows_stored : (r : Result (Unit {0}) StoreFault) (old new : StoreSeen) (d : Directory) (n : ℕ) (name bytes : List ℕ) → n < 2 ^ 32 → name ≡ file_name n
     → MatchResult r (λ _. Puts old.contents new.contents name bytes) (λ _. KeepsOthers old.contents new.contents name) → new.failures ≡ raised old.failures (faults r) → new.calls ≡ raised old.calls 1
-    → Follows old new (answer_of (is_ok r) ∷ []) d (with_entry d n (entry_behind (answer_of (is_ok r)) (Some bytes)))
+    → Follows old new (answer_of (is_ok r) ∷ []) d (with_entry d n (entry_after (answer_of (is_ok r)) (Some bytes)))
 follows_stored (Ok x) old new d n name bytes small e put counted called = follows_put old new d n name bytes small e put counted called
 follows_stored (Err x) old new d n name bytes small e kept counted called = follows_fault old new d n name small e kept counted called
 
 -- it was removed, or the store failed
 pub follows_taken : (r : Result (Unit {0}) StoreFault) (old new : StoreSeen) (d : Directory) (n : ℕ) (name : List ℕ) → n < 2 ^ 32 → name ≡ file_name n
     → MatchResult r (λ _. TakesOut old.contents new.contents name) (λ _. KeepsOthers old.contents new.contents name) → new.failures ≡ raised old.failures (faults r) → new.calls ≡ raised old.calls 1
-    → Follows old new (answer_of (is_ok r) ∷ []) d (with_entry d n (entry_behind (answer_of (is_ok r)) None))
+    → Follows old new (answer_of (is_ok r) ∷ []) d (with_entry d n (entry_after (answer_of (is_ok r)) None))
 follows_taken (Ok x) old new d n name small e taken counted called = follows_removed old new d n name small e taken counted called
 follows_taken (Err x) old new d n name small e kept counted called = follows_fault old new d n name small e kept counted called
 
 -- the same of the number and the bytes of a job
 pub follows_job : (old new : StoreSeen) (d : Directory) (n m : ℕ) (done stored : Bool) (bytes file : Option (List ℕ)) → n ≡ m → bytes ≡ file → done ≡ stored
-    → Follows old new (answer_of stored ∷ []) d (with_entry d n (entry_behind (answer_of stored) bytes))
-    → Follows old new (answer_of done ∷ []) d (with_entry d m (entry_behind (answer_of done) file))
+    → Follows old new (answer_of stored ∷ []) d (with_entry d n (entry_after (answer_of stored) bytes))
+    → Follows old new (answer_of done ∷ []) d (with_entry d m (entry_after (answer_of done) file))
 follows_job old new d n m done stored bytes file e f s h =
-    subst (λ (b : Bool). Follows old new (answer_of b ∷ []) d (with_entry d m (entry_behind (answer_of b) file))) (sym s)
-    (subst (λ (b : Option (List ℕ)). Follows old new (answer_of stored ∷ []) d (with_entry d m (entry_behind (answer_of stored) b))) f
-    (subst (λ (k : ℕ). Follows old new (answer_of stored ∷ []) d (with_entry d k (entry_behind (answer_of stored) bytes))) e h))
+    subst (λ (b : Bool). Follows old new (answer_of b ∷ []) d (with_entry d m (entry_after (answer_of b) file))) (sym s)
+    (subst (λ (b : Option (List ℕ)). Follows old new (answer_of stored ∷ []) d (with_entry d m (entry_after (answer_of stored) b))) f
+    (subst (λ (k : ℕ). Follows old new (answer_of stored ∷ []) d (with_entry d k (entry_after (answer_of stored) bytes))) e h))
+
+-- the same where what was answered cannot be written
+pub stores_job : (old new : StoreSeen) (n m : ℕ) (stored : Bool) (bytes file : Option (List ℕ)) → n ≡ m → bytes ≡ file
+    → StoresOne old new (answer_of stored) n bytes → StoresOneAtMost old new m file
+stores_job old new n m stored bytes file e f h = inr (answer_of stored, λ d. follows_job old new d n m stored stored bytes file e f refl (h d))
 
 -- what a publisher knows after a job that was done
 pub ends_done : (r : Result Bool AllocError) (p q : Publishing) (n : ℕ) (bytes : Option (List ℕ)) → result_unwrap_or r false ≡ true → q ≡ without_job p n (stored_as bytes)
-    → IfOk r (λ stored. q ≡ without_job p n (entry_behind (answer_of stored) bytes))
+    → IfOk r (λ stored. q ≡ without_job p n (entry_after (answer_of stored) bytes))
 ends_done (Ok true) p q n bytes is e = e
 ends_done (Ok false) p q n bytes is e = absurd (false≢true is)
 ends_done (Err x) p q n bytes is e = tt
 
 -- and after one that failed
 pub ends_failed : (r : Result Bool AllocError) (p q : Publishing) (n : ℕ) (bytes : Option (List ℕ)) → result_unwrap_or r false ≡ false → q ≡ without_job p n (Some Unknown)
-    → IfOk r (λ stored. q ≡ without_job p n (entry_behind (answer_of stored) bytes))
+    → IfOk r (λ stored. q ≡ without_job p n (entry_after (answer_of stored) bytes))
 ends_failed (Ok true) p q n bytes is e = absurd (true≢false is)
 ends_failed (Ok false) p q n bytes is e = e
 ends_failed (Err x) p q n bytes is e = tt
@@ -308,8 +312,8 @@ in_error (Err x) P p = p
 
 -- the directory that a store follows is that of the publisher
 pub follows_ended : (r : Result Bool AllocError) (old new : StoreSeen) (p q : Publishing) (n : ℕ) (bytes : Option (List ℕ))
-    → IfOk r (λ stored. q ≡ without_job p n (entry_behind (answer_of stored) bytes))
-    → IfOk r (λ stored. (d : Directory) → Follows old new (answer_of stored ∷ []) d (with_entry d n (entry_behind (answer_of stored) bytes)))
+    → IfOk r (λ stored. q ≡ without_job p n (entry_after (answer_of stored) bytes))
+    → IfOk r (λ stored. (d : Directory) → Follows old new (answer_of stored ∷ []) d (with_entry d n (entry_after (answer_of stored) bytes)))
     → IfOk r (λ stored. Follows old new (answer_of stored ∷ []) p.directory q.directory)
 follows_ended (Ok stored) old new p q n bytes e h = subst (λ (q : Publishing). Follows old new (answer_of stored ∷ []) p.directory q.directory) (sym e) (h p.directory)
 follows_ended (Err x) old new p q n bytes e h = tt
@@ -328,9 +332,9 @@ under_way p q n bytes e = ap (λ (q : Publishing). q.jobs n) e ∙ here where
   here = grind (arith, nat_tests)
 
 -- the directory after the job that was begun
-pub directory_behind : (p q r : Publishing) (n : ℕ) (bytes : Option (List ℕ)) (entry : Option Stored) → q ≡ with_job p n bytes
+pub directory_after : (p q r : Publishing) (n : ℕ) (bytes : Option (List ℕ)) (entry : Option Stored) → q ≡ with_job p n bytes
     → r ≡ without_job q n entry → r.directory ≡ with_entry p.directory n entry
-directory_behind p q r n bytes entry e f = ap (λ (r : Publishing). r.directory) f ∙ ap (λ (q : Publishing). with_entry q.directory n entry) e
+directory_after p q r n bytes entry e f = ap (λ (r : Publishing). r.directory) f ∙ ap (λ (q : Publishing). with_entry q.directory n entry) e
 
 pub at_none : {T : Type 0} (o : Option T) (A : Type 0) (B : T → Type 0) → o ≡ None → MatchOption o A B → A
 at_none o A B e h = subst (λ o. MatchOption o A B) e h
@@ -359,36 +363,36 @@ next_none text p q s from old small idle none e =
     ([], [], sym (append-nil old), stores_none text (maps_of p) (files_of text) from refl small idle none, follows_none s (maps_of p).directory)
 
 pub next_done : (text : Text) (p q r : Slots) (s t : StoreSeen) (from m : ℕ) (bytes : Option (List ℕ)) (next : Option ℕ) (old new : List ℕ) (done : Bool) → done ≡ true → m < 2 ^ 32
-    → IsIdle (maps_of p) → IsNext (maps_of p) (files_of text) from m → bytes ≡ file_at (files_of text) m → IsBehind m next → maps_of q ≡ with_job (maps_of p) m bytes
-    → maps_of r ≡ without_job (maps_of q) m (entry_behind (answer_of done) bytes)
+    → IsIdle (maps_of p) → IsNext (maps_of p) (files_of text) from m × (bytes ≡ file_at (files_of text) m) → IsNumberAfter m next → maps_of q ≡ with_job (maps_of p) m bytes
+    → maps_of r ≡ without_job (maps_of q) m (entry_after (answer_of done) bytes)
     → new ≡ old ++ answer_line (answer_of done) m bytes → Follows s t (answer_of done ∷ []) (maps_of q).directory (maps_of r).directory
     → Advances text (stage (maps_of p).directory (Some from)) (stage (maps_of r).directory next) (build_seen old s) (build_seen new t)
-next_done text p q r s t from m bytes next old new done is small idle least file behind taken over run_output follows =
+next_done text p q r s t from m bytes next old new done is small idle least next_is taken over run_output follows =
     let before : (maps_of q).directory ≡ (maps_of p).directory = ap (λ (x : Publishing). x.directory) taken in
-    let over : maps_of r ≡ without_job (maps_of q) m (stored_as bytes) = subst (λ b. maps_of r ≡ without_job (maps_of q) m (entry_behind (answer_of b) bytes)) is over in
-    let after : (maps_of r).directory ≡ with_entry (maps_of p).directory m (stored_as bytes) = directory_behind (maps_of p) (maps_of q) (maps_of r) m bytes (stored_as bytes) taken over in (
+    let over : maps_of r ≡ without_job (maps_of q) m (stored_as bytes) = subst (λ b. maps_of r ≡ without_job (maps_of q) m (entry_after (answer_of b) bytes)) is over in
+    let after : (maps_of r).directory ≡ with_entry (maps_of p).directory m (stored_as bytes) = directory_after (maps_of p) (maps_of q) (maps_of r) m bytes (stored_as bytes) taken over in (
       Done ∷ [],
       stored_line m bytes,
       subst (λ b. new ≡ old ++ answer_line (answer_of b) m bytes) is run_output,
       subst (λ (d : Directory). Stores text (stage (maps_of p).directory (Some from)) (Done ∷ []) (stored_line m bytes) (stage d next)) (sym after)
-          (stores_done text (maps_of p) (files_of text) from m bytes next refl small idle least file behind),
+          (stores_done text (maps_of p) (files_of text) from m bytes next refl small idle least.0 least.1 next_is),
       subst (λ (d : Directory). Follows s t (Done ∷ []) d (maps_of r).directory) before (subst (λ b. Follows s t (answer_of b ∷ []) (maps_of q).directory (maps_of r).directory) is follows),
     )
 
 pub next_fault : (text : Text) (p q r : Slots) (s t : StoreSeen) (from m : ℕ) (bytes : Option (List ℕ)) (old new : List ℕ) (done : Bool) → done ≡ false → m < 2 ^ 32
-    → IsIdle (maps_of p) → IsNext (maps_of p) (files_of text) from m → maps_of q ≡ with_job (maps_of p) m bytes
-    → maps_of r ≡ without_job (maps_of q) m (entry_behind (answer_of done) bytes)
+    → IsIdle (maps_of p) → IsNext (maps_of p) (files_of text) from m × (bytes ≡ file_at (files_of text) m) → maps_of q ≡ with_job (maps_of p) m bytes
+    → maps_of r ≡ without_job (maps_of q) m (entry_after (answer_of done) bytes)
     → new ≡ old ++ answer_line (answer_of done) m bytes → Follows s t (answer_of done ∷ []) (maps_of q).directory (maps_of r).directory
     → Advances text (stage (maps_of p).directory (Some from)) (stage (maps_of r).directory None) (build_seen old s) (build_seen new t)
 next_fault text p q r s t from m bytes old new done is small idle least taken over run_output follows =
     let before : (maps_of q).directory ≡ (maps_of p).directory = ap (λ (x : Publishing). x.directory) taken in
-    let over : maps_of r ≡ without_job (maps_of q) m (Some Unknown) = subst (λ b. maps_of r ≡ without_job (maps_of q) m (entry_behind (answer_of b) bytes)) is over in
-    let after : (maps_of r).directory ≡ with_entry (maps_of p).directory m (Some Unknown) = directory_behind (maps_of p) (maps_of q) (maps_of r) m bytes (Some Unknown) taken over in (
+    let over : maps_of r ≡ without_job (maps_of q) m (Some Unknown) = subst (λ b. maps_of r ≡ without_job (maps_of q) m (entry_after (answer_of b) bytes)) is over in
+    let after : (maps_of r).directory ≡ with_entry (maps_of p).directory m (Some Unknown) = directory_after (maps_of p) (maps_of q) (maps_of r) m bytes (Some Unknown) taken over in (
       Fault ∷ [],
       failed_line m,
       subst (λ b. new ≡ old ++ answer_line (answer_of b) m bytes) is run_output,
       subst (λ (d : Directory). Stores text (stage (maps_of p).directory (Some from)) (Fault ∷ []) (failed_line m) (stage d None)) (sym after)
-          (stores_fault text (maps_of p) (files_of text) from m refl small idle least),
+          (stores_fault text (maps_of p) (files_of text) from m refl small idle least.0),
       subst (λ (d : Directory). Follows s t (Fault ∷ []) d (maps_of r).directory) before (subst (λ b. Follows s t (answer_of b ∷ []) (maps_of q).directory (maps_of r).directory) is follows),
     )
 
@@ -424,4 +428,4 @@ pub so_far_stops : (text : Text) (first d : Directory) (run_output : List ℕ) (
     → StoresSoFar text first start (stage d at) (build_seen run_output s) → StopsBy d (build_outcome_at Stopped text (stage d at)) s t
     → BuildStops text first start t
 unfolding pending_from pending_numbers
-so_far_stops text first d run_output start s t at h stops = (stops_behind text first d (Some 0) at h.0 stops.0 run_output start s t h.1 h.2 (stops, refl)).0
+so_far_stops text first d run_output start s t at h stops = (stops_after text first d (Some 0) at h.0 stops.0 run_output start s t h.1 h.2 (stops, refl)).0

@@ -2,7 +2,7 @@
 use Rattle.std.proofs.Common.{◌≡◌, ℕ, ◌+◌, ◌-◌, ◌<◌, ◌≤◌, Bool, true, false, cond, leb, List, [], ◌∷◌, ◌++◌, length, take, map}
 use Rattle.std.proofs.Common.{Option, Some, None, Result, Ok, Err, ◌⊎◌, inl, inr, refl, sym, ap, ◌∙◌, subst, arith, append_assoc}
 use Rattle.std.proofs.Common.{append-nil, ◌≢◌, if◌then◌else◌, add-one, length-append}
-use Rattle.std.proofs.lemmas.List.{take_all, take-append-le, map-append}
+use Rattle.std.proofs.lemmas.List.{length-map, take_all, take-append-le, map-append}
 use Rattle.std.specs.Global.{Vec}
 use Rattle.std.specs.Prelude.{IfOk, IsErr, OnOk, is_ok, option_and_then}
 use Rattle.std.specs.declared.alloc.AllocError.{AllocError}
@@ -15,7 +15,7 @@ use Rattle.abc2midi_live.specs.Book.{files_of, faults_of, titles_of}
 use Rattle.abc_tune_compiler.specs.Files.{file_at, written_numbers, removed_numbers}
 use Rattle.abc2midi_live.specs.Answer.{report_line, refusal}
 use Rattle.abc2midi_live.specs.Command.{line_count, command_of}
-use Rattle.abc_publish.specs.Publisher.{Directory}
+use Rattle.abc_publish.specs.Publisher.{Directory, Slots, maps_of}
 use Rattle.abc2midi_live.specs.Building.{Builds, BuildStops, StopsBy}
 use Rattle.abc2midi_live.specs.Storing.{StoreAnswer, StoreSeen}
 use Rattle.abc2midi_live.specs.RunOutput.{RequestOutcome, Extent, Whole, Stopped, DialogueView, RunOutput, request_outcome}
@@ -26,8 +26,9 @@ use Rattle.abc2midi_live.specs.declared.command.Command.{Command}
 use Rattle.abc2midi_live.specs.declared.command.Command.TheVariants.{Faults, Titles, Hex, Build, Quit, Unknown}
 use Rattle.abc2midi_live.specs.declared.command.Command.TheVariants as commands
 use Rattle.abc2midi_live.specs.Waiting.{request_unasked}
+use Rattle.abc2midi_live.proofs.RunOutputs.{no_text_before}
 use Rattle.abc2midi_live.proofs.Storing.{follows_same}
-use Rattle.abc2midi_live.specs.Dialogue.{BegunCommand, dialogue_future, is_taken, AnswersWith, Says, Responds}
+use Rattle.abc2midi_live.specs.Dialogue.{BegunCommand, dialogue_future, is_taken, AnswersWith, Says, Responds, RespondsBy}
 use Rattle.abc2midi_live.specs.Machine.{AsksNothing, CarriesOut, Future, Replies, future_change}
 use Rattle.abc_tune_compiler.specs.declared.fault.Fault.{Fault}
 use Rattle.abc_tune_compiler.specs.declared.title.Title.{Title}
@@ -75,15 +76,17 @@ edited_answer old new d splice text t n = (
   refl,
 )
 
-responds_edit : (old new : Text) (d : Directory) (request : Request) (splice : Option Splice) (text : List ℕ) → request ≡ Edits splice → text ≡ edit_answer old (edited old splice)
-    → new ≡ result_unwrap_or (edited old splice) old → Carried (dialogue_view old d) (dialogue_view new d) request [] text
-responds_edit old new d request splice text is t n = subst (λ r. Carried (dialogue_view old d) (dialogue_view new d) r [] text) (sym is) (edited_answer old new d splice text t n)
-
--- the same where the directory after it is known to be the one before it
-pub responds_change : (old new : Text) (d after : Directory) (request : Request) (splice : Option Splice) (text : List ℕ) → request ≡ Edits splice → text ≡ edit_answer old (edited old splice)
-    → new ≡ result_unwrap_or (edited old splice) old → after ≡ d → Carried (dialogue_view old d) (dialogue_view new after) request [] text
-responds_change old new d after request splice text is t n same =
-    subst (λ e. Carried (dialogue_view old d) (dialogue_view new e) request [] text) (sym same) (responds_edit old new d request splice text is t n)
+-- an edit is replied to, and the store is not called
+pub replies_change : (old new : Text) (p q : Slots) (request : Request) (splice : Option Splice) (text : Vec ℕ) (s : StoreSeen) → request ≡ Edits splice
+    → text.items ≡ edit_answer old (edited old splice) → new ≡ result_unwrap_or (edited old splice) old → q ≡ p
+    → RespondsBy (dialogue_view old (maps_of p).directory) (dialogue_view new (maps_of q).directory) request (Answer text) s s
+replies_change old new p q request splice text s is t n same =
+    let d = (maps_of p).directory in (
+      [],
+      subst (λ (q : Slots). Carried (dialogue_view old d) (dialogue_view new (maps_of q).directory) request [] text.items) (sym same)
+          (subst (λ r. Carried (dialogue_view old d) (dialogue_view new d) r [] text.items) (sym is) (edited_answer old new d splice text.items t n)),
+      follows_same s d (maps_of q).directory (ap (λ (p : Slots). (maps_of p).directory) same),
+    )
 
 not_ok : (r : Result Text EditError) → is_ok r ≡ false → IsErr r
 not_ok (Ok text) e = absurd (true≢false e)
@@ -102,23 +105,25 @@ more_if count n m request e h = ap (λ b. cond b request CutOff) (let b : leb co
 take_whole : (count : ℕ) (lines : Text) → length lines ≡ count → take count lines ≡ lines
 take_whole count lines e = take_all count lines (omega arith)
 
-pub request_of-insert : (command : Command) (at count : ℕ) (lines : Text) → length lines ≡ line_count command
-    → command ≡ commands.Insert at count → request_of command lines ≡ Edits (insertion at lines)
+pub insert_request : (command : Command) (at count : ℕ) (lines : Vec (Vec ℕ)) → length lines.items ≡ line_count command
+    → command ≡ commands.Insert at count → request_of command (text_of lines) ≡ Edits (insertion at (text_of lines))
 unfolding request_of
-request_of-insert command at count lines whole is =
-    let e : length lines ≡ count = whole ∙ ap line_count is in
-    ap (λ c. request_of c lines) is ∙ whole_if count (length lines) (Edits (insertion at (take count lines))) e ∙ ap (λ ls. Edits (insertion at ls)) (take_whole count lines e)
+insert_request command at count lines whole is =
+    let e : length (text_of lines) ≡ count = length-map lines.items (λ line. line.items) ∙ whole ∙ ap line_count is in
+    ap (λ c. request_of c (text_of lines)) is ∙ whole_if count (length (text_of lines)) (Edits (insertion at (take count (text_of lines)))) e
+    ∙ ap (λ ls. Edits (insertion at ls)) (take_whole count (text_of lines) e)
 
-pub request_of-replace : (command : Command) (from to count : ℕ) (lines : Text) → length lines ≡ line_count command
-    → command ≡ commands.Replace from to count → request_of command lines ≡ Edits (replacement from to lines)
+pub replace_request : (command : Command) (from to count : ℕ) (lines : Vec (Vec ℕ)) → length lines.items ≡ line_count command
+    → command ≡ commands.Replace from to count → request_of command (text_of lines) ≡ Edits (replacement from to (text_of lines))
 unfolding request_of
-request_of-replace command from to count lines whole is =
-    let e : length lines ≡ count = whole ∙ ap line_count is in
-    ap (λ c. request_of c lines) is ∙ whole_if count (length lines) (Edits (replacement from to (take count lines))) e ∙ ap (λ ls. Edits (replacement from to ls)) (take_whole count lines e)
+replace_request command from to count lines whole is =
+    let e : length (text_of lines) ≡ count = length-map lines.items (λ line. line.items) ∙ whole ∙ ap line_count is in
+    ap (λ c. request_of c (text_of lines)) is ∙ whole_if count (length (text_of lines)) (Edits (replacement from to (take count (text_of lines)))) e
+    ∙ ap (λ ls. Edits (replacement from to ls)) (take_whole count (text_of lines) e)
 
-pub request_of-delete : (command : Command) (from to : ℕ) (lines : Text) → command ≡ commands.Delete from to → request_of command lines ≡ Edits (deletion from to)
+pub delete_request : (command : Command) (from to : ℕ) (lines : Text) → command ≡ commands.Delete from to → request_of command lines ≡ Edits (deletion from to)
 unfolding request_of
-request_of-delete command from to lines is = ap (λ c. request_of c lines) is
+delete_request command from to lines is = ap (λ c. request_of c lines) is
 
 pub responds_faults : (h : DialogueView) (command : Command) (lines : Text) (faults : List Fault) (text : List ℕ) → command ≡ Faults → faults ≡ faults_of h.text → text ≡ fault_list faults
     → Carried h h (request_of command lines) [] text
@@ -176,37 +181,33 @@ request_of-append Quit lines more whole = refl
 request_of-append Unknown lines more whole = refl
 
 -- what is written after the answer to a request
-told_on : Extent → Request → List Request → RequestOutcome → Option RunOutput
-told_on extent request rest a = with_text_before a.text (if goes_on request then answers extent a.after rest a.left else nothing_more a.after.directory a.left)
+output_after : Extent → Request → List Request → RequestOutcome → Option RunOutput
+output_after extent request rest a = with_text_before a.text (if goes_on request then answers extent a.after rest a.left else nothing_more a.after.directory a.left)
 
 awaited_whole : (old : DialogueView) (command : Command) (lines more : Text) (extent : Extent) (stored : List StoreAnswer) → length lines ≡ line_count command
     → dialogue_future old (Some (record { command = command; lines = lines })) extent more stored
-    ≡ option_and_then (told_on extent (request_of command lines) (requests 0 more)) (outcome_of extent old (request_of command lines) stored)
-unfolding dialogue_future answers told_on
+    ≡ option_and_then (output_after extent (request_of command lines) (requests 0 more)) (outcome_of extent old (request_of command lines) stored)
+unfolding dialogue_future answers output_after
 awaited_whole old command lines more extent stored whole =
     let none : line_count command - length lines ≡ 0 = omega arith in
     ap (λ k. answers extent old (request_of command (lines ++ more) ∷ requests k more) stored) none
     ∙ ap (λ r. answers extent old (r ∷ requests 0 more) stored) (request_of-append command lines more whole)
 
-pub behind_nothing : (rest : Option RunOutput) → with_text_before [] rest ≡ rest
-behind_nothing None = refl
-behind_nothing (Some t) = refl
-
 -- a command with all its lines is carried out
 pub says_whole : (old new : DialogueView) (command : Command) (lines : Text) (now : List StoreAnswer) (reply : Reply)
     → length lines ≡ line_count command → Responds old new (request_of command lines) now reply
     → Says (future_change (dialogue_future old (Some (record { command = command; lines = lines }))) (dialogue_future new None) new.directory) now reply
-unfolding dialogue_future told_on
+unfolding dialogue_future output_after
 says_whole old new command lines now Nothing whole h = absurd h
 says_whole old new command lines now (Answer text) whole h =
     λ extent more later. awaited_whole old command lines more extent (now ++ later) whole
-    ∙ ap (option_and_then (told_on extent (request_of command lines) (requests 0 more))) (h.0 extent later)
+    ∙ ap (option_and_then (output_after extent (request_of command lines) (requests 0 more))) (h.0 extent later)
     ∙ ap (λ b. with_text_before text.items (cond b (answers extent new (requests 0 more) later) (nothing_more new.directory later))) h.1
 says_whole old new command lines now End whole h =
     λ extent more later. awaited_whole old command lines more extent (now ++ later) whole
-    ∙ ap (option_and_then (told_on extent (request_of command lines) (requests 0 more))) (h.0 extent later)
+    ∙ ap (option_and_then (output_after extent (request_of command lines) (requests 0 more))) (h.0 extent later)
     ∙ ap (λ b. with_text_before [] (cond b (answers extent new (requests 0 more) later) (nothing_more new.directory later))) h.1
-    ∙ behind_nothing (nothing_more new.directory later)
+    ∙ no_text_before (nothing_more new.directory later)
 
 -- a line that is a command begins it
 pub awaited_command : (h : DialogueView) (line : List ℕ) (command : Command) (extent : Extent) (more : Text) (stored : List StoreAnswer) → command ≡ command_of line
@@ -237,9 +238,9 @@ awaited_line h command lines line extent more stored few =
 pub replies : (before mid after : Future (List ℕ)) (directory : Directory) (line : List ℕ) (now : List StoreAnswer) (reply : Reply)
     → ((extent : Extent) (more : List (List ℕ)) (stored : List StoreAnswer) → before extent (line ∷ more) stored ≡ mid extent more stored) → Says (future_change mid after directory) now reply
     → Replies (future_change before after directory) line now reply
-replies before mid after directory line now Nothing step says = λ extent more later. step extent more (now ++ later) ∙ says extent more later ∙ sym (behind_nothing (after extent more later))
+replies before mid after directory line now Nothing step says = λ extent more later. step extent more (now ++ later) ∙ says extent more later ∙ sym (no_text_before (after extent more later))
 replies before mid after directory line now (Answer text) step says = λ extent more later. step extent more (now ++ later) ∙ says extent more later
-replies before mid after directory line now End step says = λ extent more later. step extent more (now ++ later) ∙ says extent more later ∙ sym (behind_nothing (nothing_more directory later))
+replies before mid after directory line now End step says = λ extent more later. step extent more (now ++ later) ∙ says extent more later ∙ sym (no_text_before (nothing_more directory later))
 
 -- the last words, where lines are missing and where not
 pub last_cut : (h : DialogueView) (begun : BegunCommand) → request_of begun.command begun.lines ≡ CutOff → dialogue_future h (Some begun) Whole [] [] ≡ Some (run_output truncated_line h.directory)
@@ -270,30 +271,30 @@ pub stops_build : (h : DialogueView) (command : Command) (lines : Text) (old new
 unfolding request_of outcome_of
 stops_build h command lines old new is stops = subst (λ c. StopsBy h.directory (outcome_of Stopped h (request_of c lines)) old new) (sym is) stops
 
-nothing_behind : (h : DialogueView) (b : Bool) → cond b (answers Stopped h (requests 0 []) []) (nothing_more h.directory []) ≡ Some (run_output [] h.directory)
+nothing_after : (h : DialogueView) (b : Bool) → cond b (answers Stopped h (requests 0 []) []) (nothing_more h.directory []) ≡ Some (run_output [] h.directory)
 unfolding answers requests
-nothing_behind h true = refl
-nothing_behind h false = refl
+nothing_after h true = refl
+nothing_after h false = refl
 
 -- a command with all its lines that stops
 pub stops_whole : (h : DialogueView) (command : Command) (lines : Text) (old new : StoreSeen) → length lines ≡ line_count command
     → StopsBy h.directory (outcome_of Stopped h (request_of command lines)) old new
     → CarriesOut h.directory (dialogue_future h (Some (record { command = command; lines = lines })) Stopped []) old new
-unfolding told_on
+unfolding output_after
 stops_whole h command lines old new whole (stored, a, is, left, follows) =
     let request = request_of command lines in (
       stored,
       run_output (a.text ++ []) a.after.directory,
       awaited_whole h command lines [] Stopped stored whole
-          ∙ ap (option_and_then (told_on Stopped request (requests 0 []))) is
+          ∙ ap (option_and_then (output_after Stopped request (requests 0 []))) is
           ∙ ap (λ l. with_text_before a.text (cond (goes_on request) (answers Stopped a.after (requests 0 []) l) (nothing_more a.after.directory l))) left
-          ∙ ap (with_text_before a.text) (nothing_behind a.after (goes_on request)),
+          ∙ ap (with_text_before a.text) (nothing_after a.after (goes_on request)),
       follows,
     )
 
 -- where nothing has been asked of a store
-pub carried_none : (d : Directory) (told_to : List StoreAnswer → Option RunOutput) (s : StoreSeen) → AsksNothing d told_to → CarriesOut d told_to s s
-carried_none d told_to s (t, is, same) = ([], t, is, follows_same s d t.directory same)
+pub carried_none : (d : Directory) (outputs : List StoreAnswer → Option RunOutput) (s : StoreSeen) → AsksNothing d outputs → CarriesOut d outputs s s
+carried_none d outputs s (t, is, same) = ([], t, is, follows_same s d t.directory same)
 
 -- what is written in the same words is carried out
 pub carried_as : (d : Directory) (f g : List StoreAnswer → Option RunOutput) (old new : StoreSeen)

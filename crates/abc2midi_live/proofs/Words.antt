@@ -15,14 +15,14 @@ use Rattle.std.proofs.lemmas.Slice.Eq.{bytes_eq-Decides}
 use Rattle.abc_lines.specs.declared.limits.TheConstants.{LONGEST_LINE}
 use Rattle.abc2midi_live.specs.Cut.{IsCut}
 use Rattle.abc_text.specs.Number.{number_of}
-use Rattle.abc2midi_live.specs.Command.{numbers_of, number_and_rest, with_numbers, words_of, words_behind, command_named}
+use Rattle.abc2midi_live.specs.Command.{numbers_of, number_and_rest, with_numbers, words_of, words_after, command_named}
 use Rattle.abc2midi_live.specs.Command.{command_of_words, command_of, IsUseless, insertion, replacement, deletion, hex_dump}
 use Rattle.abc2midi_live.specs.Command.{without_numbers}
 use Rattle.abc2midi_live.specs.declared.command.Command.TheVariants.{Faults, Titles, Build, Quit, Unknown}
 
 -- the words after a cut
-pub words_of-cut : (text front : List ℕ) (rest : Option (Bor (List ℕ))) → IsCut 32 text front (option_map (λ r. r.now) rest) → words_of text ≡ front ∷ words_behind rest
-unfolding words_of words_behind
+pub words_of-cut : (text front : List ℕ) (rest : Option (Bor (List ℕ))) → IsCut 32 text front (option_map (λ r. r.now) rest) → words_of text ≡ front ∷ words_after rest
+unfolding words_of words_after
 words_of-cut text front None c = ap words_of c.joined ∙ slice_split_none (λ b. b == 32) front c.clean
 words_of-cut text front (Some rest) c = ap words_of c.joined ∙ slice_split_at (λ b. b == 32) front 32 rest.now c.clean refl
 
@@ -36,8 +36,8 @@ unfolding command_of
 command_of-long line h = grind (arith, nat_tests)
 
 -- the numbers so far, and those that the words after them spell
-pub numbers_behind : List ℕ → List (List ℕ) → Option (List ℕ)
-numbers_behind numbers words = option_map (λ more. numbers ++ more) (numbers_of words)
+pub numbers_after : List ℕ → List (List ℕ) → Option (List ℕ)
+numbers_after numbers words = option_map (λ more. numbers ++ more) (numbers_of words)
 
 front : (words : List (List ℕ)) (word : List ℕ) (rest : List (List ℕ)) (n : Option ℕ) → words ≡ word ∷ rest → n ≡ number_of word → numbers_of words ≡ number_and_rest n (numbers_of rest)
 unfolding numbers_of
@@ -51,39 +51,39 @@ moved numbers n None = refl
 moved numbers n (Some more) = ap Some (sym (append_assoc numbers (n ∷ []) more))
 
 -- at first there are none
-pub numbers_behind-first : (words : List (List ℕ)) → numbers_behind [] words ≡ numbers_of words
-unfolding numbers_behind
-numbers_behind-first words = go (numbers_of words) where
+pub numbers_after-first : (words : List (List ℕ)) → numbers_after [] words ≡ numbers_of words
+unfolding numbers_after
+numbers_after-first words = go (numbers_of words) where
   go : (o : Option (List ℕ)) → option_map (λ more. [] ++ more) o ≡ o
   go None = refl
   go (Some more) = refl
 
 -- a word that spells a number
-pub numbers_behind-more : (numbers : List ℕ) (words : List (List ℕ)) (word : List ℕ) (rest : List (List ℕ)) (n : ℕ)
-    → words ≡ word ∷ rest → Some n ≡ number_of word → numbers_behind (numbers ++ n ∷ []) rest ≡ numbers_behind numbers words
-unfolding numbers_behind
-numbers_behind-more numbers words word rest n e f = sym (ap (option_map (λ more. numbers ++ more)) (front words word rest (Some n) e f) ∙ moved numbers n (numbers_of rest))
+pub numbers_after-more : (numbers : List ℕ) (words : List (List ℕ)) (word : List ℕ) (rest : List (List ℕ)) (n : ℕ)
+    → words ≡ word ∷ rest → Some n ≡ number_of word → numbers_after (numbers ++ n ∷ []) rest ≡ numbers_after numbers words
+unfolding numbers_after
+numbers_after-more numbers words word rest n e f = sym (ap (option_map (λ more. numbers ++ more)) (front words word rest (Some n) e f) ∙ moved numbers n (numbers_of rest))
 
 -- a word that spells none
-pub numbers_behind-other : (numbers : List ℕ) (words : List (List ℕ)) (word : List ℕ) (rest : List (List ℕ)) → words ≡ word ∷ rest → None ≡ number_of word → IsUseless (numbers_behind numbers words)
-unfolding numbers_behind
-numbers_behind-other numbers words word rest e f = subst IsUseless (sym (ap (option_map (λ more. numbers ++ more)) (front words word rest None e f))) tt
+pub numbers_after-other : (numbers : List ℕ) (words : List (List ℕ)) (word : List ℕ) (rest : List (List ℕ)) → words ≡ word ∷ rest → None ≡ number_of word → IsUseless (numbers_after numbers words)
+unfolding numbers_after
+numbers_after-other numbers words word rest e f = subst IsUseless (sym (ap (option_map (λ more. numbers ++ more)) (front words word rest None e f))) tt
 
 longer : (numbers : List ℕ) (n : ℕ) (more : Option (List ℕ)) → 3 ≤ length numbers → IsUseless (option_map (λ more. numbers ++ more) (number_and_rest (Some n) more))
 longer numbers n None full = tt
 longer numbers n (Some more) full = let e = length-append numbers (n ∷ more) in omega (arith, e)
 
 -- a fourth number
-pub numbers_behind-full : (numbers : List ℕ) (words : List (List ℕ)) (word : List ℕ) (rest : List (List ℕ)) (n : ℕ)
-    → words ≡ word ∷ rest → Some n ≡ number_of word → 3 ≤ length numbers → IsUseless (numbers_behind numbers words)
-unfolding numbers_behind
-numbers_behind-full numbers words word rest n e f full = subst IsUseless
+pub numbers_after-full : (numbers : List ℕ) (words : List (List ℕ)) (word : List ℕ) (rest : List (List ℕ)) (n : ℕ)
+    → words ≡ word ∷ rest → Some n ≡ number_of word → 3 ≤ length numbers → IsUseless (numbers_after numbers words)
+unfolding numbers_after
+numbers_after-full numbers words word rest n e f full = subst IsUseless
     (sym (ap (option_map (λ more. numbers ++ more)) (front words word rest (Some n) e f))) (longer numbers n (numbers_of rest) full)
 
 -- no word is left
-pub numbers_behind-none : (numbers : List ℕ) (words : List (List ℕ)) → words ≡ [] → numbers_behind numbers words ≡ Some numbers
-unfolding numbers_behind numbers_of
-numbers_behind-none numbers words e = ap (λ w. option_map (λ more. numbers ++ more) (numbers_of w)) e ∙ ap Some (append-nil numbers)
+pub numbers_after-none : (numbers : List ℕ) (words : List (List ℕ)) → words ≡ [] → numbers_after numbers words ≡ Some numbers
+unfolding numbers_after numbers_of
+numbers_after-none numbers words e = ap (λ w. option_map (λ more. numbers ++ more) (numbers_of w)) e ∙ ap Some (append-nil numbers)
 
 -- a literal is text, so bytes that are no text are none
 other_name : (name literal : List ℕ) → (IsUtf8 name → ⊥) → IsUtf8 literal → bytes_eq name literal ≡ false

@@ -48,14 +48,14 @@ answer_line Done number bytes = stored_line number bytes
 answer_line Fault number bytes = failed_line number
 
 -- what is known of it then
-abbrev pub entry_behind : StoreAnswer → Option (List ℕ) → Option Stored
-entry_behind Done bytes = stored_as bytes
-entry_behind Fault bytes = Some Unknown
+abbrev pub entry_after : StoreAnswer → Option (List ℕ) → Option Stored
+entry_after Done bytes = stored_as bytes
+entry_after Fault bytes = Some Unknown
 
 -- A store gave one answer to the file of a number, and what the directory is known to hold is then what that leaves.
 abbrev pub StoresOne : StoreSeen → StoreSeen → StoreAnswer → ℕ → Option (List ℕ) → Type 0
 StoresOne old new answer number bytes =
-    (directory : Directory) → Follows old new (answer ∷ []) directory (with_entry directory number (entry_behind answer bytes))
+    (directory : Directory) → Follows old new (answer ∷ []) directory (with_entry directory number (entry_after answer bytes))
 
 -- A store was not called, or it gave one answer to the file of a number.
 abbrev pub StoresOneAtMost : StoreSeen → StoreSeen → ℕ → Option (List ℕ) → Type 0

@@ -84,9 +84,9 @@ unfoldable pub words_of : List ℕ → List (List ℕ)
 words_of line = slice_split (λ b. b == space) line
 
 -- the words after a space, if there is one
-unfoldable pub words_behind : Option (Bor (List ℕ)) → List (List ℕ)
-words_behind None = []
-words_behind (Some rest) = words_of rest.now
+unfoldable pub words_after : Option (Bor (List ℕ)) → List (List ℕ)
+words_after None = []
+words_after (Some rest) = words_of rest.now
 
 -- The command of a line: one carriage return at its end is dropped, and one that is longer than a line of a text is
 -- none.

@@ -127,7 +127,7 @@ pub data WriteFailure (before : Directory) (answered : List ℕ → List StoreAn
     (old new : RunEnds) : Type 0 where
   -- those that are wholly within a front of what was read
   Within :
-      (front : List ℕ) → (behind : List ℕ) → Consumes old.input new.input (front ++ behind)
+      (front : List ℕ) → (back : List ℕ) → Consumes old.input new.input (front ++ back)
       → CarriesOut before (answered front) old.out.store new.out.store → WriteFailure before answered old new
   -- those of the whole input, whose end ends its last line as a line feed does
   AtTheEnd :
@@ -139,7 +139,7 @@ pub data WriteFailure (before : Directory) (answered : List ℕ → List StoreAn
 pub data MemoryFailure (before : Directory) (answered : Future ℕ) (old new : RunEnds) : Type 0 where
   -- those before one that ends within what was read, or that had not ended yet
   InHand :
-      (front next behind : List ℕ) → Consumes old.input new.input (front ++ (next ++ behind)) → EndsOneAtMost next
+      (front next back : List ℕ) → Consumes old.input new.input (front ++ (next ++ back)) → EndsOneAtMost next
       → TellsFirst before (answered SoFar front) (answered Stopped (front ++ next)) old.out new.out
       → MemoryFailure before answered old new
   -- those before the last, which the end of the input ends as a line feed does
@@ -245,3 +245,27 @@ Reads input old new (Ok x) = new.failures ≡ old.failures
 Reads input old new (Err Read) = ReadCause input old new
 Reads input old new (Err Write) = new.failures ≡ old.failures
 Reads input old new (Err Memory) = new.failures ≡ old.failures
+
+-- What is seen of a run's reader, writer and store: its ends, what the reader counts, and how often the writer failed.
+pub record RunView : Type 0 where
+  pub ends : RunEnds
+  pub reads : ReadCounts
+  pub writes : ℕ
+
+abbrev pub run_view_of : {R W S : Type 0} → (R → Option (List ℕ)) → (R → ℕ) → (R → ℕ) → (W → Option (List ℕ)) → (W → ℕ)
+    → (S → StoreSeen) → R → W → S → RunView
+run_view_of remaining failures calls contents faults seen reader writer store = record {
+  ends = run_ends_of remaining contents seen reader writer store;
+  reads = read_counts (failures reader) (calls reader);
+  writes = faults writer;
+}
+
+-- What a run leaves.
+pub record Runs {T : Type 0} (book : Option (List ℕ)) (old new : RunView) (result : Result T RunFault) : Type 0 where
+  -- What is written is the transcript of the book, of the whole input and of the store's answers; the store then holds
+  -- what the transcript says. Or what a fault leaves of these.
+  pub transcript : Transcribes book old.ends new.ends result
+  -- what the counts of the reader and the writer say
+  pub calls : (made : ℕ) × (made ≤ MOST_READS) × (new.reads.calls ≡ raised old.reads.calls made)
+  pub reads : Reads old.ends.input old.reads new.reads result
+  pub writes : new.writes ≡ raised old.writes (write_faults result)

@@ -86,10 +86,10 @@ request_unasked h CutOff = (request_outcome [] h [], refl, refl, refl)
 request_unasked h Ends = (request_outcome [] h [], refl, refl, refl)
 
 -- what is written after an answer, if nothing is asked for after it
-behind_unasked : (text : List ℕ) (d : Directory) (b : Bool) (rest : List StoreAnswer → Option RunOutput) → AsksNothing d rest
+unasked_after : (text : List ℕ) (d : Directory) (b : Bool) (rest : List StoreAnswer → Option RunOutput) → AsksNothing d rest
     → (t : RunOutput) × (with_text_before text (cond b (rest []) (nothing_more d [])) ≡ Some t) × (t.directory ≡ d)
-behind_unasked text d true rest (t, is, same) = (run_output (text ++ t.text) t.directory, ap (with_text_before text) is, same)
-behind_unasked text d false rest h = (run_output (text ++ []) d, refl, refl)
+unasked_after text d true rest (t, is, same) = (run_output (text ++ t.text) t.directory, ap (with_text_before text) is, same)
+unasked_after text d false rest h = (run_output (text ++ []) d, refl, refl)
 
 -- the same of all the requests that come
 pub answers_unasked : (h : DialogueView) (requests : List Request) → AsksNothing h.directory (answers Stopped h requests)
@@ -98,7 +98,7 @@ answers_unasked h [] = (run_output [] h.directory, refl, refl)
 answers_unasked h (request ∷ rest) =
     let one : AsksForNothing h (outcome_of Stopped h request []) = request_unasked h request in
     let a : RequestOutcome = one.0 in
-    let all = behind_unasked a.text a.after.directory (goes_on request) (answers Stopped a.after rest)
+    let all = unasked_after a.text a.after.directory (goes_on request) (answers Stopped a.after rest)
     (answers_unasked a.after rest) in (
       all.0,
       ap (option_and_then (λ b. with_text_before b.text (cond (goes_on request) (answers Stopped b.after rest b.left)

@@ -49,12 +49,12 @@ pub fn fault_of_book(book: &[u8]) -> Option<EditError>
     let mut count = 0;
     'lines: loop {
         match cut(rest, b'\n') {
-            (line, Some(behind)) => {
+            (line, Some(after)) => {
                 if line.len() > LONGEST_LINE {
                     return Some(EditError::BadLine);
                 }
                 count += 1;
-                rest = behind;
+                rest = after;
             }
             (line, None) => return fault_with_last_line(count, line),
         }

@@ -44,9 +44,9 @@ pub fn book_lines(alloc: Global, book: &[u8]) -> Result<Vec<Vec<u8>>, AllocError
     let mut rest = without_mark(book);
     'lines: loop {
         match cut(rest, b'\n') {
-            (line, Some(behind)) => {
+            (line, Some(after)) => {
                 lines.push(Vec::from_slice(alloc, line)?)?;
-                rest = behind;
+                rest = after;
             }
             (line, None) => return lines_with_last(alloc, lines, line),
         }

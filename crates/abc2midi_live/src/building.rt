@@ -4,7 +4,7 @@ ghost use Rattle.std.specs.Prelude.{◌≡◌, string_bytes, ◌<◌, ◌^◌, �
 ghost use Rattle.std.specs.Prelude.{option_copied};
 ghost use Rattle.abc_publish.specs.Publisher.{without_job, maps_of, with_entry};
 ghost use Rattle.abc_publish.specs.declared.slot.Stored.TheVariants.{Unknown};
-ghost use Rattle.abc2midi_live.specs.Building.{answer_line, answer_of, entry_behind, stage_of, BuildsBy, BuildStops, Extends};
+ghost use Rattle.abc2midi_live.specs.Building.{answer_line, answer_of, entry_after, stage_of, BuildsBy, BuildStops, Extends};
 ghost use Rattle.abc2midi_live.specs.Building.{IsIdle, StopsAtOnce, StoresBy, StoresOne, StoresOneAtMost};
 ghost use Rattle.abc2midi_live.specs.Storing.{file_name, Follows};
 
@@ -74,7 +74,7 @@ fn carry_out<S: Store>(
     requires { (maps_of publisher.old).jobs job.number ≡ Some job.bytes }
     ensures text { IfOk result (λ stored. text.new.items ≡ text.old.items ++ answer_line (answer_of stored) job.number job.bytes) }
     ensures publisher { IfOk result (λ stored. maps_of publisher.new
-        ≡ without_job (maps_of publisher.old) job.number (entry_behind (answer_of stored) job.bytes)) }
+        ≡ without_job (maps_of publisher.old) job.number (entry_after (answer_of stored) job.bytes)) }
     ensures unknown { OnErr result (maps_of publisher.new ≡ without_job (maps_of publisher.old) job.number (Some Unknown)) }
     ensures store { IfOk result (λ stored. Follows (S.seen store.old) (S.seen store.new)
         (answer_of stored ∷ []) (maps_of publisher.old).directory (maps_of publisher.new).directory) }

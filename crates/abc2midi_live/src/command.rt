@@ -3,7 +3,7 @@
 ghost use Rattle.std.specs.Prelude.{◌≡◌, ◌≤◌, take, Some, MatchOption, IfSome};
 ghost use Rattle.abc_text.specs.Number.{number_of};
 ghost use Rattle.abc2midi_live.specs.Command.{insertion, replacement, deletion, hex_dump, without_numbers, within_line_limit};
-ghost use Rattle.abc2midi_live.specs.Command.{command_named, command_of, command_of_words, numbers_of, words_behind, IsUseless};
+ghost use Rattle.abc2midi_live.specs.Command.{command_named, command_of, command_of_words, numbers_of, words_after, IsUseless};
 ghost use Rattle.abc2midi_live.specs.Command.{words_of, line_count};
 
 use crate::cut::cut;
@@ -55,22 +55,22 @@ impl Numbers {
 
 /// The numbers that words spell, if each of them spells one and there are at most three.
 fn numbers_of(words: Option<&[u8]>) -> Option<Numbers>
-    ensures numbers { MatchOption result (IsUseless (numbers_of (words_behind words.entry)))
-        (λ n. numbers_of (words_behind words.entry) ≡ Some (take n.count n.values)) }
+    ensures numbers { MatchOption result (IsUseless (numbers_of (words_after words.entry)))
+        (λ n. numbers_of (words_after words.entry) ≡ Some (take n.count n.values)) }
     ensures few { IfSome result (λ n. n.count ≤ 3) }
 {
     let mut values = [0; MOST_NUMBERS];
     let mut count = 0;
     let mut rest = words;
     while let Some(text) = rest {
-        let (word, behind) = cut(text, b' ');
+        let (word, after) = cut(text, b' ');
         let number = number_of(word)?;
         if count == MOST_NUMBERS {
             return None;
         }
         values[count] = number;
         count += 1;
-        rest = behind;
+        rest = after;
     }
     Some(Numbers { values, count })
 }

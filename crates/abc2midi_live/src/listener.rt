@@ -150,11 +150,11 @@ impl<M: Machine> Listener<M> {
         let mut rest = piece;
         'lines: loop {
             match cut(rest, b'\n') {
-                (line, Some(behind)) => {
+                (line, Some(after)) => {
                     if !self.end_line(writer, line, store, work)? {
                         return Ok(false);
                     }
-                    rest = behind;
+                    rest = after;
                 }
                 (line, None) => {
                     self.keep(line)?;

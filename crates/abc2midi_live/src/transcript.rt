@@ -1,7 +1,7 @@
 //! A run of commands: read, carried out, answered.
 
-ghost use Rattle.std.specs.Prelude.{◌≡◌, ◌≤◌, ℕ, IfOk, option_copied};
-ghost use Rattle.abc2midi_live.specs.Outcome.{write_faults, run_ends_of, read_counts, Reads, Transcribes};
+ghost use Rattle.std.specs.Prelude.{◌≡◌, IfOk, option_copied};
+ghost use Rattle.abc2midi_live.specs.Outcome.{write_faults, run_view_of, Runs};
 ghost use Rattle.abc_fold.specs.Work.{raised};
 ghost use Rattle.abc_publish.specs.Publisher.{maps_of};
 ghost use Rattle.abc2midi_live.specs.DialogueState.{OpensOrFails};
@@ -9,7 +9,7 @@ ghost use Rattle.abc2midi_live.specs.Transcript.{no_directory};
 
 use crate::dialogue::Dialogue;
 use crate::fault::RunFault;
-use crate::reading::{MOST_READS, listen};
+use crate::reading::listen;
 use crate::streams::{Sink, Source, Store};
 use abc_fold::Work;
 use std::alloc::Global;
@@ -49,12 +49,8 @@ fn dialogue_after_run<R: Source, W: Sink, S: Store>(
     store: &mut S,
     work: &mut Work,
 ) -> Result<Dialogue, RunFault>
-    ensures transcript { let e = run_ends_of R.remaining W.contents S.seen in
-        Transcribes (option_copied book.entry) (e reader.old writer.old store.old) (e reader.new writer.new store.new) result }
-    ensures calls { (made : ℕ) × (made ≤ MOST_READS) × (R.calls reader.new ≡ raised (R.calls reader.old) made) }
-    ensures reads { Reads (R.remaining reader.old) (read_counts (R.failures reader.old) (R.calls reader.old))
-        (read_counts (R.failures reader.new) (R.calls reader.new)) result }
-    ensures writes { W.failures writer.new ≡ raised (W.failures writer.old) (write_faults result) }
+    ensures value { let view = run_view_of R.remaining R.failures R.calls W.contents W.failures S.seen in
+        Runs (option_copied book.entry) (view reader.old writer.old store.old) (view reader.new writer.new store.new) result }
 {
     let dialogue = open_dialogue(alloc, book, writer, work)?;
     listen(alloc, dialogue, reader, writer, store, work)
@@ -74,17 +70,8 @@ pub fn run<R: Source, W: Sink, S: Store>(
     store: &mut S,
     work: &mut Work,
 ) -> Result<(), RunFault>
-
-    // What is written is the transcript of the book, of the whole input and of the store's answers; the store then
-    // holds what the transcript says. Or what a fault leaves of these.
-    ensures transcript { let e = run_ends_of R.remaining W.contents S.seen in
-        Transcribes (option_copied book.entry) (e reader.old writer.old store.old) (e reader.new writer.new store.new) result }
-
-    // What the counts of the reader and the writer say.
-    ensures calls { (made : ℕ) × (made ≤ MOST_READS) × (R.calls reader.new ≡ raised (R.calls reader.old) made) }
-    ensures reads { Reads (R.remaining reader.old) (read_counts (R.failures reader.old) (R.calls reader.old))
-        (read_counts (R.failures reader.new) (R.calls reader.new)) result }
-    ensures writes { W.failures writer.new ≡ raised (W.failures writer.old) (write_faults result) }
+    ensures value { let view = run_view_of R.remaining R.failures R.calls W.contents W.failures S.seen in
+        Runs (option_copied book.entry) (view reader.old writer.old store.old) (view reader.new writer.new store.new) result }
 {
     let _dialogue = dialogue_after_run(alloc, book, reader, writer, store, work)?;
     Ok(())
@@ -100,14 +87,8 @@ pub fn run_before_exit<R: Source, W: Sink, S: Store>(
     store: &mut S,
     work: &mut Work,
 ) -> Result<(), RunFault>
-
-    // The clauses of `run`.
-    ensures transcript { let e = run_ends_of R.remaining W.contents S.seen in
-        Transcribes (option_copied book.entry) (e reader.old writer.old store.old) (e reader.new writer.new store.new) result }
-    ensures calls { (made : ℕ) × (made ≤ MOST_READS) × (R.calls reader.new ≡ raised (R.calls reader.old) made) }
-    ensures reads { Reads (R.remaining reader.old) (read_counts (R.failures reader.old) (R.calls reader.old))
-        (read_counts (R.failures reader.new) (R.calls reader.new)) result }
-    ensures writes { W.failures writer.new ≡ raised (W.failures writer.old) (write_faults result) }
+    ensures value { let view = run_view_of R.remaining R.failures R.calls W.contents W.failures S.seen in
+        Runs (option_copied book.entry) (view reader.old writer.old store.old) (view reader.new writer.new store.new) result }
 {
     let dialogue = dialogue_after_run(alloc, book, reader, writer, store, work)?;
     mem::forget(dialogue);

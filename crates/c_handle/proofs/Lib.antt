@@ -1,1 +1,6 @@
+pub mod FaultNames
+pub mod LinesIn
 pub mod Owned
+pub mod Puts
+pub mod Refusals
+pub mod Sessions

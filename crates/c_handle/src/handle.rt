@@ -1,4 +1,4 @@
-//! The handle, which owns a box behind a pointer that C can hold.
+//! The handle, which owns a box whose pointer C can hold.
 
 ghost use Rattle.std.specs.Prelude.{◌≡◌, IsSome, None, Option, Some};
 ghost use Rattle.c_handle.specs.Handle.{handle_owns, held_coded};

@@ -1,53 +1,14 @@
 //! Calls that edit the text of a session.
 
-ghost use Rattle.std.specs.Prelude.{◌≡◌};
-ghost use Rattle.abc_lines.specs.Edits.{deletion, insertion, replacement};
-ghost use Rattle.abc_live.specs.Counting.{MayCost, cost_of};
-ghost use Rattle.abc_live.specs.Edit.{splice_of};
-ghost use Rattle.abc_tune.specs.Abc.{rules_of_abc, steps_of_abc};
+ghost use Rattle.c_handle.specs.Edits.{deletion, insertion, replacement};
+ghost use Rattle.c_handle.specs.Lines.{lines_in};
+ghost use Rattle.c_handle.specs.Sessions.{CostsSlot, EditsSlot};
 ghost use Rattle.c_handle.specs.Slot.{session_in};
-ghost use Rattle.c_library.specs.Lines.{lines_in};
-ghost use Rattle.c_library.specs.Sessions.{CostsSlot, Edits, EditsSlot};
 
-use crate::codes::{CODE_MISUSED, CODE_OK, code_of};
-use crate::lines::lines_of;
-use crate::refusal::{refuse_insertion, refuse_replacement};
-use abc_fold::Work;
-use abc_live::Edit;
-use c_handle::{OpenSession, SessionSlot};
+use c_handle::{SessionSlot, Work, delete_lines, insert_lines, replace_lines};
 use std::alloc::Global;
 
-/// Edits the text of a session, and keeps the report.
-fn edit_session(held: &mut OpenSession, edit: &Edit, work: &mut Work) -> u32
-    ensures value { Edits (splice_of edit.now) held.old result held.new }
-    ensures counted { MayCost (cost_of steps_of_abc rules_of_abc held.old.session.text (splice_of edit.now)) work.old work.new }
-{
-    match held.session.apply(edit, work) {
-        Ok(report) => {
-            held.report = report;
-            CODE_OK
-        }
-        Err(error) => code_of(error),
-    }
-}
-
-/// Edits the text of the session in a slot.
-fn edit_slot(alloc: Global, slot: &mut SessionSlot, edit: &Edit, work: &mut Work) -> u32
-    ensures value { EditsSlot (splice_of edit.now) (session_in slot.old) result (session_in slot.new) }
-    ensures counted { CostsSlot (splice_of edit.now) (session_in slot.old) work.old work.new }
-{
-    match slot.take(alloc) {
-        Some(mut session) => {
-            let code = edit_session(&mut session, edit, work);
-            slot.fill(session);
-            code
-        }
-        None => CODE_MISUSED,
-    }
-}
-
-/// Puts the lines of a text before a line.
-#[tactic(auto, using(crate::proofs::Sessions::unworked_slot))]
+/// Inserts the lines of a text before a line.
 #[unsafe(no_mangle)]
 pub extern "C" fn abc_live_insert(
     alloc: Global,
@@ -59,14 +20,10 @@ pub extern "C" fn abc_live_insert(
     ensures value { EditsSlot (insertion at (lines_in text.now)) (session_in slot.old) result (session_in slot.new) }
     ensures counted { CostsSlot (insertion at (lines_in text.now)) (session_in slot.old) work.old work.new }
 {
-    match lines_of(alloc, text) {
-        Ok(lines) => edit_slot(alloc, slot, &Edit::Insert { at, lines }, work),
-        Err(_) => refuse_insertion(alloc, slot, at, text),
-    }
+    insert_lines(alloc, slot, at, text, work)
 }
 
 /// Replaces the lines from one to another by the lines of a text.
-#[tactic(auto, using(crate::proofs::Sessions::unworked_slot))]
 #[unsafe(no_mangle)]
 pub extern "C" fn abc_live_replace(
     alloc: Global,
@@ -79,13 +36,10 @@ pub extern "C" fn abc_live_replace(
     ensures value { EditsSlot (replacement from to (lines_in text.now)) (session_in slot.old) result (session_in slot.new) }
     ensures counted { CostsSlot (replacement from to (lines_in text.now)) (session_in slot.old) work.old work.new }
 {
-    match lines_of(alloc, text) {
-        Ok(lines) => edit_slot(alloc, slot, &Edit::Replace { from, to, lines }, work),
-        Err(_) => refuse_replacement(alloc, slot, from, to, text),
-    }
+    replace_lines(alloc, slot, from, to, text, work)
 }
 
-/// Takes out the lines from one to another.
+/// Deletes the lines from one to another.
 #[unsafe(no_mangle)]
 pub extern "C" fn abc_live_delete(
     alloc: Global,
@@ -97,5 +51,5 @@ pub extern "C" fn abc_live_delete(
     ensures value { EditsSlot (deletion from to) (session_in slot.old) result (session_in slot.new) }
     ensures counted { CostsSlot (deletion from to) (session_in slot.old) work.old work.new }
 {
-    edit_slot(alloc, slot, &Edit::Delete { from, to }, work)
+    delete_lines(alloc, slot, from, to, work)
 }

@@ -22,24 +22,24 @@ lines-init c =
 pub returns-then-line-gt-LONGEST_LINE : goal.returns-then-line-gt-LONGEST_LINE
 returns-then-line-gt-LONGEST_LINE c =
     let line = c.cut.result.0.now in
-    let behind = c.in_default-Some.behind in
-    let more = lines_in-more c.lines.rest.now line behind.now c.cut.ensures.clean (cut_some c.lines.rest.now line c.cut.result.1 behind c.cut.ensures c.in_default-Some.is-1) in
-    sym (refused_first_long c.lines.count line (lines_in behind.now) (lines_in c.lines.rest.now) more c.if-line-gt-LONGEST_LINE.true) ∙ c.lines.invariant.1
+    let after = c.in_default-Some.after in
+    let more = lines_in-more c.lines.rest.now line after.now c.cut.ensures.clean (cut_some c.lines.rest.now line c.cut.result.1 after c.cut.ensures c.in_default-Some.is-1) in
+    sym (refused_first_long c.lines.count line (lines_in after.now) (lines_in c.lines.rest.now) more c.if-line-gt-LONGEST_LINE.true) ∙ c.lines.invariant.1
 
 pub lines-preserved : goal.lines-preserved
 lines-preserved c =
     let line = c.cut.result.0.now in
-    let behind = c.in_default-Some.behind in
-    let whole = cut_some c.lines.rest.now line c.cut.result.1 behind c.cut.ensures c.in_default-Some.is-1 in
-    let more = lines_in-more c.lines.rest.now line behind.now c.cut.ensures.clean whole in
-    let step = refused_first_short c.lines.count line (lines_in behind.now) (lines_in c.lines.rest.now) more c.cut.ensures.clean c.if-line-gt-LONGEST_LINE.false in
-    let counts = ap length whole ∙ length-append line (10 ∷ behind.now) in
+    let after = c.in_default-Some.after in
+    let whole = cut_some c.lines.rest.now line c.cut.result.1 after c.cut.ensures c.in_default-Some.is-1 in
+    let more = lines_in-more c.lines.rest.now line after.now c.cut.ensures.clean whole in
+    let step = refused_first_short c.lines.count line (lines_in after.now) (lines_in c.lines.rest.now) more c.cut.ensures.clean c.if-line-gt-LONGEST_LINE.false in
+    let counts = ap length whole ∙ length-append line (10 ∷ after.now) in
     let bound = c.lines.invariant.0 in
-    let shorter : c.lines.count + 1 + length behind.now ≤ length c.args.book.now = omega arith in
+    let shorter : c.lines.count + 1 + length after.now ≤ length c.args.book.now = omega arith in
     subst
     (λ (r : Bor (List ℕ)). (c.lines.count + 1 + length r.now ≤ length c.args.book.now)
     × (book_refusal (list_all is_line (lines_in r.now)) (c.lines.count + 1 + length (lines_in r.now)) ≡ result_err (edited [] (insertion 1 (book_lines c.args.book.now)))))
-    (sym c.in_default-Some.behind-is) (shorter, sym step ∙ c.lines.invariant.1)
+    (sym c.in_default-Some.after-is) (shorter, sym step ∙ c.lines.invariant.1)
 
 pub returns-in_default-None : goal.returns-in_default-None
 returns-in_default-None c =

@@ -15,12 +15,12 @@ lines-init c = ap (λ ls. map (λ l. l.items) ls ++ lines_in c.without_mark-rest
 pub lines-preserved : goal.lines-preserved
 lines-preserved c =
     let line = c.cut.result.0.now in
-    let behind = c.in_default-Some.behind in
-    let more = lines_in-more c.lines.rest.now line behind.now c.cut.ensures.clean (cut_some c.lines.rest.now line c.cut.result.1 behind c.cut.ensures c.in_default-Some.is-1) in
+    let after = c.in_default-Some.after in
+    let more = lines_in-more c.lines.rest.now line after.now c.cut.ensures.clean (cut_some c.lines.rest.now line c.cut.result.1 after c.cut.ensures c.in_default-Some.is-1) in
     let pushed = text_of-push c.lines.lines c.push.new.self c.in_ok-from_slice-in_default-Some.field-0
     c.in_ok-push-in_default-Some.ensures.items ∙ ap (λ l. text_of c.lines.lines ++ l ∷ []) c.in_ok-from_slice-in_default-Some.ensures.items in
-    subst (λ (r : Bor (List ℕ)). text_of c.push.new.self ++ lines_in r.now ≡ book_lines c.args.book.now) (sym c.in_default-Some.behind-is)
-    (ap (λ ls. ls ++ lines_in behind.now) pushed ∙ append_assoc (text_of c.lines.lines) (line ∷ []) (lines_in behind.now) ∙ ap (λ ls. text_of c.lines.lines ++ ls) (sym more) ∙ c.lines.invariant)
+    subst (λ (r : Bor (List ℕ)). text_of c.push.new.self ++ lines_in r.now ≡ book_lines c.args.book.now) (sym c.in_default-Some.after-is)
+    (ap (λ ls. ls ++ lines_in after.now) pushed ∙ append_assoc (text_of c.lines.lines) (line ∷ []) (lines_in after.now) ∙ ap (λ ls. text_of c.lines.lines ++ ls) (sym more) ∙ c.lines.invariant)
 
 pub returns-in_default-None : goal.returns-in_default-None
 returns-in_default-None c =

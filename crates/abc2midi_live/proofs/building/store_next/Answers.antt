@@ -1,9 +1,9 @@
 use Rattle.std.proofs.Common.{◌≡◌, ℕ, ◌<◌, ◌^◌, Some, sym, subst}
-use Rattle.abc_publish.specs.Publisher.{IsNext, HasNone, Slots, with_job, maps_of}
+use Rattle.abc_publish.specs.Publisher.{IsNext, HasNone, Slots, maps_of}
 use Rattle.abc_tune_compiler.specs.Files.{file_at}
 use Rattle.abc2midi_live.specs.Book.{files_of}
 use Rattle.abc2midi_live.specs.Building.{stage, IsIdle}
-use Rattle.abc2midi_live.proofs.Pending.{IsBehind, at_none, at_some, next_none, next_done, next_fault, idle_again, under_way}
+use Rattle.abc2midi_live.proofs.Pending.{IsNumberAfter, at_none, at_some, next_none, next_done, next_fault, idle_again, under_way}
 use Rattle.abc2midi_live.proofs.Pending.{onward, stops_uncalled, stops_once}
 use Rattle.abc2midi_live.proofs.Storing.{on_err}
 use Rattle.abc2midi_live.proofs.building.store_next.Goals as goal
@@ -23,29 +23,25 @@ returns-in_default-clause-idle g c =
 
 pub carry_out-requires : goal.carry_out-requires
 carry_out-requires g c =
-    let taken : maps_of c.take_from.new.self ≡ with_job (maps_of c.args.publisher.now) c.in-Some.job.number c.in-Some.job.bytes =
-    at_some c.in_ok-job.field-0 c.in-Some.job _ _ c.in-Some.is c.in_ok-job.ensures.after in
-    under_way (maps_of c.args.publisher.now) (maps_of c.take_from.new.self) c.in-Some.job.number c.in-Some.job.bytes taken
+    under_way (maps_of c.args.publisher.now) (maps_of c.take_from.new.self) c.in-Some.job.number c.in-Some.job.bytes
+    (at_some c.in_ok-job.field-0 c.in-Some.job _ _ c.in-Some.is c.in_ok-job.ensures.after)
 
 pub returns-in_err-carry_out-clause-idle : goal.returns-in_err-carry_out-clause-idle
 returns-in_err-carry_out-clause-idle g c =
-    let taken : maps_of c.take_from.new.self ≡ with_job (maps_of c.args.publisher.now) c.in-Some.job.number c.in-Some.job.bytes =
-    at_some c.in_ok-job.field-0 c.in-Some.job _ _ c.in-Some.is c.in_ok-job.ensures.after in
-    idle_again (maps_of c.args.publisher.now) (maps_of c.take_from.new.self) (maps_of c.carry_out.new.publisher) c.in-Some.job.number c.in-Some.job.bytes c.requires taken c.carry_out.ensures.jobs
+    idle_again (maps_of c.args.publisher.now) (maps_of c.take_from.new.self) (maps_of c.carry_out.new.publisher) c.in-Some.job.number c.in-Some.job.bytes c.requires
+    (at_some c.in_ok-job.field-0 c.in-Some.job _ _ c.in-Some.is c.in_ok-job.ensures.after) c.carry_out.ensures.jobs
 
 pub returns-then-branch-clause-stored : goal.returns-then-branch-clause-stored
 unfolding files_of
 returns-then-branch-clause-stored g c =
     let p : Slots = c.args.publisher.now in
     let job = c.in-Some.job in
-    let taken : maps_of c.take_from.new.self ≡ with_job (maps_of p) job.number job.bytes = at_some c.in_ok-job.field-0 job _ _ c.in-Some.is c.in_ok-job.ensures.after in
-    let least : IsNext (maps_of p) (files_of c.args.session.now.text) c.args.from job.number ×
-    (job.bytes ≡ file_at (files_of c.args.session.now.text) job.number) = at_some c.in_ok-job.field-0 job _ _ c.in-Some.is c.in_ok-job.ensures.job in
     let small : job.number < 2 ^ 32 = subst (λ (k : ℕ). k < 2 ^ 32) c.number-number.ensures c.number-number.type_inv in
-    let behind : IsBehind job.number c.checked_add.result = subst (λ (k : ℕ). IsBehind k c.checked_add.result) c.number-number.ensures c.checked_add.ensures in
+    let after : IsNumberAfter job.number c.checked_add.result = subst (λ (k : ℕ). IsNumberAfter k c.checked_add.result) c.number-number.ensures c.checked_add.ensures in
     next_done c.args.session.now.text p c.take_from.new.self c.carry_out.new.publisher _ _ c.args.from job.number job.bytes
-    c.checked_add.result c.args.text.now.items c.carry_out.new.text.items c.in_ok-carry_out.field-0
-    c.if-branch.true small c.requires least.0 least.1 behind taken c.in_ok-carry_out.ensures.publisher c.in_ok-carry_out.ensures.text c.in_ok-carry_out.ensures.store
+    c.checked_add.result c.args.text.now.items c.carry_out.new.text.items c.in_ok-carry_out.field-0 c.if-branch.true small c.requires
+    (at_some c.in_ok-job.field-0 job _ _ c.in-Some.is c.in_ok-job.ensures.job) after (at_some c.in_ok-job.field-0 job _ _ c.in-Some.is c.in_ok-job.ensures.after)
+    c.in_ok-carry_out.ensures.publisher c.in_ok-carry_out.ensures.text c.in_ok-carry_out.ensures.store
 
 pub returns-then-branch-clause-onward : goal.returns-then-branch-clause-onward
 unfolding files_of
@@ -53,31 +49,27 @@ returns-then-branch-clause-onward g c =
     let job = c.in-Some.job in
     let least : IsNext (maps_of c.args.publisher.now) (files_of c.args.session.now.text) c.args.from job.number ×
     (job.bytes ≡ file_at (files_of c.args.session.now.text) job.number) = at_some c.in_ok-job.field-0 job _ _ c.in-Some.is c.in_ok-job.ensures.job in
-    onward c.args.from job.number c.checked_add.result least.0.inside (subst (λ (k : ℕ). IsBehind k c.checked_add.result) c.number-number.ensures c.checked_add.ensures)
+    onward c.args.from job.number c.checked_add.result least.0.inside (subst (λ (k : ℕ). IsNumberAfter k c.checked_add.result) c.number-number.ensures c.checked_add.ensures)
 
 pub returns-then-branch-clause-idle : goal.returns-then-branch-clause-idle
 returns-then-branch-clause-idle g c =
-    let taken : maps_of c.take_from.new.self ≡ with_job (maps_of c.args.publisher.now) c.in-Some.job.number c.in-Some.job.bytes =
-    at_some c.in_ok-job.field-0 c.in-Some.job _ _ c.in-Some.is c.in_ok-job.ensures.after in
-    idle_again (maps_of c.args.publisher.now) (maps_of c.take_from.new.self) (maps_of c.carry_out.new.publisher) c.in-Some.job.number c.in-Some.job.bytes c.requires taken c.carry_out.ensures.jobs
+    idle_again (maps_of c.args.publisher.now) (maps_of c.take_from.new.self) (maps_of c.carry_out.new.publisher) c.in-Some.job.number c.in-Some.job.bytes c.requires
+    (at_some c.in_ok-job.field-0 c.in-Some.job _ _ c.in-Some.is c.in_ok-job.ensures.after) c.carry_out.ensures.jobs
 
 pub returns-else-branch-clause-stored : goal.returns-else-branch-clause-stored
 unfolding files_of
 returns-else-branch-clause-stored g c =
     let p : Slots = c.args.publisher.now in
     let job = c.in-Some.job in
-    let taken : maps_of c.take_from.new.self ≡ with_job (maps_of p) job.number job.bytes = at_some c.in_ok-job.field-0 job _ _ c.in-Some.is c.in_ok-job.ensures.after in
-    let least : IsNext (maps_of p) (files_of c.args.session.now.text) c.args.from job.number ×
-    (job.bytes ≡ file_at (files_of c.args.session.now.text) job.number) = at_some c.in_ok-job.field-0 job _ _ c.in-Some.is c.in_ok-job.ensures.job in
     let small : job.number < 2 ^ 32 = subst (λ (k : ℕ). k < 2 ^ 32) c.number-number.ensures c.number-number.type_inv in
-    next_fault c.args.session.now.text p c.take_from.new.self c.carry_out.new.publisher _ _ c.args.from job.number job.bytes c.args.text.now.items c.carry_out.new.text.items c.in_ok-carry_out.field-0
-    c.if-branch.false small c.requires least.0 taken c.in_ok-carry_out.ensures.publisher c.in_ok-carry_out.ensures.text c.in_ok-carry_out.ensures.store
+    next_fault c.args.session.now.text p c.take_from.new.self c.carry_out.new.publisher _ _ c.args.from job.number job.bytes c.args.text.now.items
+    c.carry_out.new.text.items c.in_ok-carry_out.field-0 c.if-branch.false small c.requires (at_some c.in_ok-job.field-0 job _ _ c.in-Some.is c.in_ok-job.ensures.job)
+    (at_some c.in_ok-job.field-0 job _ _ c.in-Some.is c.in_ok-job.ensures.after) c.in_ok-carry_out.ensures.publisher c.in_ok-carry_out.ensures.text c.in_ok-carry_out.ensures.store
 
 pub returns-else-branch-clause-idle : goal.returns-else-branch-clause-idle
 returns-else-branch-clause-idle g c =
-    let taken : maps_of c.take_from.new.self ≡ with_job (maps_of c.args.publisher.now) c.in-Some.job.number c.in-Some.job.bytes =
-    at_some c.in_ok-job.field-0 c.in-Some.job _ _ c.in-Some.is c.in_ok-job.ensures.after in
-    idle_again (maps_of c.args.publisher.now) (maps_of c.take_from.new.self) (maps_of c.carry_out.new.publisher) c.in-Some.job.number c.in-Some.job.bytes c.requires taken c.carry_out.ensures.jobs
+    idle_again (maps_of c.args.publisher.now) (maps_of c.take_from.new.self) (maps_of c.carry_out.new.publisher) c.in-Some.job.number c.in-Some.job.bytes c.requires
+    (at_some c.in_ok-job.field-0 c.in-Some.job _ _ c.in-Some.is c.in_ok-job.ensures.after) c.carry_out.ensures.jobs
 
 pub returns-in_err-job-clause-unchanged : goal.returns-in_err-job-clause-unchanged
 returns-in_err-job-clause-unchanged g c =
@@ -87,10 +79,8 @@ returns-in_err-job-clause-unchanged g c =
 pub returns-in_err-carry_out-clause-unchanged : goal.returns-in_err-carry_out-clause-unchanged
 unfolding files_of
 returns-in_err-carry_out-clause-unchanged g c =
-    let p : Slots = c.args.publisher.now in
     let job = c.in-Some.job in
-    let least : IsNext (maps_of p) (files_of c.args.session.now.text) c.args.from job.number ×
-    (job.bytes ≡ file_at (files_of c.args.session.now.text) job.number) = at_some c.in_ok-job.field-0 job _ _ c.in-Some.is c.in_ok-job.ensures.job in
     let small : job.number < 2 ^ 32 = subst (λ (k : ℕ). k < 2 ^ 32) c.number-number.ensures c.number-number.type_inv in
     on_err c.from_residual-in_err-carry_out.result _
-    (stops_once c.args.session.now.text (maps_of p) c.args.from job.number job.bytes _ _ small c.requires least.0 least.1 c.in_err-carry_out.ensures.unchanged)
+    (stops_once c.args.session.now.text (maps_of c.args.publisher.now) c.args.from job.number job.bytes _ _ small c.requires
+    (at_some c.in_ok-job.field-0 job _ _ c.in-Some.is c.in_ok-job.ensures.job) c.in_err-carry_out.ensures.unchanged)

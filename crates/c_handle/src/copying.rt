@@ -1,0 +1,54 @@
+//! Copies into buffers of the caller.
+
+ghost use Rattle.std.specs.Prelude.{◌≡◌, option_copied};
+ghost use Rattle.c_handle.specs.Copies.{copy_answer, lookup_answer};
+
+use crate::codes::{CODE_MISUSED, CODE_NOT_FOUND, CODE_OK, CODE_SHORT_BUFFER};
+
+/// What a call answers that copies items: a code, and how many items there are.
+#[derive(Drop)]
+pub struct CopyAnswer {
+    pub code: u32,
+    pub count: usize,
+}
+
+/// Copies items into a buffer if they fit.
+pub fn copy<T: Copy>(items: &[T], buffer: &mut [T]) -> CopyAnswer
+    ensures value { (result.code, result.count, buffer.new) ≡ copy_answer items.now buffer.old }
+{
+    let count = items.len();
+    if count > buffer.len() {
+        return CopyAnswer {
+            code: CODE_SHORT_BUFFER,
+            count,
+        };
+    }
+    buffer[..count].copy_from_slice(items);
+    CopyAnswer {
+        code: CODE_OK,
+        count,
+    }
+}
+
+/// Copies items if there are such.
+pub fn copy_found<T: Copy>(items: Option<&[T]>, buffer: &mut [T]) -> CopyAnswer
+    ensures value { (result.code, result.count, buffer.new) ≡ lookup_answer (option_copied items.entry) buffer.old }
+{
+    match items {
+        Some(items) => copy(items, buffer),
+        None => CopyAnswer {
+            code: CODE_NOT_FOUND,
+            count: 0,
+        },
+    }
+}
+
+/// Returns the answer of a slot that holds no session.
+pub fn misuse() -> CopyAnswer
+    ensures value { result ≡ record { code = CODE_MISUSED; count = 0 } }
+{
+    CopyAnswer {
+        code: CODE_MISUSED,
+        count: 0,
+    }
+}

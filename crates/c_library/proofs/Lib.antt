@@ -1,5 +1,0 @@
-pub mod FaultNames
-pub mod LinesIn
-pub mod Puts
-pub mod Refusals
-pub mod Sessions
