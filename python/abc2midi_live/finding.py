@@ -37,10 +37,9 @@ def find_program() -> str:
             raise ProgramMissing(f"{program} is missing; install it again, or name a program")
         return str(program)
     if is_checkout():
-        program = TOP / "crates/program/out/program"
-        if not is_built(program, TOP / "crates/program/out/program.digest"):
+        if not is_built(TOP / "crates/program/out/program", TOP / "crates/program/out/program.digest"):
             raise ProgramMissing("there is no build of these sources; run ./build, or name a program")
-        return str(program)
+        return str(TOP / "scripts/launcher")
     found = shutil.which("abc2midi_live")
     if not found:
         raise ProgramMissing("there is no command abc2midi_live on the path; install it, or name a program")

@@ -35,9 +35,10 @@ class Found(setting.Room):
         self.place("python/abc2midi_live")
         digest = self.write("scripts/digest_of_sources", "#!/bin/sh\necho now\n")
         self.write("scripts/version", "#!/bin/sh\necho 1.2.3\n")
-        built = self.write("crates/program/out/program")
+        launcher = self.folder / "scripts/launcher"
+        self.write("crates/program/out/program")
         of = self.write("crates/program/out/program.digest", "now\n")
-        self.assertEqual((finding.find_program(), finding.version()), (str(built), "1.2.3"))
+        self.assertEqual((finding.find_program(), finding.version()), (str(launcher), "1.2.3"))
         of.write_text("before\n")
         with self.assertRaisesRegex(ProgramMissing, "./build"):
             finding.find_program()
