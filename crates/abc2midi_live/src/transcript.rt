@@ -49,8 +49,8 @@ fn dialogue_after_run<R: Source, W: Sink, S: Store>(
     store: &mut S,
     work: &mut Work,
 ) -> Result<Dialogue, RunFault>
-    ensures value { let view = run_view_of R.remaining R.failures R.calls W.contents W.failures S.seen in
-        Runs (option_copied book.entry) (view reader.old writer.old store.old) (view reader.new writer.new store.new) result }
+    ensures value { let v = run_view_of R.remaining R.failures R.calls W.contents W.failures S.seen in
+        Runs (option_copied book.entry) (v reader.old writer.old store.old) (v reader.new writer.new store.new) result }
 {
     let dialogue = open_dialogue(alloc, book, writer, work)?;
     listen(alloc, dialogue, reader, writer, store, work)
@@ -70,8 +70,8 @@ pub fn run<R: Source, W: Sink, S: Store>(
     store: &mut S,
     work: &mut Work,
 ) -> Result<(), RunFault>
-    ensures value { let view = run_view_of R.remaining R.failures R.calls W.contents W.failures S.seen in
-        Runs (option_copied book.entry) (view reader.old writer.old store.old) (view reader.new writer.new store.new) result }
+    ensures value { let v = run_view_of R.remaining R.failures R.calls W.contents W.failures S.seen in
+        Runs (option_copied book.entry) (v reader.old writer.old store.old) (v reader.new writer.new store.new) result }
 {
     let _dialogue = dialogue_after_run(alloc, book, reader, writer, store, work)?;
     Ok(())
@@ -87,8 +87,8 @@ pub fn run_before_exit<R: Source, W: Sink, S: Store>(
     store: &mut S,
     work: &mut Work,
 ) -> Result<(), RunFault>
-    ensures value { let view = run_view_of R.remaining R.failures R.calls W.contents W.failures S.seen in
-        Runs (option_copied book.entry) (view reader.old writer.old store.old) (view reader.new writer.new store.new) result }
+    ensures value { let v = run_view_of R.remaining R.failures R.calls W.contents W.failures S.seen in
+        Runs (option_copied book.entry) (v reader.old writer.old store.old) (v reader.new writer.new store.new) result }
 {
     let dialogue = dialogue_after_run(alloc, book, reader, writer, store, work)?;
     mem::forget(dialogue);

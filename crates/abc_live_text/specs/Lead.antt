@@ -3,13 +3,13 @@ use Rattle.std.specs.Prelude.{◌≡◌, ◌⊎◌, ℕ, ◌+◌, ◌≤◌, Lis
 use Rattle.abc_book.specs.declared.block.Block.{Block}
 use Rattle.abc_fold.specs.Chain.{Chained}
 use Rattle.abc_fold.specs.Steps.{Steps, IsAlike}
-use Rattle.abc_lines.specs.Text.{Splice, Text}
+use Rattle.abc_lines.specs.Text.{Splice, Text, spliced}
 use Rattle.abc_tune_compiler.specs.Book.{blocks_in, header_in}
 use Rattle.abc_tune_compiler.specs.Rules.{Rules}
 use Rattle.abc_live_text.specs.Blocks.{header_among}
 use Rattle.abc_live_text.specs.Chains.{IsHeaderChain, IsHeaderChainOf, state_after_chain, header_place}
 use Rattle.abc_live_text.specs.Origin.{rows_until}
-use Rattle.abc_live_text.specs.NewParts.{IsLead, edited_rows}
+use Rattle.abc_live_text.specs.NewParts.{AreNewParts, IsLead, NewPartsView, edited_rows}
 use Rattle.abc_live_text.specs.Row.{CarriedRow, Row, carried_row, new_row}
 use Rattle.abc_live_text.specs.KeptText.{KeptTextView}
 use Rattle.abc_live_text.specs.declared.stretch.Lead.{Lead}
@@ -73,3 +73,12 @@ pub record IsLeadEdit {C State Cell Items Defaults : Type 0} (rules : Rules Stat
   pub inside : s.at + s.removed ≤ length on.lines.text
   pub is_lead : IsLead on.tunes (length on.lines.text) (s.at + s.removed) lead
   pub rows_are : rows ≡ lead_rows on lead s.at s.removed (map (new_row rules) s.lines)
+
+-- New parts for an edit of the first lines, by its rows: if the file header opens so after it and tunes may go on, they are those
+-- of the text after it. `Made` says of a result what holds of the parts that it has.
+abbrev pub RefoldsLead : {C State Cell Items Defaults : Type 0} → Steps State Cell Items → Rules State Cell Items Defaults
+    → KeptTextView C State Cell Items → Lead → List (CarriedRow Cell) → Option Block → Chained State Cell Items → State
+    → ((NewPartsView State Cell Items → Type 0) → Type 0) → Type 0
+RefoldsLead steps rules on lead rows header first opening Made = (s : Splice) → IsLeadEdit rules on s lead rows
+    → IsHeaderOpeningOf steps rules (spliced on.lines.text s) header first opening → MayGoOn steps rules on lead.behind opening
+    → Made (AreNewParts steps rules on s)

@@ -5,10 +5,9 @@ ghost use Rattle.std.specs.List.{sum_by};
 ghost use Rattle.abc_live_text.specs.Blocks.{header_among, tunes_among};
 ghost use Rattle.abc_live_text.specs.Pieces.{IsCarried, steps_taken};
 ghost use Rattle.abc_live_text.specs.Chains.{header_steps};
-ghost use Rattle.abc_live_text.specs.Lead.{IsHeaderOpening, IsHeaderOpeningOf, IsLeadEdit, MayGoOn, lead_rows, whole_lead};
+ghost use Rattle.abc_live_text.specs.Lead.{IsHeaderOpening, MayGoOn, RefoldsLead, lead_rows, whole_lead};
 ghost use Rattle.abc_live_text.specs.NewParts.{ForSplice, IsLead, AreNewParts, view_of_new_parts};
 ghost use Rattle.abc_live_text.specs.KeptText.{fresh_cells_in};
-ghost use Rattle.abc_lines.specs.Text.{Splice, spliced};
 ghost use Rattle.abc_fold.specs.Work.{IsRaisedUpTo};
 
 use crate::blocks::{blocks_of, header_in, places_of};
@@ -117,10 +116,8 @@ impl<C: Compiler> KeptText<C> {
     ) -> Result<NewParts<C>, AllocError>
         requires { All (IsCarried self.now.chains.items) rows.now }
         ensures new_parts { let c = self.now.compiler in
-            (s : Splice) → IsLeadEdit (C.rules c) self.now s lead rows.now
-            → IsHeaderOpeningOf (C.steps c) (C.rules c) (spliced self.now.lines.text s) header.header header.first header.opening
-            → MayGoOn (C.steps c) (C.rules c) self.now lead.behind header.opening
-            → IfOk result (λ r. AreNewParts (C.steps c) (C.rules c) self.now s (view_of_new_parts r)) }
+            RefoldsLead (C.steps c) (C.rules c) self.now lead rows.now header.header header.first header.opening
+            (λ Holds. IfOk result (λ r. Holds (view_of_new_parts r))) }
         ensures counted { let c = self.now.compiler in
             IsRaisedUpTo (sum_by (steps_taken (C.steps c) header.opening self.now.chains.items rows.now)
             (tunes_among rows.now)) (C.Work.counts work.old) (C.Work.counts work.new) }

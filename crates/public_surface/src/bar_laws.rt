@@ -40,8 +40,8 @@ pub fn cells_are_views()
 
 /// Each token leaves what its element leaves.
 pub fn tokens_are_elements()
-    ensures value { (given : CellResult) (body : Body) (token : Spanned TokenKind) (ahead : List (Spanned TokenKind)) →
-        (with_token (record given { body = body }) token ahead).body ≡ body_after body (element_of token ahead) }
+    ensures value { (was : CellResult) (body : Body) (token : Spanned TokenKind) (ahead : List (Spanned TokenKind)) →
+        (with_token (record was { body = body }) token ahead).body ≡ body_after body (element_of token ahead) }
 {
     laws::left_by_tokens();
 }

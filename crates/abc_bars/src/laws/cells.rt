@@ -24,6 +24,6 @@ pub fn cell_views()
 /// what the element leaves that it is.
 #[tactic(auto, using(crate::proofs::LookBack::Tokens::token_leaves))]
 pub fn left_by_tokens()
-    ensures { (given : CellResult) (body : Body) (token : Spanned TokenKind) (ahead : List (Spanned TokenKind)) →
-        (with_token (record given { body = body }) token ahead).body ≡ body_after body (element_of token ahead) }
+    ensures { (was : CellResult) (body : Body) (token : Spanned TokenKind) (ahead : List (Spanned TokenKind)) →
+        (with_token (record was { body = body }) token ahead).body ≡ body_after body (element_of token ahead) }
 {}
