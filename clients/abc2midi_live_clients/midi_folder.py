@@ -128,4 +128,4 @@ def lock_file(descriptor: int) -> None:
     except BlockingIOError:
         owner = re.match(rb"[0-9]{1,10}", os.read(descriptor, 10))
         who = f" (process {owner[0].decode()})" if owner else ""
-        raise FolderTaken(f"another watcher keeps this folder current{who}") from None
+        raise FolderTaken(f"another watcher keeps this folder current{who}; end it, or name another folder by --dir") from None

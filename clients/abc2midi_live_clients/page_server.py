@@ -1,6 +1,7 @@
 """Serves a page in the browser over a tune book: type a line, see its faults, hear the tune."""
 
 import argparse
+import errno
 import os
 import secrets
 import socket
@@ -32,14 +33,25 @@ KINDS = {".html": "text/html; charset=utf-8", ".css": "text/css; charset=utf-8",
 SECONDS_BETWEEN_LOOKS = 0.5  # at the book on disk
 SECONDS_OF_REST = 0.3  # after an edit, before hints are looked for
 SECONDS_FOR_A_DESCRIPTOR = 0.05
-FIRST_PORT, PORTS, TRIES = 20_000, 12_000, 20
+FIRST_PORT, PORTS, TRIES, MOST_PORT = 20_000, 12_000, 20, 65_535
+
+
+def port_number(text: str) -> int:
+    """The number of a port. Raises ArgumentTypeError if there is none of that number."""
+    if not text.isdecimal() or int(text) > MOST_PORT:
+        raise argparse.ArgumentTypeError(f"write a number from 0 to {MOST_PORT}")
+    return int(text)
 
 
 def arguments() -> argparse.Namespace:
     """What the command line says."""
-    parser = argparse.ArgumentParser(description=__doc__)
-    parser.add_argument("book", metavar="BOOK", nargs="?", help="the tune book; if it is missing, the first save makes it")
-    parser.add_argument("--port", metavar="N", type=int, help="the port; without it the port depends on the book's name")
+    parser = argparse.ArgumentParser(
+        description=__doc__,
+        epilog="It prints an address. Open it in a browser of this machine. Ctrl-C ends the page.",
+    )
+    what = "the tune book; if it is missing, the first save makes it; without BOOK the text is empty"
+    parser.add_argument("book", metavar="BOOK", nargs="?", help=what)
+    parser.add_argument("--port", metavar="N", type=port_number, help="the port; without it the port depends on the book's name")
     parser.add_argument("--no-hints", action="store_true", help="show no hints")
     add_common_options(parser)
     return parser.parse_args()
@@ -110,7 +122,12 @@ def serving(words: argparse.Namespace, book: SharedBook) -> Server:
     """The server on its port. If none is named, the port goes by the book, so that the browser finds the text that it kept. If
     another program has that one, the next free one is taken, and that is said."""
     if words.port is not None:
-        return Server(words.port, book)
+        try:
+            return Server(words.port, book)
+        except OSError as error:
+            if error.errno not in (errno.EADDRINUSE, errno.EACCES):
+                raise
+            raise OSError(f"port {words.port}: {error.strerror}; name another one, or leave out --port") from None
     first = FIRST_PORT + zlib.crc32(os.fsencode(book.path or "")) % PORTS
     for port in [*range(first, first + TRIES), 0]:
         try:
@@ -185,8 +202,8 @@ def main() -> int:
         return 0
     except KeyboardInterrupt:
         return 0
-    except (OSError, OverflowError, ProgramMissing, ProgramEnded) as error:
-        tell(str(error))
+    except (OSError, ProgramMissing, ProgramEnded) as error:
+        tell(f"{error.filename}: {error.strerror}" if isinstance(error, OSError) and error.filename else str(error))
         return 127 if isinstance(error, ProgramMissing) else 1
     finally:
         if keeper:

@@ -1,6 +1,7 @@
 """Keeps the MIDI files of a tune book current while any editor saves it."""
 
 import argparse
+import errno
 import io
 import os
 import shlex
@@ -26,6 +27,7 @@ from .watched_book import FAILED, WatchedBook, prepare
 
 SECONDS_BETWEEN_LOOKS = 0.5
 NO_PROGRAM = 127  # an exit status
+REMEDIES = {errno.ENOENT: "; make the folder above it first", errno.ENOTDIR: "; name another folder by --dir"}
 
 
 def command(text: str) -> list[str]:
@@ -40,8 +42,8 @@ def arguments() -> argparse.Namespace:
     """What the command line says."""
     parser = argparse.ArgumentParser(
         description=__doc__,
-        epilog="Exit status: 0 at Ctrl-C, or after --once if the book has no fault; 3 after --once if it has faults; "
-        "1 if something failed; 2 for wrong arguments; 127 if there is no program.",
+        epilog="Ctrl-C ends the watcher. Exit status: 0 at Ctrl-C, or after --once if the book has no fault; "
+        "3 after --once if it has faults; 1 if something failed; 2 for wrong arguments; 127 if there is no program.",
     )
     parser.add_argument("book", metavar="BOOK", help="the tune book; it is never changed")
     parser.add_argument("--dir", required=True, help="the folder for the MIDI files; it is made if it is missing")
@@ -50,7 +52,7 @@ def arguments() -> argparse.Namespace:
     parser.add_argument("--no-hints", action="store_true", help="print no hints")
     parser.add_argument("--json", action="store_true", help="print one JSON object a line, for other programs")
     parser.add_argument("--clean", action="store_true", help="at the start, remove files N.mid that no tune of the book has")
-    parser.add_argument("--play", metavar="COMMAND", type=command, help="play the last changed file after each save")
+    parser.add_argument("--play", metavar="COMMAND", type=command, help="play the last changed file after each save, as --play timidity")
     add_common_options(parser)
     words = parser.parse_args()
     if words.once and words.play:
@@ -76,7 +78,7 @@ def begun(words: argparse.Namespace, folder: MidiFolder, report: Report) -> Watc
     """The book that the command line names, with its program."""
     player = Player(words.play) if words.play else None
     if player and not shutil.which(player.words[0]):
-        report.message(f"{player.words[0]}: no such player; each save tries it again")
+        report.message(f"{player.words[0]}: no such player; install it, or name another one by --play; each save tries it again")
 
     def start() -> LiveBook:
         return LiveBook(words.program or find_program(), words.dir)
@@ -126,7 +128,7 @@ def main() -> int:
         os.dup2(os.open(os.devnull, os.O_WRONLY), sys.stdout.fileno())
         return FAILED
     except OSError as error:
-        print(f"watch: {printable(words.dir)}: {error.strerror}", file=sys.stderr)
+        print(f"watch: {printable(words.dir)}: {error.strerror}{REMEDIES.get(error.errno or 0, '')}", file=sys.stderr)
         return FAILED
     finally:
         folder.release()

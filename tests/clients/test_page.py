@@ -250,7 +250,7 @@ class Requests(Page):
         self.told(lambda state: state["hints"])
         hints = self.ask("hints")
         self.assertEqual([row[:4] for row in hints["rows"]], [[2, 4, 5, "Overlay"], [4, 0, 3, "SameNumber"]])
-        self.assertEqual(hints["rows"][1][4], "Number 1 is used at line 1; this tune has no file.")
+        self.assertEqual(hints["rows"][1][4], "Number 1 is used at line 1, so this tune has no file; write another number.")
         self.assertEqual((hints["version"], self.book()["hintRows"]), (0, hints["rows"]))
         self.edit(0, 3)
         self.assertEqual([row[0] for row in self.book()["hintRows"]], [1])
@@ -594,7 +594,21 @@ class Strangers(Page):
             self.assertEqual(said, f"page: port {port} of this book is taken; the page is at port {self.port} this time\n")
             words = [sys.executable, str(trial.CLIENTS / "page"), "--program", trial.program, "--port", str(port)]
             again = subprocess.run(words, capture_output=True, timeout=trial.SECONDS)
-            self.assertEqual((again.returncode, again.stderr.count(b"\n")), (1, 1))
+            self.assertEqual(again.stderr, b"page: port %d: Address already in use; name another one, or leave out --port\n" % port)
+            self.assertEqual(again.returncode, 1)
+
+    def test_no_port(self):
+        for port in ("65536", "-1", "x"):
+            words = [sys.executable, str(trial.CLIENTS / "page"), "--program", trial.program, f"--port={port}"]
+            said = subprocess.run(words, capture_output=True, timeout=trial.SECONDS)
+            self.assertEqual((said.returncode, said.stderr.endswith(b"write a number from 0 to 65535\n")), (2, True))
+        self.finish()
+
+    def test_a_folder_is_no_book(self):
+        words = [sys.executable, str(trial.CLIENTS / "page"), "--program", trial.program, str(self.folder)]
+        said = subprocess.run(words, capture_output=True, timeout=trial.SECONDS)
+        self.assertEqual((said.returncode, said.stderr), (1, b"page: %s: it is not a regular file\n" % os.fsencode(self.folder)))
+        self.finish()
 
     def test_the_home(self):
         """The key is in the user's home, and the tests have another one."""

@@ -259,7 +259,7 @@ class Hints(Looks):
     """Hints are printed after the faults, the new ones in full."""
 
     finder = Finder
-    number = "/book.abc:6:1: hint: SameNumber: number 1 is used at line 1; this tune has no file"
+    number = "/book.abc:6:1: hint: SameNumber: number 1 is used at line 1, so this tune has no file; write another number"
 
     def test_new_hints(self):
         self.save(TUNE + OTHER)
@@ -351,7 +351,7 @@ class Running(Process):
     def test_a_player_that_is_not_there(self):
         self.path.write_bytes(TUNE)
         self.start("--play", "no-such-player -q")
-        self.assertEqual(self.line(), "no-such-player: no such player; each save tries it again\n")
+        self.assertEqual(self.line(), "no-such-player: no such player; install it, or name another one by --play; each save tries it again\n")
         self.assertRegex(self.line(), r"^written 1\.mid")
         self.path.write_bytes(TUNE + OTHER)
         self.assertRegex(self.line(), r"^written 2\.mid")
@@ -379,7 +379,7 @@ class Running(Process):
     def test_no_hints(self):
         self.path.write_bytes(TUNE + OTHER.replace(b"2", b"1"))
         self.start("--once")
-        self.assertEqual([line.split("; ")[1] for line in self.end()[0].splitlines()], ["1 hint, 1 new", "this tune has no file"])
+        self.assertEqual([line.split("; ")[1] for line in self.end()[0].splitlines()], ["1 hint, 1 new", "write another number"])
         self.start("--once", "--no-hints")
         output, errors, status = self.end()
         self.assertEqual((output.count("\n"), "hint" in output, errors, status), (1, False, "", 0))

@@ -7,6 +7,7 @@ import signal
 import trial
 from watching import OTHER, TUNE, Looks, Process
 
+MISSING, NO_FOLDER = "No such file or directory; make the folder above it first", "Not a directory; name another folder by --dir"
 FOREIGN = ["x.mid", "007.mid", "7.MID", "7.mid.bak", "1234567890.mid", "-7.mid", " 7.mid", "7.mid\n", "7", ".mid", ".x.mid.new", "٧.mid"]
 
 
@@ -90,7 +91,7 @@ class Folders(Process):
 
     def test_folders_that_cannot_be_made(self):
         (self.folder / "file").touch()
-        for name, why in (("none/new", "No such file or directory"), ("file", "Not a directory"), ("file/new", "Not a directory")):
+        for name, why in (("none/new", MISSING), ("file", NO_FOLDER), ("file/new", NO_FOLDER)):
             self.start("--once", files=self.folder / name)
             self.assertEqual(self.end(), ("", f"watch: {self.folder / name}: {why}\n", 1))
         self.assertFalse((self.folder / "none").exists())
@@ -101,7 +102,7 @@ class Folders(Process):
         first = self.process
         for words in ([], ["--once"], ["--clean"]):
             self.start(*words)
-            why = f"watch: {self.files}: another watcher keeps this folder current (process {first.pid})\n"
+            why = f"watch: {self.files}: another watcher keeps this folder current (process {first.pid}); end it, or name another folder by --dir\n"
             self.assertEqual(self.end(), ("", why, 1))
         (self.folder / "link").symlink_to(self.files)
         self.start(files=self.folder / "link")

@@ -79,7 +79,7 @@ class Json(Process):
         self.path.write_bytes(b"\n" + TUNE + b"C-z&\n")
         self.assertEqual(self.change()["faults"], [{**fault, "line": 6, "new": False}])
         self.path.write_bytes(TUNE + OTHER.replace(b"2", b"1"))
-        hint = {"line": 6, "column": 1, "name": "SameNumber", "text": "number 1 is used at line 1; this tune has no file", "new": True}
+        hint = {"line": 6, "column": 1, "name": "SameNumber", "text": "number 1 is used at line 1, so this tune has no file; write another number", "new": True}
         self.assertEqual(self.change()["hints"], [hint])
         self.path.unlink()
         self.assertEqual(self.event(), {"event": "message", "text": f"{self.path}: No such file or directory; waiting for it"})

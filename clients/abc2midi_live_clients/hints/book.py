@@ -24,7 +24,7 @@ _NOTE = re.compile(rb"[A-Ga-gzx]")
 
 def number_is_used(number: int, line: int) -> str:
     """Returns the sentence that a tune has no file because another one at a line has its number."""
-    return f"number {number} is used at line {line}; this tune has no file"
+    return f"number {number} is used at line {line}, so this tune has no file; write another number"
 
 
 def same_numbers(tunes: Sequence[Tune], faults: Sequence[Fault]) -> list[Hint]:
@@ -81,7 +81,7 @@ def free_music(lines: tuple[bytes, ...], start: int, after_tune: bool) -> Iterat
             if after_tune and not has_key:
                 text = "this music is in no tune: the blank line before it ends the tune; write a `%` on that line"
             else:
-                text = "this music is in no tune; write a line `X:1` before it"
+                text = "this music is in no tune; write a line `X:` with a new number before it"
             yield TuneHint(Place(n, 0), "FreeMusic", text)
 
 
