@@ -15,15 +15,22 @@
  * - You may move a session: copy its bytes and zero the old place. Never use two copies of one session, and never change its bytes.
  * - A session stays on the thread that opened it, and is in one call at a time. Two sessions are independent: each may be on a
  *   thread of its own. Make no call from a signal handler, or in the child of a fork of a process with threads.
- * - Pointers are valid and do not overlap. A pointer to text or to a buffer may be null if its length is 0; no other may.
+ * - Pointers are valid and do not overlap. A pointer to text or to a buffer may be null if its length or room is 0; no other may,
+ *   also not one to counters.
+ * - The library does not decode text: lines, titles and columns are bytes.
  * - The library keeps no pointer of yours after a call, has no global state, and never ends the process. It takes memory from
  *   `malloc`, `realloc` and `free` alone. The memory of a session is freed by `abc_live_close`.
- * - A call on a session that is not open answers ABC_LIVE_MISUSED and does nothing, but that it sets what it tells to 0.
+ * - If a session is not open, every call on it but `abc_live_open` returns ABC_LIVE_MISUSED and does nothing, except that it sets
+ *   `*count` and `*number` to 0.
  *
  * Buffers
- * A call that copies takes a buffer, its room in items, and a count. It sets `*count` to the number of items that there are. If
- * they fit, it copies them and answers ABC_LIVE_OK; what lies after them in the buffer stays. If not, it copies none and answers
- * ABC_LIVE_SHORT_BUFFER: so a call with a room of 0 asks for the count. Nothing ends with a zero byte.
+ * A call that copies takes a buffer, its room in items, and a count. An item is a byte, a number or a fault. The call sets `*count`
+ * to the number of items that there are. If they fit, it copies them and returns ABC_LIVE_OK; the rest of the buffer stays. If not,
+ * it copies none and returns ABC_LIVE_SHORT_BUFFER. So a call with a room of 0 asks for the count; it returns ABC_LIVE_OK if there
+ * are no items. If a call returns ABC_LIVE_NOT_FOUND, `*count` is 0. Nothing ends with a zero byte.
+ *
+ * Tune numbers are 0 to 999,999,999. A tune whose `X:` is empty or a fault has the number 0. Of several tunes with one number, the
+ * first that is not too long has the file.
  */
 #ifndef ABC2MIDI_LIVE_H
 #define ABC2MIDI_LIVE_H
@@ -35,7 +42,7 @@
 extern "C" {
 #endif
 
-/* The version of this header. `abc_live_version` tells that of the library. */
+/* The version of this header. `abc_live_version` returns that of the library. */
 #define ABC_LIVE_VERSION "1.0.0"
 #define ABC_LIVE_VERSION_NUMBER 1000000
 
@@ -46,8 +53,9 @@ typedef struct abc_live_session {
 } abc_live_session;
 
 /*
- * Counters of work: lines scanned, steps folded, tunes built. They are yours: set them to zeros, and each edit raises them. A
- * counter that comes to UINT64_MAX stays there. One of them may serve several sessions.
+ * Counters of work: lines scanned, steps folded, tunes built. They are yours: set them to zeros, and each edit adds its work. A
+ * refused edit may add to them too. A counter that reaches UINT64_MAX stays there. One struct may serve several sessions of one
+ * thread.
  */
 typedef struct abc_live_work {
     uint64_t scanned;
@@ -55,19 +63,19 @@ typedef struct abc_live_work {
     uint64_t built;
 } abc_live_work;
 
-/* A fault of the text: its line and its byte in the line, both from 1, and the number of its code. */
+/* A fault of the text: its line and its byte in the line, both from 1, and the number of its code, from 1. */
 typedef struct abc_live_fault {
     uint32_t line;
     uint32_t column;
     uint32_t code;
 } abc_live_fault;
 
-/* What calls answer. An edit that is refused is answered the first of 2 to 5 that applies. */
+/* The codes that calls return. A refused edit returns the first of 2 to 5 that applies. Only `abc_live_open` and edits return 5. */
 typedef uint32_t abc_live_code;
 enum {
     ABC_LIVE_OK = 0,
     ABC_LIVE_MISUSED = 1,       /* The session is not open, or `abc_live_open` was called on an open one. */
-    ABC_LIVE_BAD_RANGE = 2,     /* The lines of the edit are not in the text. */
+    ABC_LIVE_BAD_RANGE = 2,     /* The lines of the edit are not in the text, or run backwards. */
     ABC_LIVE_BAD_LINE = 3,      /* A line has more than 65,535 bytes. */
     ABC_LIVE_TOO_LARGE = 4,     /* The text would have more than 1,048,576 lines. */
     ABC_LIVE_OUT_OF_MEMORY = 5, /* An allocation failed. The session is as it was before the call. */
@@ -81,13 +89,13 @@ uint32_t abc_live_version(void);
 
 /*
  * Opens a session with no lines. The session is zeros: not open yet, or closed.
- * Answers ABC_LIVE_OK, ABC_LIVE_OUT_OF_MEMORY (the session is not open), or ABC_LIVE_MISUSED (it is open already, and stays so).
+ * Returns ABC_LIVE_OK, ABC_LIVE_OUT_OF_MEMORY (the session is not open), or ABC_LIVE_MISUSED (it is open already, and stays so).
  */
 abc_live_code abc_live_open(abc_live_session *session);
 
 /*
  * Closes a session and frees its memory. Afterwards it may be opened again.
- * Answers ABC_LIVE_OK, or ABC_LIVE_MISUSED if it is not open: to close twice is harmless.
+ * Returns ABC_LIVE_OK, or ABC_LIVE_MISUSED if it is not open: to close twice is harmless.
  */
 abc_live_code abc_live_close(abc_live_session *session);
 
@@ -97,23 +105,23 @@ abc_live_code abc_live_close(abc_live_session *session);
  * return before a line feed stays in its line, and has no effect there. The bytes EF BB BF that some files begin with are not
  * skipped: leave them out.
  *
- * An edit answers ABC_LIVE_OK, and the report of the session tells which files changed; or it answers why it is refused, and
- * text, files and report stay as they were.
+ * An edit returns ABC_LIVE_OK, and the report of the session has the files that changed. Or it returns why it is refused, and text,
+ * files and report stay as they were.
  */
 
-/* Puts the lines of a text before line `at`, from 1 to the count of lines plus one. */
+/* Inserts the lines of a text before line `at`, which is from 1 to the count of lines plus one. */
 abc_live_code abc_live_insert(abc_live_session *session, uint32_t at, const uint8_t *text, size_t bytes, abc_live_work *work);
 
-/* Puts the lines of a text in the place of the lines `from` to `to`, both included: at least one line. */
+/* Replaces the lines `from` to `to`, both included, by the lines of a text. These may be none. `from` is at most `to`. */
 abc_live_code abc_live_replace(abc_live_session *session, uint32_t from, uint32_t to, const uint8_t *text, size_t bytes,
                                abc_live_work *work);
 
-/* Takes the lines `from` to `to` out, both included: at least one line. */
+/* Deletes the lines `from` to `to`, both included. `from` is at most `to`. */
 abc_live_code abc_live_delete(abc_live_session *session, uint32_t from, uint32_t to, abc_live_work *work);
 
 /*
- * The report of the last edit that was answered ABC_LIVE_OK: the tune numbers whose files it wrote (new, or with other bytes),
- * and those whose files it removed. Both lists rise, and are empty before the first edit.
+ * Copy the report of the last edit that returned ABC_LIVE_OK: the tune numbers whose files are new or have other bytes than before
+ * it, and those that no longer have a file. Both lists rise, and are empty before the first edit.
  */
 abc_live_code abc_live_written(abc_live_session *session, uint32_t *numbers, size_t room, size_t *count);
 abc_live_code abc_live_removed(abc_live_session *session, uint32_t *numbers, size_t room, size_t *count);
@@ -121,15 +129,16 @@ abc_live_code abc_live_removed(abc_live_session *session, uint32_t *numbers, siz
 /* Copies the tune numbers that have a MIDI file. They rise. */
 abc_live_code abc_live_numbers(abc_live_session *session, uint32_t *numbers, size_t room, size_t *count);
 
-/* Copies the bytes of the MIDI file of a tune number, or answers ABC_LIVE_NOT_FOUND if it has none. */
+/* Copies the bytes of the MIDI file of a tune number, or returns ABC_LIVE_NOT_FOUND if it has none. */
 abc_live_code abc_live_output(abc_live_session *session, uint32_t number, uint8_t *bytes, size_t room, size_t *count);
 
-/* Tells how many tunes the text has. Each has a title, which may be empty. */
+/* Counts the tunes of the text. Each has a title, which may be empty. */
 abc_live_code abc_live_title_count(abc_live_session *session, size_t *count);
 
 /*
- * Tells the number of the tune at an index, and copies the bytes of its title. The index is from 0, in the order of the text. The
- * number is set also if the buffer is too short. Answers ABC_LIVE_NOT_FOUND, with the number 0, if there is no such tune.
+ * Sets `*number` to that of the tune at an index, and copies the bytes of its title: its first `T:`, without a comment and without
+ * blanks at both ends. The index is from 0, in the order of the text. The number is set also if the buffer is too short. Returns
+ * ABC_LIVE_NOT_FOUND, with the number 0, if there is no such tune.
  */
 abc_live_code abc_live_title(abc_live_session *session, size_t index, uint32_t *number, uint8_t *bytes, size_t room, size_t *count);
 
@@ -138,14 +147,14 @@ abc_live_code abc_live_faults(abc_live_session *session, abc_live_fault *faults,
 
 /*
  * Copies the name of a fault code, as `BadMeter`: the word that the program prints, and the key of its sentences in faults.json.
- * It needs no session. Answers ABC_LIVE_NOT_FOUND if no code has the number.
+ * A name has only letters of ASCII. The call needs no session. Returns ABC_LIVE_NOT_FOUND if no code has the number.
  */
 abc_live_code abc_live_fault_name(uint32_t code, uint8_t *bytes, size_t room, size_t *count);
 
-/* Tells how many lines the text has. */
+/* Counts the lines of the text. */
 abc_live_code abc_live_line_count(abc_live_session *session, uint32_t *count);
 
-/* Copies the bytes of a line, without its line feed, or answers ABC_LIVE_NOT_FOUND if there is no such line. */
+/* Copies the bytes of a line, without its line feed, or returns ABC_LIVE_NOT_FOUND if there is no such line. */
 abc_live_code abc_live_line(abc_live_session *session, uint32_t number, uint8_t *bytes, size_t room, size_t *count);
 
 #ifdef __cplusplus
