@@ -13,10 +13,10 @@ _abc2midi_live() {
         if [[ $word == -* ]]; then
             mapfile -t COMPREPLY < <(compgen -W "$("$1" --help 2>&1 | grep -oE -- '--[a-z][a-z-]*' | sort -u)" -- "$word")
         else
-            mapfile -t COMPREPLY < <(compgen -d -- "$word"; compgen -f -X '!*.abc' -- "$word")
+            mapfile -t COMPREPLY < <(compgen -d -- "$word"; [[ $1 == *uninstall ]] || compgen -f -X '!*.abc' -- "$word")
         fi
         ;;
     esac
 }
 
-complete -F _abc2midi_live abc2midi_live abc2midi_live-watch abc2midi_live-page abc2midi_live-language-server
+complete -F _abc2midi_live abc2midi_live abc2midi_live-{watch,page,language-server,uninstall}

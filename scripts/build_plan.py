@@ -79,32 +79,32 @@ def needed_by(crates: dict[str, Crate], top: str) -> dict[str, Crate]:
 
 def chain_from(crates: dict[str, Crate]) -> dict[str, float]:
     """For each crate the seconds from the start of its proof to the end of the longest chain that needs it."""
-    behind = {name: crate.seconds for name, crate in crates.items()}
+    remaining = {name: crate.seconds for name, crate in crates.items()}
     for crate in reversed(list(crates.values())):
         for name in crate.uses:
-            behind[name] = max(behind[name], crates[name].seconds + behind[crate.name])
-    return behind
+            remaining[name] = max(remaining[name], crates[name].seconds + remaining[crate.name])
+    return remaining
 
 
 def longest_chain(crates: dict[str, Crate]) -> list[str]:
     """The crates that the proofs of the others wait for longest, lowest first."""
-    behind, found = chain_from(crates), []
-    name = max(behind, key=lambda it: behind[it])
+    remaining, found = chain_from(crates), []
+    name = max(remaining, key=lambda it: remaining[it])
     while name:
         found.append(name)
         above = [crate.name for crate in crates.values() if name in crate.uses]
-        name = max(above, key=lambda it: behind[it], default="")
+        name = max(above, key=lambda it: remaining[it], default="")
     return found
 
 
 def schedule(crates: dict[str, Crate], processors: int, kept: frozenset[str] = frozenset()) -> Schedule:
     """When the proofs end if each processor takes the crate with the longest chain next, as `rt ci` does; edits fill the rest.
     Kept crates take no time."""
-    behind, made = chain_from(crates), Schedule()
+    remaining, made = chain_from(crates), Schedule()
     free = [0.0] * processors
-    left = sorted(crates.values(), key=lambda crate: -behind[crate.name])
+    left = sorted(crates.values(), key=lambda crate: -remaining[crate.name])
     while left:
-        crate = min(left, key=lambda it: (max(ready(it, made), min(free)), -behind[it.name]))
+        crate = min(left, key=lambda it: (max(ready(it, made), min(free)), -remaining[it.name]))
         left.remove(crate)
         if crate.name in kept:
             made.ends[crate.name] = ready(crate, made)

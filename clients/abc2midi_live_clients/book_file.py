@@ -29,7 +29,7 @@ class BookFile:
         self.data_signature: Optional[Signature] = None
         self.signature: Optional[Signature] = None  # at the last look
         self.since = 0.0  # when a look found that signature first
-        self.is_settled = False  # no save can hide behind that signature
+        self.is_settled = False  # no other save can have that signature
         self.was_empty = False  # at the last look: an editor may empty a file before it writes it
 
     def saved(self) -> Optional[bytes]:

@@ -116,7 +116,7 @@ class Document:
         return before[-1] if is_in else None
 
     def has_file(self, tune: Tune) -> bool:
-        """Tells whether the file of its number is a tune's."""
+        """Returns whether the file of its number is a tune's."""
         return files_of(self.ask(LiveBook.tunes), self.ask(LiveBook.faults)).get(tune.number) == tune
 
     def file_at(self, line: int) -> str:

@@ -295,7 +295,7 @@ def uri_of(params: Any) -> Optional[str]:
 
 
 def may_register(params: Any) -> bool:
-    """Tells whether an editor may be asked to send changes in another way."""
+    """Returns whether an editor may be asked to send changes in another way."""
     try:
         return params["capabilities"]["textDocument"]["synchronization"]["dynamicRegistration"] is True
     except (KeyError, TypeError):
@@ -318,7 +318,7 @@ def serve(server: Server) -> int:
 
 
 def arguments() -> argparse.Namespace:
-    """What the command line says."""
+    """The arguments of the command line."""
     parser = argparse.ArgumentParser(description=__doc__)
     parser.add_argument(
         "--play", metavar="COMMAND", type=shlex.split, help="the player for the action Play"

@@ -44,7 +44,7 @@ def port_number(text: str) -> int:
 
 
 def arguments() -> argparse.Namespace:
-    """What the command line says."""
+    """The arguments of the command line."""
     parser = argparse.ArgumentParser(
         description=__doc__,
         epilog="It prints an address. Open it in a browser of this machine. Ctrl-C ends the page.",
@@ -113,14 +113,14 @@ class Server(ThreadingHTTPServer):
         self.book.remind()
 
     def handle_error(self, *_: Any) -> None:
-        """Says what went wrong in a request, but for a window that was closed."""
+        """Prints what went wrong in a request, but for a window that was closed."""
         if not isinstance(sys.exc_info()[1], ConnectionError):
             super().handle_error(*_)
 
 
 def serving(words: argparse.Namespace, book: SharedBook) -> Server:
-    """The server on its port. If none is named, the port goes by the book, so that the browser finds the text that it kept. If
-    another program has that one, the next free one is taken, and that is said."""
+    """The server on its port. If none is named, the port depends on the book, so that the browser finds the text that it kept.
+    If another program has that one, the next free one is taken, with a message."""
     if words.port is not None:
         try:
             return Server(words.port, book)
@@ -141,8 +141,15 @@ def serving(words: argparse.Namespace, book: SharedBook) -> Server:
 
 
 def tell(sentence: str) -> None:
-    """Says something on standard error."""
+    """Prints a sentence on standard error."""
     print(f"page: {printable(sentence)}", file=sys.stderr, flush=True)
+
+
+def refuse_missing_folder(book: str) -> None:
+    """Raises FileNotFoundError if no save can make the book, because its folder is missing."""
+    folder = os.path.dirname(os.path.realpath(book))
+    if not os.path.lexists(folder):
+        raise FileNotFoundError(errno.ENOENT, "there is no such folder; make it first, or correct the name of the book", folder)
 
 
 def keep_looking(book: SharedBook) -> None:
@@ -190,14 +197,20 @@ def main() -> int:
     when_told_to_end(interrupt)
     book = keeper = None
     try:
+        if words.book:
+            refuse_missing_folder(words.book)
         with tempfile.TemporaryDirectory() as directory:
             book = SharedBook(words.book, words.program or find_program(), directory)
             with serving(words, book) as server:
+                if book.is_new():
+                    tell(f"{words.book}: there is no such file; the page begins with an empty text, and the first save makes the file")
                 threading.Thread(target=keep_looking, args=(book,), daemon=True).start()
                 keeper = None if words.no_hints else HintKeeper(book)
                 if keeper:
                     threading.Thread(target=keeper.keep, daemon=True).start()
                 print(f"http://127.0.0.1:{server.server_port}/{server.token}/", flush=True)
+                if sys.stdout.isatty():
+                    tell("open this address in a browser of this machine; Ctrl-C ends the page")
                 server.serve_forever(poll_interval=0.1)
         return 0
     except KeyboardInterrupt:

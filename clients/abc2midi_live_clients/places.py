@@ -50,7 +50,7 @@ def character_of(line: str, column: int) -> int:
 
 
 def is_inside_character(line: bytes, column: int) -> bool:
-    """Tells whether the byte of a column, counted from 1, belongs to a character of UTF-8 that begins before it."""
+    """Returns whether the byte of a column, counted from 1, belongs to a character of UTF-8 that begins before it."""
     at = column - 1
     if line[at] & 0xC0 != 0x80:
         return False
@@ -59,7 +59,7 @@ def is_inside_character(line: bytes, column: int) -> bool:
 
 
 def is_character(data: bytes) -> bool:
-    """Tells whether bytes are one character of UTF-8."""
+    """Returns whether bytes are one character of UTF-8."""
     try:
         return len(data.decode("utf-8")) == 1
     except UnicodeDecodeError:

@@ -24,7 +24,7 @@ class Remark(NamedTuple):
     severity: int
 
     def covers(self, line: int, first: int, last: int) -> bool:
-        """Tells whether it has one of some characters of a line, or is at a place between two."""
+        """Returns whether it has one of some characters of a line, or is at a place between two."""
         return self.line == line and self.start <= last and (first < self.end or first == self.start)
 
 

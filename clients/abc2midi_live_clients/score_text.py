@@ -90,7 +90,7 @@ def printed(line: str) -> str:
 
 
 def directive(line: str) -> str:
-    """A directive that says how staves are arranged, or a comment."""
+    """A directive on the arrangement of staves, or a comment."""
     return line if DIRECTIVE.fullmatch(line) else COMMENT
 
 

@@ -28,7 +28,7 @@ SECONDS_TO_END = 3  # for a program that is asked to end
 
 
 class Refused(Exception):
-    """What a window may not do: an HTTP status, a sentence, and what else the answer says."""
+    """What a window may not do: an HTTP status, a sentence, and what else the answer has."""
 
     def __init__(self, status: int, sentence: str, **more: Any):
         super().__init__(sentence)
@@ -81,6 +81,10 @@ class SharedBook:
         self.disk = Disk(self.text, digest_of(content), digest_of(content))
         self.is_unsaved = False
         self.begin()
+
+    def is_new(self) -> bool:
+        """Whether the book has a name, and no file yet."""
+        return self.path is not None and self.disk.saved is None
 
     def begin(self) -> None:
         """Starts the program with the present text."""
@@ -210,7 +214,7 @@ class SharedBook:
             return self.version, Question(self.text, tunes, faults)
 
     def know_hints(self, version: int, hints: list[HintRow]) -> None:
-        """Tells the windows the hints on the text, if it is still the one of a version."""
+        """Sends the windows the hints on the text, if it is still the one of a version."""
         with self.moved:
             if version == self.version and hints != self.hints:
                 self.hints = hints
@@ -354,7 +358,7 @@ class SharedBook:
         self.publish(made, Version(text, rows, Disk(text, digest(data), digest(data))), None, since)
 
     def know(self, present: Optional[str], trouble: str = "") -> None:
-        """Tells the windows what the file is now."""
+        """Sends the windows the present state of the file."""
         disk = self.disk._replace(present=present, trouble=trouble)
         with self.moved:
             if disk != self.disk:
@@ -368,7 +372,7 @@ class SharedBook:
                 self.moved.notify_all()
 
     def load(self, asked: Json) -> Json:
-        """Makes the content of the file the text, for a window that says which content it means."""
+        """Makes the content of the file the text, for a window that names this content."""
         if not self.path:
             raise Refused(400, "no book was named")
         with self.file_lock, self.turn:
@@ -385,7 +389,7 @@ class SharedBook:
 
     def save(self, asked: Json) -> Json:
         """Writes the book, as a new file that replaces the old one. If the file is not the one that was read or saved last, it is
-        written only for a window that says which one it means to replace."""
+        written only for a window that names the one to replace."""
         if not self.path:
             raise Refused(400, "no book was named")
         with self.file_lock:
@@ -410,7 +414,7 @@ class SharedBook:
 
     def save_as(self, asked: Json) -> Json:
         """Writes a copy of the text into the book's folder. The book is the same as before. A file that has the name already is
-        replaced only for a window that says which content it means to replace."""
+        replaced only for a window that names the content to replace."""
         if not self.path:
             raise Refused(400, "no book was named, so there is no folder")
         with self.moved:

@@ -39,7 +39,7 @@ def command(text: str) -> list[str]:
 
 
 def arguments() -> argparse.Namespace:
-    """What the command line says."""
+    """The arguments of the command line."""
     parser = argparse.ArgumentParser(
         description=__doc__,
         epilog="Ctrl-C ends the watcher. Exit status: 0 at Ctrl-C, or after --once if the book has no fault; "

@@ -16,7 +16,7 @@ AudioScheduledSourceNode.prototype.start = function (when) {
   return start.call(this, when);
 };
 addEventListener("beforeunload", (event) => event.stopImmediatePropagation());
-"""  # Web Audio by a clock that the test moves, and each note that is handed to it: when, and its key; no page asks to stay
+"""  # Web Audio by a clock that the test moves, and each note that it gets: when, and its key; no page asks to stay
 
 
 def lacking() -> str:
@@ -100,7 +100,7 @@ def press_button(driver, element):
 
 
 def release_button(driver):
-    """Lets the button of the mouse go, where the mouse is."""
+    """Releases the button of the mouse at its present place."""
     from selenium.webdriver.common.action_chains import ActionChains
 
     ActionChains(driver).release().perform()

@@ -34,7 +34,7 @@ class MusicPage(test_page_in_browser.Browser):
         self.press(f"{number}\ue004")
 
     def beginnings(self) -> list:
-        """When notes were handed over to start, from the first one on."""
+        """When notes were scheduled to start, from the first one on."""
         found = [when for when, _ in self.run_script("return played")]
         return [round(when - found[0], 3) for when in found]
 

@@ -49,7 +49,7 @@ function known(lines, ...tracks) {
 /** The ticks of notes that follow each other, each a quarter long. */
 const quarters = (...keys) => keys.map((key, n) => [480 * n, 480 * n + 480, key]);
 
-/** The bars: the tick and the number of each, with `+` where it is a pickup. */
+/** The bars: the tick and the number of each, with `+` if it is a pickup. */
 const barsOf = (places) => places.grid.bars.map(({ tick, number, offset }) => `${tick}:${number}${offset ? "+" : ""}`);
 
 /** The contrast of two colours #rrggbb, by WCAG 2. */
@@ -247,7 +247,7 @@ const tests = {
     same(notes.map((note) => lanes.get(note) ?? null), [{ lane: 0, of: 2 }, { lane: 1, of: 2 }, null, { lane: 1, of: 2 }, null, null]);
   },
 
-  "each voice stands out from paper and slate at each loudness"() {
+  "each voice differs from paper and slate at each loudness"() {
     for (const grounds of [["#fffdf8", "#f3eee4", "#dcebfb"], ["#1c1f24", "#22262c", "#1f3147"]]) {
       const shades = new Shades(grounds);
       const colours = Array.from({ length: 15 }, (_, voice) => [1, 30, 80, 127].map((velocity) => shades.of(voice, velocity)));

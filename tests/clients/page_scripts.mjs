@@ -1,4 +1,4 @@
-// Tries scripts of the page without a browser: the folder that has them is the argument. Each test is told by a line, `ok`
+// Tries scripts of the page without a browser: the folder that has them is the argument. Each test prints a line, `ok`
 // or `FAILED`, with its name.
 
 import { pathToFileURL } from "node:url";
@@ -228,7 +228,7 @@ const tests = {
     same([server.edits, link.doubts], [1, 0]);
   },
 
-  async "what is typed behind a lost answer is sent once"() {
+  async "what is typed after a lost answer is sent once"() {
     const [link, text] = await opened("a", "b");
     server.lose = "answer";
     text.edit(1, 1, ["new"], PLACE, PLACE);
@@ -422,7 +422,7 @@ const tests = {
     same([Object.keys(localStorage), next.left(["x"], new Set(keys))], [[keys[1]], null]);
   },
 
-  "lines of others before and behind one's own"() {
+  "lines of others before and after one's own"() {
     const put = ["x"];
     same(others(["a", "b", "c"], { start: 1, stop: 1, put }, 1, 2, ["B"]), ["axBc", 1, 1, 1, false]);
     same(others(["a", "b", "c"], { start: 1, stop: 1, put }, 1, 3, []), ["ax", 1, 1, 1, false]);

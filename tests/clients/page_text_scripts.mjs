@@ -7,7 +7,7 @@ import { isDeepStrictEqual } from "node:util";
 const folder = process.argv[2];
 const from = (name) => import(pathToFileURL(`${folder}/${name}.js`));
 const { kindsOf, partsOf } = await from("colours");
-const { STARTER, whyNothing } = await from("empty");
+const { STARTER, whyBlank, whyNothing } = await from("empty");
 const { Filter, folded } = await from("filter");
 const { Matches, matchesIn, replacedIn, sought } = await from("find");
 const { applied, inverse } = await from("history");
@@ -45,7 +45,7 @@ function typed(text, start, stop, ...put) {
   text.take();
 }
 
-/** What is left of a text after so many steps back. */
+/** What is left of a text after a number of steps back. */
 function undone(text, count = 1) {
   for (let n = 0; n < count; n += 1) text.undo();
   return text.lines.join("");
@@ -339,6 +339,11 @@ const tests = {
     same(why({ row: tunes[2], notes: 0, faults: [[20, 0, 2, "BadReference"]] }), "This tune has no notes yet, and its number cannot be read. Write it as X:1.");
     same([why({ row: tunes[0] }), why({ row: tunes[0], notes: 3 })], ["", ""]);
     same([STARTER[0], STARTER.at(-1), STARTER.filter((line) => line.startsWith("K:")).length], ["X:1", "", 1]);
+  },
+
+  "what an empty sheet says"() {
+    same([whyBlank("reels.abc", null), whyBlank("reels.abc", "a digest"), whyBlank("", null)],
+      ["There is no file reels.abc yet. The first save makes it.", "The book is empty.", "The book is empty."]);
   },
 
   "names of keys on a Mac"() {

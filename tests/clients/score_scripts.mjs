@@ -1,4 +1,4 @@
-// Tries the score of the page without a browser: the folder that has its scripts is the argument. Each test is told by a line,
+// Tries the score of the page without a browser: the folder that has its scripts is the argument. Each test prints a line,
 // `ok` or `FAILED`, with its name.
 
 import { pathToFileURL } from "node:url";

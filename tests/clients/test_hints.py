@@ -35,7 +35,7 @@ def example(part: str) -> Example:
 
 
 def byte_of(found: re.Match) -> bytes:
-    """The byte that a mark stands for."""
+    """The byte that a mark means."""
     return b"\r" if found[1] == b"CR" else bytes.fromhex(found[1].decode())
 
 

@@ -17,7 +17,7 @@ BOOK = "X:1\nT:Kesh\nK:G\nGABc &\n\nX:2\nK:C\nCDE -\n"
 
 
 class Editor(trial.Folder):
-    """An editor that talks with the server, and keeps the text of each book as it stands after its changes."""
+    """An editor that talks with the server, and keeps the text of each book after its changes."""
 
     def setUp(self):
         super().setUp()
@@ -477,7 +477,7 @@ class Programs(Editor):
         self.finish()
 
     def test_a_program_that_ends(self):
-        """It is started again, with the text as it stands then, and the other books stay."""
+        """It is started again, with its present text, and the other books stay."""
         other = "file:///other"
         self.open(BOOK)
         self.open("X:2\nK:C\nC", other)

@@ -41,7 +41,7 @@ class Page(trial.Folder):
         self.start(str(self.path))
 
     def start(self, *words, port="0", descriptors=1024, hints=False):
-        """Starts it, with a folder for what it leaves, and so many descriptors."""
+        """Starts it, with a folder for what it leaves, and a limit of descriptors."""
         words = [*words, *(["--port", port] if port else []), *([] if hints else ["--no-hints"])]
         self.server = subprocess.Popen(
             [sys.executable, str(trial.CLIENTS / "page"), *words, "--program", str(self.folder / "program")],
@@ -55,7 +55,7 @@ class Page(trial.Folder):
         self.port, self.token = int(found[1]), found[2]
 
     def request(self, name: str, asked=None, headers=None, path=None) -> tuple:
-        """The status, the headers and the bytes that answer a request: one that brings something where it is given."""
+        """The status, the headers and the bytes that answer a request: one that brings `asked`, if there is any."""
         connection = http.client.HTTPConnection("127.0.0.1", self.port, timeout=trial.SECONDS)
         data = asked if asked is None or isinstance(asked, bytes) else json.dumps(asked).encode()
         connection.request("GET" if asked is None else "POST", path or f"/{self.token}/{name}", data, headers or {})
@@ -65,7 +65,7 @@ class Page(trial.Folder):
         return found
 
     def ask(self, name: str, asked=None) -> dict:
-        """The object that answers a request, with its status where it is an error."""
+        """The object that answers a request, with its status if it is an error."""
         status, _, data = self.request(name, asked)
         return {**json.loads(data), **({"status": status} if status != 200 else {})}
 
@@ -83,11 +83,12 @@ class Page(trial.Folder):
         state = self.ask("state")
         return self.ask("save", {"run": state["run"], "version": state["version"], **more})
 
-    def finish(self, by=signal.SIGTERM):
-        """Ends the server, which leaves nothing."""
+    def finish(self, by=signal.SIGTERM, new=""):
+        """Ends the server, which leaves nothing. It printed nothing, but for the name of a new book."""
         self.server.send_signal(by)
         said = self.server.communicate(timeout=trial.SECONDS)
-        self.assertEqual((said, self.server.returncode, os.listdir(self.files)), ((b"", b""), 0, []))
+        wanted = f"page: {new}: there is no such file; the page begins with an empty text, and the first save makes the file\n" if new else ""
+        self.assertEqual((said, self.server.returncode, os.listdir(self.files)), ((b"", wanted.encode()), 0, []))
 
     def raw(self, data: bytes) -> bytes:
         """What is answered to bytes, after which nothing more comes."""
@@ -180,7 +181,7 @@ class Requests(Page):
         self.assertEqual(self.book()["lines"], ["% new", *BOOK.decode().split("\n")])
 
     def test_a_half_that_is_no_line_feed(self):
-        """It would make a command of what stands behind it."""
+        """It would make a command of what comes after it."""
         self.edit(3, 4, "a\udc0aquit")
         self.assertEqual(self.book()["lines"][3], "a?quit")
         self.assertEqual(self.edit(3, 4, "G")["written"], [1])
@@ -233,6 +234,18 @@ class Requests(Page):
             while next(news)["state"]["windows"] != 1:
                 pass
             self.finish()
+
+    def test_a_terminal_shows_what_to_do_with_the_address(self):
+        self.finish()
+        terminal, other = os.openpty()
+        words = [sys.executable, str(trial.CLIENTS / "page"), str(self.path), "--port", "0", "--no-hints", "--program", str(self.folder / "program")]
+        with os.fdopen(terminal, "rb") as shown, os.fdopen(other, "wb") as stream:
+            self.server = subprocess.Popen(words, stdout=stream, stderr=subprocess.PIPE)
+            self.limit(self.server)
+            self.assertRegex(shown.readline(), rb"^http://127\.0\.0\.1:\d+/[\w-]{32}/\r\n$")
+            self.assertEqual(self.server.stderr.readline(), b"page: open this address in a browser of this machine; Ctrl-C ends the page\n")
+            self.server.terminate()
+            self.assertEqual((self.server.communicate(timeout=trial.SECONDS)[1], self.server.returncode), (b"", 0))
 
     def test_the_terminal_is_closed(self):
         self.finish()
@@ -376,12 +389,14 @@ class Files(Page):
 
     def test_a_book_that_is_not_there_and_none_at_all(self):
         self.finish()
-        self.start(str(self.folder / "new.abc"))
-        self.assertEqual((self.book()["lines"], self.book()["saved"]), ([""], None))
+        path = self.folder / "new.abc"
+        self.start(str(path))
+        state = self.book()
+        self.assertEqual((state["lines"], state["saved"], state["unsaved"]), ([""], None, False))
         self.edit(0, 1, "X:1", "K:C", "C", "")
-        self.save()
-        self.assertEqual((self.folder / "new.abc").read_bytes(), b"X:1\nK:C\nC\n")
-        self.finish()
+        self.assertFalse(self.save()["unsaved"])
+        self.assertEqual(path.read_bytes(), b"X:1\nK:C\nC\n")
+        self.finish(new=path)
         self.start()
         self.assertEqual((self.book()["name"], self.edit(0, 1, "X:1")["written"], self.save()["status"]), ("", [1], 400))
         self.finish()
@@ -415,7 +430,7 @@ class Files(Page):
         self.assertEqual(self.path.read_bytes(), b"% words\r\nX:1\r\nK:C\r\nC")
 
     def test_lines_of_mixed_ends(self):
-        """The line before the last one changes only where it was the last one, or becomes it."""
+        """The line before the last one changes only if it was the last one, or becomes it."""
         self.finish()
         self.path.write_bytes(b"X:1\r\nK:C\nC")
         self.start(str(self.path))
@@ -499,6 +514,14 @@ class Files(Page):
         self.assertEqual(self.path.read_bytes(), BOOK)
         self.finish()
 
+    def test_a_book_in_a_folder_that_is_missing(self):
+        missing = self.folder / "missing"
+        words = [sys.executable, str(trial.CLIENTS / "page"), str(missing / "book.abc"), "--program", str(self.folder / "program")]
+        ran = subprocess.run(words, capture_output=True, text=True, timeout=trial.SECONDS)
+        said = f"page: {missing}: there is no such folder; make it first, or correct the name of the book\n"
+        self.assertEqual((ran.returncode, ran.stdout, ran.stderr), (1, "", said))
+        self.finish()
+
     def test_no_file_has_the_name_of_the_book(self):
         """The server goes on, says why, and saves nothing there."""
         for make, remove in ((os.mkfifo, os.unlink), (os.mkdir, os.rmdir), (lambda path: os.symlink("elsewhere", path), os.unlink)):
@@ -560,7 +583,7 @@ class Strangers(Page):
         self.finish()
         self.start(str(self.folder / "other.abc"))
         self.assertNotEqual(self.key(), key)
-        self.finish()
+        self.finish(new=self.folder / "other.abc")
 
     def test_proofs(self):
         """A page that has the key gets the token of this start, and nobody else does."""
@@ -653,7 +676,7 @@ class Strangers(Page):
         self.finish()
         self.start(str(self.folder / "a\x1b[31m\nb\u202e.abc"))
         self.assertEqual(self.book()["name"], "a?[31m?b?.abc")
-        self.finish()
+        self.finish(new=self.folder / "a?[31m?b?.abc")
         words = [sys.executable, str(trial.CLIENTS / "page"), str(self.folder / "\x1b[31m" / "book"), "--program", str(self.folder / "\x1b[31m")]
         said = subprocess.run(words, capture_output=True, timeout=trial.SECONDS, env={**os.environ, "XDG_STATE_HOME": str(self.folder)}).stderr
         self.assertEqual((said.count(b"\x1b"), said.count(b"?[31m"), said.count(b"\n")), (0, 1, 1))

@@ -42,6 +42,18 @@ class Empty(test_page_in_browser.Browser):
         self.type("X")
         self.wait(lambda: not self.run_script(STARTS))
 
+    def test_a_new_book_says_that_there_is_no_file_yet(self):
+        """Until the first save makes it."""
+        says = "return document.querySelector('#starter p').textContent"
+        self.finish()
+        self.path.unlink()
+        self.start(str(self.path))
+        self.load()
+        self.wait(lambda: self.run_script(says) == "There is no file book.abc yet. The first save makes it.")
+        self.press("s", CONTROL)
+        self.wait(lambda: self.run_script(says) == "The book is empty.")
+        self.assertEqual(self.path.read_bytes(), b"")
+
     def test_an_empty_roll_says_why(self):
         self.type("Some words")
         self.says("This text has no tune. A tune begins with a line X: and its number, as X:1.")

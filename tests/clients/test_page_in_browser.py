@@ -1,4 +1,4 @@
-"""The page in a real browser. It is skipped where there is none."""
+"""The page in a real browser. It is skipped if there is none."""
 
 import os
 import random
@@ -100,7 +100,7 @@ class Kept(unittest.TestResult):
 
     def __init__(self):
         super().__init__()
-        self.wrong = []  # where it is shown, and the error
+        self.wrong = []  # how it is reported, and the error
 
     def addError(self, _, error):
         self.wrong.append(("addError", error))
@@ -238,7 +238,7 @@ class Browser(test_page.Page):
         self.wait(lambda: all(word in self.run_script(label) for word in words))
 
     def hear(self, seconds: float, *keys):
-        """Moves the clock of the sound on, and waits till just these notes were handed over so far."""
+        """Moves the clock of the sound on, and waits till just these notes are scheduled so far."""
         self.run_script("clock = arguments[0]", seconds)
         self.wait(lambda: [key for _, key in self.run_script("return played")] == list(keys))
 
@@ -345,7 +345,7 @@ class Editing(Browser):
         return self.wait(lambda: self.run_script("return document.getElementById(`tune-${arguments[0]}`)", at))
 
     def stands_at(self, line: str):
-        """Waits till the text has the focus, and the caret stands in this line."""
+        """Waits till the text has the focus, and the caret is in this line."""
         self.wait(lambda: self.run_script(STANDING) == line)
 
     def test_the_next_fault(self):
@@ -427,7 +427,7 @@ class Editing(Browser):
         self.assertTrue(titles or not fresh.files)
 
     def shows_some_of(self, titles: list) -> bool:
-        """Whether the list shows those of these titles that stand at its places, one at least where there is one."""
+        """Whether the list shows the titles of its places, and at least one if there is one."""
         shown = self.run_script(TITLES)
         return bool(shown or not titles) and shown == [titles[row[0]] for row in shown if row[0] < len(titles)]
 

@@ -37,7 +37,7 @@ window.heard = () => sources.filter((source) => {
   while (!(node.goesTo instanceof DynamicsCompressorNode)) node = node.goesTo;
   return node.gain.value > 0;
 }).map((source) => Math.round(69 + 12 * Math.log2(source.frequency.value / 440)));
-"""  # the keys of the notes that were handed over and go through an open voice
+"""  # the keys of the scheduled notes of voices that are not muted
 
 
 class Practising(music_page.MusicPage):
@@ -100,7 +100,7 @@ class Practising(music_page.MusicPage):
         self.hear(2, 62, 62, 64)
 
     def test_a_tempo_while_it_plays(self):
-        """What is not handed over yet, a quarter of a second ahead, follows in the new tempo."""
+        """What is not scheduled yet, a quarter of a second ahead, follows in the new tempo."""
         self.open(SCALE, "4 bars")
         self.click("practise")
         self.click("play")
@@ -239,12 +239,14 @@ class Practising(music_page.MusicPage):
         """All of it is in a window of 390 pixels, and nothing scrolls aside."""
         self.size(390, 844)
         self.open(DUET, "2 voices")
+        self.edit(0, 0, "% not saved")
+        self.wait(self.driver.find_element("id", "unsaved").is_displayed)
         self.click("practise")
-        for identifier in ("from-caret", "tempo", "full-tempo", "count-in", "looping", "loop-from", "loop-to", "loop-lines", "narrower", "wider"):
+        for identifier in ("unsaved", "save", "from-caret", "tempo", "full-tempo", "count-in", "looping", "loop-from", "loop-to", "loop-lines", "narrower", "wider"):
             element = self.driver.find_element("id", identifier)
             self.run_script("arguments[0].scrollIntoView({ block: 'nearest' })", element)
             self.assertTrue(element.is_displayed(), identifier)
             box = self.run_script("const { left, right } = arguments[0].getBoundingClientRect(); return [left, right]", element)
-            self.assertTrue(0 <= box[0] and box[1] <= self.run_script("return innerWidth"), (identifier, box))
-        self.assertEqual(self.run_script("return document.documentElement.scrollWidth - innerWidth"), 0)
+            self.assertTrue(0 <= box[0] and box[1] <= 390, (identifier, box))
+        self.assertEqual(self.run_script("return document.documentElement.scrollWidth"), 390)
         self.assertGreater(self.run_script("return document.getElementById('roll').clientHeight"), 80)

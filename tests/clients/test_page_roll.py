@@ -93,7 +93,7 @@ class Roll(music_page.MusicPage):
         self.wait(lambda: column() == swatches)
 
     def test_light_and_dark(self):
-        """The colours of roll and voices follow while the page is open, and stand out from the paper."""
+        """The colours of roll and voices follow while the page is open, and differ from the paper."""
         self.open(["X:1", "L:1/4", "V:1", "V:2", "V:3", "K:C", "V:1", "C4|", "V:2", "!ppp!E4|", "V:3", "G4|"], "3 voices")
         found = []
         try:

@@ -1,4 +1,4 @@
-"""Scripts of the page, in node. They are skipped where it is not installed."""
+"""Scripts of the page, in node. They are skipped if it is not installed."""
 
 import shutil
 import subprocess

@@ -1,4 +1,4 @@
-"""Scripts of the page that work on the text, in node. They are skipped where it is not installed."""
+"""Scripts of the page that work on the text, in node. They are skipped if it is not installed."""
 
 import test_page_scripts
 import trial

@@ -397,7 +397,7 @@ class Running(Process):
         """It moves no cursor."""
         self.path = self.folder / "a\x1b[2Jb\n.abc"
         self.path.write_bytes(TUNE + b"&\n")
-        self.start()
+        self.start("--no-hints")
         self.assertRegex(self.line(), r"^written 1\.mid")
         self.assertEqual(self.line().partition(":")[0], f"{self.folder}/a?[2Jb?.abc")
         self.interrupt()

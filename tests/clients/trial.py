@@ -18,7 +18,7 @@ SECONDS = 300  # that a process may take, on a slow machine too
 sys.path[:0] = [str(CLIENTS), str(TOP / "python")]
 
 program = ""
-oracle = []  # the command of the program that says what is wanted
+oracle = []  # the command of the program whose answers are expected
 saves, tunes, changes, seed = 25, 20, 60, 1
 
 
@@ -75,7 +75,7 @@ def files_in(folder) -> dict:
 
 
 def hear_of_the_terminal(test: unittest.TestCase):
-    """Lets the processes that a test starts hear when their terminal is closed, also where this one was started by `nohup`."""
+    """Lets the processes that a test starts hear when their terminal is closed, also if this one was started by `nohup`."""
     before = signal.signal(signal.SIGHUP, signal.SIG_DFL)
     test.addCleanup(signal.signal, signal.SIGHUP, before)
 
@@ -121,6 +121,6 @@ def random_line(chance: random.Random) -> str:
 
 
 def random_tune(chance: random.Random, number: int) -> list:
-    """The lines of a tune, with a blank one behind them."""
+    """The lines of a tune, with a blank one after them."""
     body = [random_line(chance) or "C" for _ in range(chance.randrange(1, 8))]
     return [f"X:{number}", f"T:Tune {number} {chance.randrange(1000)}", "M:4/4", f"K:{chance.choice('CDEFGAB')}", *body, ""]

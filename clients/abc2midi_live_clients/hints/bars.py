@@ -36,7 +36,7 @@ class Piece:
         self.is_compared &= not item.segment.has_fault
 
     def fills(self) -> bool:
-        """Tells whether it is a whole bar, or rests of whole bars."""
+        """Returns whether it is a whole bar, or rests of whole bars."""
         bar = self.meter.grains
         return self.length == bar or self.rests_alone and self.length % bar == 0
 

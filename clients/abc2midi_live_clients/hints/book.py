@@ -86,6 +86,6 @@ def free_music(lines: tuple[bytes, ...], start: int, after_tune: bool) -> Iterat
 
 
 def looks_like_music(text: bytes) -> bool:
-    """Tells whether a line has a bar line and notes, and no other letters but those of common decorations."""
+    """Returns whether a line has a bar line and notes, and no other letters but those of common decorations."""
     bare = _UNREAD.sub(b"", text)
     return b"|" in bare and _MUSIC.match(bare) is not None and len(_NOTE.findall(bare)) >= LEAST_NOTES

@@ -153,7 +153,7 @@ class TuneText:
         return first
 
     def _set_reach(self, line: bytes) -> None:
-        """Sets how far accidentals reach, if the line says so."""
+        """Sets how far accidentals reach, if the line is such a directive."""
         found = _REACH.match(line)
         if found:
             self.reach = found[1]

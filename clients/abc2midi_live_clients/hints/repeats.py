@@ -36,7 +36,7 @@ class Strain:
         return max([1 + self.closes, *(max(ending.passes) for ending in self.endings)])
 
     def is_left_open(self) -> bool:
-        """Tells whether a `|:` opens it and nothing closes it."""
+        """Returns whether a `|:` opens it and nothing closes it."""
         return self.opening is not None and self.passes() == 1 and (self.plays or bool(self.endings))
 
 

@@ -1,4 +1,4 @@
-"""The segments of a music line: the music between bar lines, endings and fields in brackets. What a segment says does not
+"""The segments of a music line: the music between bar lines, endings and fields in brackets. The meaning of a segment does not
 depend on what surrounds it, but for the meter and a tuplet that goes on, so that it is read once for all its copies."""
 
 from __future__ import annotations
@@ -55,7 +55,7 @@ class Mark(NamedTuple):
 
 
 class Segment(NamedTuple):
-    """What a segment says. Its length is in units times `WHOLE`, without its `bars` of rest."""
+    """The meaning of a segment. Its length is in units times `WHOLE`, without its `bars` of rest."""
 
     length: int = 0
     bars: int = 0
@@ -93,7 +93,7 @@ def cuts(text: bytes) -> Iterator[Cut]:
 
 @lru_cache(maxsize=MOST_KEPT)
 def segment_of(music: bytes, compound: bool, carried: Optional[Carried]) -> Segment:
-    """Returns what a segment says, in a compound meter or another, with a tuplet that goes on or none."""
+    """Returns the meaning of a segment, in a compound meter or another, with a tuplet that goes on or none."""
     if carried is None and _PLAIN.match(music):
         lengths = [units_of(text) for text in _LENGTHS.findall(music)]
         if all(lengths):
@@ -130,7 +130,7 @@ class _Reader:
         self.can_break = False  # a note is there for the first one
 
     def read(self, music: bytes) -> Segment:
-        """Returns what a segment says."""
+        """Returns the meaning of a segment."""
         for token in tokens(music):
             kind, start, text = token
             if kind in kinds.TIMED:

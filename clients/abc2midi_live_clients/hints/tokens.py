@@ -96,7 +96,7 @@ def chord_notes(chord: bytes) -> tuple[tuple[ChordNote, ...], bytes]:
 
 
 class BarLine(NamedTuple):
-    """What a bar line says: colons before it and after it, and whether it is more than one thin line."""
+    """What a bar line means: colons before it and after it, and whether it is more than one thin line."""
 
     closes: int
     opens: int
@@ -105,7 +105,7 @@ class BarLine(NamedTuple):
 
 @lru_cache(maxsize=1024)
 def bar_line(text: bytes) -> BarLine:
-    """Returns what a bar line says."""
+    """Returns the meaning of a bar line."""
     middle = text.strip(b":")
     if not middle:
         return BarLine(len(text) - 1, len(text) - 1, True)

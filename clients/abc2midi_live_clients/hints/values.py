@@ -97,7 +97,7 @@ def units_of(text: bytes) -> int:
 
 
 class NoteText(NamedTuple):
-    """What a note says: an alteration or None, its capital letter, its octave from that of `C`, and its length text."""
+    """The parts of a note: an alteration or None, its capital letter, its octave from that of `C`, and its length text."""
 
     alteration: Optional[int]
     letter: bytes
@@ -107,7 +107,7 @@ class NoteText(NamedTuple):
 
 @lru_cache(maxsize=16384)
 def note_of(text: bytes) -> NoteText:
-    """Returns what a note says."""
+    """Returns the parts of a note."""
     found = _NOTE.match(text)
     if not found:
         raise ValueError(text)

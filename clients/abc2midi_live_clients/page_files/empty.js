@@ -6,6 +6,11 @@ export const STARTER = ["X:1", "T:My first tune", "M:4/4", "L:1/8", "Q:1/4=120",
 /** Whether a text has nothing in it. */
 export const isBlank = (lines) => lines.length < 100 && lines.every((line) => !line.trim());
 
+/** What the page says over an empty sheet. `saved` is the digest of the file that was read or saved last, null if there was none. */
+export function whyBlank(name, saved) {
+  return name && saved === null ? `There is no file ${name} yet. The first save makes it.` : "The book is empty.";
+}
+
 /** Why no tune, or no note of it, is to be seen or heard; nothing if there are notes. `row` is the tune of the caret, `notes` the
  * number of its notes, null if it is not known. */
 export function whyNothing({ lines, rows, faults, row, notes }) {
@@ -35,9 +40,10 @@ export class Starter {
     root.querySelector("button").addEventListener("click", () => this.insert());
   }
 
-  /** The text became another one, or the book is there. */
-  look() {
+  /** The text became another one, or the book is there, or it was saved. */
+  look(name, saved) {
     this.root.hidden = !isBlank(this.sheet.text.lines);
+    this.root.querySelector("p").textContent = whyBlank(name, saved);
   }
 
   /** Inserts the tune as an edit that can be undone, with its title selected. */

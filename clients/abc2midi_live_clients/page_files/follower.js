@@ -129,7 +129,7 @@ export class Follower {
     return places.rangeOf(start.line - this.first, last - this.first);
   }
 
-  /** Puts the caret at the place of a note: of the tone that sounds at a tick, where several are tied. */
+  /** Puts the caret at the place of a note: of the tone that sounds at a tick, if several are tied. */
   goTo(note, tick) {
     const tones = this.places?.tonesOf(note) ?? [];
     const { token, tone } = tones.findLast((one) => one.token.start <= tick) ?? tones[0] ?? {};

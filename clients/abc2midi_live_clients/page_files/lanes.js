@@ -1,6 +1,6 @@
 // Unisons: notes of several voices on one key at one time share the row of the key, each in a lane of its own.
 
-/** By note, where others are in unison with it: its lane, counted from above, and how many there are. */
+/** By note, if others are in unison with it: its lane, counted from above, and how many there are. */
 export function lanesOf(notes) {
   const groups = new Map(); // by key: the notes that overlap, and the tick at which the last one ends
   const lanes = new Map();

@@ -74,7 +74,7 @@ function foundIn(first, last) {
 const tuneAt = (line) => placeOf(rows, line + 1) - 1;
 const endOf = (at) => rows[at + 1]?.[0] ?? text.lines.length;
 
-/** What stands around the text follows it. */
+/** Renews what is around the text. */
 function follow() {
   faults = placed(book.faults);
   hints = placed(book.hints);
@@ -97,7 +97,7 @@ function tell() {
   tunes.show(rows, at);
   tally();
   remarks.show(foundIn(at < 0 ? 0 : rows[at][0], endOf(at)), text.lines, line);
-  starter.look();
+  starter.look(book.name, link.state.saved);
   if (!player.playing) show(at < 0 ? null : rows[at]);
   const played = (row) => row[1] === shown.number && row[3];
   staves.see(tuneOf(text.lines, rows, player.playing ? rows.findIndex(played) : at));
@@ -315,6 +315,7 @@ link.told = () => {
     say(trouble ? `${book.name} on disk cannot be read: ${trouble}.` : `${book.name} on disk can be read again.`);
   }
   book.trouble = trouble;
+  if (link.state) starter.look(book.name, link.state.saved);
   if (link.state && book.name) files.askAboutTheFile();
   if (!link.isStuck) questions.withdraw("refused");
   if (slow && !link.away) {

@@ -1,12 +1,12 @@
-// Plays a score by Web Audio: notes are handed over a moment before they sound.
+// Plays a score by Web Audio: notes are scheduled a moment before they sound.
 
 import { secondOf, tickOf } from "./midi.js";
 import { soundClick, soundNote } from "./sounds.js";
 
 const AHEAD = 0.25, AHEAD_HIDDEN = 2.5, EVERY = 60; // seconds, seconds in a tab that is not seen, milliseconds
-const LONGEST = 4096; // notes handed over at once
+const LONGEST = 4096; // notes scheduled at once
 const SOON = 0.1; // seconds from a press of the button to the first note
-const MOST_LEGS = 64; // rounds of a loop handed over at once
+const MOST_LEGS = 64; // rounds of a loop scheduled at once
 
 /** The time at which a tick of a leg sounds. */
 function timeIn({ score, tick, time, speed }, at) {
@@ -29,7 +29,7 @@ export class Player {
     this.loop = null; // [from, to], in ticks
     this.silent = new Set(); // voices
     this.outs = new Map(); // by voice: what its notes go through
-    this.sounding = []; // notes that were handed over
+    this.sounding = []; // notes that are scheduled
     this.moved = () => {};
     this.ended = () => {};
     document.addEventListener("visibilitychange", () => this.timer && this.look());
@@ -68,7 +68,7 @@ export class Player {
     for (const { at, isFirst } of count?.clicks ?? []) soundClick(this.audio, now + at * each, isFirst, this.out);
     this.legs = [];
     this.next = null;
-    this.handed = now;
+    this.scheduled = now;
     this.enter({ score, tick: from, time: now + (count?.length ?? 0) * each });
     this.timer ??= setInterval(() => this.look(), EVERY);
     this.look();
@@ -137,10 +137,10 @@ export class Player {
       this.sound(note, start, timeIn(leg, last), last);
       this.at += 1;
     }
-    this.handed = Math.max(this.handed, until);
+    this.scheduled = Math.max(this.scheduled, until);
   }
 
-  /** The score was changed: what follows from the next bar on that is not handed over is that of the new one. */
+  /** The score was changed: what follows from the next bar on that is not scheduled is that of the new one. */
   change(score) {
     if (!this.playing || !this.timer) return;
     const { bars, notes, end } = this.score;
@@ -154,7 +154,7 @@ export class Player {
   setSpeed(speed) {
     this.speed = speed;
     if (!this.timer) return;
-    const leg = this.legs.at(-1), time = Math.max(this.handed, leg.time);
+    const leg = this.legs.at(-1), time = Math.max(this.scheduled, leg.time);
     this.enter({ score: leg.score, tick: tickIn(leg, time), time }, this.at);
     for (const note of this.sounding) this.bend(note, this.legs.at(-1));
   }
@@ -164,7 +164,7 @@ export class Player {
     const isSame = loop?.[0] === this.loop?.[0] && loop?.[1] === this.loop?.[1];
     this.loop = loop;
     if (!this.timer || !loop || isSame) return;
-    const ahead = tickIn(this.legs.at(-1), this.handed);
+    const ahead = tickIn(this.legs.at(-1), this.scheduled);
     if (this.inLoop(this.tick) !== this.tick || ahead > loop[1]) this.seek(this.tick);
   }
 
@@ -197,7 +197,7 @@ export class Player {
     if (note.off > leg.time && note.last >= leg.tick) note.endAt(timeIn(leg, note.last));
   }
 
-  /** Cuts off all that was handed over. */
+  /** Cancels all scheduled notes. */
   hush() {
     const old = this.out;
     this.out = this.audio.createDynamicsCompressor();

@@ -194,7 +194,7 @@ export class Practice {
     event.preventDefault();
   }
 
-  /** Tells where the cursor is to those who do not see it. */
+  /** Announces the place of the cursor to those who do not see it. */
   tell(tick) {
     const { score, grid, scroller } = this.roll;
     if (!score) return;

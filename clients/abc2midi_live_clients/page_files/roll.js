@@ -50,7 +50,7 @@ export class Roll {
     new ResizeObserver(() => this.measure()).observe(scroller);
   }
 
-  /** The colours of the voices, on what the page has behind them now. */
+  /** The colours of the voices on the present background. */
   get colours() {
     const style = getComputedStyle(this.scroller);
     const grounds = ["paper", "row", "loop"].map((name) => style.getPropertyValue(`--${name}`).trim() || "#ffffff");

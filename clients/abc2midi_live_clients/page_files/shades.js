@@ -1,4 +1,4 @@
-// Colours of voices that can be told from what is behind them, on paper and on slate.
+// Colours of voices that differ enough from their background, light or dark.
 
 const HUES = [212, 28, 145, 330, 265, 50, 185, 0, 95, 300, 240, 15, 165, 70, 200];
 const SATURATION = 0.7;
@@ -41,7 +41,7 @@ export class Shades {
     this.found = new Map();
   }
 
-  /** The colour of a voice for notes of a velocity: the louder, the more it stands out. */
+  /** The colour of a voice for notes of a velocity: the louder, the greater its contrast. */
   of(voice, velocity = 127) {
     const loud = Math.round((velocity / 127) * 8) / 8, name = `${voice % HUES.length} ${loud}`;
     if (!this.found.has(name)) this.found.set(name, this.shade(HUES[voice % HUES.length], LEAST + (MOST - LEAST) * loud));

@@ -251,7 +251,7 @@ export class Sheet {
     this.scroller.scrollTop = this.aligned(top - clientHeight / 3);
   }
 
-  /** Goes to a place, some lines below the top. A fault that begins there is seen, where its line is longer than the view. */
+  /** Goes to a place, some lines below the top. A fault that begins there is visible, even if its line is longer than the view. */
   go(line, column = 0, focus = false) {
     this.stretch();
     this.scroller.scrollTop = line < 3 ? 0 : (line - 2) * this.height + ROOM;

@@ -16,12 +16,12 @@ export class Tunes {
     this.faultsOf = () => 0; // of a tune: how many faults it has
     this.drawn = new Map(); // by place: the element of its row
     this.here = -1; // the tune that is shown
-    this.at = -1; // the one that the keyboard stands at
+    this.at = -1; // the one with the frame of the keyboard
     this.lit = new Map(); // by number: "written" or "removed"
     this.chosen = () => {};
     list.addEventListener("scroll", () => this.draw());
     list.addEventListener("keydown", (event) => this.key(event));
-    list.addEventListener("focus", () => list.matches(":focus-visible") && this.stand(Math.max(0, this.here)));
+    list.addEventListener("focus", () => list.matches(":focus-visible") && this.frame(Math.max(0, this.here)));
     list.addEventListener("click", (event) => {
       const row = event.target.closest("[role=option]");
       if (row) this.chosen(this.rows[row.dataset.at]);
@@ -41,7 +41,7 @@ export class Tunes {
     this.rows = this.filter.rows(all);
     const here = this.rows.indexOf(this.shown), moved = here !== this.here;
     this.here = here;
-    if (moved && here >= 0) this.stand(here);
+    if (moved && here >= 0) this.frame(here);
     else this.draw();
   }
 
@@ -69,7 +69,7 @@ export class Tunes {
   }
 
   /** Moves the keyboard's place, and keeps it in view. */
-  stand(at) {
+  frame(at) {
     this.at = Math.max(0, Math.min(this.rows.length - 1, at));
     this.stretch();
     const { height, list } = this, top = this.at * height;
@@ -88,7 +88,7 @@ export class Tunes {
       Home: 0,
       End: this.rows.length - 1,
     }[event.key];
-    if (to !== undefined) this.stand(to);
+    if (to !== undefined) this.frame(to);
     else if (event.key === "Enter" && this.rows[this.at]) this.chosen(this.rows[this.at]);
     else return;
     event.preventDefault();
@@ -110,11 +110,11 @@ export class Tunes {
     const [first, last] = this.seen();
     this.stretch();
     for (const [at, row] of this.drawn) if (at < first || at >= last) this.takeOut(at, row);
-    let behind = null; // the row behind: so each new one comes in at its place, and none is moved
+    let next = null; // the row after it: a new row is inserted before that, so none is moved
     for (let at = last - 1; at >= first; at -= 1) {
-      const row = this.drawn.get(at) ?? this.putIn(at, behind);
+      const row = this.drawn.get(at) ?? this.putIn(at, next);
       this.write(row, at);
-      behind = row;
+      next = row;
     }
     if (this.drawn.has(this.at)) this.list.setAttribute("aria-activedescendant", `tune-${this.at}`);
     else this.list.removeAttribute("aria-activedescendant");
@@ -126,7 +126,7 @@ export class Tunes {
   }
 
   /** Puts in the row of a place, before another one. */
-  putIn(at, behind) {
+  putIn(at, next) {
     const row = document.createElement("div");
     row.id = `tune-${at}`;
     row.role = "option";
@@ -135,7 +135,7 @@ export class Tunes {
     row.ariaPosInSet = String(at + 1);
     row.append(document.createElement("b"), document.createElement("span"));
     this.drawn.set(at, row);
-    return this.space.insertBefore(row, behind);
+    return this.space.insertBefore(row, next);
   }
 
   /** Writes into a row what its tune is now. */

@@ -14,7 +14,7 @@ not_true false e = refl
 is_the_byte : (a b : ℕ) → (a == b) ≡ true → a ≡ b
 is_the_byte a b e = grind (arith)
 
--- Before a place where the byte has not come, it does not stand.
+-- Before a place up to which the byte has not come, it does not occur.
 clean : (byte at : ℕ) (text : List ℕ) → Nowhere (Passes (is_byte byte) text) 0 at → All (λ b. (b == byte) ≡ false) (take at text)
 clean byte at text before = λ k d below.
     let inside : k < at = omega (arith, below, length-take at text) in

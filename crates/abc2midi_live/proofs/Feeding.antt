@@ -61,7 +61,7 @@ line_ended before after d begun piece line begun' stored text goes_on clean clea
     ∙ served extent (input_lines (is_whole extent) rest) later
     ∙ ap (λ t. with_text_before text (if goes_on then t else nothing_more d later)) (sym next)
 
--- what is answered to a line that a piece ends, where nothing comes after it
+-- the answer to a line that a piece ends, if nothing comes after it
 line_alone : (future : OfLines) (begun piece line : List ℕ) (extent : Extent) (stored : List StoreAnswer) → IsClean begun → IsClean piece → line ≡ take most_kept (begun ++ piece)
     → future_of_bytes future begun extent (piece ++ 10 ∷ []) stored ≡ future extent (line ∷ []) stored
 line_alone future begun piece line extent stored clean clean_piece e =
@@ -70,7 +70,7 @@ line_alone future begun piece line extent stored clean clean_piece e =
     ∙ ap (λ l. future extent (take most_kept (begun ++ piece) ∷ l) stored) (input_lines-nil (is_whole extent))
     ∙ ap (λ l. future extent (l ∷ []) stored) (sym e)
 
--- a piece without the end of a line is kept
+-- a piece without the end of a line is stored
 pub piece_kept : (future : OfLines) (d : Directory) (begun piece begun' : List ℕ) → IsClean begun → IsClean piece → begun' ≡ take most_kept (begun ++ piece)
     → Answers (future_change (future_of_bytes future begun) (future_of_bytes future begun') d) piece [] [] true
 piece_kept future d begun piece begun' clean clean_piece e extent rest later =
@@ -112,7 +112,7 @@ last_alone future begun line extent stored clean short e =
 none_ahead : (future : OfLines) (begun : List ℕ) (stored : List StoreAnswer) → length begun ≤ 0 → future_of_bytes future begun Whole [] stored ≡ future Whole [] stored
 none_ahead future begun stored none = ahead_is future begun Whole [] [] stored (append-nil begun ∙ no_length begun none) ∙ ap (λ l. future Whole l stored) (input_lines-nil true)
 
--- how a machine stands towards lines
+-- the state of a machine that reads lines
 abbrev pub LineState : Type 0
 LineState = MachineState (List ℕ)
 
@@ -147,7 +147,7 @@ tells_after before mid d e piece extent rest old w new (text, stored, wrote, say
   follows_both old.store w.store new.store stored stored' d e t.directory follows follows',
 )
 
--- what is written where the machine ends with a piece
+-- the text written if the machine ends with a piece
 tells_ended : {X : Type 0} (before after : Future X) (d e : Directory) (piece : List X) (extent : Extent) (rest : List X) (old new : Outlets)
     → Serves d (future_change before after e) piece old new false → Tells d (before extent (piece ++ rest)) old new
 tells_ended before after d e piece extent rest old new (text, stored, wrote, says, follows) = (
@@ -158,14 +158,14 @@ tells_ended before after d e piece extent rest old new (text, stored, wrote, say
   follows,
 )
 
--- what is answered to a piece, where nothing is to be written yet after it
+-- the answer to a piece, if nothing is to be written yet after it
 tells_all : {X : Type 0} (before mid : Future X) (d e : Directory) (piece : List X) (old new : Outlets)
     → Serves d (future_change before mid e) piece old new true → mid SoFar [] [] ≡ Some (run_output [] e) → Tells d (before SoFar piece) old new
 tells_all before mid d e piece old new served none =
     subst (λ p. Tells d (before SoFar p) old new) (append-nil piece)
     (tells_after before mid d e piece SoFar [] old new new served ([], run_output [] e, none, Appends-nil new.output, follows_none new.store e))
 
--- a piece that the store has answered is carried out, where nothing is to be written yet after it
+-- a piece that the store has answered is carried out, if nothing is to be written yet after it
 pub carried_all : {X : Type 0} (before after : Future X) (d e : Directory) (piece : List X) (stored : List StoreAnswer) (text : List ℕ) (old new : StoreSeen)
     → Answers (future_change before after e) piece stored text true → Follows old new stored d e → after SoFar [] [] ≡ Some (run_output [] e) → CarriesOut d (before SoFar piece) old new
 carried_all before after d e piece stored text old new says follows none =
@@ -226,7 +226,7 @@ fed_end {before} {mid} after {d} {e} f {piece} {rest} line back {old} {w} new fe
       all.4,
     )
 
--- the rest of the piece is kept
+-- the rest of the piece is stored
 pub fed_all : {before mid : Ahead} (after : Ahead) {d e : Directory} {piece rest line : List ℕ} {old new : Outlets} → Fed before mid d e piece rest old new → rest ≡ line
     → Answers (future_change mid after e) line [] [] true → Serves d (future_change before after e) piece old new true
 fed_all {before} {mid} after {d} {e} {piece} {rest} {line} {old} {new} fed is says =
@@ -263,7 +263,7 @@ kept_first future d next w new kept asked none =
 pub none_ends : EndsOneAtMost []
 none_ends = ([], All-nil (λ b. (b == 10) ≡ false), inl refl)
 
--- memory is short
+-- an allocation fails
 pub fed_broken : {before mid : Ahead} {d e : Directory} {piece rest : List ℕ} (next back : List ℕ) {old w : Outlets} (new : Outlets)
     → Fed before mid d e piece rest old w → rest ≡ next ++ back → EndsOneAtMost next → Keeps w.output new.output
     → CarriesOut e (mid Stopped next) w.store new.store → mid SoFar [] [] ≡ Some (run_output [] e) → FailsToFeed d before piece old new Memory
@@ -308,7 +308,7 @@ serve_line (Err Write) before before' after begun piece line begun' old new same
 serve_line (Err Memory) before before' after begun piece line begun' old new same clean clean_piece is none h =
     (h.0, line_carried before before' begun piece line Stopped old.store new.store same clean clean_piece is h.1)
 
--- the last line is served: what is then told is what is written after the line that has begun
+-- the last line is served: the text is that written after the line that has begun
 last_line : (before before' : LineState) (begun line : List ℕ) (old new : Outlets) → before' ≡ before → line ≡ begun → IsClean begun → 0 < length begun → length begun ≤ most_kept
     → Tells before'.directory (before'.future Whole (line ∷ [])) old new → Tells before.directory (future_of_bytes before.future begun Whole []) old new
 last_line before before' begun line old new same e clean some short (stored, t, is, wrote, follows) = (
@@ -381,7 +381,7 @@ last_fault Read before before' begun line old new same is clean short h = h
 last_fault Write before before' begun line old new same is clean short h = inr (last_carried before before' begun line SoFar old.store new.store same is clean short h)
 last_fault Memory before before' begun line old new same is clean short h = (h.0, last_carried before before' begun line Stopped old.store new.store same is clean short h.1)
 
--- where nothing has come of a last line, the last words are written
+-- if nothing has come of a last line, the last words are written
 pub finish_none : (r : Result (Unit {0}) RunFault) (s : LineState) (begun words : List ℕ) (old : Outlets) (new : Option (List ℕ)) → length begun ≤ 0
     → s.future Whole [] [] ≡ Some (run_output words s.directory) → future_of_bytes s.future begun SoFar [] [] ≡ Some (run_output [] s.directory)
     → MatchResult r (λ _. Appends old.output new words) (λ fault. fault ≡ Write)
@@ -417,8 +417,7 @@ not_empty begun len e h = grind (arith, nat_tests)
 abbrev at : Option (List ℕ) → Outlets → RunEnds
 at input out = record { input = input; out = out }
 
--- What has been read of an input has been served: the bytes, at least as many as reads were made, and what they led
--- to.
+-- The part of an input that was read is served: at least as many bytes as there were reads, and their results.
 pub record Heard (made : ℕ) (before now : Ahead) (d e : Directory) (input left : Option (List ℕ)) (old new : Outlets) : Type 0 where
   pub taken : List ℕ
   pub enough : made ≤ length taken
@@ -491,7 +490,7 @@ heard_left {before} {mid} {d} {e} {input} {left} left' {old} {w} new Memory h (I
 heard_left {before} {mid} {d} {e} {input} {left} left' {old} {w} new Memory h (LastInHand taken took end first) =
     LastInHand (h.taken ++ taken) (Consumes-trans input left left' h.taken taken h.took took) end (first_after before mid d e h.taken taken (10 ∷ []) old w new h.served first)
 
--- so many reads were made
+-- the number of reads
 pub heard_so_far : {made : ℕ} {before mid : Ahead} {d e : Directory} {input left : Option (List ℕ)} {old new : Outlets} → Heard made before mid d e input left old new
     → mid SoFar [] [] ≡ Some (run_output [] e) → Leaves d before (at input old) (at left new) Read
 heard_so_far {before} {mid} {d} {e} {input} {left} {old} {new} h none = (h.taken, h.took, tells_all before mid d e h.taken old new h.served none)
@@ -557,7 +556,7 @@ turn_unserved before d input left old new Write (took, end) none (inl carried) =
 turn_unserved before d input left old new Write (took, end) none (inr carried) = AtTheEnd [] took end carried
 turn_unserved before d input left old new Memory (took, end) none h = LastInHand [] took end (kept_first before d (10 ∷ []) old new h.0 h.1 none)
 
--- a read that gives nothing found the end of the input
+-- a read of no byte found the end of the input
 pub nothing_read : (count : ℕ) (buffer : List ℕ) (input left : Option (List ℕ)) → count ≤ 0 → 0 < length buffer → Consumes input left (take count buffer)
     → (count ≡ 0 → 0 < length buffer → IsAtEnd left) → Consumes input left [] × IsAtEnd left
 nothing_read count buffer input left none room took end =
@@ -569,7 +568,7 @@ pub fault_is : {T : Type 0} (r : Result T RunFault) (fault : RunFault) → IsErr
 fault_is (Ok x) fault h = let e = h.0 in cc
 fault_is (Err e) fault h = ap Err h.1
 
--- what a read's counts say of a run that ends with its fault
+-- a read's counts in a run that ends with its fault
 pub reads_exit : (fault : RunFault) (input : Option (List ℕ)) (failures failures' calls calls' : ℕ)
     → failures' ≡ raised failures (read_faults {T = Unit {0}} (Err fault)) → Reads {T = Unit {0}} input (read_counts failures calls) (read_counts failures' calls') (Err fault)
 reads_exit Read input failures failures' calls calls' e = Failed e

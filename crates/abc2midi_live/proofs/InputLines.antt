@@ -97,7 +97,7 @@ pub input_lines-begun : (line : List ℕ) → IsClean line → input_lines false
 unfolding input_lines
 input_lines-begun line clean = ap (λ parts. map (take most_kept) (whole_lines false parts)) (slice_split_none is_feed line clean)
 
--- where the input ends it is one, if it is not empty
+-- at the end of the input it is one, if it is not empty
 pub input_lines-last : (line : List ℕ) → IsClean line → 0 < length line → input_lines true line ≡ take most_kept line ∷ []
 unfolding input_lines
 input_lines-last line clean some = ap (λ parts. map (take most_kept) (whole_lines true parts)) (slice_split_none is_feed line clean)
@@ -108,7 +108,7 @@ unfolding input_lines
 input_lines-nil true = refl
 input_lines-nil false = refl
 
--- what there is room for
+-- the bytes that fit
 pub kept_front : (n : ℕ) (begun piece : List ℕ) → length begun ≤ n → begun ++ take (min (length piece) (n - length begun)) piece ≡ take n (begun ++ piece)
 kept_front n begun piece h =
     let room = n - length begun in
@@ -116,7 +116,7 @@ kept_front n begun piece h =
     let whole : length begun + room ≡ n = omega arith in
     ap (λ k. begun ++ take k piece) same ∙ ap (λ l. begun ++ l) (take_min room piece) ∙ sym (take-append-add begun piece room) ∙ ap (λ k. take k (begun ++ piece)) whole
 
--- what holds where a call succeeded
+-- a fact for the case that a call succeeded
 pub on_ok_branch : {T E X : Type 0} (r : Result T E) (x y z : X) → x ≡ (if is_ok r then y else z) → OnOk r (x ≡ y)
 on_ok_branch (Ok v) x y z e = e
 on_ok_branch (Err v) x y z e = tt

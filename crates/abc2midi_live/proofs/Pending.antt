@@ -181,7 +181,7 @@ builds_all text d e now run_output stores = λ extent later. stores extent later
 abbrev pub StopsWith : Text → Stage → List StoreAnswer → StoreSeen → StoreSeen → Type 0
 StopsWith text at now old new = (stopped : StopsBy at.directory (build_outcome_at Stopped text at) old new) × (stopped.0 ≡ now)
 
--- it stops before the store gives an answer
+-- it stops before the store answers
 pub stops_first : (text : Text) (at : Stage) (s : StoreSeen) → StopsWith text at [] s s
 stops_first text at s =
     let d = at.directory in
@@ -281,12 +281,12 @@ follows_job old new d n m done stored bytes file e f s h =
     (subst (λ (b : Option (List ℕ)). Follows old new (answer_of stored ∷ []) d (with_entry d m (entry_after (answer_of stored) b))) f
     (subst (λ (k : ℕ). Follows old new (answer_of stored ∷ []) d (with_entry d k (entry_after (answer_of stored) bytes))) e h))
 
--- the same where what was answered cannot be written
+-- the same if the answer cannot be written
 pub stores_job : (old new : StoreSeen) (n m : ℕ) (stored : Bool) (bytes file : Option (List ℕ)) → n ≡ m → bytes ≡ file
     → StoresOne old new (answer_of stored) n bytes → StoresOneAtMost old new m file
 stores_job old new n m stored bytes file e f h = inr (answer_of stored, λ d. follows_job old new d n m stored stored bytes file e f refl (h d))
 
--- what a publisher knows after a job that was done
+-- the publisher after a job that was done
 pub ends_done : (r : Result Bool AllocError) (p q : Publishing) (n : ℕ) (bytes : Option (List ℕ)) → result_unwrap_or r false ≡ true → q ≡ without_job p n (stored_as bytes)
     → IfOk r (λ stored. q ≡ without_job p n (entry_after (answer_of stored) bytes))
 ends_done (Ok true) p q n bytes is e = e
@@ -305,7 +305,7 @@ pub no_error : (r : Result Bool AllocError) (P : Type 0) → result_unwrap_or r 
 no_error (Ok stored) P is = tt
 no_error (Err x) P is = absurd (false≢true is)
 
--- what holds in any case holds after an error
+-- a fact for any case holds after an error
 pub in_error : (r : Result Bool AllocError) (P : Type 0) → P → OnErr r P
 in_error (Ok stored) P p = tt
 in_error (Err x) P p = p
@@ -342,7 +342,7 @@ at_none o A B e h = subst (λ o. MatchOption o A B) e h
 pub at_some : {T : Type 0} (o : Option T) (x : T) (A : Type 0) (B : T → Type 0) → o ≡ Some x → MatchOption o A B → B x
 at_some o x A B e h = subst (λ o. MatchOption o A B) e h
 
--- What is seen of a build: what it has told, and the store.
+-- The visible state of a build: the text that it has written, and the store.
 pub record BuildSeen : Type 0 where
   pub text : List ℕ
   pub store : StoreSeen
@@ -350,7 +350,7 @@ pub record BuildSeen : Type 0 where
 abbrev pub build_seen : List ℕ → StoreSeen → BuildSeen
 build_seen text store = record { text = text; store = store }
 
--- what one file more leads to
+-- the step over one more file
 abbrev pub Advances : Text → Stage → Stage → BuildSeen → BuildSeen → Type 0
 Advances text before after old new =
     (now : List StoreAnswer) × (run_output : List ℕ) × (new.text ≡ old.text ++ run_output) × Stores text before now run_output after

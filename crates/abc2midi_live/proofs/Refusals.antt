@@ -17,7 +17,7 @@ use Rattle.abc2midi_live.specs.Machine.{IsClean}
 use Rattle.abc2midi_live.specs.Refusal.{book_refusal}
 use Rattle.abc2midi_live.specs.Transcript.{byte_order_mark, whole_lines, without_mark}
 
--- Lines that are put into a text without lines are refused where they are no text.
+-- An insertion into a text without lines is refused if the lines are no text.
 same_refusal : (proper few : Bool) (text : Text) → cond (not proper) (Some BadLine) (cond (not few) (Some TooLarge) None)
     ≡ result_err (cond (not proper) (Err BadLine) (cond (not few) (Err TooLarge) (Ok text)))
 same_refusal false few text = refl
@@ -32,7 +32,7 @@ refused_book lines =
     ∙ ap (λ t. book_refusal (list_all is_line lines) (length t)) (sym (append-nil lines))
     ∙ same_refusal (list_all is_line lines) (nat_le (length (lines ++ [])) MOST_LINES) (lines ++ [])
 
--- a line without a line feed is one where it is short enough
+-- bytes without a line feed are a line if they are few enough
 pub short_line : (line : List ℕ) → IsClean line → length line ≤ LONGEST_LINE → is_line line ≡ true
 short_line line clean short =
     let fits : nat_le (length line) LONGEST_LINE ≡ true = grind (arith, nat_tests) in

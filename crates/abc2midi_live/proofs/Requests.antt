@@ -63,7 +63,7 @@ pub refusal_answer : (r : Result (Vec ℕ) AllocError) (old : Text) (change : Re
 refusal_answer (Ok text) old change error refused is other = answer_refused old change error text.items (refused_by change error _ refused other) is
 refusal_answer (Err e) old change error refused is other = tt
 
--- a request as answered, for answers of the store, where the run goes on
+-- a request as answered, for answers of the store, if the run goes on
 abbrev pub Carried : DialogueView → DialogueView → Request → List StoreAnswer → List ℕ → Type 0
 Carried old new request now text = AnswersWith old request now text new × (goes_on request ≡ true)
 
@@ -242,7 +242,7 @@ replies before mid after directory line now Nothing step says = λ extent more l
 replies before mid after directory line now (Answer text) step says = λ extent more later. step extent more (now ++ later) ∙ says extent more later
 replies before mid after directory line now End step says = λ extent more later. step extent more (now ++ later) ∙ says extent more later ∙ sym (no_text_before (nothing_more directory later))
 
--- the last words, where lines are missing and where not
+-- the last words, with missing lines and without
 pub last_cut : (h : DialogueView) (begun : BegunCommand) → request_of begun.command begun.lines ≡ CutOff → dialogue_future h (Some begun) Whole [] [] ≡ Some (run_output truncated_line h.directory)
 unfolding dialogue_future answers outcome_of requests
 last_cut h begun cut =
@@ -292,11 +292,11 @@ stops_whole h command lines old new whole (stored, a, is, left, follows) =
       follows,
     )
 
--- where nothing has been asked of a store
+-- no store has been called
 pub carried_none : (d : Directory) (outputs : List StoreAnswer → Option RunOutput) (s : StoreSeen) → AsksNothing d outputs → CarriesOut d outputs s s
 carried_none d outputs s (t, is, same) = ([], t, is, follows_same s d t.directory same)
 
--- what is written in the same words is carried out
+-- a request that is written in the same words is carried out
 pub carried_as : (d : Directory) (f g : List StoreAnswer → Option RunOutput) (old new : StoreSeen)
     → ((stored : List StoreAnswer) → f stored ≡ g stored) → CarriesOut d g old new → CarriesOut d f old new
 carried_as d f g old new same (stored, t, is, follows) = (stored, t, same stored ∙ is, follows)

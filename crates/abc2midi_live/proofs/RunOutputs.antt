@@ -1,4 +1,4 @@
--- Laws of what a run tells.
+-- Laws of the output of a run.
 use Rattle.std.proofs.Common.{◌≡◌, ℕ, Bool, true, false, List, [], ◌++◌, Option, Some, None, refl, sym, ap, ◌∙◌, append_assoc}
 use Rattle.std.proofs.Common.{append-nil, if◌then◌else◌}
 use Rattle.abc_publish.specs.Publisher.{Directory}

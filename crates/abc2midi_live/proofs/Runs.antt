@@ -36,7 +36,7 @@ opens_none session directory begun e empty none extent lines stored =
     ∙ ap (λ d. answers extent (dialogue_view [] d) (requests 0 lines) stored) empty in
     sym same
 
--- before any command, where a tune book was taken
+-- before any command, after a tune book was taken
 pub opens_some : (bytes text : List ℕ) (first session : Text) (directory : Directory) (begun : Option BegunCommand) → first ≡ []
     → text ≡ edit_answer first (edited first (insertion 1 (book_lines bytes)))
     → session ≡ result_unwrap_or (edited first (insertion 1 (book_lines bytes))) first → directory ≡ no_directory → begun ≡ None → Opens (Some bytes) text (dialogue_view session directory) begun
@@ -75,7 +75,7 @@ module _ (book : Option (List ℕ)) (text : List ℕ) (h : DialogueView) (begun 
   whole_after_book stored t None old mid new wrote said = tt
   whole_after_book stored t (Some bytes) old mid new wrote said = (sym (whole bytes stored) ∙ ap (with_text_before text) said.0, Appends-trans old mid new text t.text wrote said.1)
 
-  -- what the store gave follows from the empty directory
+  -- the store's answers follow from the empty directory
   from_empty : (old new : StoreSeen) (stored : List StoreAnswer) (after : Directory) → Follows old new stored h.directory after → Follows old new stored no_directory after
   from_empty old new stored after follows = subst (λ d. Follows old new stored d after) empty follows
 
@@ -144,7 +144,7 @@ transcript_of-nil Whole = refl
 transcript_of-nil SoFar = refl
 transcript_of-nil Stopped = refl
 
--- a run that has no memory to begin with
+-- a run whose first allocation fails
 not_begun : (book input : Option (List ℕ)) (old : Outlets) (new : Option (List ℕ)) → Keeps old.output new → LeavesRun book (transcript_of book) (at input old) (at input (outlets new old.store)) Memory
 not_begun None input old new kept = inl (InHand [] [] [] (Consumes-nil input) none_ends (
   [],

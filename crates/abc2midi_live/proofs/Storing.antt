@@ -148,7 +148,7 @@ pub mirrors_first : (contents : Option Contents) → HasNoFiles contents → Mir
 mirrors_first None h = tt
 mirrors_first (Some contents) h = record { files = h; others = λ name away. refl }
 
--- what holds where a result is an error
+-- a fact for the case that a result is an error
 pub on_err : {T E : Type 0} (r : Result T E) (P : Type 0) → P → OnErr r P
 on_err (Ok x) P p = tt
 on_err (Err e) P p = p

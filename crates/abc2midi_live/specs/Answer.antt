@@ -1,4 +1,4 @@
--- What the program answers to a command. Not in ABC 2.1.
+-- The program's answers to commands. Not in ABC 2.1.
 use Rattle.std.specs.Prelude.{ℕ, List, ◌∷◌, ◌++◌, codes, decimal, flat_map, Option, Some, None}
 use Rattle.hex.specs.Hex.{encode_upper}
 use Rattle.abc_text.specs.Byte.{space}

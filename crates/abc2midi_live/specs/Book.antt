@@ -1,4 +1,4 @@
--- What the program shows of a text: its files, its titles and its faults, by the compiler of ABC. Not in ABC 2.1.
+-- The book of a text: its files, its titles and its faults, by the compiler of ABC. Not in ABC 2.1.
 use Rattle.std.specs.Prelude.{List}
 use Rattle.abc_lines.specs.Text.{Text}
 use Rattle.abc_tune.specs.Abc.{rules_of_abc, steps_of_abc}

@@ -21,8 +21,8 @@ numbers_from first (suc count) = first ∷ numbers_from (first + 1) count
 unfoldable pub pending_numbers : Directory → Files → List ℕ
 pending_numbers directory files = filter (is_pending directory files) (numbers_from 0 (2 ^ 32))
 
--- The files of numbers are put or removed one after another, up to the first fault of the store. Of a text whose
--- files are to be stored, what is known of the directory, the numbers, and what the store answers.
+-- The files of numbers are put or removed one after another, up to the first fault of the store. The arguments are
+-- the text, the known directory, the numbers and the store's answers.
 unfoldable pub build_outcome : Extent → Text → Directory → List ℕ → List StoreAnswer → Option RequestOutcome
 build_outcome extent text directory [] answers = Some (request_outcome end_line (dialogue_view text directory) answers)
 build_outcome extent text directory (n ∷ numbers) [] = outcome_if_stopped extent (dialogue_view text directory)
@@ -37,17 +37,17 @@ unfoldable pub pending_from : Directory → Files → Option ℕ → List ℕ
 pending_from directory files None = []
 pending_from directory files (Some first) = filter (is_pending directory files) (numbers_from first (2 ^ 32 - first))
 
--- What a store that did what it was asked for answers, and one that did not.
+-- The answer of a store that succeeded, and of one that failed.
 abbrev pub answer_of : Bool → StoreAnswer
 answer_of true = Done
 answer_of false = Fault
 
--- what is written of a file after the answer of the store
+-- the answer line of a file after the answer of the store
 abbrev pub answer_line : StoreAnswer → ℕ → Option (List ℕ) → List ℕ
 answer_line Done number bytes = stored_line number bytes
 answer_line Fault number bytes = failed_line number
 
--- what is known of it then
+-- the known file after that answer
 abbrev pub entry_after : StoreAnswer → Option (List ℕ) → Option Stored
 entry_after Done bytes = stored_as bytes
 entry_after Fault bytes = Some Unknown
@@ -92,15 +92,15 @@ Stores text before now run_output after =
     (extent : Extent) (later : List StoreAnswer) → build_outcome_at extent text before (now ++ later)
     ≡ line_before run_output (build_outcome_at extent text after later)
 
--- Whatever the store answers after these answers: bringing the directory up to date tells this text, and leads to this
--- directory.
+-- Whatever the store answers after these answers: bringing the directory up to date writes this text, and leads to
+-- this directory.
 abbrev pub Builds : Text → Directory → List StoreAnswer → List ℕ → Directory → Type 0
 Builds text before now run_output after =
     (extent : Extent) (later : List StoreAnswer)
     → build_outcome extent text before (pending_numbers before (files_of text)) (now ++ later)
     ≡ Some (request_outcome run_output (dialogue_view text after) later)
 
--- What a store answered led from one stage of a build to another, and such a text was told of it.
+-- The answers of a store led from one stage of a build to another, with a text for them.
 abbrev pub StoresBy : Text → Stage → Stage → (List ℕ → Type 0) → StoreSeen → StoreSeen → Type 0
 StoresBy text before after Tells old new =
     (now : List StoreAnswer) × (run_output : List ℕ) × Tells run_output × Stores text before now run_output after
@@ -122,7 +122,7 @@ BuildStops text directory old new =
 abbrev pub StopsAtOnce : Text → Stage → StoreSeen → StoreSeen → Type 0
 StopsAtOnce text at old new = (stopped : StopsBy at.directory (build_outcome_at Stopped text at) old new) × (length stopped.0 ≤ 1)
 
--- What a store answered brought the directory up to date, and this was told of it.
+-- The answers of a store brought the directory up to date, with this text for them.
 abbrev pub BuildsBy : Text → Directory → Directory → List ℕ → StoreSeen → StoreSeen → Type 0
 BuildsBy text before after run_output old new = (now : List StoreAnswer) × Builds text before now run_output after
     × Follows old new now before after

@@ -12,7 +12,7 @@ use Rattle.abc2midi_live.specs.declared.command.Command.{Command}
 use Rattle.abc2midi_live.specs.declared.command.Command.TheVariants.{Insert, Replace, Delete, Faults, Titles, Hex, Build, Quit}
 use Rattle.abc2midi_live.specs.declared.command.Command.TheVariants.{Unknown}
 
--- a number and those after it, if there are such
+-- a number and those after it, if both exist
 abbrev pub number_and_rest : Option ℕ → Option (List ℕ) → Option (List ℕ)
 number_and_rest None numbers = None
 number_and_rest (Some n) None = None
@@ -57,11 +57,11 @@ unfoldable pub without_numbers : Command → List ℕ → Command
 without_numbers command [] = command
 without_numbers command _ = Unknown
 
--- the command made of the numbers that words spell
+-- the command of the numbers that words spell
 unfoldable pub with_numbers : List (List ℕ) → (List ℕ → Command) → Command
 with_numbers words made = option_map_or made (numbers_of words) Unknown
 
--- what a name makes of the numbers after it
+-- the command of a name and the numbers after it
 unfoldable pub command_named : List ℕ → List ℕ → Command
 command_named name =
     if bytes_eq name (codes "insert") then insertion else

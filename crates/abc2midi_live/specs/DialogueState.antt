@@ -1,4 +1,4 @@
--- What contracts see of a dialogue, without where it lies in memory. Not in ABC 2.1.
+-- A dialogue as contracts see it, without its place in memory. Not in ABC 2.1.
 use Rattle.std.specs.Prelude.{ℕ, List, Option, MatchResult, Result}
 use Rattle.std.specs.Io.KnownBytes.{Appends}
 use Rattle.abc_publish.specs.Publisher.{maps_of}
@@ -11,11 +11,11 @@ use Rattle.abc2midi_live.specs.declared.dialogue.Dialogue.{Dialogue}
 use Rattle.abc2midi_live.specs.declared.fault.RunFault.{RunFault}
 use Rattle.abc2midi_live.specs.declared.machine.Reply.{Reply}
 
--- What holds between two commands.
+-- The state between two commands.
 abbrev pub view_of : Dialogue → DialogueView
 view_of d = dialogue_view d.session.text (maps_of d.publisher).directory
 
--- A dialogue replies to a command that has the first of its lines, for what a store answered.
+-- A dialogue replies to a command that has the first of its lines, for the store's answers.
 abbrev pub ProceedsBy : Dialogue → Dialogue → BegunCommand → Reply → StoreSeen → StoreSeen → Type 0
 ProceedsBy before after begun reply old new =
     SaysBy (dialogue_change (view_of before) begun (view_of after) (begun_command after.pending))

@@ -8,7 +8,7 @@ use Rattle.abc2midi_live.specs.Transcript.{input_lines}
 use Rattle.abc2midi_live.specs.declared.machine.Reply.{Reply}
 use Rattle.abc2midi_live.specs.declared.machine.Reply.TheVariants.{Nothing, Answer, End}
 
--- What is to be written to what still comes, by how much of it that is, for the answers that a store still gives.
+-- The text to be written for the input that still comes, by its extent, for the answers that still come of a store.
 abbrev pub Future : Type 0 → Type 0
 Future X = Extent → List X → List StoreAnswer → Option RunOutput
 
@@ -16,13 +16,13 @@ Future X = Extent → List X → List StoreAnswer → Option RunOutput
 pub record FutureChange (X : Type 0) : Type 0 where
   pub before : Future X
   pub after : Future X
-  -- what the directory is known to hold after the piece
+  -- the known directory after the piece
   pub directory : Directory
 
 abbrev pub future_change : {X : Type 0} → Future X → Future X → Directory → FutureChange X
 future_change before after directory = record { before = before; after = after; directory = directory }
 
--- The state of a machine: what it answers to each input, and what the directory is known to hold.
+-- The state of a machine: its answer to each input, and the known directory.
 pub record MachineState (X : Type 0) : Type 0 where
   pub future : Future X
   pub directory : Directory
@@ -30,7 +30,7 @@ pub record MachineState (X : Type 0) : Type 0 where
 abbrev pub machine_state : {X : Type 0} → Future X → Directory → MachineState X
 machine_state future directory = record { future = future; directory = directory }
 
--- what is to be written from how a machine is before a piece to how it is after it
+-- the text to be written from a machine's state before a piece to its state after it
 abbrev pub between : {X : Type 0} → MachineState X → MachineState X → FutureChange X
 between before after = future_change before.future after.future after.directory
 
@@ -48,19 +48,19 @@ Replies t line now Nothing = Answers t (line ∷ []) now [] true
 Replies t line now (Answer text) = Answers t (line ∷ []) now text.items true
 Replies t line now End = Answers t (line ∷ []) now [] false
 
--- A line is taken: the store gives answers, which the reply goes with.
+-- A line is taken: the reply goes with the store's answers.
 abbrev pub TakesLine : MachineState (List ℕ) → MachineState (List ℕ) → List ℕ → StoreSeen → StoreSeen → Reply → Type 0
 TakesLine before after line old new reply =
     (stored : List StoreAnswer) × Replies (between before after) line stored reply
     × Follows old new stored before.directory after.directory
 
--- What is written for the answers of a store is carried out: these are its answers. Nothing is said of what is written.
+-- The input is carried out for these answers of a store. The definition leaves open what is written.
 abbrev pub CarriesOut : Directory → (List StoreAnswer → Option RunOutput) → StoreSeen → StoreSeen → Type 0
 CarriesOut before answered old new =
     (stored : List StoreAnswer) × (run_output : RunOutput) × (answered stored ≡ Some run_output)
     × Follows old new stored before run_output.directory
 
--- Nothing is asked of a store that gives no answer.
+-- A store that does not answer is not called.
 abbrev pub AsksNothing : Directory → (List StoreAnswer → Option RunOutput) → Type 0
 AsksNothing before answered = (run_output : RunOutput) × (answered [] ≡ Some run_output) × (run_output.directory ≡ before)
 
@@ -72,7 +72,7 @@ IsClean bytes = All (λ b. (b == line_feed) ≡ false) bytes
 abbrev pub EndsOneAtMost : List ℕ → Type 0
 EndsOneAtMost bytes = (line : List ℕ) × IsClean line × ((bytes ≡ line) ⊎ (bytes ≡ line ++ line_feed ∷ []))
 
--- what is answered to bytes, if the beginning of a line has come before them
+-- the answers to bytes, if the beginning of a line has come before them
 unfoldable pub future_of_bytes : Future (List ℕ) → List ℕ → Future ℕ
 future_of_bytes future begun extent bytes answers = future extent (input_lines (is_whole extent) (begun ++ bytes)) answers
 

@@ -15,12 +15,10 @@ use Rattle.abc2midi_live.specs.declared.fault.RunFault.TheVariants.{Read, Write,
 
 -- how many faults of the writer a result reports
 abbrev pub write_faults : {T : Type 0} → Result T RunFault → ℕ
-write_faults (Ok x) = 0
-write_faults (Err Read) = 0
 write_faults (Err Write) = 1
-write_faults (Err Memory) = 0
+write_faults _ = 0
 
--- What is seen of a writer and of a store: the bytes written, if they are known, and the store.
+-- The visible state of a writer and of a store: the bytes written, if they are known, and the store.
 pub record Outlets : Type 0 where
   pub output : Option (List ℕ)
   pub store : StoreSeen
@@ -31,28 +29,28 @@ outlets output store = record { output = output; store = store }
 abbrev pub outlets_of : {W S : Type 0} → (W → Option (List ℕ)) → (S → StoreSeen) → W → S → Outlets
 outlets_of contents seen writer store = outlets (contents writer) (seen store)
 
--- What a fault leaves where a tune book is taken: an allocation fails before anything is written of its answer.
+-- The result of a fault while a tune book is taken: an allocation fails before anything is written of its answer.
 abbrev pub FailsToOpen : Option (List ℕ) → Option (List ℕ) → RunFault → Type 0
 FailsToOpen old new Read = ⊥
 FailsToOpen old new Write = ⊤
 FailsToOpen old new Memory = Keeps old new
 
--- What a fault leaves where a line is served, of what is answered to it: where its answer cannot be written, it is
--- carried out; an allocation fails before anything is written of its answer, and the run stops within it. Of what the
--- directory was known to hold before it.
+-- The result of a fault while a line is served. If its answer cannot be written, the line is carried out. An
+-- allocation fails before anything is written of its answer, and the run stops within it. The last argument is the
+-- known directory before it.
 abbrev pub FailsToServe : Directory → (Extent → List StoreAnswer → Option RunOutput) → Outlets → Outlets → RunFault → Type 0
 FailsToServe before answered old new Read = ⊥
 FailsToServe before answered old new Write = CarriesOut before (answered SoFar) old.store new.store
 FailsToServe before answered old new Memory = Keeps old.output new.output × CarriesOut before (answered Stopped) old.store new.store
 
--- A piece is served: a text is written and the store gives answers, which are what is answered to the piece. Of what
--- the directory was known to hold before it.
+-- A piece is served: the text written and the store's answers are the answer to the piece. The last argument is the
+-- known directory before it.
 abbrev pub Serves : {X : Type 0} → Directory → FutureChange X → List X → Outlets → Outlets → Bool → Type 0
 Serves before t piece old new goes_on =
     (text : List ℕ) × (stored : List StoreAnswer) × Appends old.output new.output text × Answers t piece stored text goes_on
     × Follows old.store new.store stored before t.directory
 
--- What comes of a piece that is served, or of the fault that it ends in.
+-- The result of a piece that is served, or of the fault that it ends in.
 abbrev pub ServesOrFails : {X : Type 0} → MachineState X → MachineState X → List X → Outlets → Outlets → Result Bool RunFault
     → Type 0
 ServesOrFails before after piece old new result =
@@ -66,8 +64,8 @@ Tells before answered old new =
     × Appends old.output new.output run_output.text
     × Follows old.store new.store stored before run_output.directory
 
--- What a fault leaves where the end of the input is served, which ends a line that has begun as a line feed does: where
--- something cannot be written, that line is carried out, if there is one; if an allocation fails, the run stops within
+-- The result of a fault while the end of the input is served, which ends a line that has begun as a line feed does. If
+-- something cannot be written, that line is carried out, if there is one. If an allocation fails, the run stops within
 -- it.
 abbrev pub FailsAtEnd : Directory → Future ℕ → Outlets → Outlets → RunFault → Type 0
 FailsAtEnd before future old new Read = ⊥
@@ -76,15 +74,14 @@ FailsAtEnd before future old new Write =
 FailsAtEnd before future old new Memory = Keeps old.output new.output
     × CarriesOut before (future Stopped (line_feed ∷ [])) old.store new.store
 
--- What comes of the end of the input, or of the fault that serving it ends in.
+-- The result of the end of the input, or of the fault that serving it ends in.
 abbrev pub TellsOrFails : MachineState ℕ → Outlets → Outlets → Result Unit RunFault → Type 0
 TellsOrFails before old new result =
     MatchResult result (λ _. Tells before.directory (before.future Whole []) old new)
     (FailsAtEnd before.directory before.future old new)
 
--- What is written for answers of a store is written, and these are the answers that it gave first. Those that it gave
--- since are to what the command in hand asks for, within which the run stops: `in_hand` is what is answered to that one
--- too, and nothing of it is written.
+-- The text for the first answers of a store is written. Its later answers belong to the command in hand, within which
+-- the run stops: `in_hand` includes the answer to that command, and nothing of that answer is written.
 abbrev pub TellsFirst : Directory → (List StoreAnswer → Option RunOutput) → (List StoreAnswer → Option RunOutput) → Outlets
     → Outlets → Type 0
 TellsFirst before answered in_hand old new =
@@ -93,8 +90,8 @@ TellsFirst before answered in_hand old new =
     × Follows old.store between stored before run_output.directory
     × CarriesOut run_output.directory (λ more. in_hand (stored ++ more)) between new.store
 
--- What a fault leaves where a piece of the input is served: where an answer cannot be written, a front of it is carried
--- out; if an allocation fails, a front of it is answered, and the run stops within the command of the next line.
+-- The result of a fault while a piece of the input is served. If an answer cannot be written, a front of the piece is
+-- carried out. If an allocation fails, a front of it is answered, and the run stops within the command of the next line.
 abbrev pub FailsToFeed : Directory → Future ℕ → List ℕ → Outlets → Outlets → RunFault → Type 0
 FailsToFeed before future piece old new Read = ⊥
 FailsToFeed before future piece old new Write =
@@ -103,14 +100,14 @@ FailsToFeed before future piece old new Memory =
     (front : List ℕ) × (next : List ℕ) × (back : List ℕ) × (piece ≡ front ++ (next ++ back)) × EndsOneAtMost next
     × TellsFirst before (future SoFar front) (future Stopped (front ++ next)) old new
 
--- What comes of a piece of the input that is served, or of the fault within it.
+-- The result of a piece of the input that is served, or of the fault within it.
 abbrev pub FeedsOrBreaks : MachineState ℕ → MachineState ℕ → List ℕ → Outlets → Outlets → Result Bool RunFault → Type 0
 FeedsOrBreaks before after piece old new result =
     MatchResult result (Serves before.directory (between before after) piece old new)
     (FailsToFeed before.directory before.future piece old new)
 
--- The ends of a run, if they are known: what the reader has to give, what the writer holds, and what is seen of the
--- store.
+-- The ends of a run, if they are known: the bytes left in the reader, the bytes in the writer, and the visible state of
+-- the store.
 pub record RunEnds : Type 0 where
   pub input : Option (List ℕ)
   pub out : Outlets
@@ -121,8 +118,8 @@ run_ends input output store = record { input = input; out = outlets output store
 abbrev pub run_ends_of : {R W S : Type 0} → (R → Option (List ℕ)) → (W → Option (List ℕ)) → (S → StoreSeen) → R → W → S → RunEnds
 run_ends_of remaining contents seen reader writer store = run_ends (remaining reader) (contents writer) (seen store)
 
--- Which commands were carried out where an answer could not be written, the one in hand among them: the store was asked
--- for what these ask for, and for nothing else. Nothing is said of what was written.
+-- The commands that were carried out if an answer could not be written, the one in hand among them. The store was
+-- called for these and for nothing else. The definition leaves open what was written.
 pub data WriteFailure (before : Directory) (answered : List ℕ → List StoreAnswer → Option RunOutput)
     (old new : RunEnds) : Type 0 where
   -- those that are wholly within a front of what was read
@@ -134,8 +131,8 @@ pub data WriteFailure (before : Directory) (answered : List ℕ → List StoreAn
       (taken : List ℕ) → Consumes old.input new.input taken → IsAtEnd new.input
       → CarriesOut before (answered (taken ++ line_feed ∷ [])) old.out.store new.out.store → WriteFailure before answered old new
 
--- Which commands were answered before the one in hand, for which an allocation failed: for these and for the first of
--- what that one asks for, if for anything, the store was called, and for nothing else.
+-- The commands that were answered before the one in hand, for which an allocation failed. The store was called for
+-- these and for the first requests of the one in hand, if it has any, and for nothing else.
 pub data MemoryFailure (before : Directory) (answered : Future ℕ) (old new : RunEnds) : Type 0 where
   -- those before one that ends within what was read, or that had not ended yet
   InHand :
@@ -148,8 +145,8 @@ pub data MemoryFailure (before : Directory) (answered : Future ℕ) (old new : R
       → TellsFirst before (answered SoFar taken) (answered Stopped (taken ++ line_feed ∷ [])) old.out new.out
       → MemoryFailure before answered old new
 
--- What a fault leaves of a run, from its ends at first to those at last; `answered` is what is to be written for so
--- much of an input and answers of the store, and `before` what the directory is known to hold at first.
+-- The result of a fault in a run, from its ends at first to those at last. `answered` is the text to be written for an
+-- extent of an input and answers of the store, and `before` the known directory at first.
 abbrev pub Leaves : Directory → Future ℕ → RunEnds → RunEnds → RunFault → Type 0
 -- the answers to the commands wholly read
 Leaves before answered old new Read = (taken : List ℕ) × Consumes old.input new.input taken
@@ -159,9 +156,9 @@ Leaves before answered old new Write = WriteFailure before (answered SoFar) old 
 -- the answers to the commands before the one in hand, and the store as it was asked for some of what this asks for
 Leaves before answered old new Memory = MemoryFailure before answered old new
 
--- What a fault leaves of a run that a tune book came before. The book counts as a command: where its answer cannot be
--- written, no other command is carried out; if an allocation fails, its answer may not come, and then nothing is read
--- or written, and the store is not called.
+-- The result of a fault in a run that begins with a tune book. The book counts as a command. If its answer cannot be
+-- written, no other command is carried out. If an allocation fails, its answer may not come: then nothing is read or
+-- written, and the store is not called.
 abbrev pub LeavesRun : Option (List ℕ) → Future ℕ → RunEnds → RunEnds → RunFault → Type 0
 LeavesRun book answered old new Read = Leaves no_directory answered old new Read
 LeavesRun book answered old new Write = Leaves no_directory answered old new Write
@@ -169,22 +166,21 @@ LeavesRun book answered old new Memory =
     Leaves no_directory answered old new Memory
     ⊎ (IsSome book × Keeps old.input new.input × Keeps old.out.output new.out.output × (new.out.store ≡ old.out.store))
 
--- All of an input is answered, if it is known; what the store gave are answers that a directory follows from, in any
--- case.
+-- All of an input is answered, if it is known. In any case the store's answers lead to a directory.
 abbrev pub AnswersInput : Directory → Future ℕ → RunEnds → RunEnds → Type 0
 AnswersInput before future old new =
     (stored : List StoreAnswer) × (run_output : RunOutput) × Follows old.out.store new.out.store stored before run_output.directory
     × IfSome old.input (λ bytes. (future Whole bytes stored ≡ Some run_output)
     × Appends old.out.output new.out.output run_output.text)
 
--- What one read leads to, from what the directory was known to hold before it: where the run goes on, it took bytes,
--- and these are answered so far as they can be; else all that there was to read is.
+-- The result of one read, from the known directory before it. If the run goes on, the read took bytes, and these are
+-- answered as far as possible; else all that there was to read is answered.
 abbrev pub Turn : Directory → FutureChange ℕ → RunEnds → RunEnds → Bool → Type 0
 Turn before t old new true =
     (taken : List ℕ) × (0 < length taken) × Consumes old.input new.input taken × Serves before t taken old.out new.out true
 Turn before t old new false = AnswersInput before t.before old new
 
--- What comes of one read, or of the fault that it ends in.
+-- The result of one read, or of the fault that it ends in.
 abbrev pub TurnsOrFails : MachineState ℕ → MachineState ℕ → RunEnds → RunEnds → Result Bool RunFault → Type 0
 TurnsOrFails before after old new result =
     MatchResult result (Turn before.directory (between before after) old new) (Leaves before.directory before.future old new)
@@ -196,9 +192,9 @@ AnswersAll before old new result =
     (λ extent input. before.future extent (input_lines (is_whole extent) input)) old new)
     (Leaves before.directory (λ extent input. before.future extent (input_lines (is_whole extent) input)) old new)
 
--- What was written is what is written for all of an input and the answers that the store gave; it was called once for
--- each of these, and they are its only faults; and where none of the files stood there at first, it holds what the
--- directory is known to hold, and nothing else of that kind.
+-- The text written is that of all of an input and the store's answers. The store was called once for each answer, and
+-- has no other faults. If it had none of the files at first, it now has those of the known directory, and no other of
+-- that kind.
 pub record Completes (answered : List ℕ → List StoreAnswer → Option RunOutput) (old new : RunEnds) : Type 0 where
   pub stored : List StoreAnswer
   pub run_output : RunOutput
@@ -209,19 +205,17 @@ pub record Completes (answered : List ℕ → List StoreAnswer → Option RunOut
   pub contents : HasNoFiles old.out.store.contents
       → MirrorsWhereTold old.out.store.contents new.out.store.contents run_output.directory
 
--- The transcript of a tune book, if there is one, and of an input is complete, or what a fault leaves of it.
+-- The transcript of a tune book, if there is one, and of an input is complete, or the part that a fault leaves.
 abbrev pub Transcribes : {T : Type 0} → Option (List ℕ) → RunEnds → RunEnds → Result T RunFault → Type 0
 Transcribes book old new result =
     MatchResult result (λ _. Completes (transcript book) old new) (LeavesRun book (transcript_of book) old new)
 
 -- how many faults of the reader a read reports
 abbrev pub read_faults : {T : Type 0} → Result T RunFault → ℕ
-read_faults (Ok x) = 0
 read_faults (Err Read) = 1
-read_faults (Err Write) = 0
-read_faults (Err Memory) = 0
+read_faults _ = 0
 
--- what a reader counts
+-- the counts of a reader
 pub record ReadCounts : Type 0 where
   pub failures : ℕ
   pub calls : ℕ
@@ -230,23 +224,23 @@ pub record ReadCounts : Type 0 where
 abbrev pub read_counts : ℕ → ℕ → ReadCounts
 read_counts failures calls = record { failures = failures; calls = calls }
 
--- why a run says that it cannot read, from what the reader has to give
+-- why a run reports that it cannot read, from the bytes left in the reader
 pub data ReadCause (input : Option (List ℕ)) (old new : ReadCounts) : Type 0 where
   -- a read failed
   Failed : new.failures ≡ raised old.failures 1 → ReadCause input old new
-  -- none failed, but as many were made as a run makes, and each took a byte or more
+  -- none failed, but a run's limit of reads was reached, and each took a byte or more
   Exhausted :
       new.failures ≡ old.failures → new.calls ≡ raised old.calls MOST_READS → IfSome input (λ bytes. MOST_READS ≤ length bytes)
       → ReadCause input old new
 
--- what a result says of the reader's counts
+-- the reader's counts by a result
 abbrev pub Reads : {T : Type 0} → Option (List ℕ) → ReadCounts → ReadCounts → Result T RunFault → Type 0
 Reads input old new (Ok x) = new.failures ≡ old.failures
 Reads input old new (Err Read) = ReadCause input old new
 Reads input old new (Err Write) = new.failures ≡ old.failures
 Reads input old new (Err Memory) = new.failures ≡ old.failures
 
--- What is seen of a run's reader, writer and store: its ends, what the reader counts, and how often the writer failed.
+-- The visible state of a run's reader, writer and store: its ends, the reader's counts, and how often the writer failed.
 pub record RunView : Type 0 where
   pub ends : RunEnds
   pub reads : ReadCounts
@@ -260,12 +254,12 @@ run_view_of remaining failures calls contents faults seen reader writer store = 
   writes = faults writer;
 }
 
--- What a run leaves.
+-- The result of a run.
 pub record Runs {T : Type 0} (book : Option (List ℕ)) (old new : RunView) (result : Result T RunFault) : Type 0 where
-  -- What is written is the transcript of the book, of the whole input and of the store's answers; the store then holds
-  -- what the transcript says. Or what a fault leaves of these.
+  -- The text written is the transcript of the book, of the whole input and of the store's answers, and the store has
+  -- the files that the transcript names. Or a fault leaves a part of these.
   pub transcript : Transcribes book old.ends new.ends result
-  -- what the counts of the reader and the writer say
+  -- the counts of the reader and the writer
   pub calls : (made : ℕ) × (made ≤ MOST_READS) × (new.reads.calls ≡ raised old.reads.calls made)
   pub reads : Reads old.ends.input old.reads new.reads result
   pub writes : new.writes ≡ raised old.writes (write_faults result)

@@ -1,4 +1,4 @@
--- What contracts see of a stream of std. Not in ABC 2.1.
+-- A stream of std as contracts see it. Not in ABC 2.1.
 use Rattle.abc2midi_live.specs.declared.streams.Piped.{Piped}
 
 -- a reader or a writer of std that has not been used yet

@@ -1,4 +1,4 @@
--- What a run tells. Not in ABC 2.1.
+-- The output of a run. Not in ABC 2.1.
 use Rattle.std.specs.Prelude.{ℕ, Bool, true, false, List, [], ◌∷◌, ◌++◌, Option, Some, None, option_map}
 use Rattle.abc_lines.specs.Text.{Text}
 use Rattle.abc_publish.specs.Publisher.{Directory}
@@ -15,7 +15,7 @@ is_whole Whole = true
 is_whole SoFar = false
 is_whole Stopped = false
 
--- What holds between two commands: the text, and what the directory is known to hold.
+-- The state between two commands: the text, and the known directory.
 pub record DialogueView : Type 0 where
   pub text : Text
   pub directory : Directory
@@ -23,7 +23,7 @@ pub record DialogueView : Type 0 where
 abbrev pub dialogue_view : Text → Directory → DialogueView
 dialogue_view text directory = record { text = text; directory = directory }
 
--- What is written, and what the directory is then known to hold.
+-- The text written, and the known directory after it.
 pub record RunOutput : Type 0 where
   pub text : List ℕ
   pub directory : Directory
@@ -35,12 +35,12 @@ run_output text directory = record { text = text; directory = directory }
 abbrev pub with_text_before : List ℕ → Option RunOutput → Option RunOutput
 with_text_before text rest = option_map (λ t. run_output (text ++ t.text) t.directory) rest
 
--- Nothing more is written, and the store gave no answer that nobody asked for.
+-- Nothing more is written, and no answer of the store is left over.
 abbrev pub nothing_more : Directory → List StoreAnswer → Option RunOutput
 nothing_more directory [] = Some (run_output [] directory)
 nothing_more directory (answer ∷ answers) = None
 
--- What a request leads to: its answer, what holds after it, and the answers of the store that are left.
+-- The result of a request: its answer, the state after it, and the answers of the store that are left.
 pub record RequestOutcome : Type 0 where
   pub text : List ℕ
   pub after : DialogueView
@@ -49,7 +49,7 @@ pub record RequestOutcome : Type 0 where
 abbrev pub request_outcome : List ℕ → DialogueView → List StoreAnswer → RequestOutcome
 request_outcome text after left = record { text = text; after = after; left = left }
 
--- What a request leads to that asks the store for more than it answers: nothing, unless the run stops there.
+-- The result of a request for more answers than the store has: none, unless the run stops there.
 abbrev pub outcome_if_stopped : Extent → DialogueView → Option RequestOutcome
 outcome_if_stopped Whole h = None
 outcome_if_stopped SoFar h = None

@@ -29,7 +29,7 @@ whole_lines ended [] = []
 whole_lines ended (line ∷ []) = if ended && nat_le 1 (length line) then line ∷ [] else []
 whole_lines ended (line ∷ next ∷ more) = line ∷ whole_lines ended (next ∷ more)
 
--- how many bytes of a line of an input are kept: one more than a line of a text may have
+-- the stored bytes of a line of an input are at most one more than a line of a text may have
 abbrev pub most_kept : ℕ
 most_kept = LONGEST_LINE + 1
 
@@ -84,8 +84,8 @@ unfoldable pub edit_answer : Text → Result Text EditError → List ℕ
 edit_answer before (Ok after) = report (files_of before) (files_of after)
 edit_answer before (Err error) = refusal error
 
--- The answer to a request. One that is cut off has its answer where the input has ended. There is none where the
--- store gives fewer answers than are asked for, unless the run stops within the request.
+-- The answer to a request. One that is cut off has its answer once the input has ended. There is none if the store has
+-- fewer answers than the request needs, unless the run stops within the request.
 unfoldable pub outcome_of : Extent → DialogueView → Request → List StoreAnswer → Option RequestOutcome
 outcome_of extent h (Edits splice) answers =
     Some (request_outcome (edit_answer h.text (edited h.text splice))
@@ -109,8 +109,7 @@ goes_on Misspelled = true
 goes_on CutOff = false
 goes_on Ends = false
 
--- What is written in answer to requests, for these answers of a store, neither more nor fewer. No request has an answer
--- after `quit`.
+-- The text written in answer to requests, for exactly these answers of a store. No request has an answer after `quit`.
 unfoldable pub answers : Extent → DialogueView → List Request → List StoreAnswer → Option RunOutput
 answers extent h [] stored = nothing_more h.directory stored
 answers extent h (request ∷ rest) stored =
@@ -127,16 +126,16 @@ book_requests (Some bytes) = Edits (insertion 1 (book_lines bytes)) ∷ []
 abbrev pub no_directory : Directory
 no_directory n = None
 
--- what holds at first: no lines, and no file
+-- the first state: no lines, and no file
 abbrev pub empty_dialogue : DialogueView
 empty_dialogue = dialogue_view [] no_directory
 
--- What is written for a tune book, if there is one, the whole of an input, and all the answers of a store; None where a
--- store would give more of them, or fewer.
+-- The text written for a tune book, if there is one, the whole of an input, and all the answers of a store; None if the
+-- input needs fewer answers, or more.
 unfoldable pub transcript : Option (List ℕ) → List ℕ → List StoreAnswer → Option RunOutput
 transcript book input stored = answers Whole empty_dialogue (book_requests book ++ requests 0 (input_lines true input)) stored
 
--- The same for a tune book and so much of an input: if that is not all of it, the answers to the commands that are
+-- The same for a tune book and an extent of an input: if that is not all of it, the answers to the commands that are
 -- wholly in it.
 unfoldable pub transcript_of : Option (List ℕ) → Extent → List ℕ → List StoreAnswer → Option RunOutput
 transcript_of book extent input stored =

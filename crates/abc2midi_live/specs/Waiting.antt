@@ -58,7 +58,7 @@ dialogue_waits h (Some g) =
     ap (λ ls. answers SoFar h (request_of g.command ls ∷ []) []) (append-nil (text_of g.lines))
     ∙ ap (λ r. answers SoFar h (r ∷ []) []) (request_of-pending g)
 
--- What a request leads to where the run stops before the store gives an answer.
+-- The result of a request if the run stops before the store answers.
 abbrev pub AsksForNothing : DialogueView → Option RequestOutcome → Type 0
 AsksForNothing h outcome_of = (a : RequestOutcome) × (outcome_of ≡ Some a) × (a.left ≡ []) × (a.after.directory ≡ h.directory)
 

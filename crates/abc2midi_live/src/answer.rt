@@ -26,7 +26,7 @@ fn put_numbers(text: &mut Vec<u8>, numbers: &[u32]) -> Result<(), AllocError>
     Ok(())
 }
 
-/// The answer to an accepted edit.
+/// Returns the answer to an accepted edit.
 #[tactic(auto, unfolding(crate::specs::Answer::report_line))]
 pub fn report_line(alloc: Global, report: &Report) -> Result<Vec<u8>, AllocError>
     ensures { IfOk result (λ text. text.items ≡ report_line report.now.written.items report.now.removed.items) }
@@ -39,7 +39,7 @@ pub fn report_line(alloc: Global, report: &Report) -> Result<Vec<u8>, AllocError
     Ok(text)
 }
 
-/// The answer to a refused edit; there is none if an allocation fails.
+/// Returns the answer to a refused edit; None if an allocation fails.
 #[tactic(auto, unfolding(crate::specs::Answer::refusal))]
 pub fn refusal(alloc: Global, error: EditError) -> Result<Vec<u8>, AllocError>
     ensures text { IfOk result (λ text. text.items ≡ refusal error) }
@@ -69,7 +69,7 @@ fn put_fault(text: &mut Vec<u8>, fault: &Fault) -> Result<(), AllocError>
     Ok(())
 }
 
-/// The faults of a text, a line each, and `end`.
+/// Returns the faults of a text, a line each, and `end`.
 #[tactic(auto, unfolding(crate::specs::Answer::fault_list))]
 pub fn fault_list(alloc: Global, faults: &[Fault]) -> Result<Vec<u8>, AllocError>
     ensures { IfOk result (λ text. text.items ≡ fault_list faults.now) }
@@ -93,7 +93,7 @@ fn put_title(text: &mut Vec<u8>, title: &Title) -> Result<(), AllocError>
     Ok(())
 }
 
-/// The titles of a text, a line for each tune, and `end`.
+/// Returns the titles of a text, a line for each tune, and `end`.
 #[tactic(auto, unfolding(crate::specs::Answer::title_list))]
 pub fn title_list(alloc: Global, titles: &[Title]) -> Result<Vec<u8>, AllocError>
     ensures { IfOk result (λ text. text.items ≡ title_list titles.now) }
@@ -106,7 +106,7 @@ pub fn title_list(alloc: Global, titles: &[Title]) -> Result<Vec<u8>, AllocError
     Ok(text)
 }
 
-/// The bytes of a file, if there is one.
+/// Returns the bytes of a file, if there is one.
 #[tactic(auto, unfolding(crate::specs::Answer::hex_line))]
 pub fn hex_line(alloc: Global, bytes: Option<&[u8]>) -> Result<Vec<u8>, AllocError>
     ensures { IfOk result (λ text. text.items ≡ hex_line (option_map (λ b. b.now) bytes.entry)) }

@@ -13,7 +13,7 @@ use crate::book_lines::without_mark;
 use crate::cut::cut;
 use abc_lines::{EditError, LONGEST_LINE, MOST_LINES};
 
-// Why a text of `count` lines is refused, if it is.
+// Returns why a text of `count` lines is refused, if it is.
 #[tactic(auto, unfolding(crate::specs::Refusal::book_refusal))]
 fn fault_of_count(count: usize) -> Option<EditError>
     ensures { result ≡ book_refusal true count }
@@ -41,7 +41,7 @@ fn fault_with_last_line(count: usize, last: &[u8]) -> Option<EditError>
     fault_of_count(count + 1)
 }
 
-/// Why a run refuses a tune book, if it does.
+/// Returns why a run refuses a tune book, if it does.
 pub fn fault_of_book(book: &[u8]) -> Option<EditError>
     ensures { result ≡ result_err (edited [] (insertion 1 (book_lines book.now))) }
 {

@@ -10,7 +10,7 @@ use std::alloc::{AllocError, Global};
 /// The byte order mark of a UTF-8 text.
 const BYTE_ORDER_MARK: &[u8] = &[0xEF, 0xBB, 0xBF];
 
-/// The bytes without one mark at their start.
+/// Returns the bytes without one mark at their start.
 #[tactic(auto, unfolding(crate::specs::Transcript::without_mark))]
 pub fn without_mark(bytes: &[u8]) -> &[u8]
     ensures { result.now ≡ without_mark bytes.now }
@@ -21,7 +21,7 @@ pub fn without_mark(bytes: &[u8]) -> &[u8]
     }
 }
 
-/// The lines and, if it is not empty, a last one that no line feed ends.
+/// Returns the lines and, if it is not empty, a last one that no line feed ends.
 fn lines_with_last(
     alloc: Global,
     mut lines: Vec<Vec<u8>>,
@@ -36,7 +36,7 @@ fn lines_with_last(
     Ok(lines)
 }
 
-/// The lines of a tune book.
+/// Returns the lines of a tune book.
 pub fn book_lines(alloc: Global, book: &[u8]) -> Result<Vec<Vec<u8>>, AllocError>
     ensures { IfOk result (λ lines. text_of lines ≡ book_lines book.now) }
 {

@@ -14,7 +14,7 @@ use abc_live::Session;
 use abc_publish::{Job, Publisher};
 use std::alloc::{AllocError, Global};
 
-/// The name of the file of a number.
+/// Returns the name of the file of a number.
 #[tactic(auto, unfolding(crate::specs::Storing::file_name))]
 fn file_name(alloc: Global, number: u32) -> Result<String, AllocError>
     ensures { IfOk result (λ name. string_bytes name ≡ file_name number) }
@@ -120,8 +120,7 @@ fn store_next<S: Store>(
     }
 }
 
-/// Puts and removes the files of the numbers that are pending, rising, up to the first fault of the store, and gives
-/// the answer to that.
+/// Puts and removes the files of the pending numbers, rising, up to the first fault of the store, and returns the answer.
 pub fn build<S: Store>(
     alloc: Global,
     publisher: &mut Publisher,

@@ -1,4 +1,4 @@
-//! The commands, and how they are read from a line.
+//! The commands, and the reading of a line.
 
 ghost use Rattle.std.specs.Prelude.{◌≡◌, ◌≤◌, take, Some, MatchOption, IfSome};
 ghost use Rattle.abc_text.specs.Number.{number_of};
@@ -18,7 +18,7 @@ pub enum Command {
     Insert { at: u32, count: u32 },
     /// Replaces the lines `from` to `to`.
     Replace { from: u32, to: u32, count: u32 },
-    /// Takes out the lines `from` to `to`.
+    /// Removes the lines `from` to `to`.
     Delete { from: u32, to: u32 },
     /// Lists the faults of the text.
     Faults,
@@ -34,7 +34,7 @@ pub enum Command {
     Unknown,
 }
 
-/// How many numbers a command has at most.
+/// The most numbers of a command.
 const MOST_NUMBERS: usize = 3;
 
 /// The numbers of a command: the first `count` values.
@@ -53,7 +53,7 @@ impl Numbers {
     }
 }
 
-/// The numbers that words spell, if each of them spells one and there are at most three.
+/// Returns the numbers that words spell, if each of them spells one and there are at most three.
 fn numbers_of(words: Option<&[u8]>) -> Option<Numbers>
     ensures numbers { MatchOption result (IsUseless (numbers_of (words_after words.entry)))
         (λ n. numbers_of (words_after words.entry) ≡ Some (take n.count n.values)) }
@@ -136,7 +136,7 @@ fn without_numbers(command: Command, numbers: &[u32]) -> Command
     }
 }
 
-/// The command of a name and the numbers after it.
+/// Returns the command of a name and the numbers after it.
 #[tactic(auto, unfolding(crate::specs::Command::command_named))]
 fn command_named(name: &str, numbers: &[u32]) -> Command
     ensures { result ≡ command_named name.now numbers.now }
@@ -164,7 +164,7 @@ fn command_named_by_bytes(name: &[u8], numbers: &[u32]) -> Command
     }
 }
 
-/// The command that the words of a line spell.
+/// Returns the command that the words of a line spell.
 fn command_of_words(line: &[u8]) -> Command
     ensures { result ≡ command_of_words (words_of line.now) }
 {
@@ -176,7 +176,7 @@ fn command_of_words(line: &[u8]) -> Command
 }
 
 impl Command {
-    /// The command of a line without its line feed.
+    /// Returns the command of a line without its line feed.
     pub fn of(line: &[u8]) -> Command
         ensures { result ≡ command_of line.now }
     {
@@ -186,7 +186,7 @@ impl Command {
         command_of_words(without_return(line))
     }
 
-    /// How many of the lines after it belong to the command.
+    /// Returns how many of the lines after it belong to the command.
     pub fn line_count(self) -> usize
         ensures { result ≡ line_count self }
     {

@@ -5,7 +5,7 @@ ghost use Rattle.abc2midi_live.specs.Cut.{IsCut};
 
 use bstr::ByteSlice;
 
-/// The bytes before the first such byte, and those after it if there is one.
+/// Returns the bytes before the first such byte, and those after it if there is one.
 #[tactic(auto, using(crate::proofs::Cuts::cut_found, crate::proofs::Cuts::cut_none))]
 pub fn cut(text: &[u8], byte: u8) -> (&[u8], Option<&[u8]>)
     ensures { IsCut byte text.now result.0.now (option_map (λ rest. rest.now) result.1) }

@@ -57,7 +57,7 @@ impl Dialogue {
         })
     }
 
-    // Edits the text, and gives the answer to that.
+    // Edits the text, and returns the answer.
     fn change(&mut self, edit: &Edit, work: &mut Work) -> Result<Vec<u8>, AllocError>
         ensures answer { let before = self.old.session.text in IfOk result
             (λ text. text.items ≡ edit_answer before (edited before (splice_of edit.now))) }
@@ -73,7 +73,7 @@ impl Dialogue {
         }
     }
 
-    /// Puts the lines of a tune book before line 1, and gives the answer to that.
+    /// Puts the lines of a tune book before line 1, and returns the answer.
     pub fn take_book(&mut self, book: &[u8], work: &mut Work) -> Result<Vec<u8>, AllocError>
         ensures answer { IfOk result (λ text. text.items ≡ edit_answer self.old.session.text
             (edited self.old.session.text (insertion 1 (book_lines book.now)))) }

@@ -15,7 +15,7 @@ pub enum RunFault {
     /// The writer failed.
     #[error("write fault")]
     Write,
-    /// There is no memory.
+    /// An allocation failed.
     #[error("out of memory")]
     Memory,
 }

@@ -17,7 +17,7 @@ use abc_lines::LONGEST_LINE;
 use std::alloc::{AllocError, Global};
 use std::mem;
 
-/// How many bytes of a line of the input are kept: one more than a line of a text may have.
+/// The most stored bytes of a line of the input: one more than a line of a text may have.
 const MOST_KEPT: usize = LONGEST_LINE + 1;
 
 // Passes a line to the machine and writes its answer. Returns whether the machine goes on.
@@ -88,14 +88,14 @@ impl<M: Machine> Listener<M> {
         }
     }
 
-    /// The machine, without what has come of a line.
+    /// Returns the machine, without the part of a line that has come.
     pub fn into_machine(self) -> M
         ensures { result ≡ self.machine }
     {
         self.machine
     }
 
-    // Keeps what there is room for.
+    // Stores the bytes that fit.
     fn keep(&mut self, piece: &[u8]) -> Result<(), AllocError>
         requires { IsClean piece.now }
         ensures begun { OnOk result (self.new.begun.items ≡ take most_kept (self.old.begun.items ++ piece.now)) }
@@ -134,7 +134,7 @@ impl<M: Machine> Listener<M> {
         serve(&mut self.machine, writer, line, store, work)
     }
 
-    /// Serves the lines that end in a piece of the input, and keeps the rest. Returns whether the machine goes on.
+    /// Serves the lines that end in a piece of the input, and stores the rest. Returns whether the machine goes on.
     pub fn feed<W: Sink, S: Store>(
         &mut self,
         writer: &mut W,
@@ -164,7 +164,7 @@ impl<M: Machine> Listener<M> {
         }
     }
 
-    /// Serves what has come of a last line, and writes the machine's answer to the end of the input.
+    /// Serves the last line, if one has begun, and writes the machine's answer to the end of the input.
     pub fn finish<W: Sink, S: Store>(
         &mut self,
         writer: &mut W,

@@ -1,4 +1,4 @@
-//! What takes the lines of an input one after another, and answers some of them.
+//! Machines that take the lines of an input one after another, and answer some of them.
 
 ghost use Rattle.std.specs.Prelude.{◌≡◌, Bool, false, Some, List, ℕ, [], ◌∷◌, IfOk, OnErr, OnOk};
 ghost use Rattle.abc2midi_live.specs.Machine.{AsksNothing, CarriesOut, MachineState, TakesLine};
@@ -8,7 +8,7 @@ use crate::streams::Store;
 use abc_fold::Work;
 use std::alloc::AllocError;
 
-/// What a machine answers to a line.
+/// The answer of a machine to a line.
 #[derive(Drop)]
 pub enum Reply {
     /// It waits for more lines.
@@ -21,7 +21,7 @@ pub enum Reply {
 
 /// A machine that takes lines, and puts and removes files in a store.
 pub trait Machine {
-    // What it answers to the lines that come, and what the store is known to hold.
+    // Its answers to the lines that come, and the known files of the store.
     ghost state: { Self → MachineState (List ℕ) };
 
     // Whether a line may cost work that is counted.
@@ -40,13 +40,13 @@ pub trait Machine {
             (S.seen store.new)) }
         ensures uncounted { OnOk result (costs self.old line.items ≡ false → work.new ≡ work.old) };
 
-    /// What it answers at the end of the input.
+    /// Returns its answer at the end of the input.
     fn on_end_of_input(&self) -> &'static [u8]
         ensures { (state self.now).future Whole [] [] ≡ Some (run_output result.now (state self.now).directory) };
 
     // Nothing is written before a line comes.
     ghost waits: { (m : Self) → (state m).future SoFar [] [] ≡ Some (run_output [] (state m).directory) };
 
-    // Nothing is asked for before the store answers.
+    // The store is not called again before it answers.
     ghost unasked: { (m : Self) (lines : List (List ℕ)) → AsksNothing (state m).directory ((state m).future Stopped lines) };
 }

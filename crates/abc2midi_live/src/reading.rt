@@ -12,15 +12,15 @@ use crate::streams::{Sink, Source, Store};
 use abc_fold::Work;
 use std::alloc::Global;
 
-/// How many reads are made at most.
+/// The most reads of a run.
 pub const MOST_READS: u32 = 4_294_967_295;
 
-/// How many bytes are read at a time.
+/// The most bytes of one read.
 const PIECE: usize = 8_192;
 
 const _: () = prove!(MOST_READS == u32::MAX);
 
-// One read, and what it leads to. Whether the run goes on.
+// Reads once, and serves the bytes. Returns whether the run goes on.
 #[tactic(auto, using(crate::proofs::Counts::raised_none))]
 fn serve_read<M: Machine, R: Source, W: Sink, S: Store>(
     listener: &mut Listener<M>,
@@ -49,7 +49,7 @@ fn serve_read<M: Machine, R: Source, W: Sink, S: Store>(
     Ok(false)
 }
 
-/// Reads to the end of the input, or until the machine ends, writes what the machine answers, and gives it back.
+/// Reads to the end of the input, or until the machine ends, writes the machine's answers, and returns the machine.
 #[tactic(auto, using(crate::proofs::Counts::raised_none))]
 pub fn listen<M: Machine + Drop, R: Source, W: Sink, S: Store>(
     alloc: Global,

@@ -1,5 +1,5 @@
 //! The source of commands, the sink of answers, and the store of files. Each counts its failures, so that contracts can
-//! name the cause of a fault, and may give its bytes.
+//! name the cause of a fault, and may show its bytes.
 
 ghost use Rattle.std.specs.Prelude.{◌≡◌, ◌↔◌, ℕ, List, Option, None, IsTrue, OnOk, MatchResult};
 ghost use Rattle.std.specs.Io.{ReadsAtMost};
@@ -21,12 +21,12 @@ pub struct StreamFault;
 #[error("a store failed")]
 pub struct StoreFault;
 
-/// What commands are read from.
+/// The source of commands.
 pub trait Source {
     // How many calls failed.
     ghost failures: { Self → ℕ };
 
-    // How many calls were made.
+    // The number of calls.
     ghost calls: { Self → ℕ };
 
     // The bytes to come, if they are known.
@@ -41,7 +41,7 @@ pub trait Source {
         ensures calls { calls self.new ≡ raised (calls self.old) 1 };
 }
 
-/// What answers are written to.
+/// The sink of answers.
 pub trait Sink {
     // How many calls failed.
     ghost failures: { Self → ℕ };
@@ -55,12 +55,12 @@ pub trait Sink {
         ensures failures { failures self.new ≡ raised (failures self.old) (faults result) };
 }
 
-/// What keeps files by their names.
+/// A store of files by their names.
 pub trait Store {
-    // How many calls failed, how many were made, and the bytes under each name, if they are known.
+    // How many calls failed, how many there were, and the bytes under each name, if they are known.
     ghost seen: { Self → StoreSeen };
 
-    /// Stores the bytes under the name, instead of what is there. A fault leaves the other names.
+    /// Stores the bytes under the name, instead of the old ones. A fault leaves the other names.
     fn put(&mut self, name: &str, bytes: &[u8]) -> Result<(), StoreFault>
         ensures files { MatchResult result
             (λ _. Puts (seen self.old).contents (seen self.new).contents name.now bytes.now)
@@ -100,7 +100,7 @@ impl<T> Piped<T> {
     }
 }
 
-/// Whether a signal interrupted the call, so that it is made again.
+/// Whether a signal interrupted the call, so that it is repeated.
 fn is_interrupted(error: &Error) -> bool
     ensures { IsTrue result ↔ (error_kind error.now ≡ ErrorKind.Interrupted) }
 {
@@ -115,7 +115,7 @@ impl<T: Read> Source for Piped<T> {
 
     ghost remaining = { λ p. T.remaining p.inner };
 
-    // A read that a signal interrupted is made again.
+    // A read that a signal interrupted is repeated.
     fn read(&mut self, buf: &mut [u8]) -> Result<usize, StreamFault> {
         self.calls = self.calls.saturating_add(1);
         for _ in 0..u32::MAX {

@@ -15,7 +15,7 @@ use abc_fold::Work;
 use std::alloc::Global;
 use std::mem;
 
-/// The dialogue on the text of a tune book, if there is one, whose answer is written.
+/// Returns the dialogue on the text of a tune book, if there is one, after it has written the answer.
 #[tactic(auto, using(crate::proofs::Counts::raised_none))]
 fn open_dialogue<W: Sink>(
     alloc: Global,
@@ -40,7 +40,7 @@ fn open_dialogue<W: Sink>(
     }
 }
 
-// The dialogue after a run.
+// Runs the commands, and returns the dialogue after them.
 fn dialogue_after_run<R: Source, W: Sink, S: Store>(
     alloc: Global,
     book: Option<&[u8]>,
@@ -60,7 +60,7 @@ fn dialogue_after_run<R: Source, W: Sink, S: Store>(
 /// input or `quit`, carries them out, and writes the answers to all of these. `build` puts files into the store and
 /// removes them.
 ///
-/// The fault is `Read` if the reader fails or 4,294,967,295 reads were made, `Write` if the writer fails, and `Memory`
+/// The fault is `Read` if the reader fails or after 4,294,967,295 reads, `Write` if the writer fails, and `Memory`
 /// if an allocation fails. A fault of the store is no fault of the run.
 pub fn run<R: Source, W: Sink, S: Store>(
     alloc: Global,

@@ -17,7 +17,7 @@ use Rattle.abc_bars.specs.LookBack.Header.{declared_names, declared_shift, last_
 use Rattle.abc_bars.proofs.Names.{among_at, differs, distinct_on, each_at, each_with, few_on, full_names, keys_each, known_name, length_each, mentioned_name, name_there, new_name, others_each}
 use Rattle.abc_bars.proofs.Names.{push_each, set_each, still_apart, still_room, unplaced}
 
--- What is said of a voice, where one more line says this of it or of another.
+-- The properties of a voice, if one more line sets these for it or for another.
 abbrev pub said_if : Bool → Shift → Shift → Shift
 said_if b shift before = record {
   clef = option_or (cond b shift.clef None) before.clef;
@@ -25,11 +25,11 @@ said_if b shift before = record {
   transpose = option_or (cond b shift.transpose None) before.transpose;
 }
 
--- What is said for a name, where one more voice is said.
+-- The properties of a name, if one more voice is declared.
 abbrev pub said_on : List ℕ → Shift → (List ℕ → Shift) → List ℕ → Shift
 said_on name shift said other = said_if (bytes_eq other name) shift (said other)
 
--- A part of which nothing was said before is what is said now.
+-- A part that was not set before is the one that is set now.
 or_none : {V : Type 0} (here before : Option V) → before ≡ None → option_or here before ≡ here
 or_none None before none = none
 or_none (Some v) before none = refl
@@ -49,7 +49,7 @@ module _ (names : List (List ℕ)) (name : List ℕ) (shift : Shift) (said : Lis
   said_here : said_on name shift said name ≡ merge_shift shift (said name)
   said_here = ap (λ b. said_if b shift (said name)) (nat_list_eq_equiv.refl name)
 
-  -- A voice that is declared already gets what is said for it.
+  -- A voice that is declared already gets the new properties.
   said_again : (at : ℕ) → IsDistinct bytes_eq names → position (bytes_eq name) names ≡ Some at
       → each_with (said_on name shift said) names ≡ with_shift_at (each_with said names) at shift
   said_again at distinct found =

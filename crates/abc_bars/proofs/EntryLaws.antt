@@ -27,6 +27,6 @@ kinds_apart here there same = kind-seen here ∙ ap kind_held same ∙ sym (kind
 pub told_by : (told : Bool) (a b : Entry) → (told ≡ true → a ≡ b) × (a ≡ b → told ≡ true) → told ≡ same_entry a b
 told_by told a b tells = same_from_decides told (same_entry a b) tells (same_entry_tells a b)
 
--- Two places are alike exactly where what holds there is equal.
+-- Two places are equivalent exactly if their states are equal.
 pub alike_where_equal : (here there : Entry) → (same_entry here there ≡ true) ↔ (here ≡ there)
 alike_where_equal here there = same_entry_tells here there

@@ -1,4 +1,4 @@
--- The state after one more line of a header is what the line gives from what held before it.
+-- The state after one more line of a header is what the line gives from the state before it.
 use Rattle.std.proofs.Common.{◌≡◌, ℕ, nat_lt, Bool, true, false, cond, List, [], ◌∷◌, ◌++◌, length, Option, Some, None, Result, Ok, Err, refl, ◌∙◌}
 use Rattle.std.specs.Option.{option_map, option_or}
 use Rattle.std.specs.Result.{result_ok}
@@ -26,7 +26,7 @@ use Rattle.abc_bars.proofs.DeclaredVoices.{voices_named}
 use Rattle.abc_bars.proofs.Names.{each_with}
 use Rattle.abc_bars.proofs.HeaderViews.{defaults_behind, said, setting_said}
 
--- What is said for a name, where one more voice may be said.
+-- The properties of a name, if one more voice may be declared.
 abbrev shift_on : Option (List ℕ × Shift) → (List ℕ → Shift) → List ℕ → Shift
 shift_on voice before name = record {
   clef = option_or (part_said (λ shift. shift.clef) name voice) (before name).clef;
@@ -93,7 +93,7 @@ behind_kind opening before kinds.Voice value = voice_declares opening before val
 behind_kind opening before kinds.Key value = key_keeps (header_at opening before) (key_of value)
 behind_kind opening before kind value = let set = setting_said (defaults_at opening before) kind value in λ i. record { defaults = set i; voices = voices_at before }
 
--- The state after one more line of a header is what the line gives from what held before it.
+-- The state after one more line of a header is what the line gives from the state before it.
 pub header_behind : (opening : Defaults) (before : List HeaderLine) (line : HeaderLine) →
     header_at opening (line ∷ before) ≡ (header_result (header_at opening before) line).header
 header_behind opening before (FieldLine field) = behind_kind opening before (kind_of field.letter) field.value

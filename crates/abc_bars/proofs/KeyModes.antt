@@ -1,22 +1,18 @@
 -- The mode of a K: is known by the first three letters of the run after its tonic.
-use Rattle.std.proofs.Common.{◌≡◌, ℕ, suc, ◌+◌, ◌<◌, ◌≤◌, eqb, Bool, true, false, cond, ◌||◌, ◌⊎◌, ⊎_elim, List, [], ◌∷◌, ◌++◌, length, take, drop, Option, Some, None, Ok, codes, refl, sym, ap, ◌∙◌}
+use Rattle.std.proofs.Common.{◌≡◌, ℕ, suc, ◌+◌, ◌<◌, ◌≤◌, eqb, Bool, true, false, cond, ◌||◌, ◌⊎◌, ⊎_elim, List, [], ◌∷◌, length, Option, Some, None, Ok, codes, refl, sym, ap, ◌∙◌}
 use Rattle.std.proofs.Common.{inl, inr, arith, ℤ, pos}
 use Rattle.std.specs.Prelude.{◌≢◌, ◌+ℤ◌, ◌==◌, ◌&&◌, nat_le}
-use Rattle.std.specs.List.{AllPass, prefix_len}
 use Rattle.std.specs.Option.{option_map, ok_or}
 use Rattle.std.specs.Str.{bytes_eq}
-use Rattle.std.specs.Char.{to_ascii_lowercase, is_ascii_alphabetic}
-use Rattle.std.proofs.Math.Seq.{drop-append_seam, take-append_seam}
+use Rattle.std.specs.Char.{to_ascii_lowercase}
 use Rattle.std.proofs.lemmas.Bool.{and_parts, leb-true, cases_lt, cond-true, cond-false, cases_Bool, false_from_ne_true, or_from, ne_eqb}
 use Rattle.std.proofs.lemmas.Int.{ints}
 use Rattle.std.proofs.lemmas.Slice.Eq.{bytes_eq-Decides}
 use Rattle.std.proofs.lemmas.Str.Ascii.{lowercase_is}
-use Rattle.abc_text.specs.Blank.{is_blank}
 use Rattle.abc_text.specs.declared.letter.Letter.{Letter}
 use Rattle.abc_text.specs.declared.letter.Letter.TheVariants.{A}
 use Rattle.abc_text.specs.Letter.{capital}
 use Rattle.abc_text.specs.Word.{words_of}
-use Rattle.abc_text.proofs.Fronts.{front_exact, front_none}
 use Rattle.abc_fields.specs.declared.fault.FaultCode.TheVariants.{BadKey}
 use Rattle.abc_fields.specs.declared.key.Key.{Key}
 use Rattle.abc_fields.specs.declared.shift.Shift.{Shift}
@@ -24,9 +20,9 @@ use Rattle.abc_fields.specs.Key.{complete_key, key_after, key_in, key_with, spel
 use Rattle.abc_fields.specs.Mode.{front_of, mode_named, mode_of}
 use Rattle.abc_fields.specs.Shift.{no_shift, shift_of}
 use Rattle.abc_fields.specs.Signature.{signature_of}
-use Rattle.abc_fields.specs.Spelling.Tonic.{IsRun, IsTonic, StopsAt}
+use Rattle.abc_fields.specs.Spelling.Tonic.{IsTonic}
 use Rattle.abc_fields.specs.Tonic.{basis_at, basis_by}
-use Rattle.abc_fields.proofs.Tonics.{tonic_to}
+use Rattle.abc_fields.proofs.Tonics.{run_read, tonic_to}
 use Rattle.abc_bars.specs.KeyFieldLaws.{BeginsWith, NamesMode, lydian, major, ionian, mixolydian, dorian, minor, aeolian, letter_m, phrygian, locrian, IsTonicWithRun, NamesNone, NamedModesAdd}
 use Rattle.abc_bars.specs.KeyFieldLaws.{OthersAreMajor, OtherRunsAreRefused}
 
@@ -100,25 +96,6 @@ none_named run none =
     (or_from (bytes_eq name (codes "min")) (bytes_eq name (codes "aeo")) (unnamed _ _ _ run (λ h. none _ _ (minor h))) (unnamed _ _ _ run (λ h. none _ _ (aeolian h))))
     ∙ cond-false (bytes_eq name (codes "phr")) _ _ (unnamed _ _ _ run (λ h. none _ _ (phrygian h)))
     ∙ cond-false (bytes_eq name (codes "loc")) _ _ (unnamed _ _ _ run (λ h. none _ _ (locrian h)))
-
--- how the text after a tonic is read
-stopped : (test : ℕ → Bool) (rest : List ℕ) → StopsAt test rest → prefix_len test rest ≡ 0
-stopped test [] stops = refl
-stopped test (b ∷ bs) stops = front_none test b bs (stops b bs refl)
-
-front_len : (test : ℕ → Bool) (front rest : List ℕ) → AllPass test front → StopsAt test rest → prefix_len test (front ++ rest) ≡ length front
-front_len test front rest pass stops = front_exact test front rest pass (stopped test rest stops)
-
-run_read : (text blanks run rest : List ℕ) → IsRun text blanks run rest → basis_at text ≡ basis_by (mode_of run) (length blanks) run text rest
-unfolding basis_at
-run_read text blanks run rest is =
-    let n : prefix_len is_blank text ≡ length blanks = ap (prefix_len is_blank) is.spelling ∙ front_len is_blank blanks (run ++ rest) is.are_blanks is.no_more_blanks in
-    let behind : drop (prefix_len is_blank text) text ≡ run ++ rest = (λ i. drop (n i) (is.spelling i)) ∙ drop-append_seam blanks (run ++ rest) in
-    let m : prefix_len is_ascii_alphabetic (drop (prefix_len is_blank text) text) ≡ length run =
-    ap (prefix_len is_ascii_alphabetic) behind ∙ front_len is_ascii_alphabetic run rest is.are_letters is.no_more_letters in
-    let letters = (λ i. take (m i) (behind i)) ∙ take-append_seam run rest in
-    let more = (λ i. drop (m i) (behind i)) ∙ drop-append_seam run rest in
-    λ i. basis_by (mode_of (letters i)) (n i) (letters i) text (more i)
 
 -- a value that begins with a tonic is neither empty nor `none`
 tonic_no_none : (letter : Letter) → capital letter ≡ 110 → ⊥

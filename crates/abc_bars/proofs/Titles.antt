@@ -138,7 +138,7 @@ titles_pass P [] all = All-nil P
 titles_pass P (cell ∷ cells) all =
     by_passes P (field_in cell) (directive_in cell) (titles_of_header cells) (All-head (HasValue P) cell cells all) (titles_pass P cells (All-tail (HasValue P) cell cells all))
 
--- what is said from a place of a tune on
+-- The titles from a place of a tune on.
 abbrev said_from : Entry → List Cell → List (List ℕ)
 said_from (entries.FileHeader defaults) cells = []
 said_from (entries.Opening defaults) cells = titles_of_header cells

@@ -1,5 +1,6 @@
 -- The state of the current voice of a body, if it was written.
 use Rattle.std.proofs.Common.{◌≡◌, ℕ, zero, suc, ◌≤◌, ◌<◌, nat_lt, Bool, true, false, cond, List, [], ◌∷◌, length, unwrap_or, refl, sym, ap, ◌∙◌, arith}
+use Rattle.std.specs.Prelude.{Option, None, Some}
 use Rattle.std.proofs.lemmas.Bool.Decides.{nat_tests}
 use Rattle.std_collections.proofs.Entries.{length-set_value_at}
 use Rattle.std_collections.proofs.HashLookup.{get_value_set, set_value_at_twice}
@@ -8,7 +9,12 @@ use Rattle.abc_bars_body.specs.declared.body.Current.{Current}
 use Rattle.abc_bars_body.specs.declared.body.Current.TheVariants.{Unnamed, At}
 use Rattle.abc_bars_voice.specs.declared.voice_state.VoiceState.{VoiceState}
 use Rattle.abc_bars_body.specs.Body.{here, here_in, after_mention, after_mention_in, with_here, with_here_in}
+use Rattle.abc_bars_body.specs.BodyCopy.{with_changed}
 use Rattle.abc_bars_header.specs.Voices.{voice_at, with_voice_at}
+use Rattle.abc_bars_voice.specs.Accidentals.{no_accidentals, reach_of}
+use Rattle.abc_bars_voice.specs.VoiceState.{without_accidentals}
+use Rattle.abc_bars_voice.specs.declared.accidentals.Accidentals.{Accidentals}
+use Rattle.abc_scan.specs.declared.directive.Reach.TheVariants.{Pitch}
 
 set-same : (voices : List (List ℕ × VoiceState)) (place : ℕ) (another : VoiceState) → with_voice_at voices place (unwrap_or (voice_at voices place) another) ≡ voices
 set-same [] place another = refl
@@ -37,7 +43,7 @@ same-in : (body : Body) (current : Current) → record body { current = current 
 same-in body (Unnamed state) = refl
 same-in body (At place) = here-at (record body { current = At place }) place (nat_lt place (length body.voices)) refl
 
--- What holds is written where it holds.
+-- Writing the present state changes nothing.
 pub same_here : (body : Body) → body ≡ with_here body (here body)
 same_here body = same-in body body.current
 
@@ -58,7 +64,7 @@ read-in body (At place) state =
     ap (here_in (with_here_in at (At place) state)) (kept-current at place state (nat_lt place (length body.voices)))
     ∙ read-at at place state (nat_lt place (length body.voices)) refl
 
--- What was written holds.
+-- The written state is the present one.
 pub here_written : (body : Body) (state : VoiceState) → here (with_here body state) ≡ state
 here_written body state = read-in body body.current state
 
@@ -79,7 +85,7 @@ twice-in : (body : Body) (current : Current) (first last : VoiceState)
 twice-in body (Unnamed old) first last = refl
 twice-in body (At place) first last = twice-at body place first last (nat_lt place (length body.voices)) refl
 
--- What is written last holds.
+-- The last write decides.
 pub written_twice : (body : Body) (first last : VoiceState) → with_here (with_here body first) last ≡ with_here body last
 written_twice body first last = twice-in body body.current first last
 
@@ -87,6 +93,20 @@ same-current : (body : Body) (state : VoiceState) (place : ℕ) → body.current
 same-current body state place is =
     ap (λ (current : Current). (with_here_in body current state).current) is ∙ kept-current body place state (nat_lt place (length body.voices)) ∙ is
 
--- Where the current voice is mentioned it stays so.
-pub still_mentioned : (body : Body) (place : ℕ) (state : VoiceState) → body.current ≡ At place → after_mention (with_here body state) ≡ with_here body state
-still_mentioned body place state is = ap (after_mention_in (with_here body state)) (same-current body state place is)
+-- The last write decides, also after an earlier change.
+pub changed_twice : (body : Body) (here : Option VoiceState) (last : VoiceState) → with_here (with_changed body here) last ≡ with_here body last
+changed_twice body None last = refl
+changed_twice body (Some first) last = written_twice body first last
+
+-- A mentioned voice stays mentioned if its state changes or not.
+pub still_mentioned : (body : Body) (place : ℕ) (here : Option VoiceState) → body.current ≡ At place → after_mention (with_changed body here) ≡ with_changed body here
+still_mentioned body place None is = ap (after_mention_in body) is
+still_mentioned body place (Some state) is = ap (after_mention_in (with_here body state)) (same-current body state place is)
+
+cleared : (accidentals : Accidentals) → accidentals ≡ no_accidentals Pitch → no_accidentals (reach_of accidentals) ≡ accidentals
+cleared accidentals is = ap (λ (a : Accidentals). no_accidentals (reach_of a)) is ∙ sym is
+
+-- A voice without accidentals stays the same if they end.
+pub clear_same : (body : Body) → (here body).accidentals ≡ no_accidentals Pitch → body ≡ with_here body (without_accidentals (here body))
+clear_same body is =
+    same_here body ∙ sym (ap (λ (a : Accidentals). with_here body (record (here body) { accidentals = a })) (cleared (here body).accidentals is))

@@ -86,7 +86,7 @@ step_keeps_names body next cell same =
     let is : next ≡ (cell_result body cell).body = ap (λ (e : Entry). body_of e next) same in
     subst (KeepsNames body) (sym is) (keeps_names body cell)
 
--- Two bodies with the same names are the same where all else is.
+-- Two bodies with the same names are equal if all else is.
 pub same_body : (before after : Body) → KeepsNames before after → before.current ≡ after.current → before.another ≡ after.another
     → values_of before.voices ≡ values_of after.voices → before ≡ after
 same_body before after keeps current another known =

@@ -12,7 +12,7 @@ copies_same (voice ∷ voices) [] same = absurd same
 copies_same (voice ∷ voices) (copy ∷ copies) same = λ i. (same.0.0 i, same.0.1 i) ∷ copies_same voices copies same.1 i
 
 module _ {S : Type 0} (f : S → S) where
-  -- What is known of the first so many voices is changed.
+  -- The values of the first `n` voices are changed.
   abbrev pub changed_to : ℕ → List (List ℕ × S) → List (List ℕ × S)
   changed_to zero voices = voices
   changed_to (suc n) [] = []
@@ -37,7 +37,7 @@ module _ {S : Type 0} (f : S → S) where
   changed_to-length [] = refl
   changed_to-length (voice ∷ voices) = ap (λ rest. (voice.0, f voice.1) ∷ rest) (changed_to-length voices)
 
-  -- Where what is known of the first so many voices is changed, that of one more is.
+  -- After those of the first `n` voices, that of one more is changed.
   pub changed_more : (voices now : List (List ℕ × S)) (n : ℕ) (known new : S) → now ≡ changed_to n voices → voice_at now n ≡ Some known → new ≡ f known
       → with_voice_at now n new ≡ changed_to (n + 1) voices
   changed_more voices now n known new changed is by =

@@ -1,12 +1,19 @@
 -- Copies of a body, as they are stored.
+use Rattle.std.specs.Prelude.{Option, None, Some}
 use Rattle.abc_bars_body.specs.Body.{with_here}
 use Rattle.abc_bars_body.specs.declared.body.Body.{Body}
 use Rattle.abc_bars_body.specs.declared.body_copy.BodyStorage.{BodyStorage}
 use Rattle.abc_bars_body.specs.declared.body_copy.BodyStorage.TheVariants as storages
+use Rattle.abc_bars_voice.specs.declared.voice_state.VoiceState.{VoiceState}
+
+-- The body with another state of its current voice, if there is one.
+abbrev pub with_changed : Body → Option VoiceState → Body
+with_changed body None = body
+with_changed body (Some here) = with_here body here
 
 -- The stored body.
 abbrev pub stored_body : BodyStorage → Body
-stored_body (storages.Borrowed body here) = with_here body here
+stored_body (storages.Borrowed body here) = with_changed body here
 stored_body (storages.Owned body) = body.value
 
 -- Nothing of it is shared.

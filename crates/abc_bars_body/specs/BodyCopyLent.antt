@@ -1,18 +1,10 @@
 -- A copy of a body after a part of it was borrowed and changed.
 use Rattle.std.specs.Borrow.{Fml, Lends, MutBor}
-use Rattle.abc_bars_body.specs.Body.{with_here}
 use Rattle.abc_bars_body.specs.BodyCopy.{with_own}
 use Rattle.abc_bars_body.specs.contracts.body.Body.{the_row as body_row}
-use Rattle.abc_bars_body.specs.contracts.body_copy.BodyCopy.{the_row}
 use Rattle.abc_bars_body.specs.contracts.body_copy.BodyStorage.{the_row as held_row}
 use Rattle.abc_bars_body.specs.declared.body.Body.{Body}
 use Rattle.abc_bars_body.specs.declared.body_copy.BodyStorage.{BodyStorage}
-use Rattle.abc_bars_voice.specs.contracts.voice_state.VoiceState.{the_row as voice_state_row}
-use Rattle.abc_bars_voice.specs.declared.voice_state.VoiceState.{VoiceState}
-
--- Once the borrow ends, what was last written is the state of the current voice.
-abbrev pub LendsHere : MutBor Body → MutBor VoiceState → Fml
-LendsHere copy lent = Lends the_row voice_state_row copy lent (with_here copy.now)
 
 -- Once the borrow ends, what was last written is the body.
 abbrev pub LendsOwn : MutBor BodyStorage → MutBor Body → Fml

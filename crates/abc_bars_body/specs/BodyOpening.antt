@@ -1,4 +1,4 @@
--- The state where a tune's body begins.
+-- The state at the beginning of a tune's body.
 use Rattle.std.specs.Prelude.{ℕ, pos, List, [], ◌∷◌, map, None, unwrap_or}
 use Rattle.abc_fields.specs.declared.key.Key.{Key}
 use Rattle.abc_fields.specs.declared.shift.Shift.{Shift}
@@ -19,7 +19,7 @@ use Rattle.abc_bars_voice.specs.declared.voice_shift.VoiceShift.{VoiceShift}
 abbrev pub unshifted : VoiceShift
 unshifted = record { clef = pos 0; octave = pos 0; transpose = pos 0 }
 
--- The state of a voice where a body begins, by the header's values, the key that ended the header, and
+-- The state of a voice at the beginning of a body, by the header's values, the key that ended the header, and
 -- what was said of the voice's shift: its own parts go before those of the key. A key without a signature
 -- has an empty one there. Not in ABC 2.1.
 abbrev pub opening_voice_state : Defaults → Key → Shift → VoiceState
@@ -34,25 +34,25 @@ opening_voice_state defaults key said = record {
   dynamic = None;
 }
 
--- The state of a declared voice where a body begins.
+-- The state of a declared voice at the beginning of a body.
 abbrev pub opening_voice : Header → Key → List ℕ × Shift → List ℕ × VoiceState
 opening_voice header key voice = (voice.0, opening_voice_state header.defaults key voice.1)
 
--- The states of the declared voices where a body begins.
+-- The states of the declared voices at the beginning of a body.
 abbrev pub opening_voices : Header → Key → List (List ℕ × VoiceState)
 opening_voices header key = map (opening_voice header key) header.voices
 
--- The voice that is the current one where a body begins: the first that is declared, else the one without
+-- The current voice at the beginning of a body: the first that is declared, else the one without
 -- a name. ABC 2.1 section 7.1.
 abbrev pub current_in : List (List ℕ × Shift) → VoiceState → Current
 current_in [] unnamed = Unnamed unnamed
 current_in (first ∷ rest) unnamed = At 0
 
--- The state of a voice that is not mentioned where a body begins.
+-- The state of a voice that is not mentioned, at the beginning of a body.
 abbrev pub opening_another : Header → Key → VoiceState
 opening_another header key = opening_voice_state header.defaults key no_shift
 
--- The state where a body begins, by its header and the key that ended it.
+-- The state at the beginning of a body, by its header and the key that ended it.
 abbrev pub body_from : Header → Key → Body
 body_from header key = record {
   voices = opening_voices header key;

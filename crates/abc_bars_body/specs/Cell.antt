@@ -141,7 +141,7 @@ with_dynamic given dynamic = record given { body = with_here given.body (record 
 abbrev pub with_program : CellResult → ℕ → Option ℕ → CellResult
 with_program given place number = with_fault_if (with_item given (items.Program false number)) (is_none number) place BadProgram
 
--- After a directive: how far accidentals reach is fixed where the body begins. Not in ABC 2.1.
+-- After a directive: the body cannot change the reach of accidentals. Not in ABC 2.1.
 abbrev pub with_directive : CellResult → ℕ → Directive → CellResult
 with_directive given place (directives.Program written) = with_program given place (program_of written)
 with_directive given place (directives.Reach reach) = given

@@ -5,12 +5,12 @@ use Rattle.abc_bars_header.specs.declared.defaults.Defaults.{Defaults}
 use Rattle.abc_bars_body.specs.declared.entry.Entry.{Entry}
 use Rattle.abc_bars_body.specs.declared.entry.Entry.TheVariants as entries
 
--- The values in a file header; elsewhere none.
+-- The values in a file header; no values in the other states.
 abbrev pub defaults_of : Entry → Defaults
 defaults_of (entries.FileHeader defaults) = defaults
 defaults_of _ = no_defaults
 
--- The state where a tune begins, by the state after the file header, if there is one.
+-- The state at the beginning of a tune, by the state after the file header, if there is one.
 abbrev pub opening_after : Option Entry → Entry
 opening_after None = entries.Opening no_defaults
 opening_after (Some entry) = entries.Opening (defaults_of entry)

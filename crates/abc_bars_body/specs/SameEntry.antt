@@ -22,7 +22,7 @@ pub same_entry_tells : (a b : Entry) → (same_entry a b ≡ true → a ≡ b) �
 unfolding same_entry
 same_entry_tells a b = entry_equality.exact a b
 
--- The fold over bars: the state after a cell and what it gives, and which places are alike.
+-- The fold over bars: the state after a cell, its items, and which states are equivalent.
 abbrev pub bar_steps : Steps Entry (List (Spanned TokenKind)) Items
 bar_steps = record {
   next = λ entry cell. (entry_step entry cell).0;
@@ -30,6 +30,6 @@ bar_steps = record {
   alike = same_entry;
 }
 
--- Entries that are alike may replace each other: they are equal.
+-- Equivalent entries may replace each other: they are equal.
 pub bars_resumable : IsResumable bar_steps
 bars_resumable = resumable_where_equal bar_steps (λ a b. (same_entry_tells a b).0) (λ a. (same_entry_tells a a).1 refl)

@@ -2,29 +2,32 @@
 
 ghost use Rattle.std.specs.Prelude.{◌≡◌, IfOk, IfSome, IsTrue, OnErr, OnOk};
 ghost use Rattle.std.specs.Borrow.{sem};
-ghost use Rattle.abc_bars_body.specs.Body.{here, after_mention};
-ghost use Rattle.abc_bars_body.specs.BodyCopy.{IsOwned, stored_body};
-ghost use Rattle.abc_bars_body.specs.BodyCopyLent.{LendsHere, LendsOwn};
+ghost use Rattle.abc_bars_body.specs.Body.{here, after_mention, with_here};
+ghost use Rattle.abc_bars_body.specs.BodyCopy.{IsOwned, stored_body, with_changed};
+ghost use Rattle.abc_bars_body.specs.BodyCopyLent.{LendsOwn};
 ghost use Rattle.abc_bars_body.specs.BodyFields.{field_result, field_result_of};
 ghost use Rattle.abc_bars_items.specs.Item.{IsItem};
+ghost use Rattle.abc_bars_voice.specs.VoiceState.{without_accidentals};
+ghost use Rattle.abc_bars_voice.specs.declared.voice_state.VoiceState.{VoiceState as State};
 
 use crate::body::{Body, Current};
-use crate::body_fields::{FieldItem, field_result};
+use crate::body_fields::{FieldItem, kind_result};
 use crate::entry::Entry;
 use crate::stays::is_surely_same;
-use abc_bars_voice::VoiceState;
+use abc_bars_header::kind_of;
+use abc_bars_voice::{Accidentals, Same, VoiceState};
 use abc_fold::Shared;
-use abc_scan::Field;
+use abc_scan::{Field, Reach};
 use std::alloc::{AllocError, Global};
 use std::marker::Model;
 
 /// How a copy of a body is stored.
 #[derive(Drop)]
 pub(crate) enum BodyStorage {
-    /// A shared body, and the current voice's state apart from it.
+    /// A shared body, and the current voice's state if it changed.
     Borrowed {
         body: Shared<Body>,
-        here: VoiceState,
+        here: Option<VoiceState>,
     },
     Owned(Box<Body>),
 }
@@ -48,7 +51,9 @@ impl BodyStorage {
     {
         if let BodyStorage::Borrowed { body, here } = self {
             let mut body = body.get().clone()?;
-            *body.here_mut() = here.clone()?;
+            if let Some(here) = here {
+                *body.here_mut() = here.clone()?;
+            }
             *self = BodyStorage::Owned(Box::new(alloc, body)?);
         }
         Ok(())
@@ -67,8 +72,28 @@ impl BodyStorage {
     }
 }
 
-/// A copy of a body, to be changed. Most tokens change only the state of the current voice: it is copied at once, and all
-/// else only when it changes.
+/// The entry of a shared body, in which the current voice has another state, if there is one.
+#[tactic(auto, using(crate::proofs::HereLaws::same_here))]
+fn changed_entry(
+    alloc: Global,
+    body: Shared<Body>,
+    here: Option<VoiceState>,
+) -> Result<Entry, AllocError>
+    ensures { IfOk result (λ entry. entry ≡ Entry.Body (with_changed body here)) }
+{
+    let Some(here) = here else {
+        return Ok(Entry::Body(body));
+    };
+    if is_surely_same(&here, body.get().here()) {
+        return Ok(Entry::Body(body));
+    }
+    let mut body = body.get().clone()?;
+    *body.here_mut() = here;
+    Entry::in_body(alloc, body)
+}
+
+/// A copy of a body, to be changed. Most tokens change nothing, and most others only the state of the current voice: each
+/// is copied only when it changes.
 #[derive(Drop)]
 pub struct BodyCopy {
     storage: BodyStorage,
@@ -85,14 +110,12 @@ impl Model for BodyCopy {
 
 impl BodyCopy {
     /// A copy of a body.
-    #[tactic(auto, using(crate::proofs::HereLaws::same_here))]
     pub fn of(body: &Shared<Body>) -> Result<BodyCopy, AllocError>
         ensures { IfOk result (λ copy. copy ≡ body.now) }
     {
-        let here = body.get().here().clone()?;
         let body = body.share()?;
         Ok(BodyCopy {
-            storage: BodyStorage::Borrowed { body, here },
+            storage: BodyStorage::Borrowed { body, here: None },
         })
     }
 
@@ -107,26 +130,69 @@ impl BodyCopy {
     }
 
     /// The state of the current voice.
+    #[inline(always)]
     #[tactic(auto, using(crate::proofs::HereLaws::here_written))]
     pub(crate) fn here(&self) -> &VoiceState
         ensures { result.now ≡ here self.now }
     {
         match &self.storage {
-            BodyStorage::Borrowed { here, .. } => here,
+            BodyStorage::Borrowed { body, here: None } => body.get().here(),
+            BodyStorage::Borrowed {
+                here: Some(here),
+                ..
+            } => here,
             BodyStorage::Owned(body) => body.here(),
         }
     }
 
-    /// The state of the current voice, to be changed.
-    #[tactic(auto, using(crate::proofs::HereLaws::here_written, crate::proofs::HereLaws::written_twice))]
-    pub(crate) fn here_mut(&mut self) -> &mut VoiceState
-        ensures* writes_back { sem 𝓛 (LendsHere self.entry result) }
-        ensures value { result.now ≡ here self.old }
+    /// The state of the current voice, to be changed and then put back.
+    #[tactic(auto, using(crate::proofs::HereLaws::here_written, crate::proofs::HereLaws::changed_twice))]
+    pub(crate) fn take_here(&mut self) -> Result<VoiceState, AllocError>
+        ensures value { IfOk result (λ state. state ≡ here self.old) }
+        ensures rest { (state : State) → with_here self.new state ≡ with_here self.old state }
     {
         match &mut self.storage {
-            BodyStorage::Borrowed { here, .. } => here,
-            BodyStorage::Owned(body) => body.here_mut(),
+            BodyStorage::Borrowed { body, here } => match here.take() {
+                Some(here) => Ok(here),
+                None => body.get().here().clone(),
+            },
+            BodyStorage::Owned(body) => body.here().clone(),
         }
+    }
+
+    /// Puts back the state of the current voice.
+    #[tactic(auto, using(crate::proofs::HereLaws::changed_twice))]
+    pub(crate) fn put_here(&mut self, state: VoiceState)
+        ensures { self.new ≡ with_here self.old state }
+    {
+        match &mut self.storage {
+            BodyStorage::Borrowed { here, .. } => *here = Some(state),
+            BodyStorage::Owned(body) => *body.here_mut() = state,
+        }
+    }
+
+    /// Whether the current voice surely has no accidentals.
+    #[inline(always)]
+    #[tactic(auto, using(crate::proofs::HereLaws::clear_same))]
+    fn is_clear(&self, alloc: Global) -> bool
+        ensures { IsTrue result → self.now ≡ with_here self.now (without_accidentals (here self.now)) }
+    {
+        let none = Accidentals::none(alloc, Reach::Pitch);
+        self.here().accidentals.same(&none)
+    }
+
+    /// Ends the accidentals of the current voice, at a bar line. Most bars have none.
+    #[inline(always)]
+    pub(crate) fn end_bar(&mut self, alloc: Global) -> Result<(), AllocError>
+        ensures { OnOk result (self.new ≡ with_here self.old (without_accidentals (here self.old))) }
+    {
+        if self.is_clear(alloc) {
+            return Ok(());
+        }
+        let mut state = self.take_here()?;
+        state.clear_accidentals();
+        self.put_here(state);
+        Ok(())
     }
 
     /// The first note, chord, rest or bar rest of the voice without a name mentions it.
@@ -154,23 +220,22 @@ impl BodyCopy {
         ensures range { IfOk result (λ given. IfSome given.item IsItem) }
     {
         self.storage.copy_all(alloc)?;
-        field_result(alloc, self.storage.body_mut(), field, place)
+        let kind = kind_of(field.letter);
+        kind_result(
+            alloc,
+            self.storage.body_mut(),
+            kind,
+            field.value.as_slice(),
+            place,
+        )
     }
 
     /// The entry of this body. A body that is surely unchanged is shared.
-    #[tactic(auto, using(crate::proofs::HereLaws::same_here))]
     pub fn into_entry(self, alloc: Global) -> Result<Entry, AllocError>
         ensures { IfOk result (λ entry. entry ≡ Entry.Body self) }
     {
         match self.storage {
-            BodyStorage::Borrowed { body, here } => {
-                if is_surely_same(&here, body.get().here()) {
-                    return Ok(Entry::Body(body));
-                }
-                let mut body = body.get().clone()?;
-                *body.here_mut() = here;
-                Entry::in_body(alloc, body)
-            }
+            BodyStorage::Borrowed { body, here } => changed_entry(alloc, body, here),
             BodyStorage::Owned(body) => Entry::in_body(alloc, Box::into_inner(body)),
         }
     }

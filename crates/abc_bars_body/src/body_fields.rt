@@ -10,15 +10,14 @@ ghost use Rattle.abc_bars_body.specs.declared.body.Body.{Body};
 ghost use Rattle.abc_bars_body.specs.Body.{here, with_here};
 ghost use Rattle.abc_bars_items.specs.Column.{column_of};
 ghost use Rattle.abc_bars_body.specs.BodyFields.{field_result_of, part_of, part_by, meter_by, unit_by, tempo_at, tempo_by, in_key};
-ghost use Rattle.abc_bars_body.specs.BodyFields.{key_item, key_by, voice_by, kind_result, field_result};
+ghost use Rattle.abc_bars_body.specs.BodyFields.{key_item, key_by, voice_by, kind_result};
 ghost use Rattle.abc_bars_items.specs.Item.{IsCapitalLetter, IsItem};
 
 use crate::body::Body;
-use abc_bars_header::{FieldKind, kind_of};
+use abc_bars_header::FieldKind;
 use abc_bars_items::{Item, ItemText, LocalFault, column_of};
 use abc_bars_voice::{TuneMeter, TuneTempo, UnitLength, is_out_of_range, tempo_item};
 use abc_fields::{EMPTY_KEY, FaultCode, Key, read_key, read_voice};
-use abc_scan::Field;
 use std::alloc::{AllocError, Global};
 
 /// The item and the fault of a field of the body, if it has them.
@@ -231,8 +230,8 @@ fn voice_result(
     }))
 }
 
-/// Reads a field of this kind.
-fn kind_result(
+/// Reads a field of this kind, at a place of its line.
+pub(crate) fn kind_result(
     alloc: Global,
     body: &mut Body,
     kind: FieldKind,
@@ -251,24 +250,4 @@ fn kind_result(
         FieldKind::Voice => voice_result(alloc, body, value, place),
         FieldKind::Reference | FieldKind::Title | FieldKind::Other => Ok(FieldItem::empty()),
     }
-}
-
-/// Reads a field of the body, at a place of its line.
-pub(crate) fn field_result(
-    alloc: Global,
-    body: &mut Body,
-    field: &Field,
-    place: usize,
-) -> Result<FieldItem, AllocError>
-    ensures value { IfOk result (λ given. field_result_of body.new given
-        ≡ field_result body.old field.now.letter field.now.value place) }
-    ensures range { IfOk result (λ given. IfSome given.item IsItem) }
-{
-    kind_result(
-        alloc,
-        body,
-        kind_of(field.letter),
-        field.value.as_slice(),
-        place,
-    )
 }

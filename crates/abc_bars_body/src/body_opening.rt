@@ -1,4 +1,4 @@
-//! The state where a tune's body begins.
+//! The state at the beginning of a tune's body.
 
 ghost use Rattle.std.specs.Prelude.{◌≡◌, IfOk};
 ghost use Rattle.abc_bars_body.specs.BodyOpening.{opening_voice_state, opening_voices, body_from};
@@ -24,8 +24,8 @@ const NOTHING_SAID: Shift = Shift {
     transpose: None,
 };
 
-/// The state of a voice where a body begins, by the header's values, the key that ended the header, and the voice's shift,
-/// which overrides that of the key.
+/// The state of a voice at the beginning of a body, by the header's values, the key that ended the header, and the voice's
+/// shift, which overrides that of the key.
 fn opening_voice_state(alloc: Global, defaults: &Defaults, key: &Key, said: Shift) -> VoiceState
     ensures { result ≡ opening_voice_state defaults.now key.now said }
 {
@@ -41,7 +41,7 @@ fn opening_voice_state(alloc: Global, defaults: &Defaults, key: &Key, said: Shif
     }
 }
 
-/// The states of the declared voices where a body begins.
+/// The states of the declared voices at the beginning of a body.
 fn opening_voices(
     alloc: Global,
     header: &Header,
@@ -59,8 +59,8 @@ fn opening_voices(
     Ok(voices)
 }
 
-/// The state where a body begins, by its header and the key that ended it. The first declared voice is the current one; if
-/// there is none, the one without a name.
+/// The state at the beginning of a body, by its header and the key that ended it. The first declared voice is the current
+/// one; if there is none, the one without a name.
 pub fn body_from(alloc: Global, header: &Header, key: &Key) -> Result<Body, AllocError>
     ensures { IfOk result (λ body. body ≡ body_from header.now key.now) }
 {

@@ -1,15 +1,16 @@
 //! The cells of a tune's body.
 
 ghost use Rattle.std.specs.Prelude.{◌≡◌, ℕ, Bool, option_to_list, IfOk, IfSome, OnOk};
+ghost use Rattle.abc_bars_body.specs.Body.{here};
 ghost use Rattle.abc_bars_body.specs.Cell.{is_tie_token, tie_ahead, may_be_tied, empty_cell_result, with_item, with_items};
 ghost use Rattle.abc_bars_body.specs.Cell.{with_faults, with_fault, with_fault_if, with_some_fault, with_note, with_rest};
 ghost use Rattle.abc_bars_body.specs.Cell.{with_chord, with_bar_rest, with_field, with_bar, with_ending, with_tuplet, with_dynamic};
 ghost use Rattle.abc_bars_body.specs.Cell.{with_program, with_directive, with_tie, with_kind, with_token, cell_result_from};
-ghost use Rattle.abc_bars_body.specs.Cell.{cell_result};
+ghost use Rattle.abc_bars_body.specs.Cell.{cell_result, with_result_in};
 ghost use Rattle.abc_bars_notes.specs.Broken.{factors_of};
 ghost use Rattle.abc_bars_items.specs.Item.{IsItem};
 ghost use Rattle.abc_bars_items.specs.Program.{program_of};
-ghost use Rattle.abc_bars_notes.specs.TimeTokens.{play_chord};
+ghost use Rattle.abc_bars_notes.specs.TimeTokens.{play_chord, play_note};
 ghost use Rattle.abc_bars_voice.specs.declared.voice_state.VoiceState.{VoiceState};
 
 use crate::body_copy::BodyCopy;
@@ -18,7 +19,7 @@ use crate::room::room_for;
 use abc_bars_items::{Item, ItemsBuilder, LocalFault, column_of, program_of};
 use abc_bars_notes::{
     BrokenFactors, NotePlace, Preceding, TokenRole, bar_rest_of, has_note, is_bad_mark, play_chord,
-    play_note, play_rest, preceding_after, token_role,
+    play_note, play_rest, play_steady_note, preceding_after, token_role,
 };
 use abc_bars_voice::begin_tuplet;
 use abc_fields::FaultCode;
@@ -148,8 +149,26 @@ impl CellResult {
         Ok(())
     }
 
+    /// A note that may change the state of the current voice.
+    fn changing_note(
+        &mut self,
+        alloc: Global,
+        note: Note,
+        factors: &BrokenFactors,
+        place: NotePlace,
+    ) -> Result<(), AllocError>
+        ensures { OnOk result (self.new ≡ with_result_in self.old self.old.body
+            (play_note (here self.old.body) factors.now place.tied place.from note)) }
+    {
+        let mut here = self.body.take_here()?;
+        play_note(alloc, &mut here, &mut self.items, note, factors, place)?;
+        self.body.put_here(here);
+        Ok(())
+    }
+
     /// A note, which mentions its voice.
     #[inline(always)]
+    #[tactic(auto, using(crate::proofs::HereLaws::same_here))]
     fn note(
         &mut self,
         alloc: Global,
@@ -165,9 +184,10 @@ impl CellResult {
             tied: tie_ahead(ahead),
         };
         self.body.mention(alloc)?;
-        let here = self.body.here_mut();
-        play_note(alloc, here, &mut self.items, note, &factors, place)?;
-        Ok(())
+        if play_steady_note(self.body.here(), &mut self.items, note, &factors, place)? {
+            return Ok(());
+        }
+        self.changing_note(alloc, note, &factors, place)
     }
 
     /// A rest, which mentions its voice.
@@ -182,8 +202,9 @@ impl CellResult {
     {
         let factors = BrokenFactors::of(self.behind, ahead);
         self.body.mention(alloc)?;
-        let here = self.body.here_mut();
-        play_rest(alloc, here, &mut self.items, written, &factors, place)?;
+        let mut here = self.body.take_here()?;
+        play_rest(alloc, &mut here, &mut self.items, written, &factors, place)?;
+        self.body.put_here(here);
         Ok(())
     }
 
@@ -205,8 +226,9 @@ impl CellResult {
         if has_note(chord.parts.as_slice()) {
             self.body.mention(alloc)?;
         }
-        let here = self.body.here_mut();
-        play_chord(alloc, here, &mut self.items, chord, &factors, place)?;
+        let mut here = self.body.take_here()?;
+        play_chord(alloc, &mut here, &mut self.items, chord, &factors, place)?;
+        self.body.put_here(here);
         Ok(())
     }
 
@@ -232,10 +254,10 @@ impl CellResult {
     }
 
     /// A bar line, which ends the accidentals of its voice (ABC 2.1 section 4.2).
-    fn bar(&mut self, bar: BarLine) -> Result<(), AllocError>
+    fn bar(&mut self, alloc: Global, bar: BarLine) -> Result<(), AllocError>
         ensures { OnOk result (self.new ≡ with_bar self.old bar) }
     {
-        self.body.here_mut().clear_accidentals();
+        self.body.end_bar(alloc)?;
         self.item(Item::Bar(bar))?;
         Ok(())
     }
@@ -255,18 +277,22 @@ impl CellResult {
     fn tuplet(&mut self, place: usize, mark: Tuplet) -> Result<(), AllocError>
         ensures { OnOk result (self.new ≡ with_tuplet self.old place mark) }
     {
-        let here = self.body.here_mut();
+        let mut here = self.body.take_here()?;
         let (open, fault) = begin_tuplet(here.meter, here.tuplet, mark);
         here.tuplet = open;
+        self.body.put_here(here);
         self.some_fault(place, fault)?;
         Ok(())
     }
 
     /// A dynamic (ABC 2.1 section 4.14).
-    fn dynamic(&mut self, dynamic: Dynamic)
-        ensures { self.new ≡ with_dynamic self.old dynamic }
+    fn dynamic(&mut self, dynamic: Dynamic) -> Result<(), AllocError>
+        ensures { OnOk result (self.new ≡ with_dynamic self.old dynamic) }
     {
-        self.body.here_mut().dynamic = Some(dynamic);
+        let mut here = self.body.take_here()?;
+        here.dynamic = Some(dynamic);
+        self.body.put_here(here);
+        Ok(())
     }
 
     /// A directive of a program, with the number that is written.
@@ -281,7 +307,7 @@ impl CellResult {
         self.fault_if(number.is_none(), place, FaultCode::BadProgram)
     }
 
-    /// A directive: the reach of accidentals is fixed where the body begins.
+    /// A directive: the body cannot change the reach of accidentals.
     fn directive(&mut self, place: usize, directive: Directive) -> Result<(), AllocError>
         ensures { OnOk result (self.new ≡ with_directive self.old place directive) }
     {
@@ -320,7 +346,7 @@ impl CellResult {
             TokenKind::InlineField(field) | TokenKind::Field(field) => {
                 self.field(alloc, place, field.get())
             }
-            TokenKind::Bar(bar) => self.bar(*bar),
+            TokenKind::Bar(bar) => self.bar(alloc, *bar),
             TokenKind::Ending(passes) => self.ending(place, *passes),
             TokenKind::Tuplet(mark) => self.tuplet(place, *mark),
             TokenKind::Broken(_) => {
@@ -328,10 +354,7 @@ impl CellResult {
             }
             TokenKind::Tie => self.tie(place),
             TokenKind::Blank | TokenKind::NoEffect => Ok(()),
-            TokenKind::Dynamic(dynamic) => {
-                self.dynamic(*dynamic);
-                Ok(())
-            }
+            TokenKind::Dynamic(dynamic) => self.dynamic(*dynamic),
             TokenKind::Directive(directive) => self.directive(place, *directive),
             TokenKind::Unclosed => self.fault(place, FaultCode::Unclosed),
             TokenKind::BadByte => self.fault(place, FaultCode::BadByte),

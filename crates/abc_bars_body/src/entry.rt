@@ -41,15 +41,14 @@ impl Entry {
         Ok(Entry::Body(body))
     }
 
-    /// The state where a file header begins. No memory is taken.
+    /// The state at the beginning of a file header. It allocates nothing.
     pub fn header(_alloc: Global) -> Entry
         ensures { result ≡ Entry.FileHeader no_defaults }
     {
         Entry::FileHeader(NO_DEFAULTS)
     }
 
-    /// The state where a tune begins, by the state after the file header, if there is one. No memory is
-    /// taken.
+    /// The state at the beginning of a tune, by the state after the file header, if there is one. It allocates nothing.
     pub fn tune(_alloc: Global, after: Option<&Entry>) -> Entry
         ensures { result ≡ opening_after (option_copied after.entry) }
     {
@@ -59,7 +58,7 @@ impl Entry {
         }
     }
 
-    /// The values in a file header; elsewhere none.
+    /// The values in a file header; no values in the other states.
     pub fn defaults(&self) -> Defaults
         ensures { result ≡ defaults_of self.now }
     {
@@ -69,7 +68,7 @@ impl Entry {
         }
     }
 
-    /// A copy, which shares the state in a header or a body. No memory is taken.
+    /// A copy, which shares the state in a header or a body. It allocates nothing.
     pub fn share(&self) -> Result<Entry, AllocError>
         ensures { IfOk result (λ copy. copy ≡ self.now) }
     {

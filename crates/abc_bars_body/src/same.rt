@@ -25,8 +25,8 @@ impl Same for Body {
 }
 
 impl Entry {
-    /// Whether both entries are equal: then equal cells give equal items and faults there, and equal entries after them. No
-    /// memory is taken.
+    /// Whether both entries are equal: then equal cells give equal items and faults there, and equal entries after them. It
+    /// allocates nothing.
     pub fn same(&self, other: &Entry) -> bool
         ensures { IsTrue result ↔ (self.now ≡ other.now) }
     {

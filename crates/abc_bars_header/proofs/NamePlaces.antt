@@ -51,12 +51,12 @@ others_before {eq} laws g (w ∷ vs) (suc i) v distinct at = (
   others_before laws g vs i v (IsDistinct-tail eq w.0 (keys_of vs) distinct) at,
 )
 
--- Among what is made of the voices before a place, that voice's name has no place.
+-- The values of the voices before a place do not include that voice's name.
 pub new_before : {K V W : Type 0} {eq : K → K → Bool} → IsEquivalence eq → (g : K × V → W) (vs : List (K × V)) (i : ℕ) (v : K × V) →
     IsDistinct eq (keys_of vs) → slice_get vs i ≡ Some v → position (eq v.0) (keys_of (map (λ u. (u.0, g u)) (take i vs))) ≡ None
 new_before {eq} laws g vs i v distinct at = no_place (eq v.0) _ (others_before laws g vs i v distinct at)
 
--- What is made of the elements up to a place, and of the one there.
+-- The values of the elements up to a place, and of the one there.
 made_on : {X Y : Type 0} (f : X → Y) (xs : List X) (i : ℕ) (x : X) → slice_get xs i ≡ Some x → map f (take (suc i) xs) ≡ map f (take i xs) ++ f x ∷ []
 made_on f [] i x at = absurd (cc)
 made_on f (y ∷ xs) zero x at = let same : y ≡ x = cc in ap (λ z. f z ∷ []) same

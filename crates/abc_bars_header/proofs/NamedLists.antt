@@ -9,7 +9,7 @@ use Rattle.indexmap.specs.IndexSet.{insert_key}
 use Rattle.indexmap.specs.Layout.{set_value_at}
 use Rattle.abc_bars_header.proofs.NamePlaces.{find_place}
 
--- No two of no names are alike.
+-- An empty list has no two equal names.
 pub distinct_none : {K : Type 0} (eq : K → K → Bool) → IsDistinct eq []
 unfolding IsDistinct
 distinct_none eq = tt
@@ -32,7 +32,7 @@ past_end [] at past = refl
 past_end (x ∷ xs) zero past = absurd (omega arith)
 past_end (x ∷ xs) (suc at) past = past_end xs at (omega arith)
 
--- What is lent of a list is what is at the place.
+-- The borrowed item of a list is the one at the index.
 pub lent_at : {R X : Type 0} (now : R → X) (xs : List X) (at : ℕ) (lent : Option R) → ItemBy now xs at at lent → option_map now lent ≡ slice_get xs at
 lent_at now xs at None is = sym (past_end xs at is.3)
 lent_at now xs at (Some r) is = ap Some is.1 ∙ sym (slice_get-get_or xs at (now r) is.3.0)
@@ -61,14 +61,14 @@ module _ {K X : Type 0} where
   pair_at-zip (x ∷ ks) (y ∷ vs) zero k v here known = let a : x ≡ k = cc in let b : y ≡ v = cc in λ i. Some (a i, b i)
   pair_at-zip (x ∷ ks) (y ∷ vs) (suc at) k v here known = pair_at-zip ks vs at k v here known
 
-  -- Where there is no name there is no pair.
+  -- Without a name there is no pair.
   pub no_name-zip : (ks : List K) (vs : List X) (at : ℕ) → slice_get ks at ≡ None → slice_get (zip ks vs) at ≡ None
   no_name-zip [] vs at none = refl
   no_name-zip (x ∷ ks) [] at none = refl
   no_name-zip (x ∷ ks) (y ∷ vs) zero none = absurd (cc)
   no_name-zip (x ∷ ks) (y ∷ vs) (suc at) none = no_name-zip ks vs at none
 
-  -- Where nothing is known there is no pair.
+  -- Without a value there is no pair.
   pub none_known-zip : (ks : List K) (vs : List X) (at : ℕ) → slice_get vs at ≡ None → slice_get (zip ks vs) at ≡ None
   none_known-zip [] vs at none = refl
   none_known-zip (x ∷ ks) [] at none = refl

@@ -92,7 +92,7 @@ impl Names {
         Ok(Names { set: Some(set) })
     }
 
-    /// The same names. No memory is taken.
+    /// The same names. It allocates nothing.
     pub(crate) fn share(&self) -> Result<Names, AllocError>
         ensures { IfOk result (λ names. names ≡ self.now) }
     {

@@ -7,7 +7,7 @@ use abc_text::Sequence;
 use std::alloc::{AllocError, Global};
 use std::marker::Model;
 
-/// The bytes of a name, a title or an order of parts. They are behind a pointer, since few items have them and each item is
+/// The bytes of a name, a title or an order of parts. They are stored apart, since few items have them and each item is
 /// as large as the largest. Copies share them.
 #[derive(Drop)]
 pub struct ItemText {

@@ -64,13 +64,17 @@ impl ItemsBuilder {
         self.faults.as_slice()
     }
 
-    /// Adds an item at the end.
+    /// Adds an item at the end. Most items have room, and then no function is called.
     #[inline(always)]
     pub fn push_item(&mut self, item: Item) -> Result<(), AllocError>
         requires { IsItem item }
         ensures ok { OnOk result (self.new ≡ append_item self.old item) }
         ensures unchanged { OnErr result (self.new ≡ self.old) }
     {
+        if self.items.len() < self.items.capacity() {
+            self.items.push_reserved(item);
+            return Ok(());
+        }
         self.items.push(item)?;
         Ok(())
     }

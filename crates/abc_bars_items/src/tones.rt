@@ -23,8 +23,8 @@ pub enum StoredTones {
     List(Shared<ShortSequence<Tone>>),
 }
 
-/// The tones of a note or chord in order. Most are one tone, which is stored in place; a list is behind a pointer, since a
-/// book has very many tones. Copies share it.
+/// The tones of a note or chord in order. One tone, the usual case, is stored here. A list is stored apart and shared by
+/// copies, since a book has very many tones.
 #[derive(Drop)]
 pub struct Tones {
     stored: StoredTones,

@@ -172,7 +172,7 @@ there o P token e h = let Q : Option (Spanned TokenKind) → Type 0 = λ p. IsSo
 back : (o : Option (Spanned TokenKind)) (P : Spanned TokenKind → Type 0) (token : Spanned TokenKind) → o ≡ Some token → P token → IsSomeAnd o P
 back o P token e h = let Q : Option (Spanned TokenKind) → Type 0 = λ p. IsSomeAnd p P in subst Q (sym e) h
 
--- a place where something stands is inside
+-- An index with an item is inside the list.
 within : (cell : List (Spanned TokenKind)) (place : ℕ) (P : Spanned TokenKind → Type 0) → IsSomeAnd (slice_get cell place) P → place < length cell
 within [] place P h = absurd h
 within (token ∷ cell) zero P h = omega arith

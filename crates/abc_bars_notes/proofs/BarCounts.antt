@@ -28,7 +28,7 @@ no_ratio n e = ⊎_elim
     (λ no. no)
     (cases_Bool (is_ratio_part n))
 
--- so many bars that the number is refused are too long
+-- If the number of bars is refused, they are too long.
 pub too_many : (num den n g : ℕ) → HasMeterRange num den → ratio_of n 1 ≡ None → AreBars num den n g → ⊥
 unfolding grains_of_a_whole_note grains_of_the_longest_length
 too_many num den n g range e bars =

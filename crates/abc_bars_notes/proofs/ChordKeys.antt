@@ -27,7 +27,7 @@ use Rattle.abc_bars_notes.proofs.NoteKeys.{altered_by}
 abbrev key_of_tone : Tone → Option ℕ
 key_of_tone tone = tone.key
 
--- the keys of notes, each where the accidentals of those before it hold
+-- The keys of notes, each after the accidentals of those before it.
 abbrev keys_of : VoiceState → Accidentals → List Note → List (Option ℕ)
 keys_of state accidentals [] = []
 keys_of state accidentals (note ∷ notes) = key_in state accidentals note ∷ keys_of state (with_own accidentals note) notes

@@ -46,7 +46,7 @@ last : (factor : Option Ratio) → SameProducts (unwrap_or factor once ∷ []) (
 last None = record { nums = refl; dens = refl }
 last (Some factor) = record { nums = refl; dens = refl }
 
--- five factors, of which those that are wanting change nothing
+-- Five factors: absent ones change nothing.
 pub same_products : (own outer tuplet behind ahead : Ratio) (o t b a : Option Ratio)
     → outer ≡ unwrap_or o once → tuplet ≡ unwrap_or t once → behind ≡ unwrap_or b once → ahead ≡ unwrap_or a once
     → SameProducts (own ∷ outer ∷ tuplet ∷ behind ∷ ahead ∷ []) (own ∷ (option_to_list o ++ (option_to_list t ++ (option_to_list b ++ option_to_list a))))
@@ -105,7 +105,7 @@ exact_along unit at these those r found same h is ok g =
     is ∙ (ok_or_none r (record { 0 = g })).1 ((ok g).1 (subst (λ u. IsLength u these g) (sym same) (is_length_along unit those these g (other_way these those h) e.0), e.1)) in
     (to, from)
 
--- where only what is written multiplies the unit, by a whole number
+-- If only the note's own text multiplies the unit, by a whole number.
 pub only_own : (own : Ratio) (outer : Option Ratio) (tuplet : Option OpenTuplet) (broken : List Ratio)
     → own.den ≡ 1 → outer ≡ None → tuplet ≡ None → broken ≡ []
     → record { num = own.num; den = 1 } ∷ [] ≡ own ∷ (option_to_list outer ++ (tuplet_factors tuplet ++ broken))
@@ -131,7 +131,7 @@ known_exact unit factors grains is all exactly =
     exact_along unit unit factors factors (length_of unit factors) (Some grains) refl (record { nums = refl; dens = refl })
     (sym (ap result_ok (known_value unit factors grains is all exactly))) (length_of-Ok unit factors is all)
 
--- so many units are a length
+-- A number of units is a length.
 pub whole_is : (own : Ratio) → IsRatio own → All IsRatio (record { num = own.num; den = 1 } ∷ [])
 whole_is own h =
     All-cons IsRatio (record { num = own.num; den = 1 }) [] (record { num_least = h.num_least; num_most = h.num_most; den_least = omega arith; den_most = omega arith })

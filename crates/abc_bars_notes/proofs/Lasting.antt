@@ -360,7 +360,7 @@ length_lasts state cell place own outer g h =
           }),
     )
 
--- the length that is given
+-- the resulting length
 pub given_by : (unit : Ratio) (found : Option Grains) (Lasting : ℕ → Type 0) → IsUnitPart unit → ((g : ℕ) → (found ≡ Some (record { 0 = g })) ↔ Lasting g)
     → IsGiven Lasting unit (or_unit unit found).0
 given_by unit None Lasting h is = record {
@@ -417,7 +417,7 @@ rests_last state cell place from written h =
       ),
     )
 
--- so many bars are so many grains
+-- `bars` bars are a whole number of grains.
 meter_range : (num den : ℕ) → HasMeterRange num den → IsRatio (record { num = num; den = den })
 meter_range num den h =
     let a = h.num_least in let b = h.num_most in let d = h.den_most in

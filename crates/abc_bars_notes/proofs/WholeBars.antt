@@ -12,7 +12,7 @@ use Rattle.abc_bars_voice.proofs.WholeParts.{cut_exactly}
 abbrev pub bar_in : ℕ → ℕ → Grains
 bar_in a b = record { 0 = 929901772800 / a * b }
 
--- a bar is exactly so many grains
+-- A bar is a whole number of grains, exactly.
 pub bar_exact : (num den : ℕ) → HasMeterRange num den → (bar_grains num den).0 * (den * 1) ≡ grains_of_a_whole_note * (num * 1)
 unfolding bar_grains
 bar_exact num den h =

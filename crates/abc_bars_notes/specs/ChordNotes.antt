@@ -55,7 +55,7 @@ ChordsSound =
 abbrev pub is_big : ℕ × FaultCode → Bool
 is_big fault = number_of fault.1 == number_of BigChord
 
--- Where a chord at a place of its line has too many notes: at its seventeenth. Not in ABC 2.1.
+-- The place of a chord's fault if it has too many notes: its seventeenth. Not in ABC 2.1.
 abbrev pub big_at : ℕ → Chord → Option (ℕ × FaultCode)
 big_at from chord = option_map (λ part. (column_of (from + part.from), BigChord)) (slice_get (notes_of chord) MOST_CHORD_NOTES)
 

@@ -17,4 +17,4 @@ pub use broken::{BrokenFactors, Preceding, is_bad_mark, preceding_after};
 pub use chords::ChordContext;
 pub use role::{TokenRole, has_note, token_role};
 pub use sound::{ChordBuilder, NoteContext};
-pub use time_tokens::{NotePlace, play_chord, play_note, play_rest};
+pub use time_tokens::{NotePlace, play_chord, play_note, play_rest, play_steady_note};

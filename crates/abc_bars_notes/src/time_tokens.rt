@@ -1,11 +1,11 @@
 //! Notes, chords and rests: their items and faults, and the state of the voice after them.
 
-ghost use Rattle.std.specs.Prelude.{◌≡◌, ℕ, List, ◌∷◌, ◌++◌, [], false, All, IfOk, IsTrue, OnErr, OnOk, is_none, unwrap_or};
+ghost use Rattle.std.specs.Prelude.{◌≡◌, ℕ, List, ◌∷◌, ◌++◌, [], false, All, IfOk, IsTrue, None, OnErr, OnOk, is_none, unwrap_or};
 ghost use Rattle.abc_time.specs.declared.ratio.Ratio.{Ratio};
 ghost use Rattle.abc_fields.specs.declared.fault.FaultCode.TheVariants.{BadLength, EmptyChord, KeyRange};
 ghost use Rattle.abc_bars_items.specs.Column.{column_of};
 ghost use Rattle.abc_bars_items.specs.Item.{AreTones, IsTone, IsWithinLongest, append_faults, append_item};
-ghost use Rattle.abc_bars_notes.specs.Sound.{fault_if};
+ghost use Rattle.abc_bars_notes.specs.Sound.{fault_if, length_in, tied_note_in, tone_in};
 ghost use Rattle.abc_bars_items.specs.declared.item.Item.TheVariants as item_kinds;
 ghost use Rattle.abc_bars_voice.specs.Tuplet.{count_down};
 ghost use Rattle.abc_bars_notes.specs.TimeTokens.{first_length, sound_notes, play_note, play_chord, play_rest, voice_after, with_result, with_tone};
@@ -134,8 +134,7 @@ fn update_voice(
     }
 }
 
-/// Adds a note that changes the state of its voice. Few notes do, so it is not inlined into what each note runs.
-#[inline(never)]
+/// Adds a note that may change the state of its voice.
 fn push_changing_note(
     alloc: Global,
     state: &mut VoiceState,
@@ -161,8 +160,48 @@ fn push_changing_note(
     Ok(())
 }
 
-/// Adds a note.
+/// A single note as it sounds at a place of its line.
 #[inline(always)]
+fn sounding_at(state: &VoiceState, broken: &BrokenFactors, note: Note, place: NotePlace) -> Sounding
+    ensures tone { result.tone ≡ tone_in state.now state.now.accidentals broken.now None note place.tied }
+    ensures range { IsTone result.tone }
+    ensures tied_note { result.tied_note ≡ tied_note_in state.now state.now.accidentals note }
+    ensures is_refused { result.refused ≡ (length_in state.now broken.now note.length None).1 }
+{
+    let context = NoteContext {
+        outer: None,
+        column: column_of(place.from),
+        tied: place.tied,
+    };
+    sounding_of(state, &state.accidentals, broken, context, note)
+}
+
+/// Adds a note if it surely leaves the state of its voice as it is, and returns whether it did. Most notes do. The test
+/// comes first, since it makes the rest cheaper.
+#[inline(always)]
+pub fn play_steady_note(
+    state: &VoiceState,
+    items: &mut ItemsBuilder,
+    note: Note,
+    broken: &BrokenFactors,
+    place: NotePlace,
+) -> Result<bool, AllocError>
+    ensures state { IfOk result (λ played. IsTrue played → (play_note state.now broken.now place.tied place.from note).state ≡ state.now) }
+    ensures items { IfOk result (λ played. IsTrue played
+        → items.new ≡ with_result items.old (play_note state.now broken.now place.tied place.from note)) }
+    ensures refused { IfOk result (λ played. played ≡ false → items.new ≡ items.old) }
+    ensures unchanged { OnErr result (items.new ≡ items.old) }
+{
+    if !leaves_voice(state, note, place.tied) {
+        return Ok(false);
+    }
+    let Sounding { tone, refused, .. } = sounding_at(state, broken, note, place);
+    push_note(items, tone, refused, column_of(place.from))?;
+    Ok(true)
+}
+
+/// Adds a note, also if it changes the state of its voice. Few notes do, so it is not inlined into what each note runs.
+#[inline(never)]
 pub fn play_note(
     alloc: Global,
     state: &mut VoiceState,
@@ -175,17 +214,8 @@ pub fn play_note(
     ensures items { OnOk result (items.new ≡ with_result items.old (play_note state.old broken.now place.tied place.from note)) }
     ensures unchanged { OnErr result ((state.new ≡ state.old) × (items.new ≡ items.old)) }
 {
-    let column = column_of(place.from);
-    let context = NoteContext {
-        outer: None,
-        column,
-        tied: place.tied,
-    };
-    let sounding = sounding_of(state, &state.accidentals, broken, context, note);
-    if leaves_voice(state, note, place.tied) {
-        return push_note(items, sounding.tone, sounding.refused, column);
-    }
-    push_changing_note(alloc, state, items, note, sounding, column)
+    let sounding = sounding_at(state, broken, note, place);
+    push_changing_note(alloc, state, items, note, sounding, column_of(place.from))
 }
 
 /// The faults of a chord without a note; its own comes first.

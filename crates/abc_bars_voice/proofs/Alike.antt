@@ -26,7 +26,7 @@ abbrev pub tied_notes : Equality TiedNote
 tied_notes = by_parts (pairs wholes (pairs letters wholes)) (λ t. (t.octave, (t.letter, t.alteration)))
     (λ p. record { octave = p.0; letter = p.1.0; alteration = p.1.1 }) (λ _. refl)
 
--- Accidentals that alter each letter alike are the same.
+-- Accidentals that alter each letter in the same way are equal.
 pub accidentals_of_parts : (x y : LetterAccidentals) → x.a ≡ y.a → x.b ≡ y.b → x.c ≡ y.c → x.d ≡ y.d → x.e ≡ y.e → x.f ≡ y.f → x.g ≡ y.g → x ≡ y
 accidentals_of_parts x y a b c d e f g = λ i. record { a = a i; b = b i; c = c i; d = d i; e = e i; f = f i; g = g i }
 

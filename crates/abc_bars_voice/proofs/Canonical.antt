@@ -1,4 +1,4 @@
--- What is kept of accidentals is nothing but what notes hear of them.
+-- Accidentals are equal if they alter all notes in the same way.
 use Rattle.std.proofs.Common.{Ordering, ◌≡◌, ◌∙◌, ℤ, int_eq, int_cmp, Bool, true, false, List, [], ◌∷◌, Option, Some, None, unwrap_or, refl, sym, ap, subst}
 use Rattle.std.specs.Prelude.{option_map, pos}
 use Rattle.std.specs.Ordering.{match_ordering}
@@ -54,7 +54,7 @@ some_letter letters letter by e =
     let heard : Some by ≡ None = sym (on_its_letter letters letter by letter refl) ∙ ap (λ l. on_letter l letter) e ∙ none_in letter in
     cc
 
--- what is kept of accidentals
+-- the accidentals
 abbrev IsKept : Accidentals → Type 0
 IsKept Own = Unit {0}
 IsKept (InOctaves octaves) = AreKept octaves
@@ -79,7 +79,7 @@ none_kept Not = tt
 none_kept Octave = tt
 none_kept Pitch = tt
 
--- letters that are heard alike are the same
+-- Letters with the same alterations are equal.
 same_letters : (letters others : LetterAccidentals) → ((letter : Letter) → on_letter letters letter ≡ on_letter others letter) → letters ≡ others
 same_letters letters others h = accidentals_of_parts letters others (h A) (h B) (h C) (h D) (h E) (h F) (h G)
 

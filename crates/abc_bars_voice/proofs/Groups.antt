@@ -1,4 +1,4 @@
--- Octaves kept in groups are one list of octaves.
+-- Octaves in groups are one list of octaves.
 use Rattle.std.proofs.Common.{Ordering, ◌≡◌, ◌∙◌, ℤ, pos, negsuc, int_eq, int_cmp, Bool, true, false, cond, ◌/◌, List, [], ◌∷◌, ◌++◌, Option, Some, None, unwrap_or, refl, sym, ap, subst, arith}
 use Rattle.std.specs.Ordering.{is_eq, match_ordering}
 use Rattle.std.specs.declared.cmp.Ordering.TheVariants.{Less, Equal, Greater}
@@ -185,11 +185,11 @@ module _ {V : Type 0} where
   in_group octave (group ∷ groups) h =
       in_group_by octave group groups (int_eq (group_of octave) group.0) refl h (in_group octave groups h.3)
 
-  -- The octaves of the group of an octave, where the first of the groups compares so to it.
+  -- The octaves of the group of an octave, by how the first of the groups compares to it.
   abbrev own_by : Ordering → List (ℤ × V) → List (ℤ × List (ℤ × V)) → ℤ → List (ℤ × V)
   own_by r first groups octave = unwrap_or (cond (is_eq r) (Some first) (lookup (is_at (int_cmp (group_of octave))) groups)) []
 
-  -- The groups after a value is put, where the first of them compares so to that of the octave.
+  -- The groups after a value is put, by how the first of them compares to that of the octave.
   abbrev put_by : Ordering → ℤ → V → ℤ × List (ℤ × V) → List (ℤ × List (ℤ × V)) → List (ℤ × List (ℤ × V))
   put_by r octave value first groups =
       let own = insert_entry int_cmp (own_by r first.1 groups octave) octave value in

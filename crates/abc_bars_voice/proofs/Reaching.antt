@@ -122,7 +122,7 @@ in_another : (octaves : Octaves) (octave : ℤ) (letter : Letter) (by : ℤ) (ot
 unfolding letters_in with_octave
 in_another octaves octave letter by other apart = ap (λ (o : Option LetterAccidentals). unwrap_or o no_letters) (stays octaves octave _ other apart)
 
--- an accidental is heard where it reaches
+-- An accidental alters the notes that it reaches.
 pub heard_on : (accidentals : Accidentals) (earlier note : Note) (by : ℤ) → Reaches (reach_of accidentals) earlier note
     → written_on (with_accidental accidentals earlier by) note ≡ Some by
 heard_on Own earlier note by h = absurd h
@@ -144,7 +144,7 @@ by_octave octaves earlier note by true e h =
 by_octave octaves earlier note by false e h =
     ap (λ l. on_letter l note.letter) (in_another octaves earlier.octave earlier.letter by note.octave e)
 
--- and nowhere else
+-- It alters no other notes.
 pub passed_over : (accidentals : Accidentals) (earlier note : Note) (by : ℤ) → ¬ Reaches (reach_of accidentals) earlier note
     → written_on (with_accidental accidentals earlier by) note ≡ written_on accidentals note
 passed_over Own earlier note by h = refl

@@ -24,7 +24,7 @@ cut_exactly den h =
     sym (ap (λ n. n * 1816214400) powers) ∙ (let e : 2 ^ (9 - h.power) * 2 ^ h.power * 1816214400 ≡ parts * 2 ^ h.power = omega arith in e) ∙ ap (λ n. parts * n) (sym h.value) in
     ap (λ n. n / den * den) whole ∙ ap (λ n. n * den) (mul-div_cancel parts (power_least 9 den h)) ∙ sym whole
 
--- a part that is a unit's is so many of the shortest ones
+-- A unit is a whole number of the shortest units.
 cut_by_parts : (den : ℕ) → IsPowerUpTo 9 den → 1816214400 * (512 / den) ≡ 929901772800 / den
 cut_by_parts den h =
     let times = 2 ^ (9 - h.power) in
@@ -53,7 +53,7 @@ part_in_parts text part h = let is = read_part text part h in subst IsUnitPart (
 pub few_parts : (text : List ℕ) (part : Ratio) → IsUnit text part → part.den ≤ 512
 few_parts text part h = power_most 9 part.den (read_part text part h).power
 
--- a unit is exactly so many grains
+-- A unit is a whole number of grains, exactly.
 pub unit_exact : (part : Ratio) → IsUnitPart part → (unit_grains part).0 * (part.den * 1) ≡ grains_of_a_whole_note * (part.num * 1)
 unfolding unit_grains
 unit_exact part h =

@@ -13,9 +13,9 @@ use abc_fields::{Shift, Signature};
 use abc_scan::Dynamic;
 use abc_text::ShortSequence;
 
-/// Types with an exact equality: contracts tell no two equal values apart.
+/// Types with an exact equality: two values are equal exactly if contracts see the same value.
 pub trait Same {
-    /// Whether both are equal. No memory is taken.
+    /// Whether both are equal. It allocates nothing.
     fn same(&self, other: &Self) -> bool
         ensures { IsTrue result ↔ (self.now ≡ other.now) };
 }

@@ -1,4 +1,4 @@
--- What a line does to the block before it, case by case.
+-- The effect of a line on the block before it, case by case.
 use Rattle.std.proofs.Common.{◌≡◌, ℕ, true, false, List, [], refl, sym, ap, subst, ⊎_elim, ◌==◌}
 use Rattle.std.proofs.lemmas.Bool.{cases_Bool, eqb-true, eq-eqb}
 use Rattle.abc_scan.specs.declared.class.LineClass.{LineClass}
@@ -11,7 +11,7 @@ use Rattle.abc_book.specs.declared.pass.OpenBlock.TheVariants.{Inside}
 use Rattle.abc_book.specs.Block.{letter_x}
 use Rattle.abc_book.specs.Pass.{one_line, with_line, after_blank, after_line, last_block, block_ended_by}
 
--- what is known of the block that a line ends and of the open block before the next line
+-- laws of the block that a line ends and of the open block before the next line
 pub record Each (P : List Block → OpenBlock → Type 0) (before : OpenBlock) (at : ℕ) (class : LineClass) : Type 0 where
   pub comment : class ≡ Comment → P [] before
   pub blank : class ≡ Blank → P (last_block before) (after_blank before)

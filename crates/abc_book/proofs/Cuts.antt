@@ -63,7 +63,7 @@ after_moved n at before (Field letter) = ⊎_elim
 after_moved n at before Directive = ap (λ b. Inside b) (line_moved n at FileHeader before)
 after_moved n at before Music = ap (λ b. Inside b) (line_moved n at Free before)
 
--- the same lines further down make the same blocks, as much further down
+-- the same lines further down make the same blocks, equally further down
 pub blocks_moved : (n at : ℕ) (before : OpenBlock) (classes : List LineClass) → blocks_from (moved_before n before) (at + n) classes ≡ map (moved n) (blocks_from before at classes)
 blocks_moved n at before [] = last_moved n before
 blocks_moved n at before (class ∷ classes) =

@@ -17,7 +17,7 @@ use Rattle.abc_book.proofs.OnePass.{one_pass}
 use Rattle.abc_book.proofs.Rising.{Stands, later_stands, blank_stands, tune_stands, line_stands, rises}
 use Rattle.abc_book.proofs.Cases.{by_class}
 
--- in how many of the blocks a line lies
+-- the number of blocks that contain a line
 abbrev pub lies : ℕ → List Block → ℕ
 lies line blocks = count_by (holds line) blocks
 
@@ -68,7 +68,7 @@ line_to : (at : ℕ) (kind : BlockKind) (before : OpenBlock) → (with_line kind
 line_to at kind Nothing = refl
 line_to at kind _ = refl
 
--- in how many blocks a line of a class lies that is no comment
+-- the number of blocks that contain a line of a class other than a comment
 abbrev due : LineClass → ℕ
 due Blank = 0
 due Comment = 0

@@ -12,11 +12,11 @@ use Rattle.abc_book.specs.Block.{blocks_of, opening_kind}
 use Rattle.abc_book.specs.Pass.{one_line, blocks_from}
 use Rattle.abc_book.specs.Laws.{OnePass}
 
--- the lines from this number on cut at the blank ones; the run that goes on first
+-- the lines from this number on, cut at the blank ones; the current run first
 pub runs_at : ℕ → List LineClass → List (List Line)
 runs_at at classes = cut_at_blanks (without_comments (numbered at classes))
 
--- that run cut before each X: line; the piece that goes on first
+-- the current run, cut before each X: line; the current piece first
 pub pieces_at : ℕ → List LineClass → List (List Line)
 pieces_at at classes = cut_before_x (first_piece (runs_at at classes))
 
@@ -24,12 +24,12 @@ pieces_at at classes = cut_before_x (first_piece (runs_at at classes))
 pub runs_blocks : List (List Line) → List Block
 runs_blocks runs = flat_map (λ later. later_blocks (pieces_of later)) (filter has_lines runs)
 
--- the blocks after the piece that goes on
+-- the blocks after the current piece
 pub behind_at : ℕ → List LineClass → List Block
 behind_at at classes =
     later_blocks (filter has_lines (other_pieces (pieces_at at classes))) ++ runs_blocks (other_pieces (runs_at at classes))
 
--- the block so far as the piece that goes on takes it
+-- the block so far with the current piece
 pub grown : Block → ℕ → List LineClass → Block
 grown block at classes = record block { to = end_after block.to (first_piece (pieces_at at classes)) }
 

@@ -59,7 +59,7 @@ rises first at last before (class ∷ classes) end h =
 pub blocks_rise : BlocksRise
 blocks_rise classes = subst (λ blocks. RiseFromTo 0 blocks (length classes)) (sym (one_pass classes)) (rises 0 0 (length classes) Nothing classes (omega arith) (omega arith))
 
--- a block is a tune where its first line is an X: line
+-- a block is a tune if its first line is an X: line
 abbrev pub IsRight : List LineClass → Block → Type 0
 IsRight classes block = (block.kind ≡ Tune) ↔ (slice_get classes block.from ≡ Some (Field letter_x))
 

@@ -32,7 +32,7 @@ abbrev pub is_x_line : LineClass → Bool
 is_x_line (Field letter) = letter == letter_x
 is_x_line _ = false
 
--- The lines of a text with their numbers, of which the first is this one.
+-- The lines of a text with their numbers from this one on.
 abbrev pub numbered : ℕ → List LineClass → List Line
 numbered number [] = []
 numbered number (class ∷ classes) = line_at number class ∷ numbered (number + 1) classes
@@ -41,7 +41,7 @@ numbered number (class ∷ classes) = line_at number class ∷ numbered (number 
 abbrev pub without_comments : List Line → List Line
 without_comments lines = filter (λ line. not (is_comment line.class)) lines
 
--- The first of the pieces that lines are cut into, and the others.
+-- The pieces of lines: the first piece, and the others.
 abbrev pub first_piece : List (List Line) → List Line
 first_piece [] = []
 first_piece (piece ∷ pieces) = piece
@@ -50,11 +50,11 @@ abbrev pub other_pieces : List (List Line) → List (List Line)
 other_pieces [] = []
 other_pieces (piece ∷ pieces) = pieces
 
--- A line put at the front of the first piece.
+-- The pieces with a line added at the front of the first.
 abbrev pub onto_first : Line → List (List Line) → List (List Line)
 onto_first line pieces = (line ∷ first_piece pieces) ∷ other_pieces pieces
 
--- The lines cut at the blank ones, which are left out.
+-- The lines cut at blank lines, without these.
 abbrev pub cut_at_blanks : List Line → List (List Line)
 cut_at_blanks [] = [] ∷ []
 cut_at_blanks (line ∷ lines) =
@@ -78,18 +78,18 @@ runs_of classes = filter has_lines (cut_at_blanks (without_comments (numbered 0 
 abbrev pub pieces_of : List Line → List (List Line)
 pieces_of run = filter has_lines (cut_before_x run)
 
--- What a piece is by its first line, at the start of the first run. ABC 2.1 sections 2.2.2 and 11; that a field
--- or a directive has to begin the file header is not in ABC 2.1.
+-- The kind of the first piece of the first run, by its first line. ABC 2.1 sections 2.2.2 and 11. A file header begins
+-- with a field or a directive: not in ABC 2.1.
 abbrev pub opening_kind : LineClass → BlockKind
 opening_kind (Field letter) = if letter == letter_x then Tune else FileHeader
 opening_kind Directive = FileHeader
 opening_kind _ = Free
 
--- What any other piece is by its first line. ABC 2.1 section 2.2.
+-- The kind of any other piece, by its first line. ABC 2.1 section 2.2.
 abbrev pub later_kind : LineClass → BlockKind
 later_kind class = if is_x_line class then Tune else Free
 
--- The number after the last of these lines, which follow a line before this number.
+-- The line number after the last of these lines, or this number if there are none.
 abbrev pub end_after : ℕ → List Line → ℕ
 end_after end [] = end
 end_after end (line ∷ lines) = end_after (line.number + 1) lines
@@ -115,7 +115,7 @@ blocks_of_runs [] = []
 blocks_of_runs (run ∷ runs) =
     opening_blocks (pieces_of run) ++ flat_map (λ later. later_blocks (pieces_of later)) runs
 
--- The blocks of a text: comments taken out, cut at blank lines into runs, and each run cut before every X:
+-- The blocks of a text: the lines without comments, cut at blank lines into runs, and each run cut before every X:
 -- line. ABC 2.1 section 2.2.
 unfoldable pub blocks_of : List LineClass → List Block
 blocks_of classes = blocks_of_runs (runs_of classes)

@@ -1,4 +1,4 @@
--- What holds of the blocks of every text.
+-- Laws of the blocks of every text.
 use Rattle.std.specs.Prelude.{◌≡◌, ℕ, ◌+◌, ◌<◌, ◌≤◌, ◌↔◌, Bool, ◌&&◌, nat_le, nat_lt, IsTrue, Some, List, [], ◌∷◌, ◌++◌, length}
 use Rattle.std.specs.Prelude.{map, All, count_by, slice_get}
 use Rattle.abc_scan.specs.declared.class.LineClass.{LineClass}

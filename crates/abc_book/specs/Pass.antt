@@ -13,7 +13,7 @@ use Rattle.abc_book.specs.Block.{letter_x}
 abbrev pub one_line : BlockKind → ℕ → Block
 one_line kind at = record { kind = kind; from = at; to = at + 1 }
 
--- The block that a line without X: is in: a line with nothing before it opens one of this kind.
+-- The block of a line without X:. A line without an open block before it opens one of this kind.
 abbrev pub with_line : BlockKind → OpenBlock → ℕ → Block
 with_line opening Nothing at = one_line opening at
 with_line opening (Inside block) at = record block { to = at + 1 }

@@ -1,16 +1,16 @@
--- The stretch of a text that an edit changes, and the blocks that there are after it. Not in ABC 2.1.
+-- The stretch of a text that an edit changes, and the blocks after the edit. Not in ABC 2.1.
 use Rattle.std.specs.Prelude.{◌≡◌, ◌⊎◌, ℕ, ◌+◌, ◌-◌, IsTrue, nat_le, nat_lt, List, [], ◌∷◌, ◌++◌, filter, length, map}
 use Rattle.abc_scan.specs.declared.class.LineClass.{LineClass}
 use Rattle.abc_book.specs.declared.block.Block.{Block}
 use Rattle.abc_book.specs.Block.{is_x_line, blocks_of}
 use Rattle.abc_book.specs.Laws.{moved}
 
--- Lines that begin with an X: line, or are none.
+-- Lines that are empty or begin with an X: line.
 abbrev pub BeginTune : List LineClass → Type 0
 BeginTune [] = Unit {0}
 BeginTune (class ∷ classes) = IsTrue (is_x_line class)
 
--- No block goes on from some lines into those that follow: they are the first of the text, or begin a tune.
+-- No block continues from the lines before into these: they are the first of the text, or begin a tune.
 abbrev pub IsCut : List LineClass → List LineClass → Type 0
 IsCut before behind = (before ≡ []) ⊎ BeginTune behind
 
@@ -18,7 +18,7 @@ IsCut before behind = (before ≡ []) ⊎ BeginTune behind
 abbrev pub blocks_at : ℕ → List LineClass → List Block
 blocks_at first classes = map (moved first) (blocks_of classes)
 
--- Those of some blocks that begin before a line, and those that begin there or after it.
+-- The blocks that begin before a line, and the blocks that begin at or after it.
 abbrev pub blocks_before : ℕ → List Block → List Block
 blocks_before line blocks = filter (λ block. nat_lt block.from line) blocks
 
@@ -29,9 +29,8 @@ blocks_behind line blocks = filter (λ block. nat_le line block.from) blocks
 abbrev pub shifted : ℕ → ℕ → Block → Block
 shifted went came block = record { kind = block.kind; from = block.from - went + came; to = block.to - went + came }
 
--- If a stretch replaces another, the blocks before it stay, and those after it move by the difference of
--- lines: a stretch is the first of the text, begins a tune, or has no lines, and what follows it begins a tune or has
--- no lines.
+-- A stretch replaces another one. Each is the first of the text, begins a tune, or has no lines, and the lines after it
+-- are none or begin a tune. Then the blocks before it stay, and the blocks after it move by the difference of lines.
 abbrev pub AStretchIsEnough : Type 0
 AStretchIsEnough =
     (before old new behind : List LineClass) → IsCut before old → IsCut before new → BeginTune behind

@@ -1,10 +1,10 @@
 //! A block of a text.
 
-/// What a block of a text is (ABC 2.1 section 2.2).
+/// The kind of a block of a text (ABC 2.1 section 2.2).
 #[derive(Clone, Copy)]
 pub enum BlockKind {
-    /// The first lines, up to a blank one or the first tune, if the first of them is a field or a directive; some set
-    /// defaults for all tunes.
+    /// The lines before the first blank line or tune, if the first of them is a field or a directive. They set defaults
+    /// for all tunes.
     FileHeader,
     /// A tune, which an X: line begins.
     Tune,
@@ -12,8 +12,8 @@ pub enum BlockKind {
     Free,
 }
 
-/// The lines of a block, from its first to its last line that is no comment: `from` and on, but not
-/// `to`, counted from 0.
+/// The lines of a block, counted from 0: from `from`, its first line, up to but not including `to`. Comments at its
+/// ends do not count.
 #[derive(Clone, Copy)]
 pub struct Block {
     pub kind: BlockKind,

@@ -1,4 +1,4 @@
-//! What holds of the blocks of every text. Each function has no body: its contract is the law.
+//! Laws of the blocks of every text. Each function has no body: its contract is the law.
 
 ghost use Rattle.abc_book.specs.Laws.{OnePass, EachLineInOneBlock, NoBlankInABlock, AnXLineCuts, BlocksRise, XLinesBeginTunes};
 ghost use Rattle.abc_book.specs.Stretch.{AStretchIsEnough};
@@ -30,8 +30,8 @@ pub fn blocks_rise()
     ensures tunes { XLinesBeginTunes }
 {}
 
-/// If a stretch of a text replaces another, each of them begins a tune or the text, or has no lines, and a tune
-/// or nothing follows them, the blocks before it stay, and those after it move by the difference of lines.
+/// A stretch of a text replaces another one. Each begins a tune or the text, or has no lines, and a tune or nothing
+/// follows it. Then the blocks before it stay, and the blocks after it move by the difference of lines.
 #[tactic(auto, using(crate::proofs::Stretches::stretch_is_enough))]
 pub fn a_stretch_is_enough()
     ensures { AStretchIsEnough }

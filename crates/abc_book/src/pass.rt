@@ -14,7 +14,7 @@ use std::alloc::{AllocError, Global};
 /// The block that is open before a line.
 #[derive(Clone, Copy)]
 pub(crate) enum OpenBlock {
-    /// Comments and blank lines at most.
+    /// Only comments and blank lines so far.
     Nothing,
     /// A block that may go on.
     Inside(Block),
@@ -34,8 +34,7 @@ fn one_line(kind: BlockKind, at: usize) -> Block
     }
 }
 
-/// The block that a line without X: is in; `opening` is its kind if no line that counts is
-/// before it.
+/// Returns the block of a line without X:. `opening` is the kind of a block that begins at the line.
 fn with_line(opening: BlockKind, before: OpenBlock, at: usize) -> Block
     requires { at < usize.MAX }
     ensures { result ≡ with_line opening before at }
@@ -91,7 +90,7 @@ fn block_ended_by(before: OpenBlock, class: LineClass) -> Option<Block>
     }
 }
 
-/// Appends a block that goes on no further, if there is one.
+/// Appends a block that ends here, if there is one.
 fn append(blocks: &mut Vec<Block>, block: Option<Block>) -> Result<(), AllocError>
     ensures { OnOk result (blocks.new.items ≡ blocks.old.items ++ option_to_list block) }
 {
@@ -101,7 +100,7 @@ fn append(blocks: &mut Vec<Block>, block: Option<Block>) -> Result<(), AllocErro
     }
 }
 
-/// The blocks of lines from index `first` on, into which no earlier block goes on.
+/// Returns the blocks of lines from index `first` on, if no earlier block continues there.
 fn blocks_from(alloc: Global, first: usize, classes: &[LineClass]) -> Result<Vec<Block>, AllocError>
     requires { first + length classes.now ≤ usize.MAX }
     ensures { IfOk result (λ blocks. blocks.items ≡ blocks_from Nothing first classes.now) }
@@ -116,8 +115,8 @@ fn blocks_from(alloc: Global, first: usize, classes: &[LineClass]) -> Result<Vec
     Ok(blocks)
 }
 
-/// The blocks of a text, in order, by the classes of its lines (ABC 2.1 section 2.2). An error says that an
-/// allocation failed.
+/// Returns the blocks of a text, in order, by the classes of its lines (ABC 2.1 section 2.2), or an error if an
+/// allocation fails.
 #[tactic(auto, using(crate::proofs::OnePass::one_pass))]
 pub fn blocks(alloc: Global, classes: &[LineClass]) -> Result<Vec<Block>, AllocError>
     ensures value { IfOk result (λ blocks. blocks.items ≡ blocks_of classes.now) }
@@ -125,8 +124,8 @@ pub fn blocks(alloc: Global, classes: &[LineClass]) -> Result<Vec<Block>, AllocE
     blocks_from(alloc, 0, classes)
 }
 
-/// The blocks of a stretch of a text from line `first` on, by the classes of its own lines alone, with their places
-/// in the text. What they have to do with the blocks of the text is `a_stretch_is_enough`.
+/// Returns the blocks of a stretch of a text from line `first` on, by the classes of its own lines.
+/// `a_stretch_is_enough` relates them to the blocks of the whole text.
 #[tactic(auto, using(crate::proofs::Cuts::blocks_there))]
 pub fn stretch_blocks(
     alloc: Global,

@@ -21,7 +21,7 @@ use Rattle.abc_fields.proofs.Readings.{bound, map_some}
 abbrev first : List ℕ → ℕ
 first text = position_or_len is_letter text
 
--- the changes of what begins with a letter after an accidental, where both are known
+-- the changes of a text that begins with a known letter after a known accidental
 abbrev Behind : Option Accidental → Option (List Change) → Letter → Option (List Change)
 Behind accidental behind letter = option_and_then (and_change letter behind) accidental
 

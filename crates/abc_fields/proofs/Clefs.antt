@@ -1,4 +1,4 @@
--- Clefs are read as their grammar says.
+-- Clefs are read by their grammar.
 use Rattle.std.proofs.Common.{◌≡◌, ◌≤◌, ◌-◌, ℕ, ℤ, true, false, ◌&&◌, List, [], ◌∷◌, ◌++◌, length, get_or, take, codes, Option, Some, None, refl, sym, ap, ◌∙◌, subst, inl, inr, ⊎_elim, arith}
 use Rattle.std.proofs.Common.{append-nil, length-append}
 use Rattle.std.specs.Prelude.{pos, negsuc, nat_le, nat_eq, All, slice_index}
@@ -96,7 +96,7 @@ all_names =
     (All-cons NamesIt (codes "tenor") (codes "perc" ∷ []) (refl, refl)
     (All-cons NamesIt (codes "perc") [] (refl, refl) (All-nil NamesIt)))))
 
--- without the line of a clef
+-- a word without the line of a clef
 line_from : (word : List ℕ) → (nat_le 49 (slice_index word (length word - 1)) && nat_le (slice_index word (length word - 1)) 53) ≡ true
     → Contains clef_names (take (length word - 1) word) → IsClefName word
 line_from [] test named = cc

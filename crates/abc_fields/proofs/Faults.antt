@@ -7,7 +7,10 @@ use Rattle.abc_fields.specs.declared.fault.FaultCode.TheVariants.{UnknownPart, U
 use Rattle.abc_fields.specs.Fault.{number_of}
 
 in_order : List FaultCode
-in_order = BadReference ∷ BadMeter ∷ BadUnit ∷ BadTempo ∷ BadKey ∷ BadOrder ∷ BadPart ∷ BadVoice ∷ TooManyVoices ∷ BadByte ∷ Unclosed ∷ BadLength ∷ BadTuplet ∷ NestedTuplet ∷ BadBroken ∷ LooseTie ∷ EmptyChord ∷ BigChord ∷ BadEnding ∷ FreeBarRest ∷ KeyRange ∷ MissingKey ∷ TempoRange ∷ UnknownPart ∷ UnevenVoices ∷ TuneTooLong ∷ BadProgram ∷ []
+in_order =
+    BadReference ∷ BadMeter ∷ BadUnit ∷ BadTempo ∷ BadKey ∷ BadOrder ∷ BadPart ∷ BadVoice ∷ TooManyVoices
+    ∷ BadByte ∷ Unclosed ∷ BadLength ∷ BadTuplet ∷ NestedTuplet ∷ BadBroken ∷ LooseTie ∷ EmptyChord ∷ BigChord
+    ∷ BadEnding ∷ FreeBarRest ∷ KeyRange ∷ MissingKey ∷ TempoRange ∷ UnknownPart ∷ UnevenVoices ∷ TuneTooLong ∷ BadProgram ∷ []
 
 -- the fault of a number
 numbered : ℕ → FaultCode

@@ -104,7 +104,7 @@ fraction_visible text part is = fraction_bytes (λ b. not (is_blank b)) digit_vi
 pub fraction_some : (text : List ℕ) (part : ℕ) → IsFraction text part → 1 ≤ length text
 fraction_some text part is = let long = ap length is.spelling ∙ length-append is.above (47 ∷ is.below) in omega (arith, long)
 
--- what a word spells, and the reading of it, are one
+-- the fraction read is the one that a word spells
 pub fraction_of-Some : (text : List ℕ) (part : ℕ) → fraction_of text ≡ Some part → IsFraction text part
 unfolding fraction_of
 fraction_of-Some text part e =
@@ -131,7 +131,8 @@ fraction_of-Some text part e =
 pub fraction_of-is : (text : List ℕ) (part : ℕ) → IsFraction text part → fraction_of text ≡ Some part
 unfolding fraction_of
 fraction_of-is text part is =
-    let cut : cut_at 47 text ≡ Some (is.above, is.below) = ap (cut_at 47) is.spelling ∙ cut_at-found 47 is.above is.below (number_bytes (λ b. not (b == 47)) (λ b. digit_other 47 b (inl (omega arith))) is.above is.num is.above_is) in
+    let clean = number_bytes (λ b. not (b == 47)) (λ b. digit_other 47 b (inl (omega arith))) is.above is.num is.above_is in
+    let cut : cut_at 47 text ≡ Some (is.above, is.below) = ap (cut_at 47) is.spelling ∙ cut_at-found 47 is.above is.below clean in
     rw (cut, number_of-spelled is.above is.num is.above_is, number_of-spelled is.below (2 ^ is.power) is.below_is)
     (part_of-is is.num (2 ^ is.power) part is.power is.power_most refl is.num_least is.num_most is.value)
 
@@ -185,14 +186,15 @@ begins_with : (text word more rest : List ℕ) (part : ℕ) → text ≡ word ++
 begins_with text word more rest part e is =
     let some = fraction_some word part is in
     let long = ap length e ∙ length-append word more in
-    (ap (λ t. prefix_len is_blank (t ++ rest)) e ∙ ap (prefix_len is_blank) (append_assoc word more rest) ∙ front_other is_blank word (more ++ rest) (fraction_visible word part is) some, omega (arith, long, some))
+    let hidden = front_other is_blank word (more ++ rest) (fraction_visible word part is) some in
+    (ap (λ t. prefix_len is_blank (t ++ rest)) e ∙ ap (prefix_len is_blank) (append_assoc word more rest) ∙ hidden, omega (arith, long, some))
 
 pub sum_begins : (most : ℕ) (text : List ℕ) (sum : ℕ) → IsSum most text sum → (rest : List ℕ) → (prefix_len is_blank (text ++ rest) ≡ 0) × (1 ≤ length text)
 sum_begins zero text sum is rest = absurd is
 sum_begins (suc most) text sum (inl last) rest = begins_with text last.word last.gap rest sum last.spelling last.word_is
 sum_begins (suc most) text sum (inr first) rest = begins_with text first.word (first.gap ++ first.rest) rest first.part first.spelling first.word_is
 
--- what a text spells, and the reading of it, are one
+-- the sum read is the one that a text spells
 pub sum_of-suc : (most : ℕ) (text : List ℕ) → sum_of (suc most) text ≡ option_and_then (sum_with (sum_of most) (behind_word text)) (fraction_of (word_in_front text))
 unfolding sum_of
 sum_of-suc most text = refl
@@ -201,7 +203,7 @@ sum_of-zero : (text : List ℕ) → sum_of 0 text ≡ None
 unfolding sum_of
 sum_of-zero text = refl
 
--- by what follows the first word
+-- by the text after the first word
 sum_by : (most : ℕ) (text : List ℕ) (sum : ℕ) → ((rest : List ℕ) (n : ℕ) → sum_of most rest ≡ Some n → IsSum most rest n) → (behind : List ℕ) → behind_word text ≡ behind
     → (part : ℕ) → IsFraction (word_in_front text) part → sum_with (sum_of most) (behind_word text) part ≡ Some sum → IsWord text → IsSum (suc most) text sum
 sum_by most text sum rest_is [] b part word total cut =
@@ -256,13 +258,14 @@ sum_of-is (suc most) text sum (inr first) =
     let begins = sum_begins most first.rest first.rest_sum first.rest_is [] in
     let rest_visible : prefix_len is_blank first.rest ≡ 0 = ap (prefix_len is_blank) (sym (append-nil first.rest)) ∙ begins.0 in
     let word : word_in_front text ≡ first.word = word_in_front-is text first.word (first.gap ++ first.rest) first.spelling visible stops in
-    let behind : behind_word text ≡ first.rest = behind_word-is text first.word (first.gap ++ first.rest) first.spelling visible stops ∙ trim_start-gap first.gap first.rest first.gap_is rest_visible in
+    let behind : behind_word text ≡ first.rest =
+    behind_word-is text first.word (first.gap ++ first.rest) first.spelling visible stops ∙ trim_start-gap first.gap first.rest first.gap_is rest_visible in
     let read : fraction_of (word_in_front text) ≡ Some first.part = ap fraction_of word ∙ fraction_of-is first.word first.part first.word_is in
     let rest_read : sum_of most first.rest ≡ Some first.rest_sum = sum_of-is most first.rest first.rest_sum first.rest_is in
     sum_of-suc most text ∙ ap (option_and_then (sum_with (sum_of most) (behind_word text))) read ∙ ap (λ l. sum_with (sum_of most) l first.part) behind
     ∙ more_than_none (sum_of most) first.rest first.part begins.1 ∙ ap (added first.part) rest_read ∙ ap Some (sym first.total)
 
--- how large sums are
+-- the size of sums
 pub record IsWithin (sum limit : ℕ) : Type 0 where
   pub least : 1 ≤ sum
   pub most : sum ≤ limit

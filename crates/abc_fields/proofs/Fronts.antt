@@ -1,4 +1,4 @@
--- What the front of an order plays, byte by byte: how many groups are open, and how great a count is.
+-- The play of the front of an order, byte by byte: the number of open groups, and the count.
 use Rattle.std.proofs.Common.{◌≡◌, ℕ, zero, suc, ◌+◌, ◌-◌, ◌*◌, ◌^◌, ◌<◌, ◌≤◌, ◌≢◌, Bool, true, false, not, ◌||◌, ◌==◌, cond, ltb, List, [], ◌∷◌, length, take, get_or, Option, Some, None, Ok}
 use Rattle.std.proofs.Common.{refl, sym, ap, ◌∙◌, subst, ⊎_elim, arith}
 use Rattle.std.specs.List.{fold}
@@ -24,19 +24,19 @@ CountFits Nothing (Some n) = ⊥
 CountFits (Item digits positive) None = (digits ≡ 0) × (positive ≡ false)
 CountFits (Item digits positive) (Some n) = (0 < digits) × (digits ≤ 9) × (n < 10 ^ digits) × (positive ≡ ltb 0 n)
 
--- what the front plays stands at this place
+-- the play of the front is at this place
 record Fits (place : Place) (played : Played) : Type 0 where
   groups : length played.around ≡ place.depth
   few : place.depth ≤ 32
   counted : CountFits place.before played.count
 
--- what holds in front of a byte that an order has there
+-- the state before a byte that an order has there
 pub record Accepts (played : Played) (b : ℕ) : Type 0 where
   pub room : b ≡ 40 → length played.around < 32
   pub short : is_ascii_digit b ≡ true → count_on played.count b < 10 ^ 9
   pub counted : is_order_byte b ≡ true → is_ascii_digit b ≡ false → 0 < count_or_once played.count
 
--- a count that is settled is not 0
+-- a count that may end is not 0
 settled_count : (before : LastItem) (count : Option ℕ) → CountFits before count → begins_item before ≡ true → 0 < count_or_once count
 settled_count Nothing None fits begins = omega arith
 settled_count Nothing (Some n) fits begins = absurd fits
@@ -49,7 +49,7 @@ settled_count (Item digits positive) (Some n) fits begins = ⊎_elim
 first_digit : (b : ℕ) → 48 ≤ b → (false || not (b == 48)) ≡ ltb 0 (b - 48)
 first_digit b low = grind (arith, nat_tests)
 
--- a count with one digit more
+-- a count with one more digit
 longer_count : (b digits : ℕ) (positive : Bool) (count : Option ℕ) → CountFits (Item digits positive) count → is_ascii_digit b ≡ true → digits < 9
     → CountFits (Item (digits + 1) (positive || not (b == 48))) (Some (count_on count b))
 longer_count b digits positive None fits digit few =
@@ -71,7 +71,7 @@ short_count digits positive n fits =
     let wide : 10 ^ digits ≤ 10 ^ 9 = pow-le-pow_right (omega arith) fits.1 in
     omega (arith, below, wide)
 
--- the step: what holds in front of a byte, and what follows it
+-- the step: the state before a byte and after it
 record Step (place : Place) (played : Played) (b : ℕ) (rest : List ℕ) : Type 0 where
   accepts_it : Accepts played b
   behind : Place
@@ -79,7 +79,7 @@ record Step (place : Place) (played : Played) (b : ℕ) (rest : List ℕ) : Type
   ends_behind : ends_order (fold next_of (Some behind) (order_bytes rest)) ≡ true
   reads : fold play_on played (order_bytes (b ∷ rest)) ≡ fold play_on (read_on played b) (order_bytes rest)
 
--- letters, parentheses and digits say something
+-- letters, parentheses and digits have a meaning
 order_letter : (b : ℕ) → is_ascii_uppercase b ≡ true → is_order_byte b ≡ true
 order_letter b upper = or_left _ _ (or_left _ _ (or_left _ _ upper))
 
@@ -115,7 +115,7 @@ ignored_step place played b rest fits ignored ends =
       reads = ap (λ t. fold play_on played t) same ∙ ap (λ p. fold play_on p (order_bytes rest)) stays;
     }
 
--- what each byte of a text does
+-- the effect of each byte of a text
 pub reads_silent : (played : Played) (b : ℕ) → is_order_byte b ≡ false → read_on played b ≡ played
 unfolding read_on
 reads_silent played b silent = ap (λ t. cond t (play_on played b) played) silent
@@ -263,7 +263,7 @@ one_step place played b rest fits ends =
       | false ↦ λ is. read_step place played b rest fits is ends
     ] refl
 
--- what an order accepts in front of each of its bytes
+-- the places before each byte of an order
 accepts_from : (text : List ℕ) (place : Place) (played : Played) → Fits place played → ends_order (fold next_of (Some place) (order_bytes text)) ≡ true
     → (i : ℕ) → i < length text → Accepts (fold read_on played (take i text)) (get_or text i 0)
 accepts_from [] place played fits ends i inside = absurd (omega arith)

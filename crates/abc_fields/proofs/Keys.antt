@@ -1,4 +1,4 @@
--- A value is read as its grammar says.
+-- A value is read by its grammar.
 use Rattle.std.proofs.Common.{◌≡◌, ◌==◌, ◌||◌, ℕ, ◌⊎◌, ℤ, pos, negsuc, ◌+ℤ◌, Bool, true, false, List, [], ◌∷◌, length, codes, Option, Some, None, Result, refl, sym, ap, ◌∙◌, subst, inl, inr, ⊎_elim}
 use Rattle.std.proofs.Common.{arith}
 use Rattle.std.specs.Prelude.{int_lt, IfSome}
@@ -71,7 +71,7 @@ key_on_to : (major : ℤ) (basis : Basis) (key : Key) → IsKeyOn major basis ke
 key_on_to major Explicit key h = ap Some (sym h)
 key_on_to major (Named mode) key h = with_to (major +ℤ added_sharps mode) (is_minor mode) h.0 ∙ ap Some (sym h.1)
 
--- what a value begins with
+-- the beginning of a value
 no_tonic_from : (value : List ℕ) → tonic_at value ≡ None → HasNoTonic value
 no_tonic_from value e = λ sharps rest is. let known : ◌≡◌ {A = Option (ℤ × List ℕ)} None (Some (sharps, rest)) = sym e ∙ tonic_to value sharps rest is in cc
 
@@ -139,7 +139,7 @@ start_to value start text (properties first behind toneless is other sets s t) =
     (cond-false (begins_accidental first) _ _ (false_from_ne_true (begins_accidental first) (λ b. other (begins_from first b))) ∙ cond-true (sets_properties first) _ _ (sets_to first sets))
     ∙ (λ i. Some (sym s i, sym t i))
 
--- what completes it
+-- the words that complete it
 signature_from : (o : Option Signature) (words : List (List ℕ)) → IsCompleted o words (option_map (λ signature. with_accidentals signature words) o)
 signature_from None words = refl
 signature_from (Some signature) words = (with_accidentals signature words, listed_from words signature, refl)
@@ -261,6 +261,6 @@ key_range value key (spelled h) =
       shift = shift_small h.words (Some key.shift) (sym ((shift_exact h.words key.shift).1 h.shift));
     }
 
--- so the reader answers it
+-- the reader answers the key
 pub key_read : (value : List ℕ) (r : Result Key FaultCode) → r ≡ key_of value → Reads (IsKey value) IsInRange BadKey r
 key_read value = reads (IsKey value) IsInRange BadKey (key_in value) (key_in_from value) (key_in_to value) (key_range value)

@@ -1,4 +1,4 @@
--- An order plays the letters that its grammar says.
+-- An order plays the letters of its grammar.
 use Rattle.std.proofs.Common.{◌≡◌, ℕ, suc, zero, ◌+◌, ◌-◌, ◌*◌, ◌==◌, true, false, List, [], ◌∷◌, ◌++◌, replicate, Some, refl, sym, ap, ◌∙◌, arith, append_assoc, zero-add}
 use Rattle.std.specs.List.{AllPass, fold, concat}
 use Rattle.std.specs.Char.{is_ascii_digit, is_ascii_uppercase}
@@ -76,7 +76,8 @@ plays_order (group {depth} {n} {inner} {count} {letters} few order times_is) pla
     let begun : Played = with_item (outside ∷ played.around) [] [] in
     let within = plays_order order begun in
     let last = fold play_on begun inner in
-    let closed : play_on last 41 ≡ with_item played.around outside letters = plays_close last ∙ ap (λ around. close_group around (letters_so_far last)) within.0 ∙ ap (λ l. with_item played.around outside l) within.1 in
+    let closed : play_on last 41 ≡ with_item played.around outside letters =
+    plays_close last ∙ ap (λ around. close_group around (letters_so_far last)) within.0 ∙ ap (λ l. with_item played.around outside l) within.1 in
     let path : fold play_on played (40 ∷ (inner ++ 41 ∷ count)) ≡ fold play_on (with_item played.around outside letters) count =
     ap (λ p. fold play_on p (inner ++ 41 ∷ count)) (plays_open played) ∙ fold-append play_on begun inner (41 ∷ count) ∙ ap (λ p. fold play_on p count) closed in
     let rest = plays_count times_is played.around outside letters in

@@ -31,7 +31,7 @@ pub accidentals_none : (signature : Signature) (words : List (List ℕ)) → wor
 unfolding with_accidentals
 accidentals_none signature words e = ap (with_accidentals signature) e
 
--- what a word changes, and the grammar of it
+-- the changes of a word, and their grammar
 changed_by : (signature : Signature) (word : List ℕ) (o : Option (List Change)) → changes_of word ≡ o → IsChanged signature word (changed_or signature signature o)
 changed_by signature word None e = inr ((λ changes are. let known : Some changes ≡ None = sym ((changes_exact word changes).1 are) ∙ e in cc), refl)
 changed_by signature word (Some changes) e = inl (changes, (changes_exact word changes).0 e, refl)
@@ -47,7 +47,7 @@ changed_to signature word changed (Some changes) e h = ⊎_elim
     (λ is. absurd (is.0 changes ((changes_exact word changes).0 e)))
     h
 
--- what words change
+-- the changes of words
 pub listed_from : (words : List (List ℕ)) (signature : Signature) → AreListed signature words (with_accidentals signature words)
 unfolding with_accidentals
 listed_from [] signature = refl

@@ -29,7 +29,7 @@ pub halve-end : (i num den : ℕ) → 9 ≤ i → halve (9 - i) num den ≡ rati
 unfolding halve
 halve-end i num den h = let left : 9 - i ≡ zero = omega arith in ap (λ n. halve n num den) left
 
--- what divides an odd multiple of m and a multiple of it by a power of two divides m
+-- a common divisor of an odd multiple of m and of m times a power of two divides m
 odd_cancel : (q k c m : ℕ) → c ∣ (2 * q + 1) * m → c ∣ 2 ^ k * m → c ∣ m
 odd_cancel q zero c m h g = subst (λ n. c ∣ n) (one-mul m) g
 odd_cancel q (suc k) c m h g =
@@ -43,7 +43,7 @@ odd_cancel q (suc k) c m h g =
     regroup : (q p m : ℕ) → p * ((2 * q + 1) * m) ≡ q * (2 * (p * m)) + p * m
     regroup q p m = omega arith
 
--- the parts halved as often as can be
+-- the parts halved as often as possible
 pub record IsHalved (power num : ℕ) (r : Ratio) : Type 0 where
   pub value : r.num * 2 ^ power ≡ num * r.den
   pub cancels : (c m : ℕ) → c ∣ r.num * m → c ∣ r.den * m → c ∣ m

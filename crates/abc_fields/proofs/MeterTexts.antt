@@ -1,4 +1,4 @@
--- A text is a meter exactly where it is read.
+-- A text is read as a meter exactly if it is one.
 use Rattle.std.proofs.Common.{◌≡◌, ℕ, ◌-◌, ◌≤◌, ◌^◌, ◌&&◌, ◌||◌, ◌==◌, Bool, true, false, cond, List, [], ◌∷◌, ◌++◌, length, get_or, take, sum, codes, bytes_eq, Option, Some, None, Result, refl, sym}
 use Rattle.std.proofs.Common.{ap, ◌∙◌, subst, inl, inr, ⊎_elim, arith}
 use Rattle.std.specs.Prelude.{not}
@@ -31,7 +31,7 @@ last_is : (xs : List ℕ) (c : ℕ) → 1 ≤ c → get_or xs (length xs - 1) 0 
 last_is [] c some e = absurd (omega (arith, e))
 last_is (x ∷ xs) c some e = last_split (x ∷ xs) (omega arith) ∙ ap (λ b. take (length (x ∷ xs) - 1) (x ∷ xs) ++ b ∷ []) e
 
--- what stands above
+-- the number above the stroke
 record IsRead (text : List ℕ) (n : ℕ) : Type 0 where
   above : IsAbove text n
   small : n ≤ 255
@@ -95,7 +95,8 @@ above_Without : (text : List ℕ) (n : ℕ) → IsAbove text n → HasNoByte sla
 above_Without text n h = ⊎_elim
     (λ k. sum_Without text h.numbers k)
     (λ p. let clean = λ (b : ℕ). not (b == slash) ≡ true in
-    All-same clean text (40 ∷ p.inner ++ 41 ∷ []) p.spelling (All-cons clean 40 (p.inner ++ 41 ∷ []) refl (All-append clean p.inner (41 ∷ []) (sum_Without p.inner h.numbers p.summed) (All-cons clean 41 [] refl (All-nil clean)))))
+    let closed = All-append clean p.inner (41 ∷ []) (sum_Without p.inner h.numbers p.summed) (All-cons clean 41 [] refl (All-nil clean)) in
+    All-same clean text (40 ∷ p.inner ++ 41 ∷ []) p.spelling (All-cons clean 40 (p.inner ++ 41 ∷ []) refl closed))
     h.spelling
 
 -- a fraction
@@ -158,7 +159,7 @@ fraction_to text num den h =
     ∙ ap (meter_by (Some num)) (power_up_to-to 6 (number_of h.below) den (number_of-spelled h.below den h.den_is) h.den_power)
     ∙ cond-false (num == 0) _ _ (grind (arith, nat_tests))
 
--- the meter by what its tests say
+-- the meter by its tests
 abbrev by_tests : Bool → Bool → Bool → Option Meter → Option Meter
 by_tests free common cut fraction = cond free (Some Free) (cond common (Some (Of 4 4)) (cond cut (Some (Of 2 2)) fraction))
 
@@ -211,7 +212,7 @@ read_to text (Of num den) h = ⊎_elim
     (λ k. fraction_is text (Of num den) (fraction_to text num den k) (no_fraction [] refl) (no_fraction (codes "none") refl) (no_fraction (codes "C") refl) (no_fraction (codes "C|") refl))
     h
 
--- and its parts are in range
+-- the parts of a meter are in range
 two_power : (k n : ℕ) → k ≤ 6 → n ≡ 2 ^ k → IsPowerUpTo 6 n
 two_power k n small e = record { power = k; small = small; value = e }
 
@@ -225,6 +226,6 @@ meter_range text (Of num den) h = ⊎_elim
     (λ k. record { num_least = k.num_least; num_most = k.num_most; den_least = power_least 6 den k.den_power; den_most = power_most 6 den k.den_power; den_power = k.den_power })
     h
 
--- so the reader answers it
+-- the reader answers the meter
 pub meter_read : (text : List ℕ) (r : Result Meter FaultCode) → r ≡ meter_of text → Reads (IsMeter text) IsMeterInRange BadMeter r
 meter_read text = reads (IsMeter text) IsMeterInRange BadMeter (symbol_or_fraction text) (read_from text) (read_to text) (meter_range text)

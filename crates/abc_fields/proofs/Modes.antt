@@ -1,4 +1,4 @@
--- A run of letters names a mode exactly where it is read as one.
+-- A run of letters is read as a mode exactly if it names one.
 use Rattle.std.proofs.Common.{◌≡◌, ℕ, ◌<◌, ◌≤◌, Bool, true, false, cond, ◌||◌, List, [], ◌∷◌, length, get_or, Option, Some, None, codes, refl, sym, ap, ◌∙◌, subst, inl, inr, ⊎_elim, arith}
 use Rattle.std.specs.List.{Contains}
 use Rattle.std.specs.Str.{bytes_eq}
@@ -42,7 +42,7 @@ long_run (a ∷ []) h e = absurd (omega arith)
 long_run (a ∷ b ∷ []) h e = absurd (omega arith)
 long_run (a ∷ b ∷ c ∷ rest) h e = other_run (a ∷ b ∷ c ∷ rest) e
 
--- what three letters name has them among its names
+-- a mode that three letters name has them among its names
 chosen : (t : Bool) (a : Mode) (rest : Option Mode) (mode : Mode) (name : List ℕ) → cond t (Some a) rest ≡ Some mode
     → (t ≡ true → Contains (names_of a) name) → (rest ≡ Some mode → Contains (names_of mode) name) → Contains (names_of mode) name
 chosen true a rest mode name e here later = let same : a ≡ mode = cc in subst (λ m. Contains (names_of m) name) same (here refl)
@@ -93,7 +93,7 @@ not_minor run three = false_from_ne_true _ (λ t.
     let one : length (front_of run) ≡ 1 = ap (λ r. length (front_of r)) ((bytes_eq-Decides run (codes "m")).0 t) in
     omega (arith, one, three))
 
--- what is read is what the grammar says
+-- the mode read is the one of the grammar
 pub mode_from : (run : List ℕ) (mode : Mode) → mode_of run ≡ Some mode → IsMode run mode
 mode_from run mode e = ⊎_elim
     (λ t. let same : mode ≡ Aeolian = let k = minor_run run t in cc in inl ((bytes_eq-Decides run (codes "m")).0 t, same))

@@ -55,7 +55,7 @@ digit_next depth b digits positive digit few =
     let room : ltb digits 9 ≡ true = lt-ltb digits 9 few in
     rw (upper, opens, closes, digit, room) refl
 
--- the loop: one byte of the value, and what is left of it
+-- the loop: one byte of the value, and the rest
 pub order_lost : (text : List ℕ) → fold next_of None text ≡ None
 order_lost text = fold_stays next_of None (λ b. refl) text
 
@@ -65,13 +65,14 @@ one_read place b rest true = refl
 one_read place b rest false = refl
 
 pub order_step : (place : Option Place) (value : List ℕ) (i : ℕ) → i < length value
-    → fold next_of place (order_bytes (drop i value)) ≡ cond (is_ignored (get_or value i 0)) (fold next_of place (order_bytes (drop (i + 1) value))) (fold next_of (next_of place (get_or value i 0)) (order_bytes (drop (i + 1) value)))
+    → fold next_of place (order_bytes (drop i value)) ≡ cond (is_ignored (get_or value i 0)) (fold next_of place (order_bytes (drop (i + 1) value)))
+    (fold next_of (next_of place (get_or value i 0)) (order_bytes (drop (i + 1) value)))
 order_step place value i inside =
     let cut : drop i value ≡ get_or value i 0 ∷ drop (i + 1) value = rw add-one (drop-cons value i 0 inside) in
     ap (λ rest. fold next_of place (order_bytes rest)) cut ∙ one_read place (get_or value i 0) (order_bytes (drop (i + 1) value)) (is_ignored (get_or value i 0))
 
--- From the grammar to the places: an order leads from a place where an item may begin to one where an
--- item may end, at the same depth.
+-- From the grammar to the places: an order leads from a place for the beginning of an item to one for its end, at the
+-- same depth.
 abbrev Ends : ℕ → Option Place → Type 0
 Ends depth place = (before : LastItem) × (place ≡ Some (at depth before)) × (ends_item before ≡ true)
 
@@ -120,9 +121,9 @@ order_ends (behind {depth} {front} {back} first second) before begins =
     let back_ends = order_ends second front_ends.0 (begins_too front_ends.0 front_ends.2) in
     subst (Ends depth) (sym (fold-append next_of (Some (at depth before)) front back ∙ ap (λ place. read place back) front_ends.1)) back_ends
 
--- From the places to the grammar: what a text that leads to a place is made of.
+-- From the places to the grammar: the parts of a text that leads to a place.
 
--- what stands in a group so far: nothing, or an order
+-- the content of a group so far: nothing, or an order
 data IsInner : ℕ → List ℕ → Type 0 where
   empty : {depth : ℕ} → IsInner depth []
   filled : {depth : ℕ} {text letters : List ℕ} → IsOrder depth text letters → IsInner depth text
@@ -148,7 +149,7 @@ data Reached : ℕ → LastItem → List ℕ → Type 0 where
   at_item : {depth digits : ℕ} {positive : Bool} {outer inner bare count : List ℕ}
       → Opened depth outer → IsInner depth inner → IsBare depth bare → IsBegun count digits positive → Reached depth (Item digits positive) (outer ++ (inner ++ (bare ++ count)))
 
--- a text that leads to a place where an item may begin
+-- a text that leads to a place for the beginning of an item
 record Begins (depth : ℕ) (text : List ℕ) : Type 0 where
   outer : List ℕ
   inner : List ℕ
@@ -156,7 +157,7 @@ record Begins (depth : ℕ) (text : List ℕ) : Type 0 where
   is_inner : IsInner depth inner
   spelling : text ≡ outer ++ inner
 
--- a text that leads to a place where an item may end
+-- a text that leads to a place for the end of an item
 record Finishes (depth : ℕ) (text : List ℕ) : Type 0 where
   outer : List ℕ
   inner : List ℕ
@@ -195,7 +196,7 @@ begins (at_item {depth} {digits} {positive} {outer} {inner} {bare} {count} opene
     let whole = finishes (at_item opened is_inner is_bare begun) may in
     record { outer = whole.outer; inner = whole.inner; opened = whole.opened; is_inner = filled whole.is_order; spelling = whole.spelling }
 
--- the groups that a place stands in, seen from inside the last
+-- the groups around a place, the innermost first
 record Inside (depth : ℕ) (text : List ℕ) : Type 0 where
   above : ℕ
   outer : List ℕ
@@ -230,7 +231,7 @@ unbegun = record { long = refl; few = omega arith; all = λ k d h. absurd (omega
 new_item : {depth : ℕ} {outer inner bare text : List ℕ} → Opened depth outer → IsInner depth inner → IsBare depth bare → text ≡ outer ++ (inner ++ (bare ++ [])) → Reached depth (Item 0 false) text
 new_item {depth} opened is_inner is_bare spelling = subst (Reached depth (Item 0 false)) (sym spelling) (at_item opened is_inner is_bare unbegun)
 
--- one byte more
+-- one more byte
 after_letter : (depth letter : ℕ) (before : LastItem) (text : List ℕ) → Reached depth before text → begins_item before ≡ true → is_ascii_uppercase letter ≡ true
     → Reached depth (Item 0 false) (text ++ letter ∷ [])
 after_letter depth letter before text reached may upper =
@@ -290,7 +291,7 @@ digit_leads depth (Item digits positive) b text after reached digit e =
     let given = guarded_digit (ltb digits 9) depth (Item (digits + 1) (positive || not (b == 48))) after e in
     subst (Leads (text ++ b ∷ [])) given.1 (after_digit b reached digit (ltb-true digits 9 given.0))
 
--- what a byte that may come at a place is, and the place after it
+-- the kinds of a byte that may come at a place, and the place after it
 pub data Follows (place : Place) (b : ℕ) (after : Place) : Type 0 where
   by_letter : is_ascii_uppercase b ≡ true → begins_item place.before ≡ true → at place.depth (Item 0 false) ≡ after → Follows place b after
   by_open : b ≡ 40 → begins_item place.before ≡ true → place.depth < 32 → at (place.depth + 1) Nothing ≡ after → Follows place b after
@@ -333,7 +334,9 @@ leads_through (b ∷ rest) text place after reached e =
     elim (next place b) as (λ o. next place b ≡ o → read o rest ≡ Some after → Leads (text ++ b ∷ rest) after) [
       | None ↦ λ is leads. let lost = order_lost rest in cc
       | Some between ↦
-          λ is leads. subst (λ t. Leads t after) (append_assoc text (b ∷ []) rest) (leads_through rest (text ++ b ∷ []) between after (leads_on place b text between reached (follows place b between is)) leads)
+          λ is leads.
+          let further = leads_on place b text between reached (follows place b between is) in
+          subst (λ t. Leads t after) (append_assoc text (b ∷ []) rest) (leads_through rest (text ++ b ∷ []) between after further leads)
     ] refl e
 
 order_from : (text : List ℕ) (place : Place) → Leads text place → is_whole place ≡ true → (letters : List ℕ) × IsOrder 0 text letters

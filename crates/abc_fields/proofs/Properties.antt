@@ -138,7 +138,7 @@ given name word e = record {
 value_known : (name word value : List ℕ) (g : Gives name word value) → unquote (drop (length name) word) ≡ value
 value_known name word value g = ap unquote (behind_name name word g.text g.spelling) ∙ unquoted_known g.text value g.unquote
 
--- a word is read as what it says
+-- a word is read by its grammar
 plain_read : (word : List ℕ) (o : Option ℤ) → HasNoName word → mark_of word ≡ o → IsProperty word (option_map_or Clef o Other)
 plain_read word None unnamed e = (unnamed, no_mark_read word e)
 plain_read word (Some n) unnamed e = inr (unnamed, mark_read word n e)
@@ -192,9 +192,13 @@ property_known word (Clef n) is = ⊎_elim
     is
 property_known word (Octave n) is =
     let no_clef : begins_with clef_name word ≡ false = first_differs 111 99 (drop 1 octave_name) (drop 1 clef_name) is.1.text word (λ e. omega arith) is.1.spelling in
-    octave_named word no_clef (begins_from octave_name word is.1.text is.1.spelling) ∙ ap (λ v. option_map Octave (signed_number v)) (value_known octave_name word is.0 is.1) ∙ ap (option_map Octave) (signed_known is.0 n is.2)
+    octave_named word no_clef (begins_from octave_name word is.1.text is.1.spelling)
+    ∙ ap (λ v. option_map Octave (signed_number v)) (value_known octave_name word is.0 is.1)
+    ∙ ap (option_map Octave) (signed_known is.0 n is.2)
 property_known word (Transpose n) is =
     let no_clef : begins_with clef_name word ≡ false = first_differs 116 99 (drop 1 transpose_name) (drop 1 clef_name) is.1.text word (λ e. omega arith) is.1.spelling in
     let no_octave : begins_with octave_name word ≡ false = first_differs 116 111 (drop 1 transpose_name) (drop 1 octave_name) is.1.text word (λ e. omega arith) is.1.spelling in
-    transpose_named word no_clef no_octave (begins_from transpose_name word is.1.text is.1.spelling) ∙ ap (λ v. option_map Transpose (signed_number v)) (value_known transpose_name word is.0 is.1) ∙ ap (option_map Transpose) (signed_known is.0 n is.2)
+    transpose_named word no_clef no_octave (begins_from transpose_name word is.1.text is.1.spelling)
+    ∙ ap (λ v. option_map Transpose (signed_number v)) (value_known transpose_name word is.0 is.1)
+    ∙ ap (option_map Transpose) (signed_known is.0 n is.2)
 property_known word Other is = not_named word is.0 ∙ ap (λ o. Some (option_map_or Clef o Other)) (no_mark_known word is.1)

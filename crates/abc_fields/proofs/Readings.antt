@@ -1,9 +1,10 @@
--- What a reader goes on with, and what it refuses.
+-- The steps of a reader, and its refusals.
 use Rattle.std.proofs.Common.{◌≡◌, ◌⊎◌, ℕ, Bool, true, false, cond, List, Option, Some, None, Result, Ok, Err, refl, sym, subst, inl, inr, IfOk}
 use Rattle.std.specs.Prelude.{◌↔◌, option_and_then, option_map, ok_or}
 use Rattle.std.specs.Str.{bytes_eq}
 use Rattle.std.proofs.lemmas.Slice.Eq.{bytes_eq-Decides}
 use Rattle.abc_fields.specs.declared.fault.FaultCode.{FaultCode}
+use Rattle.abc_fields.specs.Reading.{IsReading}
 
 -- a step that goes on has a value
 pub bound : {A B : Type 0} (f : A → Option B) (o : Option A) (y : B) → option_and_then f o ≡ Some y → (x : A) × (o ≡ Some x) × (f x ≡ Some y)
@@ -24,11 +25,14 @@ branches false x y z e = inr (refl, e)
 pub named : (text name : List ℕ) → bytes_eq text name ≡ true → name ≡ text
 named text name e = sym ((bytes_eq-Decides text name).0 e)
 
--- a reader answers a value where the grammar gives it, and its fault where it gives none
+-- a reader answers the value of the grammar, which is in range, or its fault if there is none
 pub record Reads {V : Type 0} (Says : V → Type 0) (InRange : V → Type 0) (fault : FaultCode) (r : Result V FaultCode) : Type 0 where
   pub ok : (v : V) → (r ≡ Ok v) ↔ Says v
   pub refused : (r ≡ Err fault) ↔ ((v : V) → ¬ Says v)
   pub range : IfOk r InRange
+
+pub exact_reading : {V : Type 0} {Says InRange : V → Type 0} {fault : FaultCode} {r : Result V FaultCode} → Reads Says InRange fault r → IsReading Says fault r
+exact_reading reads = record { ok = reads.ok; refused = reads.refused }
 
 read_by : {V : Type 0} (Says InRange : V → Type 0) (fault : FaultCode) (o : Option V) → ((v : V) → o ≡ Some v → Says v) → ((v : V) → Says v → o ≡ Some v) → ((v : V) → Says v → InRange v)
     → Reads Says InRange fault (ok_or o fault)
@@ -43,7 +47,7 @@ read_by Says InRange fault (Some x) from to range = record {
   range = range x (from x refl);
 }
 
--- so it is where an option has a value exactly where the grammar gives it
+-- the same, if an option has a value exactly if the grammar has it
 pub reads : {V : Type 0} (Says InRange : V → Type 0) (fault : FaultCode) (o : Option V) → ((v : V) → o ≡ Some v → Says v) → ((v : V) → Says v → o ≡ Some v) → ((v : V) → Says v → InRange v)
     → (r : Result V FaultCode) → r ≡ ok_or o fault → Reads Says InRange fault r
 reads Says InRange fault o from to range r e = subst (Reads Says InRange fault) (sym e) (read_by Says InRange fault o from to range)

@@ -36,7 +36,7 @@ with_one shift (Octave n) = record { clef = refl; octave = refl; transpose = ref
 with_one shift (Transpose n) = record { clef = refl; octave = refl; transpose = refl }
 with_one shift Other = record { clef = refl; octave = refl; transpose = refl }
 
--- what properties say after a shift
+-- properties after a shift
 record Said (properties : List Property) (before after : Shift) : Type 0 where
   clef : after.clef ≡ option_or (last_said clef_in properties) before.clef
   octave : after.octave ≡ option_or (last_said octave_in properties) before.octave
@@ -70,7 +70,7 @@ more_said p ps before after said =
       transpose = said.transpose ∙ sym (ap (option_or (last_said transpose_in ps)) one.transpose ∙ or_or (last_said transpose_in ps) (transpose_in p) before.transpose);
     }
 
--- words are read as what they say
+-- words are read by their grammar
 words_read : (words : List (List ℕ)) (before after : Shift) → shift_after words before ≡ Some after → (properties : List Property) × AllZip IsProperty words properties × Said properties before after
 words_read [] before after e = ([], tt, said_none before after cc)
 words_read (word ∷ words) before after e =
@@ -108,7 +108,7 @@ shift_known words shift is = words_known words is.properties no_shift shift is.s
 pub shift_exact : (words : List (List ℕ)) (shift : Shift) → (shift_of words ≡ Some shift) ↔ IsShift words shift
 shift_exact words shift = (shift_read words shift, shift_known words shift)
 
--- a shift is small
+-- a shift is within its bounds
 within : (m n : ℕ) → n ≤ m → IsWithin m (pos n) × IsWithin m (neg_ℤ (pos n))
 within m n h = ((omega (arith, ints), omega (arith, ints)), (omega (arith, ints), omega (arith, ints)))
 

@@ -5,7 +5,7 @@ use Rattle.std.proofs.lemmas.Int.{ints}
 use Rattle.abc_text.specs.declared.letter.Letter.{Letter}
 use Rattle.abc_text.specs.declared.letter.Letter.TheVariants.{C, D, E, F, G, A, B}
 use Rattle.abc_fields.specs.declared.signature.Signature.{Signature}
-use Rattle.abc_fields.specs.Signature.{natural, altered_signature, alteration_by_fifths, signature_of, IsAlteration, IsSignature}
+use Rattle.abc_fields.specs.Signature.{by_letter, natural, altered_signature, alteration_by_fifths, signature_of, IsAlteration, IsSignature}
 
 natural_note : IsAlteration (pos 0)
 natural_note = (omega (arith, ints), omega (arith, ints))
@@ -14,28 +14,15 @@ by_fifths_range : (sharps : ℤ) (letter : Letter) → IsAlteration (alteration_
 by_fifths_range (pos sharps) letter = cond_both _ (pos 1) (pos 0) IsAlteration (λ _. (omega (arith, ints), omega (arith, ints))) (λ _. natural_note)
 by_fifths_range (negsuc flats) letter = cond_both _ (negsuc 0) (pos 0) IsAlteration (λ _. (omega (arith, ints), omega (arith, ints))) (λ _. natural_note)
 
+by_letter_range : (by : Letter → ℤ) → ((letter : Letter) → IsAlteration (by letter)) → IsSignature (by_letter by)
+by_letter_range by h = record { a = h A; b = h B; c = h C; d = h D; e = h E; f = h F; g = h G }
+
 pub signature_of_range : (sharps : ℤ) → IsSignature (signature_of sharps)
 unfolding signature_of
-signature_of_range sharps = record {
-  a = by_fifths_range sharps A;
-  b = by_fifths_range sharps B;
-  c = by_fifths_range sharps C;
-  d = by_fifths_range sharps D;
-  e = by_fifths_range sharps E;
-  f = by_fifths_range sharps F;
-  g = by_fifths_range sharps G;
-}
+signature_of_range sharps = by_letter_range (alteration_by_fifths sharps) (by_fifths_range sharps)
 
 pub natural_range : IsSignature natural
-natural_range = record {
-  a = natural_note;
-  b = natural_note;
-  c = natural_note;
-  d = natural_note;
-  e = natural_note;
-  f = natural_note;
-  g = natural_note;
-}
+natural_range = by_letter_range (λ _. pos 0) (λ _. natural_note)
 
 pub altered_range : (s : Signature) (letter : Letter) (by : ℤ) → IsSignature s → IsAlteration by → IsSignature (altered_signature s letter by)
 altered_range s A by h k = record { a = k; b = h.b; c = h.c; d = h.d; e = h.e; f = h.f; g = h.g }

@@ -1,4 +1,4 @@
--- The first word of a key without a tonic is read as its grammar says.
+-- The first word of a key without a tonic is read by its grammar.
 use Rattle.std.proofs.Common.{◌≡◌, ◌==◌, ℕ, ℤ, suc, ◌⊎◌, true, ◌||◌, List, [], ◌∷◌, Option, Some, None, refl, ap, ◌∙◌, inl, inr, ⊎_elim, arith}
 use Rattle.std.specs.List.{Contains, list_any}
 use Rattle.std.specs.Option.{is_some}

@@ -16,7 +16,7 @@ some_tested : (total n m : ℕ) (t : Bool) → t ≡ leb (total + n) 255 → con
 some_tested total n m true e h = let same : total + n ≡ m = cc in let small : total + n ≤ 255 = grind (arith, nat_tests) in (same, omega arith)
 some_tested total n m false e h = cc
 
--- where one number more is too much, so are all
+-- if one more number is too much, so are all
 plus_none : (total : ℕ) (n rest : Option ℕ) → add_word total n ≡ None → at_most_255 (added (Some total) (added n rest)) ≡ None
 plus_none total None rest h = refl
 plus_none total (Some n) None h = refl
@@ -24,7 +24,7 @@ plus_none total (Some n) (Some r) h =
     let over : 255 < total + n = none_tested total n (leb (total + n) 255) refl h in
     cond-false (leb (total + (n + r)) 255) _ _ (grind (arith, nat_tests))
 
--- and else it goes on from there
+-- otherwise the sum goes on
 plus_some : (total m : ℕ) (n rest : Option ℕ) → add_word total n ≡ Some m → (at_most_255 (added (Some m) rest) ≡ at_most_255 (added (Some total) (added n rest))) × (m ≤ 255)
 plus_some total m None rest h = cc
 plus_some total m (Some n) None h = (refl, (some_tested total n m (leb (total + n) 255) refl h).1)
@@ -32,7 +32,7 @@ plus_some total m (Some n) (Some r) h =
     let p = some_tested total n m (leb (total + n) 255) refl h in
     (ap (λ x. at_most_255 (Some x)) (ap (λ x. x + r) (sym p.0) ∙ add_assoc total n r), p.1)
 
--- the words that are still to come, and what those before them come to, give the sum of a text
+-- the words that follow, and the sum of those before them, give the sum of a text
 pub record IsSummed {S : Type 0} (steps : S → Option (Bor (List ℕ)) → S → Type 0) (s : S) (text : List ℕ) (total : ℕ) : Type 0 where
   pub left : List (List ℕ)
   pub yields : YieldsList steps (λ x. x.now) s left
@@ -48,7 +48,7 @@ unfolding sum_of
 IsSummed-start steps s text h =
     record { left = slice_split (λ b. b == 43) text; yields = h; rest = ap at_most_255 (none_is_zero (sum_of_words (slice_split (λ b. b == 43) text))); small = omega arith }
 
--- a word comes
+-- one more word
 record IsNext {S : Type 0} (steps : S → Option (Bor (List ℕ)) → S → Type 0) (t : S) (text word : List ℕ) (total : ℕ) : Type 0 where
   left : List (List ℕ)
   yields : YieldsList steps (λ x. x.now) t left

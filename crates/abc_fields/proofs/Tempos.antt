@@ -1,4 +1,4 @@
--- Laws of tempo fields: what a value spells, and the reading of it, are one.
+-- Laws of tempo fields: the tempo read is the one that a value spells.
 use Rattle.std.proofs.Common.{◌≡◌, ℕ, zero, suc, ◌*◌, ◌<◌, ◌≤◌, Bool, true, List, [], ◌∷◌, ◌++◌, length, Option, Some, None, option_map, Result, refl, sym, ap, ◌∙◌, subst, ◌⊎◌, inl, inr, arith}
 use Rattle.std.proofs.Common.{length-append, append_assoc}
 use Rattle.std.specs.Prelude.{◌==◌, not, option_and_then}
@@ -53,7 +53,7 @@ pub positive_number-is : (text : List ℕ) (n : ℕ) → IsNumber text n → 1 �
 unfolding positive_number
 positive_number-is text n is some = ap (option_and_then if_positive) (number_of-spelled text n is) ∙ if_positive-is n some
 
--- where a tempo without a text begins and ends, and what is not in it
+-- the first and last bytes of a tempo without a text, and the bytes that it does not contain
 pub record IsPlain (text : List ℕ) : Type 0 where
   pub some : 1 ≤ length text
   pub no_quote : HasNoByte 34 text
@@ -150,15 +150,17 @@ bare_tempo-is text Unset is = absurd is
 bare_tempo-is text (Units n) is =
     ap (bare_by text) (cut_at-none 61 text (number_without 61 (inr (omega arith)) text n is.0)) ∙ ap (option_map (λ n. Units n)) (positive_number-is text n is.0 is.1)
 bare_tempo-is text (Beat beat n) is =
-    let cut : cut_at 61 text ≡ Some (is.front, is.gap ++ is.number) = ap (cut_at 61) is.spelling ∙ cut_at-found 61 is.front (is.gap ++ is.number) (front_without 61 (inr (omega arith)) refl (omega arith) is.front is.sum is.front_is) in
+    let clean = front_without 61 (inr (omega arith)) refl (omega arith) is.front is.sum is.front_is in
+    let cut : cut_at 61 text ≡ Some (is.front, is.gap ++ is.number) = ap (cut_at 61) is.spelling ∙ cut_at-found 61 is.front (is.gap ++ is.number) clean in
     let visible : prefix_len is_blank is.number ≡ 0 = no_front is_blank is.number (front_other is_blank is.number [] (number_visible is.number n is.number_is) is.number_is.some) in
-    let number : positive_number (trim_start (is.gap ++ is.number)) ≡ Some n = ap positive_number (trim_start-gap is.gap is.number is.gap_is visible) ∙ positive_number-is is.number n is.number_is is.number_least in
+    let number : positive_number (trim_start (is.gap ++ is.number)) ≡ Some n =
+    ap positive_number (trim_start-gap is.gap is.number is.gap_is visible) ∙ positive_number-is is.number n is.number_is is.number_least in
     let same : beat ≡ lowest_terms is.sum = lowest_terms-one is.sum beat is.value is.lowest_is in
     ap (bare_by text) cut
     ∙ ap (option_and_then (λ sum. beats sum (positive_number (trim_start (is.gap ++ is.number))))) (sum_of-is 16 is.front is.sum is.front_is)
     ∙ ap (beats is.sum) number ∙ ap (λ r. Some (Beat r n)) (sym same)
 
--- a quoted text, and what stands around it
+-- a quoted text, and the texts around it
 quoted_is : (inside : List ℕ) → HasNoByte 34 inside → IsQuoted (34 ∷ (inside ++ 34 ∷ []))
 quoted_is inside h = record { inside = inside; spelling = refl; no_quote = h }
 
@@ -289,7 +291,7 @@ range text m (without_text is) = bare_range text m is
 range text m (behind_text is) = bare_range is.tempo m is.tempo_is
 range text m (before_text is) = bare_range is.tempo m is.tempo_is
 
--- so the reader answers it
+-- the reader answers the tempo
 pub tempo_read : (text : List ℕ) (r : Result Tempo FaultCode) → r ≡ tempo_of text → Reads (IsTempo text) IsInRange BadTempo r
 unfolding tempo_of
 tempo_read text = reads (IsTempo text) IsInRange BadTempo (tempo_in text) (tempo_in-Some text) (tempo_in-is text) (range text)

@@ -1,4 +1,4 @@
--- The front of a key is read as its grammar says.
+-- The front of a key is read by its grammar.
 use Rattle.std.proofs.Common.{◌≡◌, ℕ, ◌<◌, ℤ, pos, negsuc, ◌+ℤ◌, Bool, true, false, cond, List, [], ◌∷◌, ◌++◌, length, take, drop, Option, Some, None, codes, refl, sym, ap, ◌∙◌, subst, inl, inr}
 use Rattle.std.proofs.Common.{⊎_elim, arith}
 use Rattle.std.specs.Prelude.{◌==◌, ◌≢◌}
@@ -116,17 +116,18 @@ run_of text =
       no_more_letters = stops_behind is_ascii_alphabetic behind;
     }
 
-run_read : (text blanks run rest : List ℕ) → IsRun text blanks run rest → basis_at text ≡ basis_by (mode_of run) (length blanks) run text rest
+pub run_read : (text blanks run rest : List ℕ) → IsRun text blanks run rest → basis_at text ≡ basis_by (mode_of run) (length blanks) run text rest
 unfolding basis_at
 run_read text blanks run rest is =
     let n : prefix_len is_blank text ≡ length blanks = ap (prefix_len is_blank) is.spelling ∙ front_len is_blank blanks (run ++ rest) is.are_blanks is.no_more_blanks in
     let behind : drop (prefix_len is_blank text) text ≡ run ++ rest = (λ i. drop (n i) (is.spelling i)) ∙ drop-append_seam blanks (run ++ rest) in
-    let m : prefix_len is_ascii_alphabetic (drop (prefix_len is_blank text) text) ≡ length run = ap (prefix_len is_ascii_alphabetic) behind ∙ front_len is_ascii_alphabetic run rest is.are_letters is.no_more_letters in
+    let m : prefix_len is_ascii_alphabetic (drop (prefix_len is_blank text) text) ≡ length run =
+    ap (prefix_len is_ascii_alphabetic) behind ∙ front_len is_ascii_alphabetic run rest is.are_letters is.no_more_letters in
     let letters = (λ i. take (m i) (behind i)) ∙ take-append_seam run rest in
     let more = (λ i. drop (m i) (behind i)) ∙ drop-append_seam run rest in
     λ i. basis_by (mode_of (letters i)) (n i) (letters i) text (more i)
 
--- what a signature is made from
+-- the basis of a signature
 no_mode : (run : List ℕ) (o : Option Mode) → mode_of run ≡ o → ((mode : Mode) → IsMode run mode → ⊥) → o ≡ None
 no_mode run None e h = refl
 no_mode run (Some mode) e h = absurd (h mode (mode_from run mode e))

@@ -39,12 +39,14 @@ voice_to text voice is =
     let to = from + length is.identifier in
     let shift : shift_of (words_of (drop to text)) ≡ Some voice.shift = ap (λ l. shift_of (words_of l)) known.behind_is ∙ (shift_exact (words_of is.behind) voice.shift).1 is.shift in
     let to_is : to ≡ voice.to = sym (is.to ∙ ap (λ n. n + length is.identifier) is.from) in
-    sym (ap (option_and_then (voice_at text)) known.known) ∙ ap (option_map (λ (s : Shift). record { from = from; to = to; shift = s })) shift ∙ (λ i. Some (record { from = sym is.from i; to = to_is i; shift = voice.shift }))
+    sym (ap (option_and_then (voice_at text)) known.known)
+    ∙ ap (option_map (λ (s : Shift). record { from = from; to = to; shift = s })) shift
+    ∙ (λ i. Some (record { from = sym is.from i; to = to_is i; shift = voice.shift }))
 
 small_shift : (text : List ℕ) (voice : Voice) → IsVoice text voice → IsSmallShift voice.shift
 small_shift text voice is = shift_small (words_of is.behind) (Some voice.shift) (sym ((shift_exact (words_of is.behind) voice.shift).1 is.shift))
 
--- so the reader answers it
+-- the reader answers the voice
 pub voice_read : (text : List ℕ) (r : Result Voice FaultCode) → r ≡ voice_of text → Reads (IsVoice text) (λ voice. IsSmallShift voice.shift) BadVoice r
 unfolding voice_of
 voice_read text = reads (IsVoice text) (λ voice. IsSmallShift voice.shift) BadVoice (voice_in text) (voice_from text) (voice_to text) (small_shift text)

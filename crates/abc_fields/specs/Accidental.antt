@@ -15,7 +15,7 @@ is_letter b = is_some (letter_of b)
 abbrev pub and_change : Letter → Option (List Change) → Accidental → Option (List Change)
 and_change letter changes accidental = option_map (λ more. record { accidental = accidental; letter = letter } ∷ more) changes
 
--- The changes if a letter follows this accidental, and if none is here yet.
+-- The changes if a letter follows this accidental, or no accidental.
 abbrev pub at_letter : Option Letter → Option Accidental → Option (List Change) → Option (List Change) → Option (List Change)
 at_letter None accidental behind on = on
 at_letter (Some letter) accidental behind on = option_and_then (and_change letter behind) accidental
@@ -26,6 +26,6 @@ changes_with [] [] = Some []
 changes_with [] (m ∷ ms) = None
 changes_with (b ∷ bs) marks = at_letter (letter_of b) (accidental_of marks) (changes_with bs []) (changes_with bs (marks ++ b ∷ []))
 
--- The changes that a text is, if it is nothing else.
+-- The changes of a text that consists of changes alone.
 unfoldable pub changes_of : List ℕ → Option (List Change)
 changes_of text = changes_with text []

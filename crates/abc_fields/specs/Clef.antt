@@ -6,7 +6,7 @@ use Rattle.std.specs.Option.{unwrap_or}
 use Rattle.std.specs.Str.{bytes_eq}
 use Rattle.abc_text.specs.Byte.{digit_zero}
 
--- The octave that the mark of a clef shifts by.
+-- The octave of the mark of a clef.
 unfoldable pub mark_of : List ℕ → Option ℤ
 mark_of text =
     if ends_with nat_eq text (codes "+8") then Some (pos 12)

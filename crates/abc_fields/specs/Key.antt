@@ -55,29 +55,29 @@ abbrev pub begins_accidental : List ℕ → Bool
 begins_accidental [] = false
 begins_accidental (b ∷ rest) = (b == caret) || (b == underscore) || (b == equals_sign)
 
--- What a key without a tonic begins with, by its first word.
+-- The beginning of a key without a tonic, by its first word.
 abbrev pub toneless_start : List ℕ → Option Key
 toneless_start first =
     if begins_accidental first then Some empty_key
     else (if sets_properties first then Some unchanged_key
     else None)
 
--- What a key on a tonic begins with, and the text whose words complete it.
+-- The beginning of a key on a tonic, and the text with its other words.
 abbrev pub tonal_start : ℤ → Option (Basis × List ℕ) → Option (Key × List ℕ)
 tonal_start major None = None
 tonal_start major (Some basis) = option_map (λ key. (key, basis.1)) (key_on major basis.0)
 
--- What a value without a tonic begins with, by its words, all of which complete it.
+-- The beginning of a value without a tonic, by its words, which all complete it.
 abbrev pub start_by_words : List ℕ → List (List ℕ) → Option (Key × List ℕ)
 start_by_words value [] = None
 start_by_words value (first ∷ rest) = option_map (λ key. (key, value)) (toneless_start first)
 
--- What a value begins with, if its tonic and what follows it are known, or that it has none.
+-- The beginning of a value, by its tonic and the text after it, or without a tonic.
 abbrev pub start_by : List ℕ → Option (ℤ × List ℕ) → Option (Key × List ℕ)
 start_by value None = start_by_words value (words_of value)
 start_by value (Some tonic) = tonal_start tonic.0 (basis_at tonic.1)
 
--- The key at the front of a value, and the text whose words complete it.
+-- The key at the front of a value, and the text with its other words.
 unfoldable pub start_of : List ℕ → Option (Key × List ℕ)
 start_of value = start_by value (tonic_at value)
 
@@ -88,27 +88,27 @@ key_after start words shift = record start {
   shift = shift;
 }
 
--- A key with the accidentals and the properties among words, of which none is malformed.
+-- A key with the accidentals and the properties among words, if none is malformed.
 unfoldable pub complete_key : Key → List (List ℕ) → Option Key
 complete_key start words = option_map (key_after start words) (shift_of words)
 
--- What a value that is not empty says.
+-- The key of a value that is not empty.
 abbrev pub spelled_key : Option (Key × List ℕ) → Option Key
 spelled_key None = None
 spelled_key (Some start) = complete_key start.0 (words_of start.1)
 
--- The key that a value says, if it is accepted: without a signature if it is empty or `none`.
+-- The key of a value, if it is accepted: without accidentals if the value is empty or `none`.
 unfoldable pub key_in : List ℕ → Option Key
 key_in value =
     if (length value == 0) || bytes_eq value (codes "none") then Some empty_key
     else spelled_key (start_of value)
 
--- The key that a value says, or its fault.
+-- The key of a value, or its fault.
 abbrev pub key_of : List ℕ → Result Key FaultCode
 key_of value = ok_or (key_in value) BadKey
 
--- The key that a field K: sets, if reading it gives this: what it says, or an empty signature if
--- it is refused. Not in ABC 2.1.
+-- The key that a field K: sets, by the result of its reading: that key, or an empty signature if it is refused. Not in
+-- ABC 2.1.
 abbrev pub key_or_empty : Result Key FaultCode → Key
 key_or_empty (Ok key) = key
 key_or_empty (Err fault) = empty_key

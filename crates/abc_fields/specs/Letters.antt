@@ -6,16 +6,16 @@ use Rattle.std.specs.Char.{is_ascii_digit, is_ascii_uppercase}
 use Rattle.abc_fields.specs.Parts.{order_bytes}
 use Rattle.abc_text.specs.Byte.{open_parenthesis, close_parenthesis, digit_zero}
 
--- What the front of an order plays: for each open group, the innermost first, the letters in front of
--- it in the group around it; in the innermost group the letters in front of its last item, those of
--- that item, once, and what its count is so far.
+-- The play of the front of an order. For each open group, the innermost first: the letters before it in the group
+-- around it. In the innermost group: the letters before its last item, the letters of that item, once, and its count so
+-- far.
 pub record Played : Type 0 where
   pub around : List (List ℕ)
   pub before : List ℕ
   pub item : List ℕ
   pub count : Option ℕ
 
--- Nothing comes before.
+-- The play of an empty front.
 abbrev pub nothing_played : Played
 nothing_played = record { around = []; before = []; item = []; count = None }
 
@@ -37,12 +37,12 @@ abbrev pub close_group : List (List ℕ) → List ℕ → Played
 close_group [] item = with_item [] [] item
 close_group (before ∷ around) item = with_item around before item
 
--- A count with one digit more.
+-- A count with one more digit.
 abbrev pub count_on : Option ℕ → ℕ → ℕ
 count_on None digit = digit - digit_zero
 count_on (Some n) digit = n * 10 + (digit - digit_zero)
 
--- With one byte more: a letter, a parenthesis or a digit.
+-- The play with one more byte: a letter, a parenthesis or a digit.
 unfoldable pub play_on : Played → ℕ → Played
 play_on played b =
     if is_ascii_uppercase b then with_item played.around (letters_so_far played) (b ∷ [])
@@ -50,18 +50,18 @@ play_on played b =
     else (if b == close_parenthesis then close_group played.around (letters_so_far played)
     else record played { count = Some (count_on played.count b) }))
 
--- The letters of the parts that an order plays; of another text it says nothing.
+-- The letters of the parts that an order plays. For any other text the value has no meaning.
 abbrev pub letters_of : List ℕ → List ℕ
 letters_of value = letters_so_far (fold play_on nothing_played (order_bytes value))
 
--- A byte that says something in an order: a letter, a parenthesis or a digit.
+-- A byte with a meaning in an order: a letter, a parenthesis or a digit.
 abbrev pub is_order_byte : ℕ → Bool
 is_order_byte b = is_ascii_uppercase b || (b == open_parenthesis) || (b == close_parenthesis) || is_ascii_digit b
 
--- With one byte of a text more: one that says nothing changes nothing.
+-- The play with one more byte of a text: a byte without a meaning changes nothing.
 unfoldable pub read_on : Played → ℕ → Played
 read_on played b = if is_order_byte b then play_on played b else played
 
--- What the front of a text up to this byte plays.
+-- The play of the front of a text up to this byte.
 abbrev pub front_of : List ℕ → ℕ → Played
 front_of text i = fold read_on nothing_played (take i text)

@@ -8,6 +8,7 @@ pub mod Meter
 pub mod Mode
 pub mod Parts
 pub mod Property
+pub mod Reading
 pub mod Shift
 pub mod Signature
 pub mod Spelling

@@ -10,7 +10,7 @@ use Rattle.abc_fields.specs.Signature.{altered_signature}
 abbrev pub with_change : Signature → Change → Signature
 with_change signature change = altered_signature signature change.letter (alteration change.accidental)
 
--- A signature after changes, of which the later ones count.
+-- A signature after changes: the later ones count.
 abbrev pub with_changes : Signature → List Change → Signature
 with_changes signature changes = fold with_change signature changes
 
@@ -19,7 +19,7 @@ abbrev pub changed_or : Signature → Signature → Option (List Change) → Sig
 changed_or other signature None = other
 changed_or other signature (Some changes) = with_changes signature changes
 
--- A signature with the changes that a word lists. A word that is anything else changes nothing.
+-- A signature with the changes that a word lists. Any other word changes nothing.
 abbrev pub with_word : Signature → List ℕ → Signature
 with_word signature word = changed_or signature signature (changes_of word)
 

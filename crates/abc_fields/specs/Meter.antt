@@ -13,7 +13,7 @@ use Rattle.abc_text.specs.Number.{number_of}
 use Rattle.abc_text.specs.Power.{IsPowerUpTo, power_up_to}
 use Rattle.abc_text.specs.Byte.{open_parenthesis, close_parenthesis, plus_sign, slash}
 
--- A bar has 1 to 255 parts, of which a whole note has a power of two, up to 64.
+-- A bar has 1 to 255 parts. A whole note has a power of two of them, up to 64.
 pub record HasMeterRange (num den : ℕ) : Type 0 where
   pub num_least : 1 ≤ num
   pub num_most : num ≤ 255
@@ -26,7 +26,7 @@ abbrev pub IsMeterInRange : Meter → Type 0
 IsMeterInRange Free = Unit {0}
 IsMeterInRange (Of num den) = HasMeterRange num den
 
--- The sum of two numbers, if both are there.
+-- The sum of two numbers, if there are both.
 abbrev pub added : Option ℕ → Option ℕ → Option ℕ
 added None b = None
 added (Some a) None = None
@@ -42,7 +42,7 @@ abbrev pub at_most_255 : Option ℕ → Option ℕ
 at_most_255 None = None
 at_most_255 (Some n) = if nat_le n 255 then Some n else None
 
--- The sum so far and one number more, if they come to at most 255.
+-- The sum so far and one more number, if the result is at most 255.
 abbrev pub add_word : ℕ → Option ℕ → Option ℕ
 add_word total n = at_most_255 (added (Some total) n)
 
@@ -76,11 +76,11 @@ meter_by (Some num) (Some den) = if num == 0 then None else Some (Of num den)
 abbrev pub meter_of_parts : List ℕ × List ℕ → Option Meter
 meter_of_parts parts = meter_by (upper_number parts.0) (power_up_to 6 (number_of parts.1))
 
--- The meter that a fraction says.
+-- The meter of a fraction.
 unfoldable pub fraction_of : List ℕ → Option Meter
 fraction_of text = option_and_then meter_of_parts (cut_at slash text)
 
--- The meter that a symbol or a fraction says.
+-- The meter of a symbol or a fraction.
 unfoldable pub symbol_or_fraction : List ℕ → Option Meter
 symbol_or_fraction text =
     if bytes_eq text [] || bytes_eq text (codes "none") then Some Free
@@ -88,6 +88,6 @@ symbol_or_fraction text =
     else if bytes_eq text (codes "C|") then Some (Of 2 2)
     else fraction_of text
 
--- The meter that a text says.
+-- The meter of a text.
 abbrev pub meter_of : List ℕ → Result Meter FaultCode
 meter_of text = ok_or (symbol_or_fraction text) BadMeter

@@ -5,7 +5,7 @@ use Rattle.std.specs.Char.{to_ascii_lowercase}
 use Rattle.abc_fields.specs.declared.mode.Mode.{Mode}
 use Rattle.abc_fields.specs.declared.mode.Mode.TheVariants.{Lydian, Ionian, Mixolydian, Dorian, Aeolian, Phrygian, Locrian}
 
--- How many sharps a mode adds to those of the major key on the same tonic.
+-- The number of sharps that a mode adds to those of the major key on the same tonic.
 abbrev pub added_sharps : Mode → ℤ
 added_sharps Lydian = pos 1
 added_sharps Ionian = pos 0

@@ -28,13 +28,13 @@ abbrev pub begins_item : LastItem → Bool
 begins_item Nothing = true
 begins_item (Item digits positive) = ends_item (Item digits positive)
 
--- The same item with one digit more of its count.
+-- The same item with one more digit of its count.
 abbrev pub with_digit : LastItem → ℕ → Option LastItem
 with_digit Nothing digit = None
 with_digit (Item digits positive) digit =
     if nat_lt digits 9 then Some (Item (digits + 1) (positive || not (digit == digit_zero))) else None
 
--- The place at this depth with this before it.
+-- The place at this depth after this item.
 abbrev pub at : ℕ → LastItem → Place
 at depth before = record { depth = depth; before = before }
 
@@ -43,8 +43,8 @@ abbrev pub behind_digit : ℕ → Option LastItem → Option Place
 behind_digit depth None = None
 behind_digit depth (Some before) = Some (at depth before)
 
--- The place after a byte that may come at this place: a letter or the beginning of a group where an
--- item may begin, the end of a group where an item in it may end, or a digit of a count.
+-- The place after a byte that may come at this place. The byte is a letter or the beginning of a group if an item may
+-- begin; the end of a group if its last item may end; or a digit of a count.
 unfoldable pub next : Place → ℕ → Option Place
 next place b =
     if is_ascii_uppercase b then (if begins_item place.before then Some (at place.depth (Item 0 false)) else None)
@@ -54,7 +54,7 @@ next place b =
     then (if ends_item place.before && nat_lt 0 place.depth then Some (at (place.depth - 1) (Item 0 false)) else None)
     else (if is_ascii_digit b then behind_digit place.depth (with_digit place.before b) else None)))
 
--- The same if there may be no place.
+-- The same for an optional place.
 abbrev pub next_of : Option Place → ℕ → Option Place
 next_of None b = None
 next_of (Some place) b = next place b
@@ -67,7 +67,7 @@ is_whole place = (place.depth == 0) && ends_item place.before
 abbrev pub place_behind : List ℕ → Option Place
 place_behind text = fold next_of (Some (at 0 Nothing)) (order_bytes text)
 
--- The same if there may be no place.
+-- The same for an optional place.
 abbrev pub ends_order : Option Place → Bool
 ends_order None = false
 ends_order (Some place) = is_whole place
@@ -76,6 +76,6 @@ ends_order (Some place) = is_whole place
 abbrev pub is_order : List ℕ → Bool
 is_order text = ends_order (place_behind text)
 
--- What reading an order of parts gives.
+-- The result of reading an order of parts.
 abbrev pub parts_of : List ℕ → Result (Unit {0}) FaultCode
 parts_of value = if is_order value then Ok tt else Err BadOrder

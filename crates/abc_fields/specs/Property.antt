@@ -41,7 +41,7 @@ signed_number (b ∷ bs) =
 abbrev pub begins_with : List ℕ → List ℕ → Bool
 begins_with name word = bytes_eq (take (length name) word) name
 
--- What a word says; none if its number is refused.
+-- The property that a word sets; none if its number is refused.
 unfoldable pub property_of : List ℕ → Option Property
 property_of word =
     if begins_with clef_name word then Some (Clef (clef_of (unquote (drop (length clef_name) word))))

@@ -7,7 +7,7 @@ use Rattle.abc_fields.specs.declared.shift.Shift.{Shift}
 use Rattle.abc_fields.specs.Property.{property_of}
 use Rattle.abc_text.specs.declared.digit.TheConstants.{LARGEST_NUMBER}
 
--- A part lies between this number below 0 and this number above.
+-- A part lies between the two bounds, the lower one below 0.
 abbrev pub IsWithin : ℕ → ℤ → Type 0
 IsWithin m n = (neg_ℤ (pos m) ≤ℤ n) × (n ≤ℤ pos m)
 
@@ -29,10 +29,10 @@ abbrev pub shift_after : List (List ℕ) → Shift → Option Shift
 shift_after [] shift = Some shift
 shift_after (word ∷ words) shift = option_and_then (λ p. shift_after words (with_property shift p)) (property_of word)
 
--- A shift that says nothing of any part.
+-- A shift without any part.
 abbrev pub no_shift : Shift
 no_shift = record { clef = None; octave = None; transpose = None }
 
--- The shift that words say; none if a number is refused.
+-- The shift that words set; none if a number is refused.
 unfoldable pub shift_of : List (List ℕ) → Option Shift
 shift_of words = shift_after words no_shift

@@ -1,14 +1,19 @@
 -- Key signatures. ABC 2.1 section 3.1.14.
-use Rattle.std.specs.Prelude.{ℕ, ◌-◌, nat_le, nat_lt, ℤ, pos, negsuc, ◌≤ℤ◌, if◌then◌else◌}
+use Rattle.std.specs.Prelude.{ℕ, ◌+◌, ◌-◌, ◌*◌, ◌%◌, nat_le, nat_lt, ℤ, pos, negsuc, ◌≤ℤ◌, if◌then◌else◌}
 use Rattle.abc_text.specs.declared.letter.Letter.{Letter}
 use Rattle.abc_text.specs.declared.letter.Letter.TheVariants.{C, D, E, F, G, A, B}
+use Rattle.abc_text.specs.Letter.{semitones}
 use Rattle.abc_fields.specs.declared.signature.Signature.{Signature}
+
+-- The signature that alters each letter so.
+abbrev pub by_letter : (Letter → ℤ) → Signature
+by_letter by = record { a = by A; b = by B; c = by C; d = by D; e = by E; f = by F; g = by G }
 
 -- The signature without sharps and flats.
 abbrev pub natural : Signature
-natural = record { a = pos 0; b = pos 0; c = pos 0; d = pos 0; e = pos 0; f = pos 0; g = pos 0 }
+natural = by_letter (λ _. pos 0)
 
--- By how many semitones a signature alters a letter.
+-- The alteration of a letter in semitones.
 abbrev pub alteration : Signature → Letter → ℤ
 alteration signature A = signature.a
 alteration signature B = signature.b
@@ -28,36 +33,22 @@ altered_signature signature E by = record signature { e = by }
 altered_signature signature F by = record signature { f = by }
 altered_signature signature G by = record signature { g = by }
 
--- How many fifths a letter lies above F: sharps fall on F C G D A E B in this order, and flats on
--- B E A D G C F.
+-- The number of fifths from F up to a letter. A fifth is seven semitones, and C is one fifth above F. Sharps come in
+-- the order F C G D A E B, flats in the order B E A D G C F.
 abbrev pub fifths : Letter → ℕ
-fifths F = 0
-fifths C = 1
-fifths G = 2
-fifths D = 3
-fifths A = 4
-fifths E = 5
-fifths B = 6
+fifths letter = (7 * semitones letter + 1) % 12
 
--- How the signature of a count of sharps, or of flats if it is negative, alters a letter: sharps
--- are counted from F upwards, flats from B downwards, the first being `negsuc 0`.
+-- The alteration of a letter by this number of sharps, or of flats if it is negative. Sharps count from F upwards,
+-- flats from B downwards. The first flat is `negsuc 0`.
 abbrev pub alteration_by_fifths : ℤ → Letter → ℤ
 alteration_by_fifths (pos sharps) letter = if nat_lt (fifths letter) sharps then pos 1 else pos 0
 alteration_by_fifths (negsuc flats) letter = if nat_le (6 - fifths letter) flats then negsuc 0 else pos 0
 
--- The signature of a count of sharps, or of flats if it is negative.
+-- The signature of this number of sharps, or of flats if it is negative.
 unfoldable pub signature_of : ℤ → Signature
-signature_of sharps = record {
-  a = alteration_by_fifths sharps A;
-  b = alteration_by_fifths sharps B;
-  c = alteration_by_fifths sharps C;
-  d = alteration_by_fifths sharps D;
-  e = alteration_by_fifths sharps E;
-  f = alteration_by_fifths sharps F;
-  g = alteration_by_fifths sharps G;
-}
+signature_of sharps = by_letter (alteration_by_fifths sharps)
 
--- A count of sharps, or of flats if it is negative, of which a signature has at most seven.
+-- A number of sharps, or of flats if it is negative: at most seven.
 abbrev pub IsSharps : ℤ → Type 0
 IsSharps sharps = (negsuc 6 ≤ℤ sharps) × (sharps ≤ℤ pos 7)
 

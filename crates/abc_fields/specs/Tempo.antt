@@ -39,7 +39,7 @@ fraction_of word =
 unfoldable pub word_in_front : List ℕ → List ℕ
 word_in_front text = take (bytes_before_blank text) text
 
--- What follows it and the blanks after it.
+-- The rest after that part and its blanks.
 unfoldable pub behind_word : List ℕ → List ℕ
 behind_word text = trim_start (drop (bytes_before_blank text) text)
 
@@ -47,7 +47,7 @@ behind_word text = trim_start (drop (bytes_before_blank text) text)
 abbrev pub added : ℕ → Option ℕ → Option ℕ
 added part rest = option_map (λ sum. part + sum) rest
 
--- The sum, if this fraction comes before the rest: nothing, or a text with a sum of its own.
+-- The sum of this fraction and the rest, which is empty or a text with a sum.
 abbrev pub sum_with : (List ℕ → Option ℕ) → List ℕ → ℕ → Option ℕ
 sum_with sum_rest [] part = Some part
 sum_with sum_rest (b ∷ bs) part = added part (sum_rest (b ∷ bs))
@@ -62,15 +62,15 @@ unfoldable pub halve : ℕ → ℕ → ℕ → Ratio
 halve zero num den = record { num = num; den = den }
 halve (suc most) num den = if num % 2 == 0 then halve most (num / 2) (den / 2) else record { num = num; den = den }
 
--- So many 512ths in lowest terms.
+-- A number of 512ths in lowest terms.
 abbrev pub lowest_terms : ℕ → Ratio
 lowest_terms sum = halve 9 sum 512
 
--- So many beats per minute, each this many 512ths.
+-- This number of beats per minute, each of this number of 512ths.
 abbrev pub beats : ℕ → Option ℕ → Option Tempo
 beats sum n = option_map (λ k. Beat (lowest_terms sum) k) n
 
--- The tempo of a text, which may have been cut at its first `=`.
+-- The tempo of a text, by its parts before and after its first `=`, if it has one.
 abbrev pub bare_by : List ℕ → Option (List ℕ × List ℕ) → Option Tempo
 bare_by text None = option_map (λ n. Units n) (positive_number text)
 bare_by text (Some parts) = option_and_then (λ sum. beats sum (positive_number (trim_start parts.1))) (sum_of 16 parts.0)
@@ -86,7 +86,7 @@ tempo_around [] (b ∷ bs) = bare_tempo (trim_start (b ∷ bs))
 tempo_around (b ∷ bs) [] = bare_tempo (trim_end (b ∷ bs))
 tempo_around (b ∷ bs) (c ∷ cs) = None
 
--- The tempo of a value, which may have been cut at its first quote.
+-- The tempo of a value, by its parts before and after its first quote, if it has one.
 abbrev pub tempo_by : List ℕ → Option (List ℕ × List ℕ) → Option Tempo
 tempo_by value None = bare_tempo value
 tempo_by value (Some parts) = option_and_then (λ more. tempo_around parts.0 more.1) (cut_at quote parts.1)
@@ -96,7 +96,7 @@ unfoldable pub tempo_in : List ℕ → Option Tempo
 tempo_in [] = Some Unset
 tempo_in (b ∷ bs) = tempo_by (b ∷ bs) (cut_at quote (b ∷ bs))
 
--- What the value of a tempo field says, or that it is refused.
+-- The tempo of a value, or its fault.
 unfoldable pub tempo_of : List ℕ → Result Tempo FaultCode
 tempo_of value = ok_or (tempo_in value) BadTempo
 

@@ -24,8 +24,8 @@ sharp_sign = 35
 abbrev pub flat_sign : ℕ
 flat_sign = small B
 
--- The sharps of the major key on a letter, by the circle of fifths: that on F has one flat, and each
--- fifth above it one sharp more.
+-- The sharps of the major key on a letter, by the circle of fifths: the key on F has one flat, and each fifth above it
+-- one more sharp.
 abbrev pub major_sharps : Letter → ℤ
 major_sharps letter = pos (fifths letter) -ℤ pos 1
 
@@ -37,13 +37,13 @@ if_capital b letter = if capital letter == b then Some letter else None
 abbrev pub tonic_letter : ℕ → Option Letter
 tonic_letter b = option_and_then (if_capital b) (letter_of b)
 
--- The sharps that a sign at the front of a text adds, and what follows it.
+-- The sharps that a sign at the front of a text adds, and the rest after it.
 abbrev pub sign_at : List ℕ → ℤ × List ℕ
 sign_at [] = (pos 0, [])
 sign_at (b ∷ rest) =
     if b == sharp_sign then (pos 7, rest) else (if b == flat_sign then (negsuc 6, rest) else (pos 0, b ∷ rest))
 
--- The sharps of the major key on the tonic at the front of a text, and what follows it.
+-- The sharps of the major key on the tonic at the front of a text, and the rest after it.
 abbrev pub tonic_at : List ℕ → Option (ℤ × List ℕ)
 tonic_at [] = None
 tonic_at (b ∷ behind) =
@@ -61,7 +61,7 @@ basis_by None blanks run text rest =
     else (if blanks == 0 then None
     else (if bytes_eq run (codes "exp") then Some (Explicit, rest) else Some (Named Ionian, text)))
 
--- The basis of a signature, by the text after the tonic, and the words that follow.
+-- The basis of a signature, by the text after the tonic, and the rest with the other words.
 unfoldable pub basis_at : List ℕ → Option (Basis × List ℕ)
 basis_at text =
     let blanks = prefix_len is_blank text in

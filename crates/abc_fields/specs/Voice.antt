@@ -7,7 +7,7 @@ use Rattle.abc_fields.specs.declared.voice.Voice.{Voice}
 use Rattle.abc_text.specs.Word.{first_word, words_of}
 use Rattle.abc_fields.specs.Shift.{shift_of}
 
--- The voice at a place of a text, if the words after it say a shift.
+-- The voice at a place of a text, if the words after it set a shift.
 abbrev pub voice_at : List ℕ → ℕ × ℕ → Option Voice
 voice_at text place =
     option_map (λ shift. record { from = place.0; to = place.1; shift = shift }) (shift_of (words_of (drop place.1 text)))

@@ -8,14 +8,14 @@ ghost use Rattle.abc_fields.specs.Spelling.Accidental.{AreChanges};
 
 use abc_text::{Accidental, Letter, accidental_of, letter_of};
 
-/// What an accidental in front of a letter changes in a signature.
+/// A change of a signature: an accidental in front of a letter.
 #[derive(Clone, Copy)]
 pub(crate) struct Change {
     pub(crate) accidental: Accidental,
     pub(crate) letter: Letter,
 }
 
-/// Whether a byte is a letter of a note.
+/// Returns whether a byte is a letter of a note.
 fn is_letter(byte: u8) -> bool
     ensures { result ≡ is_letter byte }
 {
@@ -30,7 +30,7 @@ fn first_letter(text: &[u8]) -> Option<usize>
     text.iter().position(|byte| is_letter(*byte))
 }
 
-/// The first change of a text, and what follows it.
+/// Returns the first change of a text, and the rest after it.
 pub(crate) fn next_change(text: &[u8]) -> Option<(Change, &[u8])>
     ensures changes { MatchOption result ((text.now ≡ []) ⊎ (changes_of text.now ≡ None))
         (λ p. changes_of text.now ≡ option_map (λ more. p.0 ∷ more) (changes_of p.1.now)) }

@@ -3,7 +3,7 @@
 ghost use Rattle.std.specs.Prelude.{◌≡◌};
 ghost use Rattle.abc_fields.specs.Clef.{mark_of, clef_of, without_line, names_clef, is_clef_name};
 
-/// The octave, in semitones, that the mark at the end of a clef shifts by (ABC 2.1 section 4.6).
+/// Returns the octave, in semitones, of the mark at the end of a clef (ABC 2.1 section 4.6).
 #[tactic(auto, unfolding(crate::specs::Clef::mark_of))]
 pub(crate) fn mark_of(text: &[u8]) -> Option<i64>
     ensures { result ≡ mark_of text.now }
@@ -17,14 +17,14 @@ pub(crate) fn mark_of(text: &[u8]) -> Option<i64>
     }
 }
 
-/// The same, but 0 for a clef without a mark.
+/// Returns the same, but 0 for a clef without a mark.
 pub(crate) fn clef_of(text: &[u8]) -> i64
     ensures { result ≡ clef_of text.now }
 {
     mark_of(text).unwrap_or(0)
 }
 
-/// A word without the line of a clef, one digit 1 to 5 at its end.
+/// Returns a word without the line of a clef, one digit 1 to 5 at its end.
 #[tactic(auto, unfolding(crate::specs::Clef::without_line))]
 fn without_line(word: &[u8]) -> &[u8]
     ensures { result.now ≡ without_line word.now }
@@ -35,7 +35,7 @@ fn without_line(word: &[u8]) -> &[u8]
     }
 }
 
-/// Whether a text is the name of a clef.
+/// Returns whether a text is the name of a clef.
 #[tactic(auto, unfolding(crate::specs::Clef::names_clef))]
 fn names_clef(name: &[u8]) -> bool
     ensures { result ≡ names_clef name.now }
@@ -47,7 +47,7 @@ fn names_clef(name: &[u8]) -> bool
         || name == b"perc".as_slice()
 }
 
-/// Whether a word is the name of a clef, perhaps with the line of its staff.
+/// Returns whether a word is the name of a clef, perhaps with the line of its staff.
 pub(crate) fn is_clef_name(word: &[u8]) -> bool
     ensures { result ≡ is_clef_name word.now }
 {

@@ -9,28 +9,28 @@ ghost use Rattle.abc_fields.specs.Fault.{name_of, number_of};
 
 use std::cmp::Ordering;
 
-/// What is wrong at a place of a tune book, in the order in which faults at one place are listed.
+/// A fault at a place of a tune book. Faults at one place are listed in this order.
 #[derive(Clone, Copy, Debug)]
 pub enum FaultCode {
-    /// An `X:` that is no number from 1.
+    /// An `X:` without a number from 1.
     BadReference = 1,
-    /// An `M:` that is no meter.
+    /// An `M:` without a valid meter.
     BadMeter,
-    /// An `L:` that is no unit note length.
+    /// An `L:` without a valid unit note length.
     BadUnit,
-    /// A `Q:` that is no tempo.
+    /// A `Q:` without a valid tempo.
     BadTempo,
-    /// A `K:` that is no key.
+    /// A `K:` without a valid key.
     BadKey,
-    /// A `P:` of a header that is no order of parts.
+    /// A `P:` of a header without a valid order of parts.
     BadOrder,
-    /// A `P:` of a body that is no part.
+    /// A `P:` of a body without a part.
     BadPart,
-    /// A `V:` that is no voice.
+    /// A `V:` without a valid voice.
     BadVoice,
-    /// A voice more than a tune may have.
+    /// A voice beyond the limit of a tune.
     TooManyVoices,
-    /// A byte that begins nothing.
+    /// A byte that begins no token.
     BadByte,
     /// A `[`, `"`, `!` or `{` that nothing closes.
     Unclosed,
@@ -46,25 +46,25 @@ pub enum FaultCode {
     LooseTie,
     /// A chord without notes.
     EmptyChord,
-    /// A note more than a chord may have.
+    /// A note beyond the limit of a chord.
     BigChord,
     /// An ending that is out of range.
     BadEnding,
     /// A rest of bars in free meter.
     FreeBarRest,
-    /// A note that MIDI has no key for.
+    /// A note without a MIDI key.
     KeyRange,
     /// A header without a key.
     MissingKey,
     /// A tempo that is out of range.
     TempoRange,
-    /// An order with a part that is not there.
+    /// An order with a part that the tune does not have.
     UnknownPart,
     /// Voices of a section that differ in length.
     UnevenVoices,
-    /// A tune that passes a limit: sections or items played, or its end.
+    /// A tune beyond a limit: of sections played, of items played, or of its end.
     TuneTooLong,
-    /// A program that MIDI has no number for.
+    /// A program without a MIDI number.
     BadProgram,
 }
 

@@ -1,12 +1,13 @@
 //! Keys.
 
-ghost use Rattle.std.specs.Prelude.{◌≡◌, ◌↔◌, ◌+ℤ◌, Some, None, Ok, Err, MatchOption, IfOk};
+ghost use Rattle.std.specs.Prelude.{◌≡◌, ◌+ℤ◌, Some, None, MatchOption, IfOk};
 ghost use Rattle.abc_fields.specs.declared.key.Key.{Key};
 ghost use Rattle.abc_text.specs.Word.{words_of};
 ghost use Rattle.abc_fields.specs.Mode.{added_sharps};
 ghost use Rattle.abc_fields.specs.Tonic.{IsMajor, basis_at};
 ghost use Rattle.abc_fields.specs.Key.{complete_key, key_with, key_on, begins_accidental, sets_properties, toneless_start};
 ghost use Rattle.abc_fields.specs.Key.{tonal_start, start_of, key_in, key_of, key_or_empty, IsInRange};
+ghost use Rattle.abc_fields.specs.Reading.{IsReading};
 ghost use Rattle.abc_fields.specs.Spelling.Key.{IsKey};
 
 use crate::clef::{is_clef_name, mark_of};
@@ -18,21 +19,20 @@ use crate::signature::{NATURAL, Signature, signature_of};
 use crate::tonic::{Basis, basis_at, tonic_at};
 use abc_text::next_word;
 
-/// A key, with what its value says beside it (ABC 2.1 section 3.1.14).
+/// A key and its properties (ABC 2.1 section 3.1.14).
 #[derive(Clone, Copy)]
 pub struct Key {
-    /// None if the value sets properties alone, which leave the signature as it is.
+    /// None if the value only sets properties. Then the signature stays.
     pub signature: Option<Signature>,
     /// The sharps of the tonic in its mode, from -7 to 7, negative for flats; 0 without a tonic and with `exp`.
     pub sharps: i8,
     /// Whether the mode is minor; not with `exp`.
     pub minor: bool,
-    /// How the notes are shifted.
+    /// The shift of the notes.
     pub shift: Shift,
 }
 
-/// The key of an empty signature, of no sharps and flats: what an empty value and `none` say, and what a
-/// refused value leaves.
+/// The key of a signature without sharps and flats: the key of an empty value, of `none`, and of a refused value.
 pub const EMPTY_KEY: Key = Key {
     signature: Some(NATURAL),
     sharps: 0,
@@ -40,7 +40,7 @@ pub const EMPTY_KEY: Key = Key {
     shift: NO_SHIFT,
 };
 
-/// The key that leaves the signature as it is, since the value sets properties alone.
+/// The key of a value that only sets properties: the signature stays.
 const UNCHANGED_KEY: Key = Key {
     signature: None,
     sharps: 0,
@@ -83,22 +83,22 @@ fn key_on(major: i8, basis: Basis) -> Option<Key>
     }
 }
 
-/// Whether a word sets properties, as the first word.
+/// Returns whether a word sets properties, as the first word.
 fn sets_properties(word: &[u8]) -> bool
     ensures { result ≡ sets_properties word.now }
 {
     word.contains(&b'=') || mark_of(word).is_some() || is_clef_name(word)
 }
 
-/// Whether a word begins with an accidental.
+/// Returns whether a word begins with an accidental.
 fn begins_accidental(word: &[u8]) -> bool
     ensures { result ≡ begins_accidental word.now }
 {
     matches!(word, [b'^' | b'_' | b'=', ..])
 }
 
-/// What a key without a tonic begins with, by its first word: an empty signature, to which
-/// accidentals are listed, or no signature.
+/// Returns the beginning of a key without a tonic, by its first word: an empty signature before listed accidentals, or
+/// no signature.
 fn toneless_start(first: &[u8]) -> Option<Key>
     ensures { result ≡ toneless_start first.now }
 {
@@ -111,8 +111,7 @@ fn toneless_start(first: &[u8]) -> Option<Key>
     }
 }
 
-/// What a key on a tonic begins with, by the text after the tonic, and the text whose words complete
-/// it.
+/// Returns the beginning of a key on a tonic, by the text after the tonic, and the text with its other words.
 fn tonal_start(major: i8, behind: &[u8]) -> Option<(Key, &[u8])>
     requires { IsMajor major }
     ensures { MatchOption result (tonal_start major (basis_at behind.now) ≡ None)
@@ -122,7 +121,7 @@ fn tonal_start(major: i8, behind: &[u8]) -> Option<(Key, &[u8])>
     Some((key_on(major, basis)?, text))
 }
 
-/// The key at the front of a value, and the text whose words complete it.
+/// Returns the key at the front of a value, and the text with its other words.
 #[tactic(auto, unfolding(crate::specs::Key::start_of))]
 fn start_of(value: &[u8]) -> Option<(Key, &[u8])>
     ensures { MatchOption result (start_of value.now ≡ None)
@@ -150,7 +149,7 @@ fn complete_key(start: Key, text: &[u8]) -> Option<Key>
     Some(key)
 }
 
-/// The key that a value says, if it is accepted.
+/// Returns the key of a value, if it is accepted.
 #[tactic(auto, unfolding(crate::specs::Key::key_in))]
 fn key_in(value: &[u8]) -> Option<Key>
     ensures { result ≡ key_in value.now }
@@ -162,19 +161,19 @@ fn key_in(value: &[u8]) -> Option<Key>
     complete_key(start, text)
 }
 
-/// Reads the value of K: (ABC 2.1 section 3.1.14), without blanks at its ends: nothing or `none`; a tonic, its mode or `exp`
-/// if any, and words; listed accidentals; or properties alone. Anything else is `BadKey`, so are more than seven sharps or
-/// flats, and a malformed number of `octave` or `transpose`. The bound and the last two forms are not in ABC 2.1.
+/// Reads the value of K: (ABC 2.1 section 3.1.14), without blanks at its ends: nothing or `none`; a tonic, its mode or
+/// `exp` if any, and words; listed accidentals; or properties alone. Anything else is `BadKey`. So are more than seven
+/// sharps or flats, and a malformed number of `octave` or `transpose`. The bound and the last two forms are not in ABC
+/// 2.1.
 pub fn read_key(value: &[u8]) -> Result<Key, FaultCode>
     ensures value { result ≡ key_of value.now }
-    ensures ok { (key : Key) → (result ≡ Ok key) ↔ IsKey value.now key }
-    ensures refused { (result ≡ Err FaultCode.BadKey) ↔ ((key : Key) → ¬ IsKey value.now key) }
+    ensures exact { IsReading (IsKey value.now) FaultCode.BadKey result }
     ensures range { IfOk result IsInRange }
 {
     key_in(value).ok_or(FaultCode::BadKey)
 }
 
-/// The key that a field K: sets: what its value says, or an empty signature if it is refused.
+/// Returns the key that a field K: sets: the key of its value, or an empty signature if the value is refused.
 #[tactic(auto, using(crate::proofs::Keys::no_key_range))]
 pub fn key_set_by(value: &[u8]) -> Key
     ensures value { result ≡ key_or_empty (key_of value.now) }

@@ -1,5 +1,5 @@
-//! The values of information fields, each read as its grammar says or refused by name: meter, unit
-//! note length, tempo, key, parts and voice.
+//! The readers of information fields: meter, unit note length, tempo, key, parts and voice. Each reader returns the
+//! value of its grammar or a named fault.
 #![tactic(auto)]
 
 mod accidental;

@@ -8,7 +8,7 @@ use crate::accidental::next_change;
 use crate::signature::{Signature, altered_signature};
 use abc_text::next_word;
 
-/// A signature with the changes that a word lists. A word that is anything else changes nothing.
+/// Returns a signature with the changes that a word lists. Any other word changes nothing.
 #[tactic(auto, using(crate::proofs::Listings::changed_all))]
 fn with_word(signature: Signature, word: &[u8]) -> Signature
     ensures { result ≡ with_word signature word.now }

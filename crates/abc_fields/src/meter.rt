@@ -1,7 +1,8 @@
 //! The meter, M:.
 
-ghost use Rattle.std.specs.Prelude.{◌≡◌, ◌↔◌, IfOk};
+ghost use Rattle.std.specs.Prelude.{◌≡◌, IfOk};
 ghost use Rattle.abc_fields.specs.Meter.{add_word, sum_of, upper_number, fraction_of, symbol_or_fraction, meter_of, IsMeterInRange};
+ghost use Rattle.abc_fields.specs.Reading.{IsReading};
 ghost use Rattle.abc_fields.specs.Spelling.Meter.{IsMeter};
 ghost use Rattle.abc_text.specs.Power.{power_up_to};
 ghost use Rattle.abc_text.specs.Number.{number_of};
@@ -15,14 +16,14 @@ use abc_text::{cut_at, number_of};
 pub enum Meter {
     /// No meter.
     Free,
-    /// A bar of `num` parts, of which a whole note has `den`.
+    /// A bar of `num` parts. A whole note has `den` such parts.
     Of { num: u8, den: u8 },
 }
 
-/// How often a whole note may be halved: the finest part of a bar is a 64th.
+/// The greatest number of halvings of a whole note: the finest part of a bar is a 64th.
 const MOST_HALVINGS: u32 = 6;
 
-/// The sum so far and the number that a word spells, if they come to at most 255.
+/// Returns the sum so far plus the number that a word spells, if the result is at most 255.
 fn add_word(sum: u8, word: &[u8]) -> Option<u8>
     ensures { result ≡ add_word sum (number_of word.now) }
 {
@@ -85,13 +86,12 @@ fn symbol_or_fraction(text: &[u8]) -> Option<Meter>
     }
 }
 
-/// Reads the value of M: (ABC 2.1 section 3.1.6): empty or `none` for free meter, `C`, `C|`, or `n/d` with n a number, or a sum
-/// of several, in parentheses or not, from 1 to 255, and d a power of two up to 64 (the bounds and the empty value are not
-/// in ABC 2.1). Anything else is `BadMeter`.
+/// Reads the value of M: (ABC 2.1 section 3.1.6): empty or `none` for free meter, `C`, `C|`, or `n/d`. n is a number or
+/// a sum, in parentheses or not, from 1 to 255. d is a power of two up to 64. Anything else is `BadMeter`. The bounds
+/// and the empty value are not in ABC 2.1.
 pub fn read_meter(value: &[u8]) -> Result<Meter, FaultCode>
     ensures value { result ≡ meter_of value.now }
-    ensures ok { (meter : Meter) → (result ≡ Ok meter) ↔ IsMeter value.now meter }
-    ensures refused { (result ≡ Err FaultCode.BadMeter) ↔ ((meter : Meter) → ¬ IsMeter value.now meter) }
+    ensures exact { IsReading (IsMeter value.now) FaultCode.BadMeter result }
     ensures range { IfOk result IsMeterInRange }
 {
     symbol_or_fraction(value).ok_or(FaultCode::BadMeter)

@@ -16,7 +16,7 @@ pub(crate) enum Mode {
 }
 
 impl Mode {
-    /// How many sharps its signature has more than that of the major key on the same tonic.
+    /// Returns the number of sharps that the mode adds to those of the major key on the same tonic.
     pub(crate) fn added_sharps(self) -> i8
         ensures { result ≡ added_sharps self }
     {
@@ -31,7 +31,7 @@ impl Mode {
         }
     }
 
-    /// Whether it is minor.
+    /// Returns whether it is minor.
     pub(crate) fn is_minor(self) -> bool
         ensures { result ≡ is_minor self }
     {
@@ -56,8 +56,8 @@ fn mode_named(name: &[u8]) -> Option<Mode>
     }
 }
 
-/// The mode that a run of letters names: `m` is minor, and of a longer run the first three letters
-/// count, capitals or not.
+/// Returns the mode that a run of letters names: `m` is minor. Of a longer run the first three letters count, capital
+/// or small.
 #[tactic(auto, using(crate::proofs::Modes::short_run, crate::proofs::Modes::minor_run, crate::proofs::Modes::long_run))]
 pub(crate) fn mode_of(run: &[u8]) -> Option<Mode>
     ensures { result ≡ mode_of run.now }

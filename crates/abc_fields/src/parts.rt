@@ -9,17 +9,17 @@ ghost use Rattle.abc_fields.specs.Spelling.Parts.{IsParts};
 use crate::fault::FaultCode;
 use abc_text::is_blank;
 
-/// How many groups of an order are nested at most. Not in ABC 2.1.
+/// The greatest number of nested groups of an order. Not in ABC 2.1.
 pub const DEEPEST_GROUP: u8 = 32;
 
-/// How many digits a count has at most.
+/// The greatest number of digits of a count.
 const LONGEST_COUNT: u8 = 9;
 
-/// The last item before a place of an order, in the group of that place.
+/// The last item before a place of an order, in the innermost group.
 #[derive(Clone, Copy)]
 enum LastItem {
     Nothing,
-    /// An item with `digits` digits of its count, of which one is not 0 if it is `positive`.
+    /// An item with `digits` digits of its count. `positive` means that one of them is not 0.
     Item { digits: u8, positive: bool },
 }
 
@@ -30,7 +30,7 @@ impl LastItem {
         positive: false,
     };
 
-    /// Whether an item may end here: it has no count, or a count that is not 0.
+    /// Returns whether an item may end here: it has no count, or a count that is not 0.
     fn ends_item(self) -> bool
         ensures { result ≡ ends_item self }
     {
@@ -40,7 +40,7 @@ impl LastItem {
         }
     }
 
-    /// Whether an item may begin here.
+    /// Returns whether an item may begin here.
     fn begins_item(self) -> bool
         ensures { result ≡ begins_item self }
     {
@@ -50,7 +50,7 @@ impl LastItem {
         }
     }
 
-    /// With one digit more of the count, if it may have one.
+    /// Returns the item with one more digit of its count, if it may have one.
     fn with_digit(self, digit: u8) -> Option<LastItem>
         ensures { result ≡ with_digit self digit }
     {
@@ -64,7 +64,7 @@ impl LastItem {
     }
 }
 
-/// A place in an order: how many groups it is in, and the last item before it.
+/// A place in an order: the number of groups around it, and the last item before it.
 #[derive(Clone, Copy)]
 struct Place {
     depth: u8,
@@ -104,7 +104,7 @@ impl Place {
         }
     }
 
-    /// Whether the order may end here.
+    /// Returns whether the order may end here.
     fn is_whole(self) -> bool
         ensures { result ≡ is_whole self }
     {
@@ -112,7 +112,7 @@ impl Place {
     }
 }
 
-/// Whether a byte is ignored in an order: a dot (ABC 2.1 section 3.1.9) or a blank.
+/// Returns whether a byte is ignored in an order: a dot (ABC 2.1 section 3.1.9) or a blank.
 fn is_ignored(byte: u8) -> bool
     ensures { result ≡ is_ignored byte }
 {
@@ -133,7 +133,7 @@ fn place_behind(text: &[u8]) -> Option<Place>
     Some(place)
 }
 
-/// Whether a text is an order of parts.
+/// Returns whether a text is an order of parts.
 fn is_order(text: &[u8]) -> bool
     ensures { result ≡ is_order text.now }
 {
@@ -143,9 +143,9 @@ fn is_order(text: &[u8]) -> bool
     }
 }
 
-/// Reads the value of P: in a header (ABC 2.1 section 3.1.9): one or more items, each a letter A to Z or a group of items in
-/// parentheses, with a count from 1 after it or not. Dots and blanks are ignored; anything else is `BadOrder`, also groups
-/// deeper than `DEEPEST_GROUP`. That blanks are ignored, and how deep groups and how long counts may be, is not in ABC 2.1.
+/// Reads the value of P: in a header (ABC 2.1 section 3.1.9): one or more items, each a letter A to Z or a group of
+/// items in parentheses. A count from 1 may follow an item. Dots and blanks are ignored. Anything else is `BadOrder`,
+/// also groups deeper than `DEEPEST_GROUP`. The blanks and the bounds of groups and counts are not in ABC 2.1.
 #[tactic(auto, using(crate::proofs::LetterLaws::parts_letters))]
 pub fn read_parts(value: &[u8]) -> Result<(), FaultCode>
     ensures value { result ≡ parts_of value.now }

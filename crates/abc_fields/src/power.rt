@@ -1,4 +1,4 @@
-//! Parts of a whole note, which are halved.
+//! Powers of two in the texts of fields.
 
 ghost use Rattle.std.specs.Prelude.{◌≡◌, ◌<◌, ◌≤◌, ◌^◌, IfSome};
 ghost use Rattle.abc_text.specs.Number.{number_of};
@@ -6,7 +6,7 @@ ghost use Rattle.abc_text.specs.Power.{power_up_to};
 
 use abc_text::{is_power_up_to, number_of};
 
-/// The number that a text spells, if it is two to a power of at most this.
+/// Returns the number that a text spells, if it is a power of two with an exponent up to `most`.
 pub(crate) fn power_up_to(most: u32, text: &[u8]) -> Option<u32>
     requires { most < 32 }
     ensures value { result ≡ power_up_to most (number_of text.now) }

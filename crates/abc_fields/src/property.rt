@@ -6,7 +6,7 @@ ghost use Rattle.abc_fields.specs.Property.{property_of, signed_number, unquote}
 use crate::clef::{clef_of, mark_of};
 use abc_text::number_of;
 
-/// What a word of a field says.
+/// The property that a word of a field sets.
 #[derive(Clone, Copy)]
 pub(crate) enum Property {
     /// An octave up or down in semitones, or 0.
@@ -15,7 +15,7 @@ pub(crate) enum Property {
     Octave(i64),
     /// In semitones.
     Transpose(i64),
-    /// Nothing that has an effect.
+    /// A word without effect.
     Other,
 }
 
@@ -42,7 +42,7 @@ fn signed_number(text: &[u8]) -> Option<i64>
     }
 }
 
-/// What a word says, or none if its number is refused.
+/// Returns the property that a word sets, or none if its number is refused.
 #[tactic(auto, unfolding(crate::specs::Property::property_of))]
 pub(crate) fn property_of(word: &[u8]) -> Option<Property>
     ensures value { result ≡ property_of word.now }

@@ -9,8 +9,7 @@ ghost use Rattle.abc_fields.specs.Spelling.Shift.{IsShift};
 use crate::property::{Property, property_of};
 use abc_text::next_word;
 
-/// What the properties of a field K: or V: say of the pitch of notes, each part if it is given
-/// (ABC 2.1 sections 4.6 and 7.1).
+/// The pitch shift that the properties of a field K: or V: set. Each part is optional (ABC 2.1 sections 4.6 and 7.1).
 #[derive(Clone, Copy, PartialEq, Eq)]
 pub struct Shift {
     /// In semitones: 12 or -12 for a clef that is marked `+8` or `-8`, 0 for another.
@@ -21,14 +20,14 @@ pub struct Shift {
     pub transpose: Option<i64>,
 }
 
-/// A shift that says nothing of any part.
+/// The shift without any part.
 pub(crate) const NO_SHIFT: Shift = Shift {
     clef: None,
     octave: None,
     transpose: None,
 };
 
-/// A shift after one more property: the last one of each part counts.
+/// Returns a shift after one more property: the last one of each part counts.
 fn with_property(shift: Shift, property: Property) -> Shift
     ensures { result ≡ with_property shift property }
 {
@@ -49,7 +48,7 @@ fn with_property(shift: Shift, property: Property) -> Shift
     }
 }
 
-/// The shift that the words of a text say, or none if a number is refused.
+/// Returns the shift that the words of a text set, or none if a number is refused.
 #[tactic(auto, unfolding(crate::specs::Shift::shift_of))]
 pub(crate) fn shift_in(text: &[u8]) -> Option<Shift>
     ensures value { result ≡ shift_of (words_of text.now) }

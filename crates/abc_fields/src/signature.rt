@@ -5,7 +5,7 @@ ghost use Rattle.abc_fields.specs.Signature.{alteration, altered_signature, alte
 
 use abc_text::Letter;
 
-/// A key signature: how many semitones it raises or lowers each letter by (ABC 2.1 section 3.1.14).
+/// A key signature: the alteration of each letter in semitones (ABC 2.1 section 3.1.14).
 #[derive(Clone, Copy, PartialEq, Eq)]
 pub struct Signature {
     pub a: i8,
@@ -28,7 +28,7 @@ pub const NATURAL: Signature = Signature {
     g: 0,
 };
 
-/// By how many semitones a signature alters a letter (ABC 2.1 section 3.1.14).
+/// Returns the alteration of a letter in semitones (ABC 2.1 section 3.1.14).
 pub fn alteration(signature: &Signature, letter: Letter) -> i8
     ensures { result ≡ alteration signature.now letter }
 {
@@ -60,8 +60,7 @@ pub(crate) fn altered_signature(signature: Signature, letter: Letter, by: i8) ->
     changed
 }
 
-/// How many fifths a letter lies above F: the order in which sharps fall on the letters, and the
-/// reverse of that of flats.
+/// Returns the number of fifths from F up to a letter. Sharps come in this order, flats in the reverse order.
 pub(crate) fn fifths(letter: Letter) -> i8
     ensures value { result ≡ pos (fifths letter) }
     ensures low { pos 0 ≤ℤ result }
@@ -78,7 +77,7 @@ pub(crate) fn fifths(letter: Letter) -> i8
     }
 }
 
-/// How the signature of a count of sharps, or of flats if it is negative, alters a letter.
+/// Returns the alteration of a letter by this number of sharps, or of flats if it is negative.
 fn alteration_by_fifths(sharps: i8, letter: Letter) -> i8
     requires { IsSharps sharps }
     ensures { result ≡ alteration_by_fifths sharps letter }
@@ -92,7 +91,7 @@ fn alteration_by_fifths(sharps: i8, letter: Letter) -> i8
     }
 }
 
-/// The signature of a count of sharps, or of flats if it is negative.
+/// Returns the signature of this number of sharps, or of flats if it is negative.
 #[tactic(auto, unfolding(crate::specs::Signature::signature_of))]
 pub(crate) fn signature_of(sharps: i8) -> Signature
     requires { IsSharps sharps }

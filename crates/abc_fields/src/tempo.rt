@@ -1,33 +1,34 @@
 //! The tempo, `Q:`.
 
-ghost use Rattle.std.specs.Prelude.{◌≡◌, ◌≤◌, ◌↔◌, ◌*◌, ok_or, IfOk, IfSome};
+ghost use Rattle.std.specs.Prelude.{◌≡◌, ◌≤◌, ◌*◌, ok_or, IfOk, IfSome};
 ghost use Rattle.abc_text.specs.declared.digit.TheConstants.{LARGEST_NUMBER};
 ghost use Rattle.abc_fields.specs.Tempo.{positive_number, part_of, fraction_of, sum_of, lowest_terms, word_in_front, behind_word};
 ghost use Rattle.abc_fields.specs.Tempo.{bare_tempo, tempo_around, tempo_in, tempo_of, IsInRange};
+ghost use Rattle.abc_fields.specs.Reading.{IsReading};
 ghost use Rattle.abc_fields.specs.Spelling.Tempo.{IsTempo};
 
 use crate::fault::FaultCode;
 use abc_text::{bytes_before_blank, cut_at, is_power_up_to, number_of, trim_end, trim_start};
 use abc_time::Ratio;
 
-/// What a tempo field says (ABC 2.1 section 3.1.8).
+/// The value of a tempo field (ABC 2.1 section 3.1.8).
 #[derive(Clone, Copy, PartialEq, Eq)]
 pub enum Tempo {
     /// Nothing: it is empty, or only a text.
     Unset,
-    /// So many unit notes per minute.
+    /// The number of unit notes per minute.
     Units(u32),
-    /// So many beats per minute, a beat being this part of a whole note, in lowest terms.
+    /// The number of beats per minute. A beat is this part of a whole note, in lowest terms.
     Beat { beat: Ratio, n: u32 },
 }
 
-/// How many fractions a beat may be the sum of.
+/// The greatest number of fractions in the sum of a beat.
 const MOST_FRACTIONS: usize = 16;
 
-/// How often 512 can be halved.
+/// The number of halvings of 512 down to 1.
 const MOST_HALVINGS: u32 = 9;
 
-/// The finest part of a whole note that a beat counts in.
+/// The parts of a whole note in which beats are counted.
 const FINEST: u32 = 512;
 
 /// The number from 1 that a text spells.
@@ -62,7 +63,7 @@ fn fraction_of(word: &[u8]) -> Option<u32>
     part_of(number_of(above)?, number_of(below)?)
 }
 
-/// The part before the first blank of a text, and what follows it and the blanks after it.
+/// Returns the part before the first blank of a text, and the rest after that part and its blanks.
 #[tactic(auto, unfolding(crate::specs::Tempo::word_in_front, crate::specs::Tempo::behind_word))]
 fn split_word(text: &[u8]) -> (&[u8], &[u8])
     ensures word { result.0.now ≡ word_in_front text.now }
@@ -90,7 +91,7 @@ fn sum_of(text: &[u8]) -> Option<u32>
     None
 }
 
-/// So many 512ths in lowest terms.
+/// Returns a number of 512ths in lowest terms.
 fn lowest_terms(sum: u32) -> Ratio
     ensures { result ≡ lowest_terms sum }
 {
@@ -150,14 +151,13 @@ fn tempo_in(value: &[u8]) -> Option<Tempo>
     }
 }
 
-/// Reads the value of Q: (ABC 2.1 section 3.1.8): `a/b=n`, up to 16 fractions added to a beat, and beats per minute; or n
-/// alone, unit notes per minute; either with a quoted text before or after it; or such a text alone, or nothing. a is 1 to
-/// 512, b a power of two up to 512, n at least 1; anything else is `BadTempo`. The bounds, n alone and the empty value are
-/// not in ABC 2.1.
+/// Reads the value of Q: (ABC 2.1 section 3.1.8): `a/b=n` for a beat, a sum of up to 16 fractions, and beats per
+/// minute; or `n` for unit notes per minute. A quoted text may come before or after it, or alone. The value may be
+/// empty. a is 1 to 512, b a power of two up to 512, n at least 1. Anything else is `BadTempo`. The bounds, n alone and
+/// the empty value are not in ABC 2.1.
 pub fn read_tempo(value: &[u8]) -> Result<Tempo, FaultCode>
     ensures value { result ≡ tempo_of value.now }
-    ensures ok { (m : Tempo) → (result ≡ Ok m) ↔ IsTempo value.now m }
-    ensures refused { (result ≡ Err FaultCode.BadTempo) ↔ ((m : Tempo) → ¬ IsTempo value.now m) }
+    ensures exact { IsReading (IsTempo value.now) FaultCode.BadTempo result }
     ensures range { IfOk result IsInRange }
 {
     tempo_in(value).ok_or(FaultCode::BadTempo)

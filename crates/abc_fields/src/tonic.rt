@@ -14,7 +14,7 @@ use abc_text::{Letter, leading_blanks, letter_of};
 pub(crate) enum Basis {
     /// The tonic and this mode.
     Named(Mode),
-    /// Nothing but the accidentals that are listed (`exp`).
+    /// Only the listed accidentals (`exp`).
     Explicit,
 }
 
@@ -39,7 +39,7 @@ fn tonic_letter(byte: u8) -> Option<Letter>
     }
 }
 
-/// The sharps that a sign at the front of a text adds, and what follows it.
+/// Returns the sharps that a sign at the front of a text adds, and the rest after it.
 fn sign_at(text: &[u8]) -> (i8, &[u8])
     ensures value { sign_at text.now ≡ (result.0, result.1.now) }
     ensures range { (negsuc 6 ≤ℤ result.0) × (result.0 ≤ℤ pos 7) }
@@ -51,7 +51,7 @@ fn sign_at(text: &[u8]) -> (i8, &[u8])
     }
 }
 
-/// The sharps of the major key on the tonic at the front of a text, and what follows it.
+/// Returns the sharps of the major key on the tonic at the front of a text, and the rest after it.
 pub(crate) fn tonic_at(text: &[u8]) -> Option<(i8, &[u8])>
     ensures value { MatchOption result (tonic_at text.now ≡ None)
         (λ p. tonic_at text.now ≡ Some (p.0, p.1.now)) }
@@ -67,7 +67,7 @@ pub(crate) fn tonic_at(text: &[u8]) -> Option<(i8, &[u8])>
     }
 }
 
-/// How many letters a text begins with.
+/// Returns the number of letters at the front of a text.
 fn letters(text: &[u8]) -> usize
     ensures value { result ≡ prefix_len is_ascii_alphabetic text.now }
     ensures inside { result ≤ length text.now }
@@ -77,7 +77,7 @@ fn letters(text: &[u8]) -> usize
         .count()
 }
 
-/// The basis of the signature, by the text after the tonic, and the words that follow.
+/// Returns the basis of the signature, by the text after the tonic, and the rest with the other words.
 #[tactic(auto, unfolding(crate::specs::Tonic::basis_at))]
 pub(crate) fn basis_at(text: &[u8]) -> Option<(Basis, &[u8])>
     ensures { MatchOption result (basis_at text.now ≡ None)

@@ -1,18 +1,19 @@
 //! The unit note length, L:.
 
-ghost use Rattle.std.specs.Prelude.{◌≡◌, ◌↔◌, IfOk};
+ghost use Rattle.std.specs.Prelude.{◌≡◌, IfOk};
 ghost use Rattle.abc_time.specs.Ratio.{IsRatio};
 ghost use Rattle.abc_fields.specs.Unit.{part_of, unit_in, unit_of};
+ghost use Rattle.abc_fields.specs.Reading.{IsReading};
 ghost use Rattle.abc_fields.specs.Spelling.Unit.{IsUnit};
 
 use crate::fault::FaultCode;
 use crate::power::power_up_to;
 use abc_time::Ratio;
 
-/// How often a whole note may be halved: the finest unit is a 512th.
+/// The greatest number of halvings of a whole note: the finest unit is a 512th.
 const MOST_HALVINGS: u32 = 9;
 
-/// Which part of a whole note the value says, as 8 for `1/8`.
+/// Returns the denominator of the value, as 8 for `1/8`.
 fn part_of(value: &[u8]) -> Option<u32>
     ensures { result ≡ part_of value.now }
 {
@@ -23,7 +24,7 @@ fn part_of(value: &[u8]) -> Option<u32>
     }
 }
 
-/// The unit that a value says, if it is accepted.
+/// Returns the unit of a value, if it is accepted.
 fn unit_in(value: &[u8]) -> Option<Ratio>
     ensures { result ≡ unit_in value.now }
 {
@@ -35,8 +36,7 @@ fn unit_in(value: &[u8]) -> Option<Ratio>
 /// anything else is `BadUnit`.
 pub fn read_unit(value: &[u8]) -> Result<Ratio, FaultCode>
     ensures value { result ≡ unit_of value.now }
-    ensures ok { (unit : Ratio) → (result ≡ Ok unit) ↔ IsUnit value.now unit }
-    ensures refused { (result ≡ Err FaultCode.BadUnit) ↔ ((unit : Ratio) → ¬ IsUnit value.now unit) }
+    ensures exact { IsReading (IsUnit value.now) FaultCode.BadUnit result }
     ensures range { IfOk result IsRatio }
 {
     unit_in(value).ok_or(FaultCode::BadUnit)

@@ -1,19 +1,19 @@
 //! The field V: (ABC 2.1 section 7.1).
 
-ghost use Rattle.std.specs.Prelude.{◌≡◌, ◌↔◌, ◌<◌, ◌≤◌, Ok, Err, IfOk, IfSome, ◌∷◌, length, drop, slice_range};
+ghost use Rattle.std.specs.Prelude.{◌≡◌, ◌<◌, ◌≤◌, IfOk, IfSome, ◌∷◌, length, drop, slice_range};
 ghost use Rattle.abc_fields.specs.declared.fault.FaultCode.TheVariants.{BadVoice};
-ghost use Rattle.abc_fields.specs.declared.voice.Voice.{Voice};
 ghost use Rattle.abc_fields.specs.Shift.{IsSmallShift};
 ghost use Rattle.abc_text.specs.Word.{words_of};
 ghost use Rattle.abc_fields.specs.Voice.{voice_in, voice_of};
+ghost use Rattle.abc_fields.specs.Reading.{IsReading};
 ghost use Rattle.abc_fields.specs.Spelling.Voice.{IsVoice};
 
 use crate::fault::FaultCode;
 use crate::shift::{Shift, shift_in};
 use abc_text::first_word;
 
-/// A voice as the value of a field V: names it. Its identifier is the part of the value from `from`
-/// up to, but without, `to`.
+/// A voice by the value of a field V:. Its identifier is the part of the value from `from` up to, but not including,
+/// `to`.
 #[derive(Clone, Copy)]
 pub struct Voice {
     pub from: usize,
@@ -36,13 +36,12 @@ fn voice_in(value: &[u8]) -> Option<Voice>
     Some(Voice { from, to, shift })
 }
 
-/// Reads the value of a field V: (ABC 2.1 section 7.1). Without an identifier, or with a malformed
-/// number of `octave` or `transpose`, it is refused.
+/// Reads the value of a field V: (ABC 2.1 section 7.1). A value without an identifier, or with a malformed number of
+/// `octave` or `transpose`, is `BadVoice`.
 #[tactic(auto, unfolding(crate::specs::Voice::voice_of))]
 pub fn read_voice(value: &[u8]) -> Result<Voice, FaultCode>
     ensures value { result ≡ voice_of value.now }
-    ensures ok { (voice : Voice) → (result ≡ Ok voice) ↔ IsVoice value.now voice }
-    ensures refused { (result ≡ Err BadVoice) ↔ ((voice : Voice) → ¬ IsVoice value.now voice) }
+    ensures exact { IsReading (IsVoice value.now) BadVoice result }
     ensures some { IfOk result (λ voice. voice.from < voice.to) }
     ensures inside { IfOk result (λ voice. voice.to ≤ length value.now) }
     ensures name { IfOk result

@@ -141,7 +141,7 @@ module _ {F State Cell Items Work : Type 0} (steps : Steps State Cell Items) (op
       rw same (within_more before now later (steps_at steps state piece) (steps_needed steps (steps.next state (cell_of piece)) (drop (i + 1) pieces)) most
       (at_piece i state piece before now most within is inside) raise)
 
-  -- The counters where an iteration ends early.
+  -- The counters if an iteration ends early.
   pub within_exit : (i : ℕ) (state : State) (piece : Piece F State Cell Items Work) (before now later : Counters) (most : ℕ)
       → IsWithin before now (steps_needed steps state (drop i pieces)) most
       → piece ≡ get_or pieces i piece → i < length pieces

@@ -1,4 +1,4 @@
--- Pieces that follow each other, and what is known where one is taken as it was kept.
+-- Pieces that follow each other, and what a kept piece that still holds says of the next.
 use Rattle.std.proofs.Common.{◌≡◌, ℕ, zero, suc, ◌+◌, ◌-◌, ◌<◌, ◌≤◌, Bool, true, false, List, [], ◌∷◌, ◌++◌, Some, get_or, length, slice_get, refl, sym, ◌∙◌, ap, subst, arith, length-append, ⊎_elim}
 use Rattle.std.proofs.lemmas.Bool.{cases_lt, false≢true}
 use Rattle.std.proofs.lemmas.Option.{slice_get_within, slice_get_read}
@@ -66,7 +66,7 @@ module _ {F State Cell Items Work : Type 0} where
         (cases_lt i (length pieces));
   }
 
-  -- A state in which a piece was left stands after it.
+  -- The state in which a piece was left is the next entry.
   pub left_behind : (pieces : List (Piece F State Cell Items Work)) (i : ℕ) (piece : Piece F State Cell Items Work) (state : State)
       → piece ≡ get_or pieces i piece → i < length pieces → IsLeftIn state piece → IsLeftBehind pieces (i + 1) state
   left_behind pieces i piece state is inside left = record {
@@ -84,7 +84,7 @@ module _ {F State Cell Items Work : Type 0} where
   follows_taken steps laws state (Kept cell entered own items) (Kept other behind later given) left follows =
       subst (λ s. steps.alike behind s ≡ true) (follows ∙ sym left) (laws.reflexive behind)
 
-  -- A piece that follows one that was taken as it was kept may be taken too.
+  -- A piece that follows a kept piece that still holds does so too.
   pub known_taken : (steps : Steps State Cell Items) → IsResumable steps
       → (pieces : List (Piece F State Cell Items Work)) (marks : List Bool) (i : ℕ) (state : State) (piece : Piece F State Cell Items Work)
       → AreMarked pieces marks → piece ≡ get_or pieces i piece → i < length pieces → slice_get marks i ≡ Some true → IsLeftBehind pieces i state

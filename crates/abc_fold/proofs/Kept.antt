@@ -9,7 +9,7 @@ use Rattle.abc_fold.specs.Chain.{Chained, Folds, IsKeptAt}
 use Rattle.abc_fold.specs.Steps.{Steps, IsAlike, AreAlike, IsResumable, states_from, items_from}
 use Rattle.abc_fold.specs.Piece.{IsKept, IsStep, cell_of}
 
--- What stands in two equal options.
+-- The values in two equal options are equal.
 pub some_same : {X : Type 0} (x y : X) → Some x ≡ Some y → x ≡ y
 some_same x y is = search is
 

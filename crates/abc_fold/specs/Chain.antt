@@ -24,13 +24,15 @@ pub record HasShape {State Cell Items : Type 0} (entries : List State) (cells : 
   pub states : length entries - 1 ≡ length cells
   pub given : length items ≡ length cells
 
--- A chain is a fold of its cells from an opening: it has the fold's items, and states alike to the fold's.
-pub record Folds {State Cell Items : Type 0} (steps : Steps State Cell Items) (opening : State) (chain : Chained State Cell Items) : Type 0 where
+-- A chain is a fold of its cells from an opening: it has the fold's items, and states equivalent to the fold's.
+pub record Folds {State Cell Items : Type 0} (steps : Steps State Cell Items) (opening : State)
+    (chain : Chained State Cell Items) : Type 0 where
   pub items : chain.items ≡ items_from steps opening chain.cells
   pub entries : AreAlike steps chain.entries (states_from steps opening chain.cells)
 
 -- What a chain keeps at a place.
-pub record IsPlace {State Cell Items : Type 0} (chain : Chained State Cell Items) (i : ℕ) (cell : Cell) (entered left : State) (items : Items) : Type 0 where
+pub record IsPlace {State Cell Items : Type 0} (chain : Chained State Cell Items) (i : ℕ) (cell : Cell)
+    (entered left : State) (items : Items) : Type 0 where
   pub own_cell : slice_get chain.cells i ≡ Some cell
   pub own_entry : slice_get chain.entries i ≡ Some entered
   pub next_entry : slice_get chain.entries (i + 1) ≡ Some left

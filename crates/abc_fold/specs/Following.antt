@@ -26,6 +26,7 @@ AreMarked {F = F} {State = State} {Cell = Cell} {Items = Items} {Work = Work} pi
     → slice_get pieces (i - 1) ≡ Some before → slice_get pieces i ≡ Some piece → Follows before piece
 
 -- Each piece has a mark, and the marks are right.
-pub record HasMarks {F State Cell Items Work : Type 0} (pieces : List (Piece F State Cell Items Work)) (marks : List Bool) : Type 0 where
+pub record HasMarks {F State Cell Items Work : Type 0} (pieces : List (Piece F State Cell Items Work))
+    (marks : List Bool) : Type 0 where
   pub count : length marks ≡ length pieces
   pub right : AreMarked pieces marks

@@ -14,11 +14,12 @@ abbrev pub cells_of : {F State Cell Items Work : Type 0} → List (Piece F State
 cells_of pieces = map cell_of pieces
 
 -- A state equivalent to the one after the cell, and the items that the cell gives, if it is entered in a state.
-pub record IsStep {State Cell Items : Type 0} (steps : Steps State Cell Items) (cell : Cell) (entered behind : State) (given : Items) : Type 0 where
+pub record IsStep {State Cell Items : Type 0} (steps : Steps State Cell Items) (cell : Cell)
+    (entered behind : State) (given : Items) : Type 0 where
   pub behind_alike : IsAlike steps behind (steps.next entered cell)
   pub given_equal : given ≡ steps.gives entered cell
 
--- What a kept piece keeps is what the fold gives for its cell in the state in which it was entered.
+-- The states and items of a kept piece are those of the fold for its cell, from the state in which it was entered.
 abbrev pub IsKept : {F State Cell Items Work : Type 0} → Steps State Cell Items → Piece F State Cell Items Work → Type 0
 IsKept steps (New cell) = Unit {0}
 IsKept steps (Kept cell entered left items) = IsStep steps cell entered left items
@@ -29,7 +30,7 @@ abbrev pub is_taken : {F State Cell Items Work : Type 0} → Steps State Cell It
 is_taken steps state (New cell) = false
 is_taken steps state (Kept cell entered left items) = steps.alike entered state
 
--- How many steps a piece needs if the fold enters it in a state: one, or none if it was kept from an equivalent state.
+-- The steps of a piece if the fold enters it in a state: one, or none if it was kept from an equivalent state.
 abbrev pub steps_at : {F State Cell Items Work : Type 0} → Steps State Cell Items → State → Piece F State Cell Items Work → ℕ
 steps_at steps state (New cell) = 1
 steps_at steps state (Kept cell entered left items) = if steps.alike entered state then 0 else 1

@@ -1,4 +1,4 @@
--- What a fold is by its definition, and when it can be resumed from a kept state.
+-- Folds by definition, and when one can be resumed from a stored state.
 use Rattle.std.specs.Prelude.{◌≡◌, Bool, true, List, [], ◌∷◌, refl}
 use Rattle.std.specs.List.{AllZip}
 

@@ -1,4 +1,4 @@
-//! Chains of cells that keep what a fold made of them, and chains that have been prepared.
+//! Chains of cells with their states and items, and prepared chains.
 
 ghost use Rattle.std.specs.Prelude.{◌≡◌, ◌<◌, All, IfOk, IsOk, Some, length, option_copied, slice_get, true};
 ghost use Rattle.abc_fold.specs.Chain.{Chained, Folds, IsKeptAt, no_cells};
@@ -14,7 +14,7 @@ use abc_text::Snapshot;
 use std::alloc::{AllocError, Global};
 use std::marker::Model;
 
-/// Cells, what each gives, and the state in which each is entered and the last is left. Contracts see the three lists.
+/// Cells, the items of each, and the states in which each is entered and the last is left. Contracts see the three lists.
 #[derive(Drop)]
 pub struct Chain<F: Fold> {
     states: GapList<F::State>,
@@ -32,8 +32,8 @@ impl<F: Fold> Model for Chain<F> {
     ghost invariant = { λ c. HasShape c.states.items c.cells.items c.items.items };
 }
 
-/// A chain that has been prepared to replace another. It must be spent, by `commit` of that one or by
-/// `drop_patch`. Contracts see both.
+/// A prepared chain that may replace another. `commit` of the other chain or `drop_patch` must spend it. Contracts see
+/// both chains.
 pub struct ChainPatch<F: Fold> {
     on: Snapshot<Chain<F>>,
     next: Chain<F>,
@@ -65,7 +65,7 @@ impl<F: Fold> Chain<F> {
         self.states.allocator()
     }
 
-    /// How many cells there are.
+    /// The number of cells.
     pub fn len(&self) -> usize
         ensures { result ≡ length self.now.cells }
     {
@@ -79,30 +79,30 @@ impl<F: Fold> Chain<F> {
         self.states.get(i)
     }
 
-    /// What the cell at index `i` gives.
+    /// The items of the cell at index `i`.
     pub fn items(&self, i: usize) -> Option<&F::Items>
         ensures { option_copied result ≡ slice_get self.now.items i }
     {
         self.items.get(i)
     }
 
-    /// The cell at index `i`, with all that is kept of it. A chain of the same fold may reuse it.
+    /// The cell at index `i` with its states and items. A chain of the same fold may reuse it.
     pub fn kept(&self, i: usize) -> Result<Piece<F>, AllocError>
         requires { i < length self.now.cells }
         ensures place { IfOk result (λ piece. IsKeptAt self.now i piece) }
-        ensures resumable { (steps : Steps F.State F.Cell F.Items) (opening : F.State) → IsResumable steps → Folds steps opening self.now →
-            IfOk result (λ piece. IsKept steps piece) }
+        ensures resumable { (steps : Steps F.State F.Cell F.Items) (opening : F.State) → IsResumable steps
+            → Folds steps opening self.now → IfOk result (λ piece. IsKept steps piece) }
     {
         self.copy_piece(i)
     }
 
-    /// What is kept at a place, copied by the fold.
+    /// A copy of the cell at index `i` with its states and items.
     fn copy_piece(&self, i: usize) -> Result<Piece<F>, AllocError>
         requires { i < length self.now.cells }
         ensures { IfOk result (λ piece. IsKeptAt self.now i piece) }
     {
         let alloc = self.allocator();
-        // For the prover: a number counts all cells.
+        // For the prover: the number of cells fits a `usize`.
         let _ = self.len();
         Ok(Piece::Kept {
             cell: F::copy_cell(alloc, self.cells.get(i).unwrap())?,
@@ -124,7 +124,8 @@ impl<F: Fold> Chain<F> {
         ensures on { IfOk result (λ patch. patch.on ≡ self.now) }
         ensures cells { IfOk result (λ patch. patch.after.cells ≡ cells_of pieces.now) }
         ensures folds { IfOk result (λ patch. Folds (F.steps fold.now) opening.now patch.after) }
-        ensures counted { IsRaisedUpTo (steps_needed (F.steps fold.now) opening.now pieces.now) (F.Work.counts work.old) (F.Work.counts work.new) }
+        ensures counted { IsRaisedUpTo (steps_needed (F.steps fold.now) opening.now pieces.now)
+            (F.Work.counts work.old) (F.Work.counts work.new) }
     {
         let next = folded(self.allocator(), fold, opening, pieces, &[], work)?;
         Ok(ChainPatch {
@@ -133,8 +134,8 @@ impl<F: Fold> Chain<F> {
         })
     }
 
-    /// The same over pieces of which it is known which follow each other: where one is taken as it was kept, the states
-    /// are not compared at the one that follows it.
+    /// The same over marked pieces: after a piece whose states and items still hold, the states are not compared at the
+    /// piece that follows it.
     pub fn prepare_pieces(
         &self,
         fold: &F,
@@ -146,7 +147,8 @@ impl<F: Fold> Chain<F> {
         ensures on { IfOk result (λ patch. patch.on ≡ self.now) }
         ensures cells { IfOk result (λ patch. patch.after.cells ≡ cells_of pieces.now) }
         ensures folds { IfOk result (λ patch. Folds (F.steps fold.now) opening.now patch.after) }
-        ensures counted { IsRaisedUpTo (steps_needed (F.steps fold.now) opening.now pieces.now) (F.Work.counts work.old) (F.Work.counts work.new) }
+        ensures counted { IsRaisedUpTo (steps_needed (F.steps fold.now) opening.now pieces.now)
+            (F.Work.counts work.old) (F.Work.counts work.new) }
     {
         let (listed, marks) = (pieces.as_slice(), pieces.marks());
         let next = folded(self.allocator(), fold, opening, listed, marks, work)?;
@@ -156,7 +158,7 @@ impl<F: Fold> Chain<F> {
         })
     }
 
-    /// Puts a prepared chain in place, without memory. The patch belongs to the chain as it is now.
+    /// Replaces the chain by a prepared one. It allocates nothing. The patch must be of the chain as it is now.
     pub fn commit(&mut self, patch: ChainPatch<F>)
         requires { patch.on ≡ self.old }
         ensures { self.new ≡ patch.after }
@@ -174,28 +176,28 @@ impl<F: Fold> Chain<F> {
 }
 
 impl<F: Fold> ChainPatch<F> {
-    /// How many cells the chain would have.
+    /// The number of cells of the prepared chain.
     pub fn len(&self) -> usize
         ensures { result ≡ length self.now.after.cells }
     {
         self.next.len()
     }
 
-    /// The state in which a cell would be entered, or the last left.
+    /// The state in which the cell at index `i` of the prepared chain is entered, or the last is left.
     pub fn entry(&self, i: usize) -> Option<&F::State>
         ensures { option_copied result ≡ slice_get self.now.after.entries i }
     {
         self.next.entry(i)
     }
 
-    /// What a cell would give.
+    /// The items of the cell at index `i` of the prepared chain.
     pub fn items(&self, i: usize) -> Option<&F::Items>
         ensures { option_copied result ≡ slice_get self.now.after.items i }
     {
         self.next.items(i)
     }
 
-    /// Gives the patch up.
+    /// Drops the patch.
     pub fn drop_patch(self) {
         let ChainPatch { on: _, next: _ } = self;
     }
@@ -214,7 +216,8 @@ fn folded<F: Fold>(
     requires marked { AreMarked pieces.now marks.now }
     ensures cells { IfOk result (λ chain. chain.cells ≡ cells_of pieces.now) }
     ensures folds { IfOk result (λ chain. Folds (F.steps fold.now) opening.now chain) }
-    ensures counted { IsRaisedUpTo (steps_needed (F.steps fold.now) opening.now pieces.now) (F.Work.counts work.old) (F.Work.counts work.new) }
+    ensures counted { IsRaisedUpTo (steps_needed (F.steps fold.now) opening.now pieces.now)
+        (F.Work.counts work.old) (F.Work.counts work.new) }
 {
     let mut state = F::copy_state(alloc, opening)?;
     let count = pieces.len();
@@ -244,8 +247,7 @@ fn folded<F: Fold>(
     })
 }
 
-/// Whether it is known in which state a piece was entered: where the one before it was taken as it was kept, and it is
-/// marked as following that one.
+/// Whether a piece surely holds as it was kept: the piece before it does, and this one is marked as following it.
 fn is_known(taken: bool, marks: &[bool], i: usize) -> bool
     ensures before { result ≡ true → taken ≡ true }
     ensures marked { result ≡ true → slice_get marks.now i ≡ Some true }

@@ -1,4 +1,4 @@
-//! Folds over cells, a step at a time, which can be resumed from a state that was kept.
+//! Folds over cells, step by step, which can be resumed from a stored state.
 
 ghost use Rattle.std.specs.Prelude.{◌≡◌, Bool, IfOk, true};
 ghost use Rattle.abc_fold.specs.Steps.{IsAlike, IsResumable, Steps};
@@ -7,17 +7,16 @@ ghost use Rattle.abc_fold.specs.Work.{after_steps};
 use crate::Counts;
 use std::alloc::{AllocError, Global};
 
-/// A fold over cells: what a cell gives depends on the state in which it is entered and on the cell,
-/// and on nothing else that came before. It can be resumed from a state that was kept: it knows which states are
-/// equivalent, and copies what a chain keeps.
+/// A fold over cells: the items of a cell depend only on the cell and on the state in which it is entered. It can be
+/// resumed from a stored state: it knows which states are equivalent, and copies states, cells and items.
 pub trait Fold {
-    /// What is carried from one cell to the next.
+    /// The state between two cells.
     type State: Drop;
 
-    /// What a step reads.
+    /// The input of a step.
     type Cell: Drop;
 
-    /// What a step gives.
+    /// The output of a step.
     type Items: Drop;
 
     /// The counters that a step raises.
@@ -26,8 +25,7 @@ pub trait Fold {
     // The fold's own definition: the state after a cell, the items that the cell gives, and which states are equivalent.
     ghost steps: { Self → Steps Self.State Self.Cell Self.Items };
 
-    /// The state after `cell`, and its items, if it is entered in `state`. A step that finds no
-    /// memory is counted too.
+    /// The state after `cell`, and its items, if it is entered in `state`. A step is counted even if an allocation fails.
     fn step(
         &self,
         alloc: Global,
@@ -61,7 +59,7 @@ pub trait Fold {
     fn copy_cell(alloc: Global, cell: &Self::Cell) -> Result<Self::Cell, AllocError>
         ensures { IfOk result (λ copy. copy ≡ cell.now) };
 
-    /// A copy of what a cell gave.
+    /// A copy of a cell's items.
     fn copy_items(alloc: Global, items: &Self::Items) -> Result<Self::Items, AllocError>
         ensures { IfOk result (λ copy. copy ≡ items.now) };
 

@@ -1,6 +1,6 @@
-//! Folds that can be resumed at any cell, chains that keep what a fold made of their cells, and the work that an
-//! edit costs, counted: lines scanned, steps folded, tunes built. The promise that a small edit of a chain takes few
-//! steps is said in these counters.
+//! Folds that can be resumed at any cell, chains that store the states and items of their cells, and counters of an
+//! edit's work: lines scanned, steps folded, tunes built. The promise that a small edit of a chain takes few steps is a
+//! contract on these counters.
 #![tactic(auto)]
 
 mod chain;

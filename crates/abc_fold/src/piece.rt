@@ -9,12 +9,12 @@ ghost use Rattle.abc_fold.specs.Work.{IsRaisedUpTo, after_steps};
 use crate::{Counts, Fold};
 use std::alloc::{AllocError, Global};
 
-/// A cell that is to be folded, or one with what an earlier chain kept of it.
+/// A new cell, or a cell with its states and items from an earlier chain.
 #[derive(Drop)]
 pub enum Piece<F: Fold> {
-    /// A cell.
+    /// A new cell, to be folded.
     New(F::Cell),
-    /// A cell, the states in which it was entered and left, and what it gave.
+    /// A cell, the states in which it was entered and left, and its items.
     Kept {
         cell: F::Cell,
         entered: F::State,
@@ -51,7 +51,7 @@ fn take_step<F: Fold>(
     Ok((next, items))
 }
 
-/// Whether what was kept of a piece may be taken if it is entered in a state. If that is known, no states are
+/// Whether the states and items of a kept piece still hold if it is entered in a state. If `known` says so, no states are
 /// compared.
 pub(crate) fn is_taken<F: Fold>(fold: &F, state: &F::State, piece: &Piece<F>, known: bool) -> bool
     requires { known ≡ true → is_taken (F.steps fold.now) state.now piece.now ≡ true }
@@ -66,8 +66,8 @@ pub(crate) fn is_taken<F: Fold>(fold: &F, state: &F::State, piece: &Piece<F>, kn
     }
 }
 
-/// The state after a piece and its items, if it is entered in a state: kept ones if these may be taken, and else
-/// by a step.
+/// The state after a piece and its items, if it is entered in a state: the kept ones if they still hold, else those of a
+/// step.
 pub(crate) fn passed<F: Fold>(
     alloc: Global,
     fold: &F,

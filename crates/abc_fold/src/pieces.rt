@@ -1,4 +1,4 @@
-//! Pieces of which it is known which follow each other.
+//! Pieces with marks of which ones follow each other.
 
 ghost use Rattle.std.specs.Prelude.{◌≡◌, [], ◌∷◌, ◌++◌, IfOk, OnErr, OnOk, true};
 ghost use Rattle.abc_fold.specs.Following.{AreMarked, FollowsLast};
@@ -7,8 +7,8 @@ use crate::{Fold, Piece};
 use std::alloc::{AllocError, Global};
 use std::marker::Model;
 
-/// Pieces one after the other, each with a mark whether it is known that it was entered in the very state in which the
-/// one before it was left. Contracts see the pieces.
+/// Pieces in order. The mark of a piece is set if it is known that it was entered in the very state in which the piece
+/// before it was left. Contracts see the pieces.
 #[derive(Drop)]
 pub struct Pieces<F: Fold> {
     pieces: Vec<Piece<F>>,
@@ -48,8 +48,7 @@ impl<F: Fold> Pieces<F> {
         })
     }
 
-    /// Appends a piece of which it is not known whether it follows the last one. If an allocation fails, the pieces stay
-    /// as they were.
+    /// Appends a piece. It may follow the last one or not. If an allocation fails, the pieces do not change.
     #[inline(always)]
     pub fn push(&mut self, piece: Piece<F>) -> Result<(), AllocError>
         ensures ok { OnOk result (self.new ≡ self.old ++ piece ∷ []) }
@@ -58,8 +57,8 @@ impl<F: Fold> Pieces<F> {
         self.put(piece, false)
     }
 
-    /// Appends a kept piece that was entered in the very state in which the last one was left, if there is one. Where
-    /// memory is refused the pieces stay as they were.
+    /// Appends a kept piece that was entered in the very state in which the last one was left, if there is one. If an
+    /// allocation fails, the pieces do not change.
     #[inline(always)]
     pub fn push_following(&mut self, piece: Piece<F>) -> Result<(), AllocError>
         requires { FollowsLast self.old piece }

@@ -6,7 +6,7 @@ use std::alloc::{AllocError, Global};
 use std::marker::Model;
 use std::rc::Rc;
 
-/// A value that several owners share. Contracts see the value, and not who else has it.
+/// A value that several owners share. Contracts see only the value.
 #[derive(Drop)]
 pub struct Shared<T: Drop> {
     value: Rc<T>,
@@ -35,7 +35,7 @@ impl<T: Drop> Shared<T> {
         Ok(Shared { value })
     }
 
-    /// The same value, with one owner more. No memory is taken.
+    /// The same value, with one more owner. It allocates nothing.
     pub fn share(&self) -> Result<Shared<T>, AllocError>
         ensures { IfOk result (λ shared. shared ≡ self.now) }
     {

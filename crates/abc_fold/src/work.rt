@@ -1,4 +1,4 @@
-//! The work that an edit costs, counted.
+//! Counters of an edit's work.
 
 ghost use Rattle.std.specs.Prelude.{◌≡◌};
 ghost use Rattle.abc_fold.specs.Work.{Counters, raised};
@@ -6,10 +6,9 @@ ghost use Rattle.abc_fold.specs.Work.{Counters, raised};
 use std::marker::Model;
 use std::rt::Runtime;
 
-/// How many lines were scanned, steps folded and tunes built. Only `mint` makes one, from the
-/// runtime, and none can be copied: code that borrows one and has no runtime can count nowhere
-/// else. A counter that has come to the greatest `u64` stays there. Contracts see the three
-/// numbers, as `Counters`. In C it is three `uint64_t` in this order.
+/// The numbers of scanned lines, folded steps and built tunes. Only `mint` makes one, from the runtime, and none can be
+/// copied. So code that borrows one and has no runtime cannot count elsewhere. A counter stops at the greatest `u64`.
+/// Contracts see the three numbers, as `Counters`. In C it is three `uint64_t` in this order.
 #[derive(Drop)]
 #[repr(C)]
 pub struct Work {
@@ -38,42 +37,42 @@ impl Work {
         }
     }
 
-    /// How many lines were scanned.
+    /// The number of scanned lines.
     pub fn scanned(&self) -> u64
         ensures { result ≡ self.now.scanned }
     {
         self.scanned
     }
 
-    /// How many steps were folded.
+    /// The number of folded steps.
     pub fn folded(&self) -> u64
         ensures { result ≡ self.now.folded }
     {
         self.folded
     }
 
-    /// How many tunes were built.
+    /// The number of built tunes.
     pub fn built(&self) -> u64
         ensures { result ≡ self.now.built }
     {
         self.built
     }
 
-    /// Counts one line scanned.
+    /// Counts one scanned line.
     pub fn count_scanned(&mut self)
         ensures { self.new ≡ record self.old { scanned = raised self.old.scanned 1 } }
     {
         raise(&mut self.scanned);
     }
 
-    /// Counts one step folded.
+    /// Counts one folded step.
     pub fn count_folded(&mut self)
         ensures { self.new ≡ record self.old { folded = raised self.old.folded 1 } }
     {
         raise(&mut self.folded);
     }
 
-    /// Counts one tune built.
+    /// Counts one built tune.
     pub fn count_built(&mut self)
         ensures { self.new ≡ record self.old { built = raised self.old.built 1 } }
     {

@@ -323,7 +323,7 @@ module _ {X : Type 0} {r : GapRow X} (g : IsGapped r) where
       (omega (arith, g.before, length_push g.front item)) (omega (arith, g.count, length_push g.front item)) (omega (arith, room))
       (sym (seam g.front item g.back) ∙ sym (inserted g.front g.back item) ∙ ap (λ i. insert (g.front ++ g.back) i item) (sym g.before) ∙ ap (λ xs. insert xs r.at item) (sym held))
 
-  -- the item with so many others before it
+  -- the item at an index
   module _ (index : ℕ) (inside : index < r.size) where
     pub seen_at : get_or r.places.row (place_of r index) None ≡ slice_get (items_of r) index
     seen_at = ⊎_elim

@@ -1,4 +1,4 @@
--- What is left of a list's items once one of them was taken, and that each is given in order.
+-- The items that are left once one of them was taken, and that an iterator returns them in order.
 use Rattle.std.proofs.Common.{◌≡◌, ℕ, suc, zero, ◌+◌, ◌-◌, ◌<◌, ◌≤◌, List, [], ◌∷◌, take, drop, length, Option, Some, None, refl, ap, ◌∙◌, arith}
 use Rattle.std.specs.Prelude.{option_copied, slice_get}
 use Rattle.std.specs.Borrow.{Bor}

@@ -15,7 +15,7 @@ pub length-replaced_run : {X : Type 0} (xs : List X) (at removed : ℕ) (new : L
     → length (replaced_run xs at removed new) ≡ length xs - removed + length new
 length-replaced_run xs at removed new inside = grind (arith, common_steps)
 
--- where the items stand
+-- the places of the items
 pub item_front : {X : Type 0} (xs : List X) (at removed : ℕ) (new : List X) (i : ℕ) → at + removed ≤ length xs → i < at
     → slice_get xs i ≡ slice_get (replaced_run xs at removed new) i
 item_front xs at removed new i inside before = grind (arith, common_steps, gets)

@@ -1,4 +1,4 @@
--- A `&` to a row of places is made where a `&` to an item is. Assumes `Logic`.
+-- A `&` to a row of places is made from a `&` to an item. Assumes `Logic`.
 --     shows_laws, row_laws      what it holds can be had twice, and for a shorter time
 --     lends_row                 it is made of a borrow of the row
 use Rattle.std.specs.Prelude.{ℕ, ◌+◌, List, [], ◌∷◌, Option, Some, None}

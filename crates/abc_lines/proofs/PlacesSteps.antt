@@ -1,9 +1,9 @@
 -- What the walks over places share. Assumes `Logic`.
---     full_inside             a place that holds an item stands in its row
+--     full_inside             a place that holds an item is in its row
 --     reached, reached_one    how far its bytes lie from the start of the row, and that an item's bytes can be counted
 --     lift, lower             one place is taken out of the row, and put back with other contents
 --     kept_count              the row that comes of it is as long
---     sees                    of a row that is lent, one place is
+--     sees                    one place of a row that is borrowed
 --     fresh, spent            room for an array is a row of empty places, and the other way round
 --     one_made                a struct of one field is made of the field
 use Rattle.std.proofs.Common.{◌≡◌, ℕ, suc, zero, ◌+◌, ◌*◌, ◌^◌, ◌<◌, List, [], ◌∷◌, Option, Some, None, refl, sym, subst, length, get_or, set, length-set, replicate, arith}

@@ -23,7 +23,8 @@ pub copied-more : (lines : List (Vec ℕ)) (copies : Text) (i : ℕ) (line : Vec
     → copies ≡ lines_of (take i lines) → copies ++ line.items ∷ [] ≡ lines_of (take (i + 1) lines)
 copied-more lines copies i line within is copied =
     let after : lines_of (take (i + 1) lines) ≡ lines_of (take i lines) ++ line.items ∷ [] =
-    ap lines_of (take_more lines i line within) ∙ map-append (λ (l : Vec ℕ). l.items) (take i lines) (get_or lines i line ∷ []) ∙ ap (λ x. lines_of (take i lines) ++ x ∷ []) (ap (λ (l : Vec ℕ). l.items) (sym is)) in
+    ap lines_of (take_more lines i line within) ∙ map-append (λ (l : Vec ℕ). l.items) (take i lines) (get_or lines i line ∷ [])
+    ∙ ap (λ x. lines_of (take i lines) ++ x ∷ []) (ap (λ (l : Vec ℕ). l.items) (sym is)) in
     ap (λ t. t ++ line.items ∷ []) copied ∙ sym after
 
 pub length-lines_of : (lines : List (Vec ℕ)) → length (lines_of lines) ≡ length lines
@@ -60,7 +61,7 @@ rest_good : (n : ℕ) (text : Text) → list_all is_line text ≡ true → list_
 rest_good n text good =
     list_all-from_AllPass is_line (drop n text) (All-drop (λ x. is_line x ≡ true) n text (AllPass-from_list_all is_line text good))
 
--- a splice of lines into a text makes a text, where the lines are few enough
+-- a splice of lines into a text makes a text if the lines are few enough
 pub IsText-spliced : (text : Text) (s : Splice) → IsText text → list_all is_line s.lines ≡ true → length (spliced text s) ≤ MOST_LINES → IsText (spliced text s)
 unfolding spliced
 IsText-spliced text s is good few = record {

@@ -12,7 +12,7 @@ pub record BlockView (X : Type 0) : Type 0 where
 abbrev pub placed : {X : Type 0} → List X → ℕ → ℕ → BlockView X
 placed items gap room = record { items = items; gap = gap; room = room }
 
--- What a row holds, and what no places do.
+-- The view of a row, and of no row.
 abbrev pub block_view : {X : Type 0} → Option (GapRow X) → BlockView X
 block_view None = placed [] 0 0
 block_view (Some row) = placed (items_of row) row.at (row.capacity - row.size)

@@ -11,7 +11,7 @@ pub record Gapped (T : Type 0) : Type 0 where
 abbrev pub gapped : {T : Type 0} → List T → ℕ → ℕ → ℕ → Gapped T
 gapped items gap room moved = record { items = items; gap = gap; room = room; moved = moved }
 
--- How far two places lie apart.
+-- The distance between two places.
 abbrev pub distance : ℕ → ℕ → ℕ
 distance from to = (to - from) + (from - to)
 

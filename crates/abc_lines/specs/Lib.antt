@@ -6,6 +6,7 @@ pub mod GapList
 pub mod GapListLends
 pub mod GapRow
 pub mod GapRowLends
+pub mod ItemRange
 pub mod Lines
 pub mod ListSplice
 pub mod Places

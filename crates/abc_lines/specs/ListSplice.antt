@@ -30,12 +30,12 @@ pub record Patched (T : Type 0) : Type 0 where
 abbrev pub splice_view : {T : Type 0} → Gapped T → ℕ → ℕ → List T → Patched T
 splice_view on at removed new = record { on = on; after = after_splice on at removed new }
 
--- So many items fit: in the list's own places, or in those of an empty list that takes its place.
+-- `count` items fit: in the list's own places, or in those of an empty list that replaces it.
 abbrev pub Fits : {T : Type 0} → ℕ → Gapped T → Option (Gapped T) → Type 0
 Fits count on None = count ≤ places on
 Fits count on (Some roomier) = (places on < count) × (roomier ≡ gapped [] 0 (2 * count) 0)
 
--- What a prepared splice keeps: what it leaves out lies in the list, and there is room for what it puts there.
+-- What a prepared splice keeps: the removed items are in the list, and the new ones fit.
 pub record IsSplice {T : Type 0} (on : Gapped T) (at removed : ℕ) (new : List T) (roomier : Option (Gapped T)) : Type 0 where
   pub inside : at + removed ≤ length on.items
   pub fits : Fits (count_after on removed new) on roomier

@@ -1,5 +1,5 @@
--- A tune book's text. ABC 2.1 says what it means; that it is a list of lines within limits, of which a
--- splice replaces a run, is not in ABC 2.1.
+-- A tune book's text: a list of lines within limits, of which a splice replaces a run. Its meaning is in ABC 2.1; the limits
+-- and splices are not.
 use Rattle.std.specs.Prelude.{◌≡◌, ℕ, ◌+◌, ◌≤◌, ◌&&◌, ◌==◌, Bool, true, not, List, ◌++◌, length, take, drop, map, nat_le}
 use Rattle.std.specs.Borrow.{Bor}
 use Rattle.std.specs.Global.{Vec}

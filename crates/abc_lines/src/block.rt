@@ -11,8 +11,8 @@ use crate::gap_row::GapRow;
 use std::alloc::{AllocError, Global};
 use std::marker::Model;
 
-/// Places for items, with all the empty ones after the first `gap` items; none without a row. It can't be let
-/// go, but for `end`.
+/// Places for items, with all the empty ones after the first `gap` items; none without a row. Only `end`
+/// drops it.
 pub(crate) struct Block<T> {
     row: Option<GapRow<T>>,
 }
@@ -129,7 +129,7 @@ impl<T> Block<T> {
         }
     }
 
-    /// Gives the memory of empty places back.
+    /// Frees the memory of empty places.
     pub(crate) fn end(self)
         requires { self.items ≡ [] }
     {

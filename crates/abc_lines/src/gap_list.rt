@@ -13,9 +13,9 @@ use std::alloc::{AllocError, Global};
 use std::marker::Model;
 use std::mem::replace;
 
-/// Items in order with spare room among them, the gap. It allocates when it is made, and in a splice for which its room
-/// is too little; an item moves when the gap passes over it, and into such a roomier block. Contracts see the items, the
-/// place of the gap, the room and how many places the gap has moved.
+/// Items in order with spare room among them, the gap. A list allocates when it is created, and in a splice for which its
+/// room is too small. An item moves if the gap passes over it or if the list gets a larger block. Contracts see the items,
+/// the place of the gap, the room and how many places the gap has moved.
 pub struct GapList<T> {
     block: Block<T>,
     alloc: Global,
@@ -33,7 +33,7 @@ impl<T> Model for GapList<T> {
 impl<T> GapList<T> {
     ghost use Rattle.abc_lines.specs.GapListLends.{lends_item};
 
-    /// A list with no items, and room for as many as it says.
+    /// A list with no items, and room for `room` items.
     pub fn with_room(alloc: Global, room: usize) -> Result<GapList<T>, AllocError>
         ensures empty { IfOk result (λ list. list ≡ gapped [] 0 room 0) }
         ensures succeeds { room ≡ 0 → IsOk result }
@@ -45,7 +45,7 @@ impl<T> GapList<T> {
         })
     }
 
-    /// The allocator that the list is from.
+    /// The allocator of the list.
     pub fn allocator(&self) -> Global {
         self.alloc
     }
@@ -201,7 +201,7 @@ impl<T> GapList<T> {
     }
 }
 
-/// Empty places with the items of others, in order and before the gap.
+/// Moves the items of `from` into the empty places of `block`, in order and before the gap.
 fn move_items<T>(from: &mut Block<T>, mut block: Block<T>) -> Block<T>
     requires empty { block.items ≡ [] }
     requires room { length from.old.items ≤ block.room }

@@ -12,7 +12,7 @@ use std::alloc::{AllocError, Global};
 use std_alloc::room::may_hold;
 
 /// A list of `size` items in a block of `capacity` places, with all the empty places after the first `at` items.
-/// It can't be let go, but for `destroy_empty`.
+/// Only `destroy_empty` drops it.
 pub(crate) struct GapRow<T> {
     places: Places<T>,
     claim: Claim<T, Global>,
@@ -176,7 +176,7 @@ impl<T> GapRow<T> {
         item
     }
 
-    /// Gives the memory of an empty list back.
+    /// Frees the memory of an empty list.
     pub(crate) fn destroy_empty(self)
         requires gapped { IsGapped self }
         requires empty { self.size ≡ 0 }

@@ -1,11 +1,12 @@
-//! Lists with a gap, the lines of a tune book's text, and how a run of them is replaced in two steps: one that needs
-//! memory and changes nothing, and one that needs none and changes the list.
+//! Lists with a gap, and the lines of a tune book's text. A run of items is replaced in two steps: the first allocates and
+//! changes nothing, the second changes the list and allocates nothing.
 #![tactic(auto)]
 
 mod block;
 mod edit_error;
 mod gap_list;
 mod gap_row;
+mod item_range;
 mod iter;
 mod limits;
 mod line;
@@ -15,6 +16,7 @@ mod splice_patch;
 
 pub use edit_error::EditError;
 pub use gap_list::GapList;
+pub use item_range::{ItemRange, Replacement};
 pub use iter::Iter;
 pub use limits::{LONGEST_LINE, MOST_LINES};
 pub use lines::{LineBuffer, LinePatch};

@@ -25,7 +25,7 @@ pub(crate) fn are_lines(lines: &[Vec<u8>]) -> bool
     lines.iter().all(|line| is_line(line))
 }
 
-/// Copies of the given lines.
+/// Copies of lines.
 pub(crate) fn copies(alloc: Global, lines: &[Vec<u8>]) -> Result<Vec<Line>, AllocError>
     ensures { IfOk result (λ copies. copies.items ≡ lines_of lines.now) }
 {

@@ -31,7 +31,7 @@ impl Model for LineBuffer {
 
 /// A splice of a text, with all the memory that it needs: a list with more room if the text's own has too little.
 /// It must be spent, by `commit` of its text or by `drop_patch`. Contracts see the text that it was prepared on and
-/// the one that it makes.
+/// the text after it.
 pub struct LinePatch {
     splice: SplicePatch<Line>,
 }
@@ -58,7 +58,7 @@ impl LineBuffer {
         })
     }
 
-    /// The allocator that the lines are from.
+    /// The allocator of the lines.
     pub fn allocator(&self) -> Global {
         self.lines.allocator()
     }
@@ -81,8 +81,7 @@ impl LineBuffer {
         }
     }
 
-    /// Prepares to leave out the `removed` lines that follow the first `at`, and to put copies of `lines` in their
-    /// place. Nothing changes.
+    /// Prepares to replace the `removed` lines from index `at` on by copies of `lines`. Nothing changes.
     pub fn splice_prepare(
         &self,
         at: usize,
@@ -126,7 +125,7 @@ impl LineBuffer {
         Ok(())
     }
 
-    /// Puts a prepared text in place, without memory. The patch belongs to the text as it is now.
+    /// Commits a prepared splice without allocating. The patch belongs to the text as it is now.
     pub fn commit(&mut self, patch: LinePatch)
         requires { patch.on ≡ self.old }
         ensures { self.new.text ≡ patch.after }
@@ -137,7 +136,7 @@ impl LineBuffer {
 }
 
 impl LinePatch {
-    /// Gives the patch up.
+    /// Drops the patch: nothing changes.
     pub fn drop_patch(self) {
         let LinePatch { splice } = self;
         splice.drop_patch();

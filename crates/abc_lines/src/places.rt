@@ -1,7 +1,7 @@
-//! A block of memory as a row of places, each of which is empty or holds an item. Here alone a pointer is followed.
+//! A block of memory as a row of places, each of which is empty or holds an item. Only this module follows a pointer.
 //!
-//! Neither type can be let go: the only way to be rid of both is to give the block back, and that takes a row of empty
-//! places. So an item can be neither forgotten nor read twice nor overwritten, and a block neither kept nor freed twice.
+//! Neither type can be dropped: only `deallocate` ends both, and it takes a row of empty places. So no item is leaked,
+//! read twice or overwritten, and no block is leaked or freed twice.
 
 ghost use Rattle.std.specs.Prelude.{◌≡◌, ℕ, ◌<◌, List, Option, Some, None, length, replicate, get_or, slice_set, IfOk};
 ghost use Rattle.std.specs.Vec.Ownership.{FitsInBlock};
@@ -25,7 +25,7 @@ impl<T> Model for Places<T> {
     ghost also_shares = { λ p _ κ. row_lent T.row p.start p.row κ };
 }
 
-/// The right to give a block of `count` places back to the allocator that it is from. It takes no bytes.
+/// The right to free a block of `count` places by the allocator that it is from. It takes no bytes.
 pub(crate) struct Claim<T, A: Allocator> {
     right: PhantomData<*const (T, A)>,
     ghost start: { Ptr },
@@ -57,7 +57,7 @@ pub(crate) fn allocate<T, A: Allocator>(
     }
 }
 
-/// Gives the block back, all of whose places are empty.
+/// Frees the block, all of whose places are empty.
 pub(crate) fn deallocate<T, A: Allocator>(
     alloc: &A,
     places: Places<T>,

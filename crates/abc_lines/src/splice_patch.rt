@@ -10,7 +10,7 @@ use std::marker::Model;
 
 /// A splice of a list, with all the memory that it needs: a list with more room if the one to be spliced has too
 /// little. It must be spent, by `commit` of that one or by `drop_patch`. Contracts see the list that it was prepared on
-/// and what it makes of it.
+/// and the list after it.
 pub struct SplicePatch<T> {
     on: Snapshot<GapList<T>>,
     at: usize,
@@ -30,9 +30,8 @@ impl<T> Model for SplicePatch<T> {
 }
 
 impl<T: Drop> GapList<T> {
-    /// Prepares to leave out the `removed` items that follow the first `at`, and to put others in their place. Nothing
-    /// changes. The list that is spliced has as much room as before if that is enough, and otherwise as many places as
-    /// twice its items.
+    /// Prepares to replace the `removed` items from index `at` on by others. Nothing changes. The list after the splice
+    /// has as many places as before if these are enough, and otherwise twice as many as it has items.
     pub fn splice_prepare(
         &self,
         alloc: Global,
@@ -60,7 +59,7 @@ impl<T: Drop> GapList<T> {
         })
     }
 
-    /// Puts a prepared splice in place, without memory. The patch belongs to the list as it is now.
+    /// Commits a prepared splice without allocating. The patch belongs to the list as it is now.
     pub fn commit(&mut self, patch: SplicePatch<T>)
         requires { patch.on ≡ self.old }
         ensures { self.new ≡ patch.after }
@@ -95,7 +94,7 @@ fn apply_splice<T: Drop>(
 }
 
 impl<T> SplicePatch<T> {
-    /// How many items the list would have. The patch belongs to the list as it is now.
+    /// How many items the list has after the splice. The patch belongs to the list as it is now.
     pub fn len(&self, list: &GapList<T>) -> usize
         requires { self.now.on ≡ list.now }
         ensures { result ≡ length self.now.after.items }
@@ -103,7 +102,7 @@ impl<T> SplicePatch<T> {
         list.len() - self.removed + self.new.len()
     }
 
-    /// The item that would have `i` others before it. The patch belongs to the list as it is now.
+    /// The item at index `i` after the splice. The patch belongs to the list as it is now.
     pub fn get<'a>(&'a self, list: &'a GapList<T>, i: usize) -> Option<&'a T>
         requires { self.now.on ≡ list.now }
         ensures { option_copied result ≡ slice_get self.now.after.items i }
@@ -120,7 +119,7 @@ impl<T> SplicePatch<T> {
         }
     }
 
-    /// Gives the patch up.
+    /// Drops the patch: nothing changes.
     pub fn drop_patch(self)
     where
         T: Drop,

@@ -1,4 +1,4 @@
--- Tunes that begin in states that are alike give the same, and chains that stay say that they do.
+-- Tunes that begin in equivalent states give the same; chains that stay show that they do.
 use Rattle.std.proofs.Common.{◌≡◌, ◌⊎◌, List, [], ◌∷◌, refl, ap, inl, inr}
 use Rattle.std.specs.List.{AllZip}
 use Rattle.abc_book.specs.declared.block.Block.{Block}
@@ -38,7 +38,7 @@ module _ {State Cell Items : Type 0} (steps : Steps State Cell Items) (laws : Is
   begun_alike (entry ∷ entries) a b (cell ∷ some) [] first second = laws.transitive a entry b (laws.symmetric entry a first.0) second.0
   begun_alike (entry ∷ entries) a b (cell ∷ some) (other ∷ others) first second = laws.transitive a entry b (laws.symmetric entry a first.0) second.0
 
-  -- Chains that are folds from two states say that these are alike.
+  -- If a chain is the fold from two states, these are equivalent.
   pub chains_alike : (read : List ℕ → List Cell) (a b : State) (text new : Text) (chains : List (Chained State Cell Items)) (blocks others : List Block)
       → AllZip (IsChainOf steps read a text) chains blocks → AllZip (IsChainOf steps read b new) chains others → (blocks ≡ []) ⊎ IsAlike steps a b
   chains_alike read a b text new [] [] others first second = inl refl

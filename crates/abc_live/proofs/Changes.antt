@@ -9,7 +9,8 @@ use Rattle.std.proofs.lemmas.List.{drop-drop, map-append, take-append-drop}
 use Rattle.std.proofs.lemmas.List.Elements.{All-append, All-contains, All-contains_itself, All-drop, All-nil, All-take}
 use Rattle.abc_book.specs.declared.block.Block.{Block}
 use Rattle.abc_live_text.specs.Chains.{AreChains, IsHeaderChainOf}
-use Rattle.abc_live_text.specs.KeptText.{KeptPatchView, HoldsHeader, KeepsHeader, gone, block_after}
+use Rattle.abc_lines.specs.ItemRange.{gone}
+use Rattle.abc_live_text.specs.KeptText.{KeptPatchView, HoldsHeader, KeepsHeader, block_after}
 use Rattle.abc_fold.specs.Chain.{Chained}
 use Rattle.abc_fold.specs.Steps.{Steps, IsAlike, IsResumable}
 use Rattle.abc_live_index.specs.Faults.{shifted_fault, faults_after}
@@ -127,22 +128,22 @@ module _ {State Cell Items Defaults : Type 0} (steps : Steps State Cell Items) (
       (first : Chained State Cell Items) (there : slice_get patch.chains 0 ≡ Some first) where
     -- the faults that the stretch has
     abbrev pub new_faults : List Fault
-    new_faults = header_faults_there rules patch.stretch.from
-        (counts_among rules.cells patch.text patch.stretch.from patch.stretch.came) first patch.header
-        ++ faults_by rules patch.stretch.from (counts_among rules.cells patch.text patch.stretch.from patch.stretch.came) patch.new_chains patch.places
+    new_faults = header_faults_there rules patch.stretch.lines.from
+        (counts_among rules.cells patch.text patch.stretch.lines.from patch.stretch.lines.came) first patch.header
+        ++ faults_by rules patch.stretch.lines.from (counts_among rules.cells patch.text patch.stretch.lines.from patch.stretch.lines.came) patch.new_chains patch.places
 
-    own_faults : faults_by rules patch.stretch.from
-        (counts_among rules.cells patch.text patch.stretch.from patch.stretch.came) patch.new_chains patch.places
+    own_faults : faults_by rules patch.stretch.lines.from
+        (counts_among rules.cells patch.text patch.stretch.lines.from patch.stretch.lines.came) patch.new_chains patch.places
         ≡ tune_faults (opening_of steps.next rules patch.text (blocks_in rules patch.text)) patch.text patch.places
     own_faults =
         let start = opening_of steps.next rules patch.text (blocks_in rules patch.text) in
-        faults_follow steps rules start patch.text patch.stretch.from patch.stretch.came patch.new_chains patch.places
+        faults_follow steps rules start patch.text patch.stretch.lines.from patch.stretch.lines.came patch.new_chains patch.places
         (made_chains steps rules s patch is) (places_lie steps rules s patch is)
 
-    own_stand : All (FaultAmong patch.stretch.from patch.stretch.came) (tune_faults (opening_of steps.next rules patch.text (blocks_in rules patch.text)) patch.text patch.places)
+    own_stand : All (FaultAmong patch.stretch.lines.from patch.stretch.lines.came) (tune_faults (opening_of steps.next rules patch.text (blocks_in rules patch.text)) patch.text patch.places)
     own_stand =
         tunes_stand steps rules (opening_of steps.next rules patch.text (blocks_in rules patch.text)) patch.text
-        (FaultAmong patch.stretch.from patch.stretch.came) patch.places (parts_lie steps rules s patch is)
+        (FaultAmong patch.stretch.lines.from patch.stretch.lines.came) patch.places (parts_lie steps rules s patch is)
         (λ k d inside. λ fault stands.
         let lies = places_lie steps rules s patch is k d inside in
         let behind = lies.behind in
@@ -161,32 +162,34 @@ module _ {State Cell Items Defaults : Type 0} (steps : Steps State Cell Items) (
     start = opening_of steps.next rules patch.on.lines.text (blocks_in rules patch.on.lines.text)
 
     abbrev front_tunes : List Block
-    front_tunes = take patch.stretch.front patch.on.tunes
+    front_tunes = take patch.stretch.tunes.from patch.on.tunes
 
     abbrev amid_tunes : List Block
-    amid_tunes = take (patch.stretch.behind - patch.stretch.front) (drop patch.stretch.front patch.on.tunes)
+    amid_tunes = take (patch.stretch.tunes.to - patch.stretch.tunes.from) (drop patch.stretch.tunes.from patch.on.tunes)
 
     abbrev behind_tunes : List Block
-    behind_tunes = drop patch.stretch.behind patch.on.tunes
+    behind_tunes = drop patch.stretch.tunes.to patch.on.tunes
 
     abbrev old_faults : List Block → List Fault
     old_faults tunes = tune_faults (opening_of steps.next rules patch.on.lines.text (blocks_in rules patch.on.lines.text)) patch.on.lines.text tunes
 
-    amid_lie : All (LiesIn (length patch.on.lines.text)) (take (patch.stretch.behind - patch.stretch.front) (drop patch.stretch.front patch.on.tunes))
+    amid_lie : All (LiesIn (length patch.on.lines.text)) (take (patch.stretch.tunes.to - patch.stretch.tunes.from) (drop patch.stretch.tunes.from patch.on.tunes))
     amid_lie =
         let P = LiesIn (length patch.on.lines.text) in
-        All-take P (patch.stretch.behind - patch.stretch.front) (drop patch.stretch.front patch.on.tunes) (All-drop P patch.stretch.front patch.on.tunes (old_lie steps rules s patch is))
+        All-take P (patch.stretch.tunes.to - patch.stretch.tunes.from) (drop patch.stretch.tunes.from patch.on.tunes)
+        (All-drop P patch.stretch.tunes.from patch.on.tunes (old_lie steps rules s patch is))
 
-    behind_lie : All (LiesIn (length patch.on.lines.text)) (drop patch.stretch.behind patch.on.tunes)
-    behind_lie = All-drop (LiesIn (length patch.on.lines.text)) patch.stretch.behind patch.on.tunes (old_lie steps rules s patch is)
+    behind_lie : All (LiesIn (length patch.on.lines.text)) (drop patch.stretch.tunes.to patch.on.tunes)
+    behind_lie = All-drop (LiesIn (length patch.on.lines.text)) patch.stretch.tunes.to patch.on.tunes (old_lie steps rules s patch is)
 
-    end_is : patch.stretch.to ≡ patch.stretch.from + gone patch.stretch
+    end_is : patch.stretch.lines.to ≡ patch.stretch.lines.from + gone patch.stretch.lines
     end_is = let order = old_stretch steps rules s patch is in omega (arith, order)
 
-    amid_stand : All (FaultAmong patch.stretch.from (gone patch.stretch)) (old_faults (take (patch.stretch.behind - patch.stretch.front) (drop patch.stretch.front patch.on.tunes)))
+    amid_stand : All (FaultAmong patch.stretch.lines.from (gone patch.stretch.lines))
+        (old_faults (take (patch.stretch.tunes.to - patch.stretch.tunes.from) (drop patch.stretch.tunes.from patch.on.tunes)))
     amid_stand =
-        tunes_stand steps rules start patch.on.lines.text (FaultAmong patch.stretch.from (gone patch.stretch))
-        (take (patch.stretch.behind - patch.stretch.front) (drop patch.stretch.front patch.on.tunes)) amid_lie
+        tunes_stand steps rules start patch.on.lines.text (FaultAmong patch.stretch.lines.from (gone patch.stretch.lines))
+        (take (patch.stretch.tunes.to - patch.stretch.tunes.from) (drop patch.stretch.tunes.from patch.on.tunes)) amid_lie
         (λ k d inside. λ fault stands.
         let own = is.in_stretch.amid k d inside in
         let behind = own.0 in
@@ -196,65 +199,66 @@ module _ {State Cell Items Defaults : Type 0} (steps : Steps State Cell Items) (
         let end = end_is in
         (omega (arith, behind, least), omega (arith, before, most, end)))
 
-    behind_stand : All (FaultAfter (patch.stretch.from + gone patch.stretch)) (old_faults (drop patch.stretch.behind patch.on.tunes))
+    behind_stand : All (FaultAfter (patch.stretch.lines.from + gone patch.stretch.lines)) (old_faults (drop patch.stretch.tunes.to patch.on.tunes))
     behind_stand =
-        tunes_stand steps rules start patch.on.lines.text (FaultAfter (patch.stretch.from + gone patch.stretch)) (drop patch.stretch.behind patch.on.tunes) behind_lie
+        tunes_stand steps rules start patch.on.lines.text (FaultAfter (patch.stretch.lines.from + gone patch.stretch.lines)) (drop patch.stretch.tunes.to patch.on.tunes) behind_lie
         (λ k d inside. λ fault stands.
         let behind = is.in_stretch.beyond k d inside in
         let least = stands.0 in
         let end = end_is in
         omega (arith, behind, least, end))
 
-    -- the tunes after the stretch give as before, where they begin in a state that is alike
+    -- the tunes after the stretch give as before if they begin in an equivalent state
     from_start : IsResumable steps → tune_faults (opening_of steps.next rules patch.text (blocks_in rules patch.text)) patch.text
         (map (block_after patch.stretch) behind_tunes) ≡ tune_faults start patch.text (map (block_after patch.stretch) behind_tunes)
     from_start laws =
         let now = opening_of steps.next rules patch.text (blocks_in rules patch.text) in
         ⊎_elim
-        (λ (none : drop patch.stretch.behind patch.on.tunes ≡ []).
+        (λ (none : drop patch.stretch.tunes.to patch.on.tunes ≡ []).
         ap (λ l. tune_faults now patch.text (map (block_after patch.stretch) l)) none ∙ sym (ap (λ l. tune_faults start patch.text (map (block_after patch.stretch) l)) none))
         (λ (alike : IsAlike steps start now). ap faults_of_tunes (sym (tunes_alike steps laws rules start now patch.text (map (block_after patch.stretch) behind_tunes) alike)))
         (still_alike steps rules s patch is laws)
 
-    behind_shifted : tune_faults start patch.text (map (block_after patch.stretch) behind_tunes) ≡ map (shifted_fault (gone patch.stretch) patch.stretch.came) (old_faults behind_tunes)
+    behind_shifted : tune_faults start patch.text (map (block_after patch.stretch) behind_tunes) ≡ map (shifted_fault (gone patch.stretch.lines) patch.stretch.lines.came) (old_faults behind_tunes)
     behind_shifted =
         let same = is.in_stretch.lines_behind ∙ ap (λ n. drop n patch.on.lines.text) end_is in
-        let beyond : All (λ (block : Block). patch.stretch.from + gone patch.stretch ≤ block.from) behind_tunes =
+        let beyond : All (λ (block : Block). patch.stretch.lines.from + gone patch.stretch.lines ≤ block.from) behind_tunes =
         λ k d inside. let behind = is.in_stretch.beyond k d inside in let end = end_is in omega (arith, behind, end) in
-        shifted_tunes steps rules start patch.on.lines.text patch.text patch.stretch.from (gone patch.stretch) patch.stretch.came behind_tunes same beyond behind_lie
+        shifted_tunes steps rules start patch.on.lines.text patch.text patch.stretch.lines.from (gone patch.stretch.lines) patch.stretch.lines.came behind_tunes same beyond behind_lie
 
-    -- where the stretch begins with the text and holds the file header
+    -- if the stretch begins with the text and has the file header
     module _ (holds : HoldsHeader patch) where
       holds_parts : patch.on.tunes ≡ amid_tunes ++ behind_tunes
       holds_parts =
-          three_parts patch.stretch.front patch.stretch.behind patch.on.tunes is.in_stretch.order
+          three_parts patch.stretch.tunes.from patch.stretch.tunes.to patch.on.tunes is.in_stretch.order
           ∙ ap (λ n. take n patch.on.tunes ++ (amid_tunes ++ behind_tunes)) holds.front
 
       holds_places : patch.tunes ≡ patch.places ++ map (block_after patch.stretch) behind_tunes
       holds_places = is.in_stretch.tunes_are ∙ ap (λ n. take n patch.on.tunes ++ (patch.places ++ map (block_after patch.stretch) behind_tunes)) holds.front
 
-      holds_header : header_faults_there rules patch.stretch.from
-          (counts_among rules.cells patch.text patch.stretch.from patch.stretch.came) first patch.header ≡ header_faults steps.next steps.gives rules patch.text patch.header
-      holds_header = header_there patch.text patch.stretch.from patch.stretch.came first patch.header (first_is steps rules s patch is first there) new_header holds.from holds.comes
+      holds_header : header_faults_there rules patch.stretch.lines.from
+          (counts_among rules.cells patch.text patch.stretch.lines.from patch.stretch.lines.came) first patch.header ≡ header_faults steps.next steps.gives rules patch.text patch.header
+      holds_header = header_there patch.text patch.stretch.lines.from patch.stretch.lines.came first patch.header (first_is steps rules s patch is first there) new_header holds.from holds.comes
 
-      holds_new : IsResumable steps → faults_found patch.text patch.header patch.tunes ≡ new_faults ++ map (shifted_fault (gone patch.stretch) patch.stretch.came) (old_faults behind_tunes)
+      holds_new : IsResumable steps → faults_found patch.text patch.header patch.tunes ≡ new_faults ++ map (shifted_fault (gone patch.stretch.lines) patch.stretch.lines.came) (old_faults behind_tunes)
       holds_new laws =
           let own = opening_of steps.next rules patch.text (blocks_in rules patch.text) in
           let head = header_faults steps.next steps.gives rules patch.text patch.header in
           let moved = map (block_after patch.stretch) behind_tunes in
-          let shifted = map (shifted_fault (gone patch.stretch) patch.stretch.came) (old_faults behind_tunes) in
+          let shifted = map (shifted_fault (gone patch.stretch.lines) patch.stretch.lines.came) (old_faults behind_tunes) in
           ap (λ tunes. head ++ tune_faults own patch.text tunes) holds_places
           ∙ ap (λ l. head ++ l) (faults_append own patch.text patch.places moved)
           ∙ ap (λ l. head ++ (tune_faults own patch.text patch.places ++ l)) (from_start laws ∙ behind_shifted)
           ∙ ap (λ l. head ++ (l ++ shifted)) (sym own_faults)
-          ∙ ap (λ l. l ++ (faults_by rules patch.stretch.from (counts_among rules.cells patch.text patch.stretch.from patch.stretch.came) patch.new_chains patch.places ++ shifted)) (sym holds_header)
-          ∙ sym (append_assoc (header_faults_there rules patch.stretch.from
-          (counts_among rules.cells patch.text patch.stretch.from patch.stretch.came) first patch.header)
-          (faults_by rules patch.stretch.from (counts_among rules.cells patch.text patch.stretch.from patch.stretch.came) patch.new_chains patch.places) shifted)
+          ∙ ap (λ l. l ++ (faults_by rules patch.stretch.lines.from (counts_among rules.cells patch.text patch.stretch.lines.from patch.stretch.lines.came)
+          patch.new_chains patch.places ++ shifted)) (sym holds_header)
+          ∙ sym (append_assoc (header_faults_there rules patch.stretch.lines.from
+          (counts_among rules.cells patch.text patch.stretch.lines.from patch.stretch.lines.came) first patch.header)
+          (faults_by rules patch.stretch.lines.from (counts_among rules.cells patch.text patch.stretch.lines.from patch.stretch.lines.came) patch.new_chains patch.places) shifted)
 
-      holds_stand : All (FaultAmong patch.stretch.from patch.stretch.came) new_faults
+      holds_stand : All (FaultAmong patch.stretch.lines.from patch.stretch.lines.came) new_faults
       holds_stand =
-          let P = FaultAmong patch.stretch.from patch.stretch.came in
+          let P = FaultAmong patch.stretch.lines.from patch.stretch.lines.came in
           All-append P _ _
           (subst (All P) (sym holds_header) (header_stands steps rules patch.text P patch.header new_header
           (λ block is_some fault stands.
@@ -265,9 +269,9 @@ module _ {State Cell Items Defaults : Type 0} (steps : Steps State Cell Items) (
           (omega (arith, least, none), omega (arith, most, ends, none)))))
           (subst (All P) (sym own_faults) own_stand)
 
-      holds_old : All (FaultAmong patch.stretch.from (gone patch.stretch)) (header_faults steps.next steps.gives rules patch.on.lines.text patch.on.header ++ old_faults amid_tunes)
+      holds_old : All (FaultAmong patch.stretch.lines.from (gone patch.stretch.lines)) (header_faults steps.next steps.gives rules patch.on.lines.text patch.on.header ++ old_faults amid_tunes)
       holds_old =
-          let P = FaultAmong patch.stretch.from (gone patch.stretch) in
+          let P = FaultAmong patch.stretch.lines.from (gone patch.stretch.lines) in
           All-append P (header_faults steps.next steps.gives rules patch.on.lines.text patch.on.header) (old_faults amid_tunes)
           (header_stands steps rules patch.on.lines.text P patch.on.header old_header
           (λ block is_some fault stands.
@@ -287,38 +291,39 @@ module _ {State Cell Items Defaults : Type 0} (steps : Steps State Cell Items) (
           ∙ ap (λ l. head ++ l) (faults_append start patch.on.lines.text amid_tunes behind_tunes)
           ∙ sym (append_assoc head (old_faults amid_tunes) (old_faults behind_tunes))
 
-      holds_meets : IsResumable steps → faults_after patch.stretch.from (gone patch.stretch) patch.stretch.came
+      holds_meets : IsResumable steps → faults_after patch.stretch.lines
           (book_of steps rules patch.on.lines.text).faults new_faults ≡ (book_of steps rules patch.text).faults
       holds_meets laws =
-          ap (λ faults. faults_after patch.stretch.from (gone patch.stretch) patch.stretch.came faults new_faults)
+          ap (λ faults. faults_after patch.stretch.lines faults new_faults)
           (book_faults patch.on.lines.text patch.on.header patch.on.tunes is.stood.header_is is.stood.tunes_are ∙ ap (sort_dedup fault_cmp) holds_was)
-          ∙ faults_meet patch.stretch.from (gone patch.stretch) patch.stretch.came []
+          ∙ faults_meet patch.stretch.lines []
           (header_faults steps.next steps.gives rules patch.on.lines.text patch.on.header ++ old_faults amid_tunes) (old_faults behind_tunes) new_faults
-          (All-nil (FaultBefore patch.stretch.from)) holds_old behind_stand holds_stand
+          (All-nil (FaultBefore patch.stretch.lines.from)) holds_old behind_stand holds_stand
           ∙ ap (sort_dedup fault_cmp) (sym (holds_new laws))
           ∙ sym (book_faults patch.text patch.header patch.tunes is.stands.header_is is.stands.tunes_are)
 
-    -- where the file header stays
+    -- if the file header stays
     module _ (keeps : KeepsHeader patch) where
       start_same : opening_of steps.next rules patch.text (blocks_in rules patch.text) ≡ opening_of steps.next rules patch.on.lines.text (blocks_in rules patch.on.lines.text)
       start_same =
           ap (λ h. rules.tune (state_after_header steps.next rules patch.text h)) (sym is.stands.header_is ∙ keeps.header)
-          ∙ ap rules.tune (same_behind steps rules patch.on.lines.text patch.text patch.stretch.from patch.on.header is.in_stretch.lines_before keeps.before old_header)
+          ∙ ap rules.tune (same_behind steps rules patch.on.lines.text patch.text patch.stretch.lines.from patch.on.header is.in_stretch.lines_before keeps.before old_header)
           ∙ ap (λ h. rules.tune (state_after_header steps.next rules patch.on.lines.text h)) is.stood.header_is
 
-      front_lie : All (LiesIn (length patch.on.lines.text)) (take patch.stretch.front patch.on.tunes)
-      front_lie = All-take (LiesIn (length patch.on.lines.text)) patch.stretch.front patch.on.tunes (old_lie steps rules s patch is)
+      front_lie : All (LiesIn (length patch.on.lines.text)) (take patch.stretch.tunes.from patch.on.tunes)
+      front_lie = All-take (LiesIn (length patch.on.lines.text)) patch.stretch.tunes.from patch.on.tunes (old_lie steps rules s patch is)
 
-      front_stand : All (FaultBefore patch.stretch.from) (header_faults steps.next steps.gives rules patch.on.lines.text patch.on.header ++ old_faults (take patch.stretch.front patch.on.tunes))
+      front_stand : All (FaultBefore patch.stretch.lines.from)
+          (header_faults steps.next steps.gives rules patch.on.lines.text patch.on.header ++ old_faults (take patch.stretch.tunes.from patch.on.tunes))
       front_stand =
-          let P = FaultBefore patch.stretch.from in
-          All-append P (header_faults steps.next steps.gives rules patch.on.lines.text patch.on.header) (old_faults (take patch.stretch.front patch.on.tunes))
+          let P = FaultBefore patch.stretch.lines.from in
+          All-append P (header_faults steps.next steps.gives rules patch.on.lines.text patch.on.header) (old_faults (take patch.stretch.tunes.from patch.on.tunes))
           (header_stands steps rules patch.on.lines.text P patch.on.header old_header
           (λ block is_some fault stands.
           let before = keeps.before block is_some in
           let most = stands.1 in
           omega (arith, before, most)))
-          (tunes_stand steps rules start patch.on.lines.text P (take patch.stretch.front patch.on.tunes) front_lie
+          (tunes_stand steps rules start patch.on.lines.text P (take patch.stretch.tunes.from patch.on.tunes) front_lie
           (λ k d inside. λ fault stands.
           let before = is.in_stretch.before k d inside in
           let most = stands.1 in
@@ -326,36 +331,36 @@ module _ {State Cell Items Defaults : Type 0} (steps : Steps State Cell Items) (
 
       kept_new : new_faults ≡ tune_faults (opening_of steps.next rules patch.text (blocks_in rules patch.text)) patch.text patch.places
       kept_new =
-          ap (λ l. l ++ faults_by rules patch.stretch.from (counts_among rules.cells patch.text patch.stretch.from patch.stretch.came) patch.new_chains patch.places)
-          (header_before patch.stretch.from
-          (counts_among rules.cells patch.text patch.stretch.from patch.stretch.came) first patch.header (λ block is_some. keeps.before block (sym keeps.header ∙ is_some)))
+          ap (λ l. l ++ faults_by rules patch.stretch.lines.from (counts_among rules.cells patch.text patch.stretch.lines.from patch.stretch.lines.came) patch.new_chains patch.places)
+          (header_before patch.stretch.lines.from
+          (counts_among rules.cells patch.text patch.stretch.lines.from patch.stretch.lines.came) first patch.header (λ block is_some. keeps.before block (sym keeps.header ∙ is_some)))
           ∙ own_faults
 
       old_is : faults_found patch.on.lines.text patch.on.header patch.on.tunes
           ≡ (header_faults steps.next steps.gives rules patch.on.lines.text patch.on.header ++ old_faults front_tunes) ++ (old_faults amid_tunes ++ old_faults behind_tunes)
       old_is =
           let head = header_faults steps.next steps.gives rules patch.on.lines.text patch.on.header in
-          ap (λ tunes. head ++ old_faults tunes) (three_parts patch.stretch.front patch.stretch.behind patch.on.tunes is.in_stretch.order)
+          ap (λ tunes. head ++ old_faults tunes) (three_parts patch.stretch.tunes.from patch.stretch.tunes.to patch.on.tunes is.in_stretch.order)
           ∙ ap (λ l. head ++ l) (faults_three start patch.on.lines.text front_tunes amid_tunes behind_tunes)
           ∙ sym (append_assoc head (old_faults front_tunes) (old_faults amid_tunes ++ old_faults behind_tunes))
 
       new_header_is : header_faults steps.next steps.gives rules patch.text patch.header ≡ header_faults steps.next steps.gives rules patch.on.lines.text patch.on.header
       new_header_is =
           ap (header_faults steps.next steps.gives rules patch.text) keeps.header
-          ∙ same_header_faults steps rules patch.on.lines.text patch.text patch.stretch.from patch.on.header is.in_stretch.lines_before keeps.before old_header
+          ∙ same_header_faults steps rules patch.on.lines.text patch.text patch.stretch.lines.from patch.on.header is.in_stretch.lines_before keeps.before old_header
 
       new_front : tune_faults (opening_of steps.next rules patch.text (blocks_in rules patch.text)) patch.text front_tunes ≡ old_faults front_tunes
       new_front =
           ap (λ own. tune_faults own patch.text front_tunes) start_same
-          ∙ same_tunes steps rules start patch.on.lines.text patch.text patch.stretch.from front_tunes is.in_stretch.lines_before is.in_stretch.before front_lie
+          ∙ same_tunes steps rules start patch.on.lines.text patch.text patch.stretch.lines.from front_tunes is.in_stretch.lines_before is.in_stretch.before front_lie
 
       new_behind : tune_faults (opening_of steps.next rules patch.text (blocks_in rules patch.text)) patch.text
-          (map (block_after patch.stretch) behind_tunes) ≡ map (shifted_fault (gone patch.stretch) patch.stretch.came) (old_faults behind_tunes)
+          (map (block_after patch.stretch) behind_tunes) ≡ map (shifted_fault (gone patch.stretch.lines) patch.stretch.lines.came) (old_faults behind_tunes)
       new_behind = ap (λ own. tune_faults own patch.text (map (block_after patch.stretch) behind_tunes)) start_same ∙ behind_shifted
 
       new_is : faults_found patch.text patch.header patch.tunes
           ≡ (header_faults steps.next steps.gives rules patch.on.lines.text patch.on.header ++ old_faults front_tunes)
-          ++ (new_faults ++ map (shifted_fault (gone patch.stretch) patch.stretch.came) (old_faults behind_tunes))
+          ++ (new_faults ++ map (shifted_fault (gone patch.stretch.lines) patch.stretch.lines.came) (old_faults behind_tunes))
       new_is =
           let own = opening_of steps.next rules patch.text (blocks_in rules patch.text) in
           let head = header_faults steps.next steps.gives rules patch.on.lines.text patch.on.header in
@@ -365,25 +370,25 @@ module _ {State Cell Items Defaults : Type 0} (steps : Steps State Cell Items) (
           ∙ ap (λ l. head ++ l) (faults_three own patch.text front_tunes patch.places moved)
           ∙ ap (λ l. head ++ (l ++ (tune_faults own patch.text patch.places ++ tune_faults own patch.text moved))) new_front
           ∙ ap (λ l. head ++ (old_faults front_tunes ++ (tune_faults own patch.text patch.places ++ l))) new_behind
-          ∙ ap (λ l. head ++ (old_faults front_tunes ++ (l ++ map (shifted_fault (gone patch.stretch) patch.stretch.came) (old_faults behind_tunes)))) (sym kept_new)
-          ∙ sym (append_assoc head (old_faults front_tunes) (new_faults ++ map (shifted_fault (gone patch.stretch) patch.stretch.came) (old_faults behind_tunes)))
+          ∙ ap (λ l. head ++ (old_faults front_tunes ++ (l ++ map (shifted_fault (gone patch.stretch.lines) patch.stretch.lines.came) (old_faults behind_tunes)))) (sym kept_new)
+          ∙ sym (append_assoc head (old_faults front_tunes) (new_faults ++ map (shifted_fault (gone patch.stretch.lines) patch.stretch.lines.came) (old_faults behind_tunes)))
 
-      kept_meets : faults_after patch.stretch.from (gone patch.stretch) patch.stretch.came (book_of steps rules patch.on.lines.text).faults new_faults ≡ (book_of steps rules patch.text).faults
+      kept_meets : faults_after patch.stretch.lines (book_of steps rules patch.on.lines.text).faults new_faults ≡ (book_of steps rules patch.text).faults
       kept_meets =
-          ap (λ faults. faults_after patch.stretch.from (gone patch.stretch) patch.stretch.came faults new_faults)
+          ap (λ faults. faults_after patch.stretch.lines faults new_faults)
           (book_faults patch.on.lines.text patch.on.header patch.on.tunes is.stood.header_is is.stood.tunes_are ∙ ap (sort_dedup fault_cmp) old_is)
-          ∙ faults_meet patch.stretch.from (gone patch.stretch) patch.stretch.came
+          ∙ faults_meet patch.stretch.lines
           (header_faults steps.next steps.gives rules patch.on.lines.text patch.on.header ++ old_faults front_tunes) (old_faults amid_tunes) (old_faults behind_tunes) new_faults
-          front_stand amid_stand behind_stand (subst (All (FaultAmong patch.stretch.from patch.stretch.came)) (sym kept_new) own_stand)
+          front_stand amid_stand behind_stand (subst (All (FaultAmong patch.stretch.lines.from patch.stretch.lines.came)) (sym kept_new) own_stand)
           ∙ ap (sort_dedup fault_cmp) (sym new_is)
           ∙ sym (book_faults patch.text patch.header patch.tunes is.stands.header_is is.stands.tunes_are)
 
     meets : IsResumable steps → HoldsHeader patch ⊎ KeepsHeader patch
-        → faults_after patch.stretch.from (gone patch.stretch) patch.stretch.came (book_of steps rules patch.on.lines.text).faults new_faults ≡ (book_of steps rules patch.text).faults
+        → faults_after patch.stretch.lines (book_of steps rules patch.on.lines.text).faults new_faults ≡ (book_of steps rules patch.text).faults
     meets laws (inl holds) = holds_meets holds laws
     meets laws (inr keeps) = kept_meets keeps
 
     -- the faults of the new text
-    pub faults_are : IsResumable steps → faults_after patch.stretch.from (gone patch.stretch) patch.stretch.came
+    pub faults_are : IsResumable steps → faults_after patch.stretch.lines
         (book_of steps rules patch.on.lines.text).faults new_faults ≡ (book_of steps rules patch.text).faults
     faults_are laws = meets laws is.in_stretch.header_is

@@ -72,12 +72,12 @@ kept_unbuilt first (suc count) = let one = sum_by-cons built_count_at (Some firs
 
 pub stretch_built : {C State Cell Items : Type 0} (patch : KeptPatchView C State Cell Items) → built_count (all_reused_tunes patch) ≡ built_count patch.reused_tunes
 stretch_built patch =
-    let front = kept_numbers 0 patch.stretch.front in
-    let behind = kept_numbers patch.stretch.behind (length patch.on.tunes - patch.stretch.behind) in
+    let front = kept_numbers 0 patch.stretch.tunes.from in
+    let behind = kept_numbers patch.stretch.tunes.to (length patch.on.tunes - patch.stretch.tunes.to) in
     let all = sum_by-append built_count_at front (patch.reused_tunes ++ behind) in
     let rest = sum_by-append built_count_at patch.reused_tunes behind in
-    let no_front = kept_unbuilt 0 patch.stretch.front in
-    let no_behind = kept_unbuilt patch.stretch.behind (length patch.on.tunes - patch.stretch.behind) in
+    let no_front = kept_unbuilt 0 patch.stretch.tunes.from in
+    let no_behind = kept_unbuilt patch.stretch.tunes.to (length patch.on.tunes - patch.stretch.tunes.to) in
     omega (arith, all, rest, no_front, no_behind)
 
 module _ {State Cell Items Defaults : Type 0} (steps : Steps State Cell Items) (rules : Rules State Cell Items Defaults) (text : Text) where
@@ -92,11 +92,11 @@ module _ {State Cell Items Defaults : Type 0} (steps : Steps State Cell Items) (
     folds_lines : IsWorkUpTo (length s.lines) (fresh_cells_after steps rules text s) before between
     folds_lines = subst (λ n. IsWorkUpTo n (fresh_cells_after steps rules text s) before between) lines folds
 
-    -- where nothing is built
+    -- if nothing is built
     pub fold_only : MayCost (cost_of steps rules text (Some s)) before between
     fold_only = worked_more (length s.lines) (fresh_cells_after steps rules text s) (touched_tunes_after steps rules text s) before between folds_lines
 
-    -- where the tunes of the stretch that take nothing over are built
+    -- if the tunes of the stretch that reuse nothing are built
     pub fold_build : (reused_tunes made : List (Option ℕ)) → TakesUntouched steps rules text s reused_tunes
         → built_count reused_tunes ≡ built_count made → IsBuiltUpTo (built_count made) between after → MayCost (cost_of steps rules text (Some s)) before after
     fold_build reused_tunes made takes same builds =

@@ -1,4 +1,4 @@
--- Where the faults of tunes and of a file header stand, and that they move with their lines.
+-- The lines of the faults of tunes and of a file header: the faults move with their lines.
 use Rattle.std.proofs.Common.{◌≡◌, ℕ, ◌+◌, ◌-◌, ◌<◌, ◌≤◌, List, [], ◌∷◌, ◌++◌, length, drop, map, take, Option, Some, None, refl}
 use Rattle.std.proofs.Common.{sym, ap, ◌∙◌, arith}
 use Rattle.std.specs.Prelude.{All, IfSome}
@@ -112,7 +112,7 @@ module _ {State Cell Items Defaults : Type 0} (steps : Steps State Cell Items) (
       ap (λ n. record { line = n; column = fault.column; code = fault.code } ∷ map (fault_moved (first - gone + came + 1)) faults) line
       ∙ ap (λ l. shifted_fault gone came (fault_moved (first + 1) fault) ∷ l) (moved_shifted first gone came behind faults)
 
-  -- a tune of the same lines elsewhere has its faults there
+  -- a tune of the same lines at another place has its faults there
   pub shifted_tune : (text new : Text) (gone came : ℕ) (block : Block) → gone ≤ block.from → lines_in new (shifted gone came block) ≡ lines_in text block
       → (tune_of steps.next steps.gives rules opening new (shifted gone came block)).faults ≡ map (shifted_fault gone came) (tune_of steps.next steps.gives rules opening text block).faults
   unfolding tune_of

@@ -5,7 +5,8 @@ use Rattle.std.specs.List.{AllZip, list_all}
 use Rattle.std.specs.Prelude.{All, IfOk}
 use Rattle.std.proofs.lemmas.List.{length-map}
 use Rattle.abc_book.specs.declared.block.Block.{Block}
-use Rattle.abc_live_text.specs.KeptText.{KeptPatchView, KeptTextView, gone, old_tunes}
+use Rattle.abc_lines.specs.ItemRange.{gone}
+use Rattle.abc_live_text.specs.KeptText.{KeptPatchView, KeptTextView, old_tunes}
 use Rattle.abc_live_text.specs.declared.stretch.Stretch.{Stretch}
 use Rattle.abc_fold.specs.Chain.{Chained}
 use Rattle.abc_fold.specs.Steps.{Steps, IsResumable}
@@ -36,37 +37,37 @@ module _ {C State Cell Items Defaults : Type 0} (steps : Steps State Cell Items)
   makes : (held : Lines) → held ≡ text.lines → patch.text ≡ spliced held.text s
   makes held same = is.makes ∙ ap (λ (k : KeptTextView C State Cell Items). spliced k.lines.text s) on ∙ ap (λ (l : Lines). spliced l.text s) (sym same)
 
-  pub lines_inside : (held : Lines) → held ≡ text.lines → stretch.from + stretch.came ≤ length (spliced held.text s)
+  pub lines_inside : (held : Lines) → held ≡ text.lines → stretch.lines.from + stretch.lines.came ≤ length (spliced held.text s)
   lines_inside held same =
-      subst (λ (t : Text). stretch.from + stretch.came ≤ length t) (makes held same)
-      (subst (λ (x : Stretch). x.from + x.came ≤ length patch.text) (sym there) (stretch_inside steps rules s patch is))
+      subst (λ (t : Text). stretch.lines.from + stretch.lines.came ≤ length t) (makes held same)
+      (subst (λ (x : Stretch). x.lines.from + x.lines.came ≤ length patch.text) (sym there) (stretch_inside steps rules s patch is))
 
   pub own_lines : (held : Lines) (seen : Text) → held ≡ text.lines
-      → seen ≡ take stretch.came (drop stretch.from (spliced held.text s)) → seen ≡ take patch.stretch.came (drop patch.stretch.from patch.text)
+      → seen ≡ take stretch.lines.came (drop stretch.lines.from (spliced held.text s)) → seen ≡ take patch.stretch.lines.came (drop patch.stretch.lines.from patch.text)
   own_lines held seen same are =
-      are ∙ ap (λ (t : Text). take stretch.came (drop stretch.from t)) (sym (makes held same)) ∙ ap (λ (x : Stretch). take x.came (drop x.from patch.text)) there
+      are ∙ ap (λ (t : Text). take stretch.lines.came (drop stretch.lines.from t)) (sym (makes held same)) ∙ ap (λ (x : Stretch). take x.lines.came (drop x.lines.from patch.text)) there
 
-  pub good_lines : (held : Lines) (seen : Text) → held ≡ text.lines → seen ≡ take stretch.came (drop stretch.from (spliced held.text s)) → list_all is_line seen ≡ true
+  pub good_lines : (held : Lines) (seen : Text) → held ≡ text.lines → seen ≡ take stretch.lines.came (drop stretch.lines.from (spliced held.text s)) → list_all is_line seen ≡ true
   good_lines held seen same are = ap (list_all is_line) (own_lines held seen same are) ∙ lines_good steps rules s patch is
 
-  pub own_counts : (counts : List ℕ) → counts ≡ map count_in (take patch.stretch.came (drop patch.stretch.from patch.rows))
-      → counts ≡ counts_among rules.cells patch.text patch.stretch.from patch.stretch.came
+  pub own_counts : (counts : List ℕ) → counts ≡ map count_in (take patch.stretch.lines.came (drop patch.stretch.lines.from patch.rows))
+      → counts ≡ counts_among rules.cells patch.text patch.stretch.lines.from patch.stretch.lines.came
   own_counts counts are = are ∙ counts_there steps rules s patch is
 
-  pub few_lines : (counts : List ℕ) → counts ≡ map count_in (take patch.stretch.came (drop patch.stretch.from patch.rows)) → stretch.from + length counts ≤ MOST_LINES
+  pub few_lines : (counts : List ℕ) → counts ≡ map count_in (take patch.stretch.lines.came (drop patch.stretch.lines.from patch.rows)) → stretch.lines.from + length counts ≤ MOST_LINES
   few_lines counts are =
       let many = ap length (own_counts counts are) in
       let long = counts_many steps rules s patch is in
       let inside = stretch_inside steps rules s patch is in
       let few = is.limits.count in
-      let from = ap (λ (x : Stretch). x.from) there in
+      let from = ap (λ (x : Stretch). x.lines.from) there in
       omega (arith, many, long, inside, few, from)
 
-  pub few_came : stretch.came ≤ MOST_LINES
+  few_came : stretch.lines.came ≤ MOST_LINES
   few_came =
       let inside = stretch_inside steps rules s patch is in
       let few = is.limits.count in
-      let came = ap (λ (x : Stretch). x.came) there in
+      let came = ap (λ (x : Stretch). x.lines.came) there in
       omega (arith, inside, few, came)
 
   pub taken_over : (outputs : List Output) → outputs ≡ map (output_in rules) (drop 1 text.chains.items) → AllZip (ReusesOutput rules outputs) patch.new_chains patch.reused_tunes
@@ -74,24 +75,26 @@ module _ {C State Cell Items Defaults : Type 0} (steps : Steps State Cell Items)
       let own : outputs ≡ map (output_in rules) (old_tunes patch) = are ∙ ap (λ (k : KeptTextView C State Cell Items). map (output_in rules) (drop 1 k.chains.items)) (sym on) in
       subst (λ (o : List Output). AllZip (ReusesOutput rules o) patch.new_chains patch.reused_tunes) (sym own) (takes_over steps rules s patch is)
 
-  pub cells_there : (counts : List ℕ) → counts ≡ map count_in (take patch.stretch.came (drop patch.stretch.from patch.rows)) → AllZip (HasCells stretch.from counts) patch.new_chains patch.places
+  pub cells_there : (counts : List ℕ) → counts ≡ map count_in (take patch.stretch.lines.came (drop patch.stretch.lines.from patch.rows))
+      → AllZip (HasCells stretch.lines.from counts) patch.new_chains patch.places
   cells_there counts are =
-      subst (λ (x : Stretch). AllZip (HasCells x.from counts) patch.new_chains patch.places) (sym there)
-      (subst (λ c. AllZip (HasCells patch.stretch.from c) patch.new_chains patch.places) (sym (own_counts counts are)) (made_cells steps rules s patch is))
+      subst (λ (x : Stretch). AllZip (HasCells x.lines.from counts) patch.new_chains patch.places) (sym there)
+      (subst (λ c. AllZip (HasCells patch.stretch.lines.from c) patch.new_chains patch.places) (sym (own_counts counts are)) (made_cells steps rules s patch is))
 
-  pub behind_inside : (outputs : List Output) → outputs ≡ map (output_in rules) (drop 1 text.chains.items) → stretch.behind ≤ length outputs
+  pub behind_inside : (outputs : List Output) → outputs ≡ map (output_in rules) (drop 1 text.chains.items) → stretch.tunes.to ≤ length outputs
   behind_inside outputs are =
       let many = ap length are ∙ length-map (drop 1 text.chains.items) (output_in rules)
       ∙ ap (λ (k : KeptTextView C State Cell Items). length (drop 1 k.chains.items)) (sym on) ∙ old_count steps rules s patch is in
       let count = is.in_stretch.count in
-      let behind = ap (λ (x : Stretch). x.behind) there in
+      let behind = ap (λ (x : Stretch). x.tunes.to) there in
       omega (arith, many, count, behind)
 
   pub few_faults : (found : List Fault) → IsText text.lines.text → found ≡ (book_of steps rules text.lines.text).faults
-      → All (λ (fault : Fault). stretch.from + (stretch.to - stretch.from) < fault.line → fault.line - (stretch.to - stretch.from) + stretch.came ≤ 2097152) found
+      → All (λ (fault : Fault). stretch.lines.from + gone stretch.lines < fault.line → fault.line - gone stretch.lines + stretch.lines.came ≤ 2097152) found
   few_faults found limits are =
       let own : found ≡ (book_of steps rules patch.on.lines.text).faults = are ∙ ap (λ (k : KeptTextView C State Cell Items). (book_of steps rules k.lines.text).faults) (sym on) in
-      let within = faults_within steps rules patch.on.lines.text patch.on.header patch.on.tunes is.stood.header_is is.stood.tunes_are (header_lies rules.class patch.on.lines.text patch.on.header is.stood.header_is) (old_lie steps rules s patch is) in
+      let within = faults_within steps rules patch.on.lines.text patch.on.header patch.on.tunes is.stood.header_is is.stood.tunes_are
+      (header_lies rules.class patch.on.lines.text patch.on.header is.stood.header_is) (old_lie steps rules s patch is) in
       let all : All (λ (fault : Fault). fault.line ≤ length patch.on.lines.text) found = subst (All (λ (fault : Fault). fault.line ≤ length patch.on.lines.text)) (sym own) within in
       let long = ap (λ (k : KeptTextView C State Cell Items). length k.lines.text) on in
       λ k d inside behind.
@@ -101,39 +104,40 @@ module _ {C State Cell Items Defaults : Type 0} (steps : Steps State Cell Items)
       omega (arith, line, few, came, long)
 
   pub outputs_after : (outputs made : List Output) → outputs ≡ map (output_in rules) (drop 1 text.chains.items) → made ≡ map (output_in rules) patch.new_chains
-      → take stretch.front outputs ++ (made ++ drop stretch.behind outputs) ≡ map (output_in rules) (drop 1 patch.chains)
+      → take stretch.tunes.from outputs ++ (made ++ drop stretch.tunes.to outputs) ≡ map (output_in rules) (drop 1 patch.chains)
   outputs_after outputs made are give =
       let own : outputs ≡ map (output_in rules) (old_tunes patch) = are ∙ ap (λ (k : KeptTextView C State Cell Items). map (output_in rules) (drop 1 k.chains.items)) (sym on) in
-      ap (λ (x : Stretch). take x.front outputs ++ (made ++ drop x.behind outputs)) there
-      ∙ ap (λ (o : List Output). take patch.stretch.front o ++ (made ++ drop patch.stretch.behind o)) own
-      ∙ ap (λ (m : List Output). take patch.stretch.front (map (output_in rules) (old_tunes patch)) ++ (m ++ drop patch.stretch.behind (map (output_in rules) (old_tunes patch)))) give
+      ap (λ (x : Stretch). take x.tunes.from outputs ++ (made ++ drop x.tunes.to outputs)) there
+      ∙ ap (λ (o : List Output). take patch.stretch.tunes.from o ++ (made ++ drop patch.stretch.tunes.to o)) own
+      ∙ ap (λ (m : List Output). take patch.stretch.tunes.from (map (output_in rules) (old_tunes patch)) ++ (m ++ drop patch.stretch.tunes.to (map (output_in rules) (old_tunes patch)))) give
       ∙ new_outputs steps rules s patch is
 
   module _ (first : Chained State Cell Items) (own_first : slice_get patch.chains 0 ≡ Some first) where
     pub header_there : (counts : List ℕ) (header : Option Block)
-        → counts ≡ map count_in (take patch.stretch.came (drop patch.stretch.from patch.rows)) → header ≡ patch.header → HeaderCells stretch.from counts first header
+        → counts ≡ map count_in (take patch.stretch.lines.came (drop patch.stretch.lines.from patch.rows)) → header ≡ patch.header → HeaderCells stretch.lines.from counts first header
     header_there counts header are same =
-        subst (λ (x : Stretch). HeaderCells x.from counts first header) (sym there)
-        (subst (λ c. HeaderCells patch.stretch.from c first header) (sym (own_counts counts are))
-        (subst (HeaderCells patch.stretch.from (counts_among rules.cells patch.text patch.stretch.from patch.stretch.came) first) (sym same) (first_cells steps rules s patch is first own_first)))
+        subst (λ (x : Stretch). HeaderCells x.lines.from counts first header) (sym there)
+        (subst (λ c. HeaderCells patch.stretch.lines.from c first header) (sym (own_counts counts are))
+        (subst (HeaderCells patch.stretch.lines.from (counts_among rules.cells patch.text patch.stretch.lines.from patch.stretch.lines.came) first)
+        (sym same) (first_cells steps rules s patch is first own_first)))
 
     pub faults_now : IsResumable steps → (counts : List ℕ) (header : Option Block) (old new : List Fault)
-        → counts ≡ map count_in (take patch.stretch.came (drop patch.stretch.from patch.rows)) → header ≡ patch.header
+        → counts ≡ map count_in (take patch.stretch.lines.came (drop patch.stretch.lines.from patch.rows)) → header ≡ patch.header
         → old ≡ (book_of steps rules text.lines.text).faults
-        → new ≡ header_faults_there rules stretch.from counts first header ++ faults_by rules stretch.from counts patch.new_chains patch.places
-        → faults_after stretch.from (stretch.to - stretch.from) stretch.came old new ≡ (book_of steps rules patch.text).faults
+        → new ≡ header_faults_there rules stretch.lines.from counts first header ++ faults_by rules stretch.lines.from counts patch.new_chains patch.places
+        → faults_after stretch.lines old new ≡ (book_of steps rules patch.text).faults
     faults_now laws counts header old new are same old_is new_is =
         let old_own = old_is ∙ ap (λ (k : KeptTextView C State Cell Items). (book_of steps rules k.lines.text).faults) (sym on) in
         let new_own =
         new_is
-        ∙ ap (λ (x : Stretch). header_faults_there rules x.from counts first header ++ faults_by rules x.from counts patch.new_chains patch.places) there
-        ∙ ap (λ c. header_faults_there rules patch.stretch.from c first header ++ faults_by rules patch.stretch.from c patch.new_chains patch.places) (own_counts counts are)
-        ∙ ap (λ h. header_faults_there rules patch.stretch.from
-        (counts_among rules.cells patch.text patch.stretch.from patch.stretch.came) first h
-        ++ faults_by rules patch.stretch.from (counts_among rules.cells patch.text patch.stretch.from patch.stretch.came) patch.new_chains patch.places) same in
-        ap (λ (x : Stretch). faults_after x.from (x.to - x.from) x.came old new) there
-        ∙ ap (λ o. faults_after patch.stretch.from (gone patch.stretch) patch.stretch.came o new) old_own
-        ∙ ap (faults_after patch.stretch.from (gone patch.stretch) patch.stretch.came (book_of steps rules patch.on.lines.text).faults) new_own
+        ∙ ap (λ (x : Stretch). header_faults_there rules x.lines.from counts first header ++ faults_by rules x.lines.from counts patch.new_chains patch.places) there
+        ∙ ap (λ c. header_faults_there rules patch.stretch.lines.from c first header ++ faults_by rules patch.stretch.lines.from c patch.new_chains patch.places) (own_counts counts are)
+        ∙ ap (λ h. header_faults_there rules patch.stretch.lines.from
+        (counts_among rules.cells patch.text patch.stretch.lines.from patch.stretch.lines.came) first h
+        ++ faults_by rules patch.stretch.lines.from (counts_among rules.cells patch.text patch.stretch.lines.from patch.stretch.lines.came) patch.new_chains patch.places) same in
+        ap (λ (x : Stretch). faults_after x.lines old new) there
+        ∙ ap (λ o. faults_after patch.stretch.lines o new) old_own
+        ∙ ap (faults_after patch.stretch.lines (book_of steps rules patch.on.lines.text).faults) new_own
         ∙ faults_are steps rules s patch is first own_first laws
 
   pub book_now : (outputs : List Output) (found : List Fault) → outputs ≡ map (output_in rules) (drop 1 patch.chains) → found ≡ (book_of steps rules patch.text).faults

@@ -1,4 +1,4 @@
--- The stretch of a prepared edit: its lines, its chains and where they lie.
+-- The stretch of a prepared edit: its lines, its chains and their places.
 use Rattle.std.proofs.Common.{◌≡◌, ℕ, ◌+◌, ◌<◌, ◌≤◌, true, List, [], ◌∷◌, ◌++◌, length, drop, map, take, flat_map, Option, Some}
 use Rattle.std.proofs.Common.{None, slice_get, refl, sym, ap, ◌∙◌, subst, inl, inr, arith}
 use Rattle.std.specs.List.{AllZip, list_all}
@@ -96,7 +96,7 @@ module _ {C State Cell Items Defaults : Type 0} (steps : Steps State Cell Items)
   spliced_length = ap (λ (t : Text). length t + s.removed) is.makes ∙ length-spliced patch.on.lines.text s change_inside
 
   -- the stretch lies in the new text
-  pub stretch_inside : patch.stretch.from + patch.stretch.came ≤ length patch.text
+  pub stretch_inside : patch.stretch.lines.from + patch.stretch.lines.came ≤ length patch.text
   stretch_inside =
       let ends = is.in_stretch.ends in
       let begins = is.in_stretch.begins in
@@ -105,7 +105,7 @@ module _ {C State Cell Items Defaults : Type 0} (steps : Steps State Cell Items)
       let long = spliced_length in
       omega (arith, ends, begins, inside, count, long)
 
-  pub old_stretch : patch.stretch.from ≤ patch.stretch.to
+  pub old_stretch : patch.stretch.lines.from ≤ patch.stretch.lines.to
   old_stretch =
       let ends = is.in_stretch.ends in
       let begins = is.in_stretch.begins in
@@ -115,18 +115,19 @@ module _ {C State Cell Items Defaults : Type 0} (steps : Steps State Cell Items)
   rows_count = sym (length-map patch.rows count_in) ∙ ap length (counts_are rules patch.text patch.rows is.stands.read) ∙ length-map patch.text (λ line. length (rules.cells line))
 
   -- the lines of the stretch are within the limits
-  pub lines_good : list_all is_line (take patch.stretch.came (drop patch.stretch.from patch.text)) ≡ true
-  lines_good = all_reused_tunes is_line patch.stretch.came (drop patch.stretch.from patch.text) (all_dropped is_line patch.stretch.from patch.text is.limits.lines)
+  pub lines_good : list_all is_line (take patch.stretch.lines.came (drop patch.stretch.lines.from patch.text)) ≡ true
+  lines_good = all_reused_tunes is_line patch.stretch.lines.came (drop patch.stretch.lines.from patch.text) (all_dropped is_line patch.stretch.lines.from patch.text is.limits.lines)
 
   -- how many cells each has
-  pub counts_there : map count_in (take patch.stretch.came (drop patch.stretch.from patch.rows)) ≡ counts_among rules.cells patch.text patch.stretch.from patch.stretch.came
+  pub counts_there : map count_in (take patch.stretch.lines.came (drop patch.stretch.lines.from patch.rows)) ≡ counts_among rules.cells patch.text patch.stretch.lines.from patch.stretch.lines.came
   counts_there =
-      sym (take-map count_in patch.stretch.came (drop patch.stretch.from patch.rows))
-      ∙ ap (take patch.stretch.came) (sym (drop-map count_in patch.stretch.from patch.rows))
-      ∙ ap (λ counts. take patch.stretch.came (drop patch.stretch.from counts)) (counts_are rules patch.text patch.rows is.stands.read)
+      sym (take-map count_in patch.stretch.lines.came (drop patch.stretch.lines.from patch.rows))
+      ∙ ap (take patch.stretch.lines.came) (sym (drop-map count_in patch.stretch.lines.from patch.rows))
+      ∙ ap (λ counts. take patch.stretch.lines.came (drop patch.stretch.lines.from counts)) (counts_are rules patch.text patch.rows is.stands.read)
 
-  pub counts_many : length (counts_among rules.cells patch.text patch.stretch.from patch.stretch.came) ≡ patch.stretch.came
-  counts_many = among_inside (counts_of rules.cells patch.text) patch.stretch.from patch.stretch.came (omega (arith, stretch_inside, length-map patch.text (λ line. length (rules.cells line))))
+  pub counts_many : length (counts_among rules.cells patch.text patch.stretch.lines.from patch.stretch.lines.came) ≡ patch.stretch.lines.came
+  counts_many =
+      among_inside (counts_of rules.cells patch.text) patch.stretch.lines.from patch.stretch.lines.came (omega (arith, stretch_inside, length-map patch.text (λ line. length (rules.cells line))))
 
   -- the old and the new tunes lie in their texts
   pub old_lie : All (LiesIn (length patch.on.lines.text)) patch.on.tunes
@@ -138,10 +139,10 @@ module _ {C State Cell Items Defaults : Type 0} (steps : Steps State Cell Items)
   pub parts_lie : All (LiesIn (length patch.text)) patch.places
   parts_lie =
       let parts = subst (All (LiesIn (length patch.text))) is.in_stretch.tunes_are new_lie in
-      all_first (LiesIn (length patch.text)) patch.places _ (all_second (LiesIn (length patch.text)) (take patch.stretch.front patch.on.tunes) _ parts)
+      all_first (LiesIn (length patch.text)) patch.places _ (all_second (LiesIn (length patch.text)) (take patch.stretch.tunes.from patch.on.tunes) _ parts)
 
-  pub places_lie : All (LiesAmong patch.stretch.from patch.stretch.came) patch.places
-  places_lie = lies_among patch.stretch.from patch.stretch.came (length patch.text) patch.places is.in_stretch.among parts_lie
+  pub places_lie : All (LiesAmong patch.stretch.lines.from patch.stretch.lines.came) patch.places
+  places_lie = lies_among patch.stretch.lines.from patch.stretch.lines.came (length patch.text) patch.places is.in_stretch.among parts_lie
 
   -- the chains of the old and of the new tunes
   pub old_chains : AllZip (IsChainOf steps rules.cells (opening_of steps.next rules patch.on.lines.text (blocks_in rules patch.on.lines.text)) patch.on.lines.text) (old_tunes patch) patch.on.tunes
@@ -160,35 +161,35 @@ module _ {C State Cell Items Defaults : Type 0} (steps : Steps State Cell Items)
   pub made_chains : AllZip (IsChainOf steps rules.cells (opening_of steps.next rules patch.text (blocks_in rules patch.text)) patch.text) patch.new_chains patch.places
   made_chains =
       let R = IsChainOf steps rules.cells (opening_of steps.next rules patch.text (blocks_in rules patch.text)) patch.text in
-      let parts : AllZip R (take patch.stretch.front (old_tunes patch) ++
-      (patch.new_chains ++ drop patch.stretch.behind (old_tunes patch))) patch.tunes = subst (λ chains. AllZip R chains patch.tunes) is.in_stretch.chains_are new_chains in
-      let both = subst (AllZip R (take patch.stretch.front (old_tunes patch) ++ (patch.new_chains ++ drop patch.stretch.behind (old_tunes patch)))) is.in_stretch.tunes_are parts in
-      zip_middle R (take patch.stretch.front (old_tunes patch)) patch.new_chains _ (take patch.stretch.front patch.on.tunes) patch.places _
+      let parts : AllZip R (take patch.stretch.tunes.from (old_tunes patch) ++
+      (patch.new_chains ++ drop patch.stretch.tunes.to (old_tunes patch))) patch.tunes = subst (λ chains. AllZip R chains patch.tunes) is.in_stretch.chains_are new_chains in
+      let both = subst (AllZip R (take patch.stretch.tunes.from (old_tunes patch) ++ (patch.new_chains ++ drop patch.stretch.tunes.to (old_tunes patch)))) is.in_stretch.tunes_are parts in
+      zip_middle R (take patch.stretch.tunes.from (old_tunes patch)) patch.new_chains _ (take patch.stretch.tunes.from patch.on.tunes) patch.places _
       (zip_fronts (IsChainOf steps rules.cells (opening_of steps.next rules patch.on.lines.text
-      (blocks_in rules patch.on.lines.text)) patch.on.lines.text) patch.stretch.front (old_tunes patch) patch.on.tunes old_chains)
+      (blocks_in rules patch.on.lines.text)) patch.on.lines.text) patch.stretch.tunes.from (old_tunes patch) patch.on.tunes old_chains)
       (sym is.in_stretch.places_count) both
 
-  -- those after the stretch: if there are any, the tunes begin in a state alike to the old one
-  pub still_alike : IsResumable steps → (drop patch.stretch.behind patch.on.tunes ≡ [])
+  -- those after the stretch: if there are any, the tunes begin in a state equivalent to the old one
+  pub still_alike : IsResumable steps → (drop patch.stretch.tunes.to patch.on.tunes ≡ [])
       ⊎ IsAlike steps (opening_of steps.next rules patch.on.lines.text (blocks_in rules patch.on.lines.text)) (opening_of steps.next rules patch.text (blocks_in rules patch.text))
   still_alike laws =
       let was = opening_of steps.next rules patch.on.lines.text (blocks_in rules patch.on.lines.text) in
       let now = opening_of steps.next rules patch.text (blocks_in rules patch.text) in
       let P = IsChainOf steps rules.cells was patch.on.lines.text in
       let R = IsChainOf steps rules.cells now patch.text in
-      let parts : AllZip R (take patch.stretch.front (old_tunes patch) ++
-      (patch.new_chains ++ drop patch.stretch.behind (old_tunes patch))) patch.tunes = subst (λ chains. AllZip R chains patch.tunes) is.in_stretch.chains_are new_chains in
-      let both = subst (AllZip R (take patch.stretch.front (old_tunes patch) ++ (patch.new_chains ++ drop patch.stretch.behind (old_tunes patch)))) is.in_stretch.tunes_are parts in
-      let behind = zip_behind R (take patch.stretch.front (old_tunes patch)) patch.new_chains
-      (drop patch.stretch.behind (old_tunes patch)) (take patch.stretch.front patch.on.tunes) patch.places (map (block_after patch.stretch) (drop patch.stretch.behind patch.on.tunes))
-      (zip_fronts P patch.stretch.front (old_tunes patch) patch.on.tunes old_chains) (sym is.in_stretch.places_count) both in
-      chains_alike steps laws rules.cells was now patch.on.lines.text patch.text (drop patch.stretch.behind (old_tunes patch))
-      (drop patch.stretch.behind patch.on.tunes) (map (block_after patch.stretch) (drop patch.stretch.behind patch.on.tunes))
-      (zip_rest P patch.stretch.behind (old_tunes patch) patch.on.tunes old_chains) behind
+      let parts : AllZip R (take patch.stretch.tunes.from (old_tunes patch) ++
+      (patch.new_chains ++ drop patch.stretch.tunes.to (old_tunes patch))) patch.tunes = subst (λ chains. AllZip R chains patch.tunes) is.in_stretch.chains_are new_chains in
+      let both = subst (AllZip R (take patch.stretch.tunes.from (old_tunes patch) ++ (patch.new_chains ++ drop patch.stretch.tunes.to (old_tunes patch)))) is.in_stretch.tunes_are parts in
+      let behind = zip_behind R (take patch.stretch.tunes.from (old_tunes patch)) patch.new_chains
+      (drop patch.stretch.tunes.to (old_tunes patch)) (take patch.stretch.tunes.from patch.on.tunes) patch.places (map (block_after patch.stretch) (drop patch.stretch.tunes.to patch.on.tunes))
+      (zip_fronts P patch.stretch.tunes.from (old_tunes patch) patch.on.tunes old_chains) (sym is.in_stretch.places_count) both in
+      chains_alike steps laws rules.cells was now patch.on.lines.text patch.text (drop patch.stretch.tunes.to (old_tunes patch))
+      (drop patch.stretch.tunes.to patch.on.tunes) (map (block_after patch.stretch) (drop patch.stretch.tunes.to patch.on.tunes))
+      (zip_rest P patch.stretch.tunes.to (old_tunes patch) patch.on.tunes old_chains) behind
 
-  pub made_cells : AllZip (HasCells patch.stretch.from (counts_among rules.cells patch.text patch.stretch.from patch.stretch.came)) patch.new_chains patch.places
+  pub made_cells : AllZip (HasCells patch.stretch.lines.from (counts_among rules.cells patch.text patch.stretch.lines.from patch.stretch.lines.came)) patch.new_chains patch.places
   made_cells =
-      zipped_cells steps rules (opening_of steps.next rules patch.text (blocks_in rules patch.text)) patch.text patch.stretch.from patch.stretch.came patch.new_chains patch.places
+      zipped_cells steps rules (opening_of steps.next rules patch.text (blocks_in rules patch.text)) patch.text patch.stretch.lines.from patch.stretch.lines.came patch.new_chains patch.places
       made_chains places_lie stretch_inside
 
   pub chain_there : 1 ≤ length patch.chains
@@ -203,36 +204,38 @@ module _ {C State Cell Items Defaults : Type 0} (steps : Steps State Cell Items)
     pub first_is : IsHeaderChainOf steps rules patch.text first patch.header
     first_is = subst (IsHeaderChainOf steps rules patch.text first) (sym is.stands.header_is) (header_chain steps rules patch.text patch.chains first is.stands.chains_are there)
 
-    -- the tunes of the stretch begin in a state alike to that which it leaves
+    -- the tunes of the stretch begin in a state equivalent to the one after the file header
     pub made_tunes : IsResumable steps → AreLawful steps rules
-        → AllZip (IsTuneAt steps rules (line_run (state_after_chain patch.header first) patch.stretch.from
-        (take patch.stretch.came (drop patch.stretch.from patch.text)))) patch.new_chains patch.places
+        → AllZip (IsTuneAt steps rules (line_run (state_after_chain patch.header first) patch.stretch.lines.from
+        (take patch.stretch.lines.came (drop patch.stretch.lines.from patch.text)))) patch.new_chains patch.places
     made_tunes laws lawful =
         let own = opening_of steps.next rules patch.text (blocks_in rules patch.text) in
         let alike : IsAlike steps (rules.tune (state_after_chain patch.header first)) own =
         subst (λ h. IsAlike steps (rules.tune (state_after_chain patch.header first))
         (rules.tune (state_after_header steps.next rules patch.text h))) is.stands.header_is (opening_alike steps rules patch.text first patch.header laws lawful first_is) in
-        tunes_at steps rules laws own (state_after_chain patch.header first) patch.stretch.from patch.stretch.came patch.text patch.new_chains patch.places alike stretch_inside places_lie made_chains
+        tunes_at steps rules laws own (state_after_chain patch.header first) patch.stretch.lines.from patch.stretch.lines.came
+        patch.text patch.new_chains patch.places alike stretch_inside places_lie made_chains
 
-    -- where a file header reaches into the stretch, this begins with the text and has all of it
-    pub held_there : HoldsHeader patch ⊎ KeepsHeader patch → (block : Block) → patch.header ≡ Some block → patch.stretch.from < block.to → (patch.stretch.from ≡ 0) × (block.to ≤ patch.stretch.came)
+    -- if a file header reaches into the stretch, the stretch begins with the text and has all of it
+    pub held_there : HoldsHeader patch ⊎ KeepsHeader patch → (block : Block) → patch.header ≡ Some block → patch.stretch.lines.from < block.to
+        → (patch.stretch.lines.from ≡ 0) × (block.to ≤ patch.stretch.lines.came)
     held_there (inl holds) block header reaches = (holds.from, holds.comes block header)
     held_there (inr keeps) block header reaches =
         let before = keeps.before block (sym keeps.header ∙ header) in
         absurd (omega (arith, before, reaches))
 
-    pub first_cells : HeaderCells patch.stretch.from (counts_among rules.cells patch.text patch.stretch.from patch.stretch.came) first patch.header
+    pub first_cells : HeaderCells patch.stretch.lines.from (counts_among rules.cells patch.text patch.stretch.lines.from patch.stretch.lines.came) first patch.header
     first_cells =
-        header_cells steps rules patch.text patch.stretch.from patch.stretch.came first patch.header stretch_inside
+        header_cells steps rules patch.text patch.stretch.lines.from patch.stretch.lines.came first patch.header stretch_inside
         (header_lies rules.class patch.text patch.header is.stands.header_is) first_is (held_there is.in_stretch.header_is)
 
   -- what the tunes give
-  pub new_outputs : take patch.stretch.front (map (output_in rules) (old_tunes patch)) ++
-      (map (output_in rules) patch.new_chains ++ drop patch.stretch.behind (map (output_in rules) (old_tunes patch))) ≡ map (output_in rules) (drop 1 patch.chains)
+  pub new_outputs : take patch.stretch.tunes.from (map (output_in rules) (old_tunes patch)) ++
+      (map (output_in rules) patch.new_chains ++ drop patch.stretch.tunes.to (map (output_in rules) (old_tunes patch))) ≡ map (output_in rules) (drop 1 patch.chains)
   new_outputs =
       let f = output_in rules in
-      ap (λ l. l ++ (map f patch.new_chains ++ drop patch.stretch.behind (map f (old_tunes patch)))) (take-map f patch.stretch.front (old_tunes patch))
-      ∙ ap (λ l. map f (take patch.stretch.front (old_tunes patch)) ++ (map f patch.new_chains ++ l)) (drop-map f patch.stretch.behind (old_tunes patch))
-      ∙ ap (λ l. map f (take patch.stretch.front (old_tunes patch)) ++ l) (sym (map-append f patch.new_chains (drop patch.stretch.behind (old_tunes patch))))
-      ∙ sym (map-append f (take patch.stretch.front (old_tunes patch)) (patch.new_chains ++ drop patch.stretch.behind (old_tunes patch)))
+      ap (λ l. l ++ (map f patch.new_chains ++ drop patch.stretch.tunes.to (map f (old_tunes patch)))) (take-map f patch.stretch.tunes.from (old_tunes patch))
+      ∙ ap (λ l. map f (take patch.stretch.tunes.from (old_tunes patch)) ++ (map f patch.new_chains ++ l)) (drop-map f patch.stretch.tunes.to (old_tunes patch))
+      ∙ ap (λ l. map f (take patch.stretch.tunes.from (old_tunes patch)) ++ l) (sym (map-append f patch.new_chains (drop patch.stretch.tunes.to (old_tunes patch))))
+      ∙ sym (map-append f (take patch.stretch.tunes.from (old_tunes patch)) (patch.new_chains ++ drop patch.stretch.tunes.to (old_tunes patch)))
       ∙ ap (map f) (sym is.in_stretch.chains_are)

@@ -1,4 +1,4 @@
--- Where the file header and the tunes of a text lie.
+-- The places of the file header and the tunes of a text.
 use Rattle.std.proofs.Common.{◌≡◌, ℕ, ◌<◌, ◌≤◌, Bool, true, false, if◌then◌else◌, List, [], ◌∷◌, ◌++◌, length, map, Option, Some}
 use Rattle.std.proofs.Common.{None, sym, subst, arith}
 use Rattle.std.specs.Prelude.{All, IfSome}
@@ -12,7 +12,7 @@ use Rattle.abc_lines.specs.Text.{Text}
 use Rattle.abc_scan.specs.declared.class.LineClass.{LineClass}
 use Rattle.abc_tune_compiler.specs.Book.{header_in, is_file_header, is_tune, tunes_in}
 
--- a block of at least one line of so many
+-- a block of at least one line
 pub record LiesIn (count : ℕ) (block : Block) : Type 0 where
   pub some : block.from < block.to
   pub within : block.to ≤ count

@@ -18,7 +18,7 @@ use Rattle.abc_tune_compiler.specs.Book.{Book, book_of}
 use Rattle.abc_tune_compiler.specs.Rules.{Rules}
 use Rattle.abc_tune_compiler.specs.declared.fault.Fault.{Fault}
 
--- The splice that the replacing of a run of lines is.
+-- The splice that a change makes.
 abbrev pub splice_in : Change → Splice
 splice_in change = splice_from change.at change.removed change.lines.now
 
@@ -55,6 +55,10 @@ IsBookOf steps rules on book = IsBook book.outputs.items book.faults (book_of st
 abbrev pub HeaderCells : {State Cell Items : Type 0} → ℕ → List ℕ → Chained State Cell Items → Option Block → Type 0
 HeaderCells before counts chain None = Unit {0}
 HeaderCells before counts chain (Some block) = before < block.to → HasCells before counts chain block
+
+-- The tunes of chains lie among some lines, and the chains have the cells of their lines.
+abbrev pub TuneCells : {State Cell Items : Type 0} → ℕ → List ℕ → List (Chained State Cell Items) → List Block → Type 0
+TuneCells before counts chains places = AllZip (HasCells before counts) chains places
 
 -- The faults of a file header that lies among some lines, and none of one that lies before them.
 abbrev pub header_faults_there : {State Cell Items Defaults : Type 0} → Rules State Cell Items Defaults → ℕ → List ℕ

@@ -37,7 +37,7 @@ pub(crate) fn change_of(edit: &Edit) -> Option<Change<'_>>
     }
 }
 
-/// The run of lines from one number to another, with lines to take its place.
+/// The run of lines from one number to another, and the lines that replace it.
 fn change_at(from: u32, to: u32, lines: &[Vec<u8>]) -> Option<Change<'_>>
     ensures { option_map splice_in result ≡ replacement from to (lines_of lines.now) }
 {

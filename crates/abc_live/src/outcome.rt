@@ -1,14 +1,12 @@
 //! What a prepared text gives to the book: what the tunes of its stretch give, and their faults.
 
 ghost use Rattle.std.specs.Prelude.{◌≡◌, ◌+◌, ◌≤◌, IfOk, Some, drop, length, map, slice_get};
-ghost use Rattle.std.specs.List.{AllZip};
 ghost use Rattle.abc_live_index.specs.Outputs.{files_of};
 ghost use Rattle.abc_lines.specs.declared.limits.TheConstants.{MOST_LINES};
-ghost use Rattle.abc_live.specs.Prepared.{HeaderCells, IsBook, IsPrepared, stretch_faults, splice_in};
+ghost use Rattle.abc_live.specs.Prepared.{HeaderCells, IsBook, IsPrepared, TuneCells, stretch_faults, splice_in};
 ghost use Rattle.abc_tune_memo.specs.Memo.{Remembers};
 ghost use Rattle.abc_live_index.specs.BuildCount.{IsBuiltUpTo, built_count};
 ghost use Rattle.abc_live_index.specs.Output.{output_in};
-ghost use Rattle.abc_live_index.specs.Tunes.{HasCells};
 ghost use Rattle.abc_tune_compiler.specs.Book.{book_of};
 ghost use Rattle.abc_tune_compiler.specs.Report.{Reports};
 
@@ -45,7 +43,7 @@ fn faults_of<C: Compiler>(
 ) -> Result<Vec<Fault>, AllocError>
     requires few { stretch.now.before + length stretch.now.counts.now ≤ MOST_LINES }
     requires header { HeaderCells stretch.now.before stretch.now.counts.now first.now header }
-    requires cells { AllZip (HasCells stretch.now.before stretch.now.counts.now) stretch.now.chains.now stretch.now.places.now }
+    requires cells { TuneCells stretch.now.before stretch.now.counts.now stretch.now.chains.now stretch.now.places.now }
     requires outputs { outputs.now ≡ map (output_in (C.rules compiler.now)) stretch.now.chains.now }
     ensures { let s = stretch.now in
         IfOk result (λ faults. faults.items ≡ stretch_faults
@@ -98,7 +96,7 @@ pub(crate) fn book_after<C: Compiler>(
     let counts = counts_of(alloc, text, kept)?;
     let folded = StretchView {
         lines: &lines,
-        before: stretch.from,
+        before: stretch.lines.from,
         left: header_state(kept.header(), first),
         places: kept.places(),
         chains: kept.new_chains(),
@@ -111,13 +109,10 @@ pub(crate) fn book_after<C: Compiler>(
     let outputs = outputs_of(compiler, alloc, &folded, &old, memo, work)?;
     let faults = faults_of(compiler, alloc, kept.header(), first, &folded, &outputs)?;
     let tunes = NewTunes {
-        front: stretch.front,
-        behind: stretch.behind,
+        range: stretch.tunes,
         outputs,
+        lines: stretch.lines,
         faults,
-        from: stretch.from as u32,
-        gone: (stretch.to - stretch.from) as u32,
-        came: stretch.came as u32,
     };
     book.prepare(alloc, tunes)
 }

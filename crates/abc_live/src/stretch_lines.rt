@@ -37,13 +37,13 @@ pub(crate) fn lines_of<'a>(
 ) -> Result<Vec<&'a [u8]>, AllocError>
     requires change { change.now.at + change.now.removed ≤ length text.now.text }
     requires few { length (spliced text.now.text (splice_in change.now)) ≤ MOST_LINES }
-    requires inside { stretch.from + stretch.came ≤ length (spliced text.now.text (splice_in change.now)) }
+    requires inside { stretch.lines.from + stretch.lines.came ≤ length (spliced text.now.text (splice_in change.now)) }
     ensures { IfOk result (λ lines. seen_lines lines.items
-        ≡ take stretch.came (drop stretch.from (spliced text.now.text (splice_in change.now)))) }
+        ≡ take stretch.lines.came (drop stretch.lines.from (spliced text.now.text (splice_in change.now)))) }
 {
-    let mut lines = Vec::with_capacity(text.allocator(), stretch.came)?;
-    for nth in 0..stretch.came {
-        if let Some(line) = line_after(text, change, stretch.from + nth) {
+    let mut lines = Vec::with_capacity(text.allocator(), stretch.lines.came)?;
+    for nth in 0..stretch.lines.came {
+        if let Some(line) = line_after(text, change, stretch.lines.from + nth) {
             lines.push(line)?;
         }
     }
@@ -58,14 +58,14 @@ pub(crate) fn counts_of<C: Compiler>(
 ) -> Result<Vec<usize>, AllocError>
     requires on { kept.now.on ≡ text.now }
     requires few { length kept.now.rows ≤ MOST_LINES }
-    requires inside { kept.now.stretch.from + kept.now.stretch.came ≤ length kept.now.rows }
+    requires inside { kept.now.stretch.lines.from + kept.now.stretch.lines.came ≤ length kept.now.rows }
     ensures { IfOk result (λ counts. counts.items ≡ map count_in
-        (take kept.now.stretch.came (drop kept.now.stretch.from kept.now.rows))) }
+        (take kept.now.stretch.lines.came (drop kept.now.stretch.lines.from kept.now.rows))) }
 {
     let stretch = kept.stretch();
-    let mut counts: Vec<usize> = Vec::with_capacity(alloc, stretch.came)?;
-    for nth in 0..stretch.came {
-        if let Some(row) = kept.row(text, stretch.from + nth) {
+    let mut counts: Vec<usize> = Vec::with_capacity(alloc, stretch.lines.came)?;
+    for nth in 0..stretch.lines.came {
+        if let Some(row) = kept.row(text, stretch.lines.from + nth) {
             counts.push(row.cells().len())?;
         }
     }

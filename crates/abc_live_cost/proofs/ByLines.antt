@@ -1,4 +1,4 @@
--- The lines of the cells of chains say which cells they are.
+-- The lines of the cells of chains determine the cells.
 use Rattle.std.proofs.Common.{◌≡◌, ℕ, ◌+◌, ◌-◌, ◌<◌, ◌≤◌, ◌==◌, ◌⊎◌, inl, inr, true, false, List, [], ◌∷◌, ◌++◌, length, nat_lt}
 use Rattle.std.proofs.Common.{Option, Some, refl, sym, ap, ◌∙◌, subst, ⊎_elim, arith}
 use Rattle.std.proofs.lemmas.Bool.{cases_Bool, cases_lt, lt-ltb, le-ltb, eq-eqb}
@@ -11,7 +11,7 @@ use Rattle.abc_live_cost.specs.Pieces.{have_lines_of}
 use Rattle.abc_live_cost.specs.Laws.{LinesSuffice}
 use Rattle.abc_live_cost.proofs.SameCells.{is_carried_line}
 
--- after the nth cell of a line stands the next of the line, or the first of a later one
+-- after the nth cell of a line comes the next of the line, or the first of a later one
 abbrev Goes_on : {State : Type 0} → ℕ → ℕ → List (Spot State) → Type 0
 Goes_on line nth [] = Unit {0}
 Goes_on line nth (spot ∷ spots) = (((spot.line ≡ line) × (spot.nth ≡ nth)) ⊎ ((line < spot.line) × (spot.nth ≡ 0))) × Goes_on spot.line (spot.nth + 1) spots
@@ -123,13 +123,8 @@ from_start s [] [] h k = refl
 from_start s [] (was ∷ old_spots) h k = refl
 from_start s (spot ∷ spots) [] h k = refl
 from_start s (spot ∷ spots) (was ∷ old_spots) h k = ⊎_elim
-    (λ (m : is_line was.line (old_line s spot.line) ≡ true).
-    let here : old_line s spot.line ≡ Some was.line = is_carried_line (old_line s spot.line) was.line m in
-    let nths : spot.nth ≡ was.nth = h.0 ∙ sym k.0 in
-    let test : (spot.nth == was.nth) ≡ true = eq-eqb spot.nth was.nth nths in
-    let more : have_lines_of s spots old_spots ≡ are_carried_from s spots old_spots = by_lines s spot.line
-    (spot.nth + 1) was.line spots old_spots here h.1 (subst (λ n. Goes_on was.line n old_spots) (ap (λ n. n + 1) (sym nths)) k.1) in
-    simp (m, test) more)
+    (λ (m : is_line was.line (old_line s spot.line) ≡ true). by_lines s spot.line 0 was.line (spot ∷ spots) (was ∷ old_spots)
+    (is_carried_line (old_line s spot.line) was.line m) (inl (refl, h.0), h.1) (inl (refl, k.0), k.1))
     (λ (m : is_line was.line (old_line s spot.line) ≡ false). simp m)
     (cases_Bool (is_line was.line (old_line s spot.line)))
 

@@ -55,7 +55,7 @@ rising_append P Q [] ys h k p q g = k
 rising_append P Q (x ∷ xs) ys h k p q g =
     (each_append (Before x) xs ys h.0 (each_weaker Q (Before x) ys (λ y r. g x y p.0 r) q), rising_append P Q xs ys h.1 k p.1 q g)
 
--- where cells lie that a line, lines and chains give
+-- the places of the cells of a line, of lines and of chains
 
 pub record InLine {State : Type 0} (line nth source place end : ℕ) (x : Full State) : Type 0 where
   pub line_is : x.line ≡ line
@@ -179,18 +179,18 @@ found_in test x (y ∷ ys) h = ⊎_elim
 abbrev pub is_of : {State : Type 0} → ℕ → ℕ → Full State → Bool
 is_of source place one = (one.source == source) && (one.place == place)
 
+-- a cell is found by two numbers, a place and a place in it, that rise from each earlier cell to it
+found_by : {State : Type 0} (a b : Full State → ℕ) (w : Full State) (xs : List (Full State)) → Rising xs → In w xs
+    → ((x : Full State) → Before x w → (a x < a w) ⊎ ((a x ≡ a w) × (b x < b w))) → find (λ x. (a x == a w) && (b x == b w)) xs ≡ Some w
+found_by {State = State} a b w xs h k rises = found (λ (x : Full State). (a x == a w) && (b x == b w)) w xs h k
+    (and_from (a w == a w) (b w == b w) (eq-eqb (a w) (a w) refl) (eq-eqb (b w) (b w) refl))
+    (λ x earlier. ⊎_elim
+    (λ (l : a x < a w). and_left (a x == a w) (b x == b w) (ne_eqb (a x) (a w) (λ e. omega arith)))
+    (λ (l : (a x ≡ a w) × (b x < b w)). let m = l.1 in and_right (a x == a w) (b x == b w) (ne_eqb (b x) (b w) (λ e. omega arith)))
+    (rises x earlier))
+
 pub found_at_line : {State : Type 0} (w : Full State) (xs : List (Full State)) → Rising xs → In w xs → find (is_at w.line w.nth) xs ≡ Some w
-found_at_line w xs h k = found (is_at w.line w.nth) w xs h k
-    (and_from (w.line == w.line) (w.nth == w.nth) (eq-eqb w.line w.line refl) (eq-eqb w.nth w.nth refl))
-    (λ x b. ⊎_elim
-    (λ (l : x.line < w.line). and_left (x.line == w.line) (x.nth == w.nth) (ne_eqb x.line w.line (λ e. omega arith)))
-    (λ (l : (x.line ≡ w.line) × (x.nth < w.nth)). let m = l.1 in and_right (x.line == w.line) (x.nth == w.nth) (ne_eqb x.nth w.nth (λ e. omega arith)))
-    b.lines)
+found_at_line {State = State} w xs h k = found_by (λ (x : Full State). x.line) (λ (x : Full State). x.nth) w xs h k (λ x earlier. earlier.lines)
 
 pub found_at_place : {State : Type 0} (w : Full State) (xs : List (Full State)) → Rising xs → In w xs → find (is_of w.source w.place) xs ≡ Some w
-found_at_place w xs h k = found (is_of w.source w.place) w xs h k
-    (and_from (w.source == w.source) (w.place == w.place) (eq-eqb w.source w.source refl) (eq-eqb w.place w.place refl))
-    (λ x b. ⊎_elim
-    (λ (l : x.source < w.source). and_left (x.source == w.source) (x.place == w.place) (ne_eqb x.source w.source (λ e. omega arith)))
-    (λ (l : (x.source ≡ w.source) × (x.place < w.place)). let m = l.1 in and_right (x.source == w.source) (x.place == w.place) (ne_eqb x.place w.place (λ e. omega arith)))
-    b.chains)
+found_at_place {State = State} w xs h k = found_by (λ (x : Full State). x.source) (λ (x : Full State). x.place) w xs h k (λ x earlier. earlier.chains)

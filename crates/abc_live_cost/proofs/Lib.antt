@@ -11,3 +11,4 @@ pub mod Origins
 pub mod ByLines
 pub mod KeptStates
 pub mod WorkedEdits
+pub mod Rises

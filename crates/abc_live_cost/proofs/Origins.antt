@@ -1,4 +1,4 @@
--- Origins stand for pasts, and old chains hold the states of pasts.
+-- Origins agree with pasts, and old chains hold the states of pasts.
 use Rattle.std.proofs.Common.{◌≡◌, ℕ, zero, suc, ◌+◌, ◌-◌, ◌≤◌, min, List, [], ◌∷◌, ◌++◌, map, take, drop, length, slice_get}
 use Rattle.std.proofs.Common.{Option, Some, None, option_map, option_and_then, flat_map, refl, sym, ap, ◌∙◌, arith, append_assoc}
 use Rattle.std.proofs.Common.{take-append-drop, drop-drop}
@@ -20,7 +20,7 @@ use Rattle.abc_live_cost.proofs.Rows.{carried_rows}
 use Rattle.abc_live_cost.proofs.SameCells.{cell_at, cells_of_chain, carried_line}
 use Rattle.abc_live_cost.proofs.Steps.{Named, named}
 
--- origins stand for pasts
+-- origins agree with pasts
 
 abbrev addressed : {State : Type 0} → List (List (Option (Past State))) → List (List (Option (ℕ × ℕ)))
 addressed rows = map (λ row. map address_of row) rows

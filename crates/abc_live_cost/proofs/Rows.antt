@@ -1,4 +1,4 @@
--- The rows of a text, and of a spliced one, tell what the definitions say.
+-- The rows of a text, and of a spliced one, have what the definitions have.
 use Rattle.std.proofs.Common.{◌≡◌, ℕ, zero, suc, ◌+◌, ◌-◌, ◌<◌, ◌≤◌, true, false, List, [], ◌∷◌, ◌++◌, map, take, drop, length}
 use Rattle.std.proofs.Common.{slice_get, nat_lt, Option, Some, None, option_map, option_and_then, find, flat_map, refl, sym, ap}
 use Rattle.std.proofs.Common.{◌∙◌, ⊎_elim, arith, length-append, zero-add}
@@ -112,7 +112,7 @@ in_chains {State = State} steps read text at (chain ∷ chains) i k h =
     (cases_lt (at + i) chain.block.to))
     (cases_lt (at + i) chain.block.from)
 
--- what the definitions and the rows of the old text say
+-- the definitions and the rows of the old text agree
 
 pub rows_hold : {State Cell Items : Type 0} (steps : Steps State Cell Items) (read : List ℕ → List Cell) (old : Layout State)
     (m k : ℕ) → LiesInOrder old → option_map as_past (find (is_at m k) (flat_map (full_of steps read old.text) (chains_of old))) ≡ past_at (rows_of steps read old) m k

@@ -57,7 +57,7 @@ same_test steps a b c d one h k = ⊎_elim
     (λ m. let back : steps.alike a c ≡ true = one.transitive a d c (one.transitive a b d h m) (one.symmetric c d k) in cc)))
     (cases_Bool (steps.alike a c))
 
--- one cell, by cases on what is held of it
+-- one cell, by cases on its kept states
 one_step : {State Cell Items : Type 0} (steps : Steps State Cell Items) (a b : State) (cell : Cell) (cells : List Cell)
     (kept_states : List (Option (KeptState State))) (pieces : List (Option (Past State))) → IsResumable steps
     → IsTrue (steps.alike a b) → ((c d : State) → IsTrue (steps.alike c d)
@@ -243,7 +243,7 @@ no_cells p spots [] h e = refl
 no_cells p [] (cell ∷ cells) h e = absurd (cc)
 no_cells p (spot ∷ spots) (cell ∷ cells) h e = absurd (cc)
 
--- the openings are the same where the first cell is not fresh
+-- the openings are the same if the first cell is not fresh
 same_openings : {State Cell Items : Type 0} (steps : Steps State Cell Items) (read : List ℕ → List Cell) (old : Layout State)
     (s : Splice) (was : Chain State) (opening : State) (spot : Spot State) (spots : List (Spot State)) → LiesInOrder old
     → In was (chains_of old) → spot.entered ≡ opening → are_carried_from s (spot ∷ spots) (spots_of steps read old.text was) ≡ true

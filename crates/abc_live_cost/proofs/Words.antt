@@ -1,4 +1,4 @@
--- The other wordings say the same.
+-- The other wordings mean the same.
 use Rattle.std.proofs.Common.{◌≡◌, ℕ, zero, suc, ◌+◌, ◌-◌, ◌<◌, ◌≤◌, ◌==◌, ◌&&◌, ◌⊎◌, inl, inr, true, false, Bool, List, [], ◌∷◌}
 use Rattle.std.proofs.Common.{◌++◌, map, drop, filter, length, slice_get, None, option_map, find, flat_map, refl, sym, ap, ◌∙◌}
 use Rattle.std.proofs.Common.{subst, ⊎_elim, arith, append-nil}
@@ -46,7 +46,7 @@ in_line n spot = spot.line == n
 abbrev Alike : {State : Type 0} → ℕ → ℕ → List (Spot State) → Type 0
 Alike n k spots = slice_get (map (λ spot. spot.entered) (filter (in_line n) spots)) k ≡ option_map (λ spot. spot.entered) (find (is_spot_at n k) spots)
 
--- nothing of a line that stands elsewhere
+-- nothing of another line
 pub record Nothing {State : Type 0} (n : ℕ) (spots : List (Spot State)) : Type 0 where
   pub kept : filter (in_line n) spots ≡ []
   pub found : (k : ℕ) → find (is_spot_at n k) spots ≡ None

@@ -29,7 +29,7 @@ abbrev pub entry_before : {State Cell Items : Type 0} → Steps State Cell Items
     → CellPlace → Option State
 entry_before steps read old s place = option_and_then (λ was. entry_at steps read old was place.nth) (old_line s place.line)
 
--- A cell is fresh if it was not in the old text, or was entered there in a state that is not alike.
+-- A cell is fresh if it was not in the old text, or was entered there in a state that is not equivalent.
 abbrev pub is_fresh_after : {State : Type 0} → (State → State → Bool) → State → Option State → Bool
 is_fresh_after alike entered None = true
 is_fresh_after alike entered (Some was) = not (alike was entered)

@@ -38,7 +38,7 @@ abbrev pub behind : {State : Type 0} → State → Option (KeptState State) → 
 behind otherwise None = otherwise
 behind otherwise (Some held) = held.after
 
--- The steps along cells: one if no state is kept of the cell or it was entered in a state that is not alike; else the
+-- The steps along cells: one if no state is kept of the cell or it was entered in a state that is not equivalent; else the
 -- fold goes on in the kept state.
 abbrev pub steps_over : {State Cell Items : Type 0} → Steps State Cell Items → State → List Cell
     → List (Option (KeptState State)) → ℕ
@@ -48,7 +48,7 @@ steps_over steps state (cell ∷ cells) kept_states =
     (1 + steps_over steps (steps.next state cell) cells (rest kept_states))
     (steps_over steps (behind state (first_past kept_states)) cells (rest kept_states))
 
--- The kept states of a cell match its past, up to states that are alike.
+-- The kept states of a cell match its past, up to equivalent states.
 abbrev pub MatchesPast : {State Cell Items : Type 0} → Steps State Cell Items → Cell → Option (KeptState State)
     → Option (Past State) → Type 0
 MatchesPast steps cell None None = Unit {0}
@@ -78,7 +78,7 @@ kept_state_at kept (Some address) = both_kept (slice_get (kept address.0) addres
 abbrev pub kept_states_for : {State : Type 0} → (ℕ → List State) → List (Option (Past State)) → List (Option (KeptState State))
 kept_states_for kept pieces = map (λ piece. kept_state_at kept (address_of piece)) pieces
 
--- The kept states of each old chain are alike to those from scratch, one by one.
+-- The kept states of each old chain are equivalent to those from scratch, one by one.
 abbrev pub AreKeptStates : {State Cell Items : Type 0} → Steps State Cell Items → (List ℕ → List Cell) → Layout State
     → (ℕ → List State) → Type 0
 AreKeptStates steps read old kept = (was : Chain _) → Contains (chains_of old) was

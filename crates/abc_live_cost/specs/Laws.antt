@@ -66,7 +66,7 @@ PiecesDecide State Cell Items =
     → is_untouched_by steps read old (text_with_rows text (pasts steps read old s)) chain
     ≡ is_untouched steps read old s (spots_of steps read text chain)
 
--- That the cells of a chain are those of an old one is said by their lines alone.
+-- Whether the cells of a chain are those of an old one follows from their lines alone.
 abbrev pub LinesSuffice : Type 0 → Type 0 → Type 0 → Type 0
 LinesSuffice State Cell Items =
     (steps : Steps State Cell Items) (read : List ℕ → List Cell) (old text : Text) (s : Splice) (chain was : Chain State)

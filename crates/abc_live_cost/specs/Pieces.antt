@@ -1,4 +1,4 @@
--- The pieces of a chain: of which cells of the old text it is made, and the test by them for an untouched tune. Not in ABC 2.1.
+-- The pieces of a chain: its cells in the old text, and the test by them for an untouched tune. Not in ABC 2.1.
 use Rattle.std.specs.Prelude.{ℕ, zero, suc, ◌+◌, ◌==◌, ◌&&◌, Bool, true, false, List, [], ◌∷◌, ◌++◌, drop, length, Option, Some}
 use Rattle.std.specs.Prelude.{None}
 use Rattle.std.specs.List.{list_any}

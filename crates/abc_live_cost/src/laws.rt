@@ -67,7 +67,7 @@ pub fn steps_are_fresh<State, Cell, Items>()
     ensures { StepsAreFresh State Cell Items }
 {}
 
-/// If the old chains keep states alike to those from scratch, the kept states of a new chain's cells match their pasts.
+/// If the old chains keep states equivalent to those from scratch, the kept states of a new chain match its cells' pasts.
 pub fn kept_states_match<State, Cell, Items>()
     ensures { KeptStatesMatch State Cell Items }
 {}

@@ -4,11 +4,8 @@ use Rattle.std.proofs.Common.{None, refl, sym, ap, ◌∙◌, subst, arith}
 use Rattle.std.proofs.lemmas.List.Sums.{sum_by-drop_more}
 use Rattle.abc_fold.specs.Work.{Counters, raised}
 use Rattle.abc_live_index.specs.BuildCount.{IsBuiltUpTo, built_count_at, built_count}
-use Rattle.abc_fold.proofs.Raised.{raised-least, raised-raised}
-
-more_raised : (count more k : ℕ) → count ≤ more → raised count k ≤ raised more k
-unfolding raised
-more_raised count more k h = omega arith
+use Rattle.abc_fold.proofs.Raised.{raised-least}
+use Rattle.abc_live_cost.proofs.Rises.{risen_both}
 
 -- Counters that stay.
 pub built_none : (k : ℕ) (counters : Counters) → IsBuiltUpTo k counters counters
@@ -38,15 +35,9 @@ built_asked reused_tunes is now later one = rw (is) one
 
 -- One thing after another.
 pub built_both : (j k : ℕ) (a b c : Counters) → IsBuiltUpTo j a b → IsBuiltUpTo k b c → IsBuiltUpTo (j + k) a c
-built_both j k a b c ab bc = record {
-  scanned = bc.scanned ∙ ab.scanned;
-  folded = bc.folded ∙ ab.folded;
-  least = omega (arith, ab.least, bc.least);
-  most =
-      let more = more_raised b.built (raised a.built j) k ab.most in
-      let sum = raised-raised a.built j k in
-      omega (arith, bc.most, more, sum);
-}
+built_both j k a b c ab bc =
+    let both = risen_both j k a.built b.built c.built ab.least ab.most bc.least bc.most in
+    record { scanned = bc.scanned ∙ ab.scanned; folded = bc.folded ∙ ab.folded; least = both.0; most = both.1 }
 
 -- Counters from which the rest may be built, and stay within what all may be.
 abbrev pub BuiltSoFar : List (Option ℕ) → List (Option ℕ) → Counters → Counters → Type 0
@@ -61,6 +52,6 @@ module _ (all : List (Option ℕ)) (before now later : Counters) (at : ℕ) (oth
   pub built_next : BuiltSoFar all (drop (at + 1) all) before later
   built_next after rest = so_far after (subst (λ k. IsBuiltUpTo k now after) (sym rest_is) (built_both _ _ now later after one rest))
 
-  -- Where that was the last that was tried.
+  -- The same if that was the last one that was tried.
   pub built_last : IsBuiltUpTo (built_count all) before later
   built_last = built_next later (built_none (built_count (drop (at + 1) all)) later)

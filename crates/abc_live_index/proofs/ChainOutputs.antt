@@ -123,7 +123,7 @@ module _ {State Cell Items : Type 0} (steps : Steps State Cell Items) where
           }
 
   module _ {Defaults : Type 0} (rules : Rules State Cell Items Defaults) (opening : State) (text : Text) where
-    -- what the chain of a place gives wherever its lines stand
+    -- what the chain of a place gives at any place of its lines
     pub output_follows : (chain : Chained State Cell Items) (place : Block) → IsChainOf steps rules.cells opening text chain place
         → OutputAgrees (output_in rules chain) (tune_of steps.next steps.gives rules opening text place)
     unfolding tune_of

@@ -30,7 +30,7 @@ claims_on old new place same so =
 pub claims_front : (old new : List Output) (front : ℕ) → take front new ≡ take front old → take front (claims_of old) ≡ take front (claims_of new)
 claims_front old new front same = take-map claim_of front old ∙ ap claims_of (sym same) ∙ sym (take-map claim_of front new)
 
--- where those of the stretch do, all do
+-- if those of the stretch do, all do
 pub claims_end : (old new : List Output) (front came behind place : ℕ) → front ≤ behind → came ≡ behind - front → drop (front + came) new ≡ drop behind old → behind ≤ place
     → take place (claims_of old) ≡ take place (claims_of new) → claims_of old ≡ claims_of new
 claims_end old new front came behind place order count rest past so =
@@ -50,14 +50,14 @@ titles_on all from place output title titles next order here is put so =
     put ∙ ap (λ t. titles ++ t ∷ []) is ∙ ap (λ l. l ++ title_by output ∷ []) so ∙ sym (map-append title_by (take (place - from) (drop from all)) (output ∷ []))
     ∙ ap titles_of (sym (take_next (drop from all) (place - from) output there)) ∙ ap (λ n. titles_of (take n (drop from all))) more
 
--- where all claims stay, as many tunes came as went
+-- if all claims stay, as many tunes came as went
 pub came_count : (old new : List Output) (front came behind : ℕ) → claims_of old ≡ claims_of new → front ≤ behind
     → behind ≤ length old → length new ≡ front + came + (length old - behind) → came ≡ behind - front
 came_count old new front came behind same order inside count =
     let lengths : length old ≡ length new = sym (length-map old claim_of) ∙ ap length same ∙ length-map new claim_of in
     omega (arith, lengths, order, inside, count)
 
--- the titles of a stretch, where as many tunes came as went, and those before and after it
+-- the titles of a stretch, if as many tunes came as went, and those before and after it
 pub titles_among : (old new : List Output) (front came behind end : ℕ) (titles : List Title) → front ≤ behind → behind ≤ length old → came ≡ behind - front → end ≡ front + came
     → length new ≡ front + came + (length old - behind) → take front new ≡ take front old → drop (front + came) new ≡ drop behind old → titles ≡ titles_of (take (end - front) (drop front new))
     → take front (titles_of old) ++ (titles ++ drop (front + length titles) (titles_of old)) ≡ titles_of new

@@ -51,7 +51,7 @@ module _ (whole : List Output) where
       (owner ∷ insert_entry nat_cmp owners n place)) (insert_entry nat_cmp (file ∷ files) n bytes)) (sym all.0.0)
       (put_step owner owners file files n place bytes all.0 all.1 gives (put owners files n place bytes all.1 gives) (nat_cmp n file.0) refl)
 
-  -- what an owner and a file say of a number
+  -- the meaning of an owner and a file of a number
   abbrev pub Answers : ℕ → Option ℕ → Option (List ℕ) → Type 0
   Answers n None None = Unit {0}
   Answers n None (Some bytes) = ⊥

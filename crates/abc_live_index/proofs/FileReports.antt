@@ -25,7 +25,7 @@ use Rattle.abc_tune_compiler.proofs.Members.{contains_head, contains_none, from_
 use Rattle.abc_tune_compiler.specs.Files.{file_at, removed_numbers, written_numbers}
 use Rattle.abc_tune_compiler.specs.Sort.{sort_dedup}
 
--- what the test of bytes says
+-- the meaning of the test of bytes
 same_bytes : (a b : Option (List ℕ)) → a ≡ b → option_eq bytes_eq a b ≡ true
 same_bytes None None e = refl
 same_bytes None (Some y) e = absurd cc
@@ -99,7 +99,7 @@ module _ (before after : List Output) where
       ap (λ f. not (option_eq bytes_eq f (option_and_then (bytes_at after) new))) one ∙ ap (λ f. not (option_eq bytes_eq (file_at (files_of before) n) f)) other
 
   module _ (owners : Owners) where
-    -- what a number that is found says
+    -- the meaning of a number that is found
     pub record Rewrites (place n : ℕ) : Type 0 where
       pub output : Output
       pub here : slice_get after place ≡ Some output
@@ -183,7 +183,7 @@ module _ (before after : List Output) where
       whole = λ n w. subst (λ l. Contains l n) (sym put) (found_last from to n m found here so w (lt_or_same w.0 to (omega (arith, w.2))));
     }
 
-  -- what the numbers that are found of a stretch say, where all tunes claim what they did
+  -- what follows from the numbers that are found of a stretch if all tunes claim what they did
   module _ (claims : claims_of before ≡ claims_of after) where
     same_owners : owners_of before ≡ owners_of after
     same_owners = ap (owners_after [] 0) claims

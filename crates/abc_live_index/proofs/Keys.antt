@@ -24,7 +24,7 @@ use Rattle.abc_live_index.specs.declared.output.Output.{Output}
 use Rattle.abc_live_index.proofs.OutputLists.{some_at, zipped_at, zipped_count}
 use Rattle.abc_live_index.proofs.OutputReuse.{mapped_at}
 
--- the lines of a place, seen where they lie
+-- the lines of a place, seen at their place
 pub seen_there : (lines : List (Bor (List ℕ))) (place : Block) → seen_lines (take (place.to - place.from) (drop place.from lines)) ≡ lines_in (seen_lines lines) place
 seen_there lines place =
     sym (ap (take (place.to - place.from)) (drop-map (λ (line : Bor (List ℕ)). line.now) place.from lines)

@@ -1,7 +1,7 @@
 -- Elements of lists by their places.
 use Rattle.std.proofs.Common.{◌≡◌, ℕ, zero, suc, ◌+◌, ◌-◌, ◌<◌, ◌≤◌, List, [], ◌∷◌, ◌++◌, length, take, drop, Option, Some}
 use Rattle.std.proofs.Common.{None, slice_get, refl, sym, ap, ◌∙◌, arith, inl, inr}
-use Rattle.std.specs.Prelude.{IfOk, Result, Ok, Err}
+use Rattle.std.specs.Prelude.{IfOk, OnErr, OnOk, Result, Ok, Err}
 use Rattle.std.proofs.Math.Seq.{drop-cons}
 use Rattle.std.proofs.lemmas.List.{drop-drop, take_all, take_more, take-append-drop}
 use Rattle.std.proofs.lemmas.Option.{slice_get_within, slice_get_cases, get_or_from_slice_get}
@@ -61,7 +61,7 @@ get_front (suc n) [] k order = refl
 get_front (suc n) (x ∷ xs) zero order = refl
 get_front (suc n) (x ∷ xs) (suc k) order = get_front n xs k (omega (arith, order))
 
--- where two lists are the same before a place, or from two places on
+-- two lists that are the same before a place, or from two places on
 pub same_before : {X : Type 0} (xs ys : List X) (n k : ℕ) → k < n → take n ys ≡ take n xs → slice_get xs k ≡ slice_get ys k
 same_before xs ys n k before same = sym (get_front n xs k before) ∙ ap (λ l. slice_get l k) (sym same) ∙ get_front n ys k before
 
@@ -76,7 +76,17 @@ pub ok_both : {A E : Type 0} (answer : Result A E) (P Q R : A → Type 0) → ((
 ok_both (Ok x) P Q R follows one other = follows x one other
 ok_both (Err e) P Q R follows one other = tt
 
--- where none is still to be put
+-- a fact of an answer that has a value
+pub on_ok : {A E P : Type 0} (answer : Result A E) (value : A) → answer ≡ Ok value → OnOk answer P → P
+on_ok (Ok x) value is done = done
+on_ok (Err e) value is done = absurd cc
+
+-- a fact that holds in any case
+pub on_err : {A E P : Type 0} (answer : Result A E) → P → OnErr answer P
+on_err (Ok x) done = tt
+on_err (Err e) done = done
+
+-- if none is left to be put
 pub put_none : {X : Type 0} (xs : List X) (k : ℕ) (rest : List X) → length rest ≡ 0 → xs ≡ take k xs ++ (rest ++ drop (k + length rest) xs)
 put_none xs k [] none = let count : k ≡ k + 0 = omega arith in sym (take-append-drop k xs) ∙ ap (λ n. take k xs ++ drop n xs) count
 put_none xs k (x ∷ rest) none = absurd (omega (arith, none))

@@ -72,7 +72,7 @@ copied_more all copies more n one copy count put same at whole =
     let own = put ∙ ap (λ x. copies ++ x ∷ []) same in
     ap (λ n. more ++ drop n all) next ∙ put_more copies more (one ∷ []) (drop (length copies + 1) all) (drop (length copies) all) all own (one_on all (length copies) one is) whole
 
--- where none is left, all are copied
+-- if none is left, all are copied
 pub copied_all : {X : Type 0} (all copies : List X) (n : ℕ) → n ≡ length copies → slice_get all n ≡ None → copies ++ drop (length copies) all ≡ all → copies ≡ all
 copied_all all copies n count at whole =
     let is = ap (slice_get all) (sym count) ∙ at in
@@ -111,7 +111,7 @@ made_more f xs at y made more is put whole =
     let left : map f (drop at xs) ≡ y ∷ map f (drop (at + 1) xs) = sym (drop-map f at xs) ∙ one_on (map f xs) at y is ∙ ap (λ l. y ∷ l) (drop-map f (at + 1) xs) in
     put_more made more (y ∷ []) (map f (drop (at + 1) xs)) (map f (drop at xs)) (map f xs) put left whole
 
--- where none is left, these are all
+-- if none is left, these are all
 pub made_all : {A B : Type 0} (f : A → B) (xs : List A) (at : ℕ) (made : List B) → length xs ≤ at → made ++ map f (drop at xs) ≡ map f xs → made ≡ map f xs
 made_all f xs at made behind whole = sym (append-nil made) ∙ ap (λ l. made ++ map f l) (sym (drop_all at xs behind)) ∙ whole
 

@@ -1,4 +1,4 @@
--- Runs of a list among so many of it that have so many before them.
+-- Runs of a list among `count` items of it at index `before`.
 use Rattle.std.proofs.Common.{◌≡◌, ℕ, ◌+◌, ◌-◌, ◌≤◌, List, length, take, drop, ap, ◌∙◌, arith}
 use Rattle.std.proofs.lemmas.List.{drop-drop, drop-take, take-take, length-take-le, length-drop}
 
@@ -18,6 +18,6 @@ module _ {X : Type 0} (xs : List X) (before count : ℕ) where
       ∙ ap (λ n. take (to - from) (take (before + count - from) (drop n xs))) there
       ∙ take-take (to - from) (before + count - from) (drop from xs) fewer
 
-  -- and there are so many of them
+  -- and the count of them
   pub among_inside : before + count ≤ length xs → length (take count (drop before xs)) ≡ count
   among_inside inside = let left = length-drop before xs in length-take-le count (drop before xs) (omega (arith, inside, left))

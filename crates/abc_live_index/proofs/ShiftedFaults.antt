@@ -1,7 +1,9 @@
--- Faults that are kept where lines were replaced.
+-- Faults that stay if lines are replaced.
 use Rattle.std.proofs.Common.{◌≡◌, ℕ, ◌+◌, ◌-◌, ◌<◌, ◌≤◌, List, ◌++◌, All, filter, map, ap, ◌∙◌, append_assoc}
 use Rattle.std.proofs.lemmas.Bool.{ltb-true}
 use Rattle.std.proofs.lemmas.List.Elements.{All-filter, All-same, filter_passes}
+use Rattle.abc_lines.specs.ItemRange.{gone}
+use Rattle.abc_lines.specs.declared.item_range.Replacement.{Replacement}
 use Rattle.abc_live_index.specs.Faults.{shifted_fault, faults_after, is_before, is_after}
 use Rattle.abc_tune_compiler.specs.Fault.{fault_cmp}
 use Rattle.abc_tune_compiler.specs.Sort.{sort_dedup}
@@ -17,11 +19,11 @@ fits_behind from gone came most old behind are few =
     → fault.line - gone + came ≤ most) old few k d inside (ltb-true _ _ (filter_passes (is_after (from + gone)) old k d inside)))
 
 -- the three parts, as code puts them one after another
-pub put_together : (from gone came : ℕ) (old new first sorted more behind all : List Fault) → first ≡ filter (is_before from) old → sorted ≡ sort_dedup fault_cmp new → more ≡ first ++ sorted
-    → behind ≡ filter (is_after (from + gone)) old → all ≡ more ++ map (shifted_fault gone came) behind → all ≡ faults_after from gone came old new
+pub put_together : (lines : Replacement) (old new first sorted more behind all : List Fault) → first ≡ filter (is_before lines.from) old → sorted ≡ sort_dedup fault_cmp new → more ≡ first ++ sorted
+    → behind ≡ filter (is_after (lines.from + gone lines)) old → all ≡ more ++ map (shifted_fault (gone lines) lines.came) behind → all ≡ faults_after lines old new
 unfolding faults_after
-put_together from gone came old new first sorted more behind all one two three four five =
-    five ∙ ap (λ l. l ++ map (shifted_fault gone came) behind) three ∙ ap (λ l. (l ++ sorted) ++ map (shifted_fault gone came) behind) one
-    ∙ ap (λ l. (filter (is_before from) old ++ l) ++ map (shifted_fault gone came) behind) two
-    ∙ ap (λ l. (filter (is_before from) old ++ sort_dedup fault_cmp new) ++ map (shifted_fault gone came) l) four
-    ∙ append_assoc (filter (is_before from) old) (sort_dedup fault_cmp new) (map (shifted_fault gone came) (filter (is_after (from + gone)) old))
+put_together lines old new first sorted more behind all one two three four five =
+    five ∙ ap (λ l. l ++ map (shifted_fault (gone lines) lines.came) behind) three ∙ ap (λ l. (l ++ sorted) ++ map (shifted_fault (gone lines) lines.came) behind) one
+    ∙ ap (λ l. (filter (is_before lines.from) old ++ l) ++ map (shifted_fault (gone lines) lines.came) behind) two
+    ∙ ap (λ l. (filter (is_before lines.from) old ++ sort_dedup fault_cmp new) ++ map (shifted_fault (gone lines) lines.came) l) four
+    ∙ append_assoc (filter (is_before lines.from) old) (sort_dedup fault_cmp new) (map (shifted_fault (gone lines) lines.came) (filter (is_after (lines.from + gone lines)) old))

@@ -1,6 +1,8 @@
 -- What is kept by differences is what the whole text gives. Not in ABC 2.1.
 use Rattle.std.specs.Prelude.{◌≡◌, ℕ, ◌+◌, ◌<◌, ◌≤◌, List, [], ◌++◌, map, All}
 use Rattle.std.specs.List.{AllZip}
+use Rattle.abc_lines.specs.ItemRange.{gone}
+use Rattle.abc_lines.specs.declared.item_range.Replacement.{Replacement}
 use Rattle.abc_live_index.specs.Faults.{shifted_fault, faults_after}
 use Rattle.abc_live_index.specs.Outputs.{files_of, titles_of}
 use Rattle.abc_live_index.specs.Tunes.{OutputAgrees}
@@ -37,8 +39,8 @@ FaultAfter to fault = to < fault.line
 -- The faults of a text, with those of a stretch replaced, are those of the text with the stretch replaced.
 abbrev pub FaultsMeet : Type 0
 FaultsMeet =
-    (from gone came : ℕ) (before old behind new : List Fault)
-    → All (FaultBefore from) before → All (FaultAmong from gone) old → All (FaultAfter (from + gone)) behind
-    → All (FaultAmong from came) new
-    → faults_after from gone came (sort_dedup fault_cmp (before ++ (old ++ behind))) new
-    ≡ sort_dedup fault_cmp (before ++ (new ++ map (shifted_fault gone came) behind))
+    (lines : Replacement) (before old behind new : List Fault)
+    → All (FaultBefore lines.from) before → All (FaultAmong lines.from (gone lines)) old
+    → All (FaultAfter (lines.from + gone lines)) behind → All (FaultAmong lines.from lines.came) new
+    → faults_after lines (sort_dedup fault_cmp (before ++ (old ++ behind))) new
+    ≡ sort_dedup fault_cmp (before ++ (new ++ map (shifted_fault (gone lines) lines.came) behind))

@@ -9,7 +9,7 @@ abbrev pub titles_after : List Title → NewTitles → List Title
 titles_after old (Whole titles) = titles.items
 titles_after old (Among front titles) = take front old ++ (titles.items ++ drop (front + length titles.items) old)
 
--- Titles that are put among others take the place of old ones.
+-- Titles that are put among others replace old ones.
 abbrev pub TitlesFit : List Title → NewTitles → Type 0
 TitlesFit old (Whole titles) = ⊤
 TitlesFit old (Among front titles) = front + length titles.items ≤ length old

@@ -11,11 +11,11 @@ old_outputs change = change.before.now.items
 abbrev pub new_outputs : TuneChange → List Output
 new_outputs change = change.splice.now.after.items
 
--- The tunes are the same but for a stretch of them, which `came` tunes replace.
+-- The tunes are the same but for a range of them, which others replace.
 pub record IsChange (change : TuneChange) : Type 0 where
   pub on : change.splice.now.on ≡ change.before.now
-  pub order : change.front ≤ change.behind
-  pub inside : change.behind ≤ length (old_outputs change)
-  pub count : length (new_outputs change) ≡ change.front + change.came + (length (old_outputs change) - change.behind)
-  pub front : take change.front (new_outputs change) ≡ take change.front (old_outputs change)
-  pub behind : drop (change.front + change.came) (new_outputs change) ≡ drop change.behind (old_outputs change)
+  pub order : change.tunes.from ≤ change.tunes.to
+  pub inside : change.tunes.to ≤ length (old_outputs change)
+  pub count : length (new_outputs change) ≡ change.tunes.from + change.tunes.came + (length (old_outputs change) - change.tunes.to)
+  pub front : take change.tunes.from (new_outputs change) ≡ take change.tunes.from (old_outputs change)
+  pub behind : drop (change.tunes.from + change.tunes.came) (new_outputs change) ≡ drop change.tunes.to (old_outputs change)

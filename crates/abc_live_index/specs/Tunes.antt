@@ -96,7 +96,7 @@ pub record OutputAgrees (output : Output) (tune : Tune) : Type 0 where
   pub title : output.title ≡ tune.title
   pub bytes : output.built.bytes ≡ tune.bytes
 
--- What it gives, wherever the lines stand, is what the definition's tune of the place has.
+-- A chain gives what the definition's tune of its place has.
 abbrev pub OutputFollows : Type 0 → Type 0 → Type 0 → Type 0 → Type 0
 OutputFollows State Cell Items Defaults =
     (steps : Steps State Cell Items) (rules : Rules State Cell Items Defaults) (opening : State) (text : Text)

@@ -4,6 +4,7 @@ ghost use Rattle.std.specs.Prelude.{◌≡◌, ◌+◌, ◌-◌, ◌<◌, ◌≤
 ghost use Rattle.std.specs.Prelude.{unwrap_or};
 ghost use Rattle.std.specs.List.Sorted.{IsStrictlyIncreasing};
 ghost use Rattle.std.specs.Map.{keys_of};
+ghost use Rattle.abc_lines.specs.ItemRange.{gone};
 ghost use Rattle.abc_live_index.specs.TuneChange.{IsChange, new_outputs, old_outputs};
 ghost use Rattle.abc_live_index.specs.Faults.{faults_after};
 ghost use Rattle.abc_live_index.specs.Outputs.{files_of, titles_of};
@@ -13,14 +14,14 @@ ghost use Rattle.abc_tune_compiler.specs.Files.{file_at};
 ghost use Rattle.abc_tune_compiler.specs.Report.{Reports};
 
 use crate::Output;
-use crate::faults::{NewLines, faults_after};
+use crate::faults::faults_after;
 use crate::new_tunes::NewTunes;
 use crate::owners::Owners;
 use crate::report::{report_over, report_within};
 use crate::titles::NewTitles;
 use crate::tune_change::{TuneChange, file_of};
 use abc_fold::Shared;
-use abc_lines::{GapList, SplicePatch};
+use abc_lines::{GapList, Replacement, SplicePatch};
 use abc_text::Snapshot;
 use abc_tune_compiler::{Fault, Report, Title};
 use std::alloc::{AllocError, Global};
@@ -133,37 +134,35 @@ impl KeptBook {
 
     /// Prepares to replace old tunes and faults by new ones. Nothing changes.
     pub fn prepare(&self, alloc: Global, tunes: NewTunes) -> Result<BookPatch, AllocError>
-        requires order { tunes.front ≤ tunes.behind }
-        requires inside { tunes.behind ≤ length self.now.outputs.items }
-        requires few { All (λ fault. tunes.from + tunes.gone < fault.line
-            → fault.line - tunes.gone + tunes.came ≤ u32.MAX) self.now.faults }
+        requires order { tunes.range.from ≤ tunes.range.to }
+        requires inside { tunes.range.to ≤ length self.now.outputs.items }
+        requires few { All (λ fault. tunes.lines.from + gone tunes.lines < fault.line
+            → fault.line - gone tunes.lines + tunes.lines.came ≤ u32.MAX) self.now.faults }
         ensures on { IfOk result (λ patch. patch.on ≡ self.now) }
-        ensures outputs { IfOk result (λ patch. patch.outputs ≡ take tunes.front self.now.outputs.items
-            ++ (tunes.outputs.items ++ drop tunes.behind self.now.outputs.items)) }
-        ensures faults { IfOk result (λ patch. patch.faults
-            ≡ faults_after tunes.from tunes.gone tunes.came self.now.faults tunes.faults.items) }
+        ensures outputs { IfOk result (λ patch. patch.outputs ≡ take tunes.range.from self.now.outputs.items
+            ++ (tunes.outputs.items ++ drop tunes.range.to self.now.outputs.items)) }
+        ensures faults { IfOk result (λ patch. patch.faults ≡ faults_after tunes.lines self.now.faults tunes.faults.items) }
         ensures report { IfOk result (λ patch. Reports (files_of self.now.outputs.items) (files_of patch.outputs) patch.report) }
     {
         let NewTunes {
-            front,
-            behind,
+            range,
             outputs,
+            lines,
             faults,
-            from,
-            gone,
-            came,
         } = tunes;
-        let faults = faults_after(alloc, NewLines { from, gone, came }, &self.faults, &faults)?;
+        let faults = faults_after(alloc, lines, &self.faults, &faults)?;
         let count = outputs.len();
         let outputs = self
             .outputs
-            .splice_prepare(alloc, front, behind - front, outputs)?;
+            .splice_prepare(alloc, range.from, range.to - range.from, outputs)?;
         let change = TuneChange {
             before: &self.outputs,
             splice: &outputs,
-            front,
-            behind,
-            came: count,
+            tunes: Replacement {
+                from: range.from,
+                to: range.to,
+                came: count,
+            },
         };
         match self.differences(alloc, &change) {
             Ok(differences) => Ok(BookPatch {

@@ -2,23 +2,18 @@
 
 use crate::Output;
 use abc_fold::Shared;
+use abc_lines::{ItemRange, Replacement};
 use abc_tune_compiler::Fault;
 
 /// Tunes and faults that replace old ones.
 #[derive(Drop)]
 pub struct NewTunes {
-    /// How many old tunes are before the new ones.
-    pub front: usize,
-    /// The first old tune after the new ones, counted from 0.
-    pub behind: usize,
-    /// What the tunes give that replace the tunes `front..behind`.
+    /// The old tunes that are replaced.
+    pub range: ItemRange,
+    /// What the tunes give that replace them.
     pub outputs: Vec<Shared<Output>>,
-    /// The faults that replace those of the lines that go, by the lines of the new text and in any order.
+    /// The old lines whose faults are replaced, and how many lines replace them.
+    pub lines: Replacement,
+    /// The faults of the new lines, by the lines of the new text and in any order.
     pub faults: Vec<Fault>,
-    /// How many lines stay before those that go.
-    pub from: u32,
-    /// How many lines go.
-    pub gone: u32,
-    /// How many lines replace them.
-    pub came: u32,
 }

@@ -47,7 +47,7 @@ fn changed_numbers(
         (files_of (new_outputs change.now))) }
 {
     let mut found = Vec::new(alloc);
-    for place in change.front..change.behind {
+    for place in change.tunes.from..change.tunes.to {
         if let Some(number) = changed_number_at(change, owners, place) {
             found.push(number)?;
         }

@@ -15,7 +15,7 @@ pub struct StretchView<'a, C: Compiler> {
     pub before: usize,
     /// The state after the file header's last cell, if there is a file header.
     pub left: Option<&'a C::State>,
-    /// Where the tunes lie in the text.
+    /// The places of the tunes in the text.
     pub places: &'a [Block],
     /// The chain of each tune.
     pub chains: &'a [Shared<Chain<C>>],

@@ -11,7 +11,7 @@ use abc_text::Sequence;
 use abc_tune_compiler::Title;
 use std::alloc::{AllocError, Global};
 
-/// The titles of tunes that take the place of others.
+/// The titles of tunes that replace others.
 #[derive(Drop)]
 pub(crate) enum NewTitles {
     /// All titles.
@@ -58,9 +58,8 @@ impl NewTitles {
             ≡ titles_of (new_outputs change.now)) }
     {
         if change.keeps_count() {
-            let end = change.front + change.came;
-            let titles = titles_between(alloc, change, change.front, end)?;
-            Ok(NewTitles::Among(change.front, titles))
+            let titles = titles_between(alloc, change, change.tunes.from, change.tunes.to)?;
+            Ok(NewTitles::Among(change.tunes.from, titles))
         } else {
             let titles = titles_between(alloc, change, 0, change.count())?;
             Ok(NewTitles::Whole(titles))

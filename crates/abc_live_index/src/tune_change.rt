@@ -9,19 +9,14 @@ ghost use Rattle.abc_live_index.specs.Owners.{bytes_at, claim_of, claims_of};
 use crate::Output;
 use crate::owners::Claim;
 use abc_fold::Shared;
-use abc_lines::{GapList, SplicePatch};
+use abc_lines::{GapList, Replacement, SplicePatch};
 
-/// What the tunes give before a change, and what replaces a stretch of them.
+/// What the tunes give before a change, the tunes that others replace, and what the tunes give after it.
 #[derive(Drop)]
 pub(crate) struct TuneChange<'a> {
     pub(crate) before: &'a GapList<Shared<Output>>,
     pub(crate) splice: &'a SplicePatch<Shared<Output>>,
-    /// How many tunes are before the stretch.
-    pub(crate) front: usize,
-    /// The first old tune after the stretch, counted from 0.
-    pub(crate) behind: usize,
-    /// How many tunes came.
-    pub(crate) came: usize,
+    pub(crate) tunes: Replacement,
 }
 
 /// The file of a tune, if it has one.
@@ -112,9 +107,9 @@ impl TuneChange<'_> {
     /// Whether as many tunes came as went.
     pub(crate) fn keeps_count(&self) -> bool
         requires { IsChange self.now }
-        ensures { result ≡ true → self.now.came ≡ self.now.behind - self.now.front }
+        ensures { result ≡ true → self.now.tunes.came ≡ self.now.tunes.to - self.now.tunes.from }
     {
-        self.came == self.behind - self.front
+        self.tunes.came == self.tunes.to - self.tunes.from
     }
 
     /// Whether the tune at a place claims what the old one there does.
@@ -137,7 +132,7 @@ impl TuneChange<'_> {
         if !self.keeps_count() {
             return false;
         }
-        for place in self.front..self.behind {
+        for place in self.tunes.from..self.tunes.to {
             if !self.keeps_claim(place) {
                 return false;
             }
@@ -152,16 +147,16 @@ impl TuneChange<'_> {
         requires { IsChange self.now }
         ensures { result ≡ true → slice_get (old_outputs self.now) old ≡ slice_get (new_outputs self.now) new }
     {
-        if old < self.front {
+        if old < self.tunes.from {
             return new == old;
         }
-        if old < self.behind {
+        if old < self.tunes.to {
             return false;
         }
-        if new < self.front || new - self.front < self.came {
+        if new < self.tunes.from || new - self.tunes.from < self.tunes.came {
             return false;
         }
-        new - self.front - self.came == old - self.behind
+        new - self.tunes.from - self.tunes.came == old - self.tunes.to
     }
 
     /// Whether the same tune gives a file before and after, by the places of those that do.

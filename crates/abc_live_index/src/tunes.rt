@@ -79,36 +79,6 @@ fn put_of_place<C: Compiler>(
     Ok(())
 }
 
-/// Appends the faults of the tunes of a stretch, which give these. If an allocation fails, some are appended.
-fn put_of_places<C: Compiler>(
-    compiler: &C,
-    faults: &mut Vec<Fault>,
-    stretch: &StretchView<C>,
-    outputs: &[Shared<Output>],
-) -> Result<(), AllocError>
-    requires few { stretch.now.before + length stretch.now.counts.now ≤ MOST_LINES }
-    requires cells { AllZip (HasCells stretch.now.before stretch.now.counts.now) stretch.now.chains.now stretch.now.places.now }
-    requires outputs { outputs.now ≡ map (output_in (C.rules compiler.now)) stretch.now.chains.now }
-    ensures ok { OnOk result (faults.new.items ≡ faults.old.items
-        ++ faults_by
-        (C.rules compiler.now) stretch.now.before stretch.now.counts.now stretch.now.chains.now stretch.now.places.now) }
-    ensures front { StayInFront faults.old.items faults.new.items }
-{
-    for (place, chain) in stretch.chains.iter().enumerate() {
-        let output = outputs[place].get();
-        let chain = chain.get();
-        put_of_place(
-            compiler,
-            faults,
-            stretch,
-            chain,
-            stretch.places[place],
-            output,
-        )?;
-    }
-    Ok(())
-}
-
 /// Appends the faults of the tunes of a stretch, which give these. If an allocation fails, nothing is appended.
 pub fn put_tune_faults<C: Compiler>(
     compiler: &C,
@@ -125,6 +95,18 @@ pub fn put_tune_faults<C: Compiler>(
     ensures unchanged { OnErr result (faults.new.items ≡ faults.old.items) }
 {
     let count = faults.len();
-    let put = put_of_places(compiler, faults, stretch, outputs);
-    undo_if_refused(faults, count, put)
+    for (place, chain) in stretch.chains.iter().enumerate() {
+        let output = outputs[place].get();
+        let chain = chain.get();
+        let put = put_of_place(
+            compiler,
+            faults,
+            stretch,
+            chain,
+            stretch.places[place],
+            output,
+        );
+        undo_if_refused(faults, count, put)?;
+    }
+    Ok(())
 }

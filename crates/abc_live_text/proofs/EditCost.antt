@@ -25,7 +25,7 @@ no_work lines steps before = record {
   most_folded = raised-least before.folded steps;
 }
 
--- Where lines have been scanned and no steps folded.
+-- The cost if lines have been scanned and no steps folded.
 pub early_work : (lines steps : ℕ) (before after : Counters) → IsScannedUpTo lines before after → IsWorkUpTo lines steps before after
 early_work lines steps before after scan = record {
   built = scan.built;
@@ -54,7 +54,7 @@ empty_stands {State = State} {Cell = Cell} {Items = Items} steps rules text rows
     } in
     rw (t, r, h, b, c) all
 
--- What is kept of a text stands, and the laws of its compiler.
+-- The parts of a text are right, and its compiler keeps its laws.
 pub record IsKept {C State Cell Items Defaults : Type 0} (steps : Steps State Cell Items) (rules : Rules State Cell Items Defaults) (on : KeptTextView C State Cell Items) : Type 0 where
   pub laws : IsResumable steps
   pub lawful : AreLawful steps rules

@@ -80,7 +80,7 @@ new_parts steps rules text s rows old are chains =
 abbrev pub stretch_rows : {State Cell Items Defaults : Type 0} → Rules State Cell Items Defaults → Splice → ℕ → List (CarriedRow Cell) → List (CarriedRow Cell)
 stretch_rows rules s from own = take (s.at - from) own ++ (map (fresh_row rules) s.lines ++ drop (s.at + s.removed - from) own)
 
--- Where a stretch lies among the chains of a text.
+-- The place of a stretch among the chains of a text.
 pub record IsAmong (from to count : ℕ) (front own back : List Block) : Type 0 where
   pub first : BlocksRise 0 front from
   pub here : BlocksRise from own to

@@ -28,17 +28,17 @@ part_classes rows a own b classes parts read =
 -- The lines and the tunes of a span, whose rows with their origins are `own`, in a text and after an edit of them.
 pub record IsEditedRun {State Cell Items Defaults : Type 0} (rules : Rules State Cell Items Defaults) (text : Text)
     (s : Splice) (rows : List (Row Cell)) (span : Span) (own : List (CarriedRow Cell)) : Type 0 where
-  pub parts : Parted rules s (placed_from (map carried_row rows) 0 0 (places_of (blocks_in rules text))) own span.from
-  pub tunes : tunes_in (blocks_in rules (spliced text s)) ≡ take span.front (tunes_in (blocks_in rules text))
-      ++ (map (moved span.from) (tunes_among (stretch_rows rules s span.from own))
-      ++ map (shifted (span.to - span.from) (length (stretch_rows rules s span.from own))) (drop span.behind (tunes_in (blocks_in rules text))))
-  pub before : All (Ends span.from) (take span.front (tunes_in (blocks_in rules text)))
-  pub behind : All (StartsFrom span.to) (drop span.behind (tunes_in (blocks_in rules text)))
-  pub amid : All (λ (block : Block). (span.from ≤ block.from) × (block.to ≤ span.to))
-      (take (span.behind - span.front) (drop span.front (tunes_in (blocks_in rules text))))
-  pub order : span.front ≤ span.behind
-  pub most : span.behind ≤ length (tunes_in (blocks_in rules text))
-  pub begins : span.from ≤ s.at
-  pub ends : s.at + s.removed ≤ span.to
-  pub inside : span.to ≤ length text
-  pub count : length own ≡ span.to - span.from
+  pub parts : Parted rules s (placed_from (map carried_row rows) 0 0 (places_of (blocks_in rules text))) own span.lines.from
+  pub tunes : tunes_in (blocks_in rules (spliced text s)) ≡ take span.tunes.from (tunes_in (blocks_in rules text))
+      ++ (map (moved span.lines.from) (tunes_among (stretch_rows rules s span.lines.from own))
+      ++ map (shifted (span.lines.to - span.lines.from) (length (stretch_rows rules s span.lines.from own))) (drop span.tunes.to (tunes_in (blocks_in rules text))))
+  pub before : All (Ends span.lines.from) (take span.tunes.from (tunes_in (blocks_in rules text)))
+  pub behind : All (StartsFrom span.lines.to) (drop span.tunes.to (tunes_in (blocks_in rules text)))
+  pub amid : All (λ (block : Block). (span.lines.from ≤ block.from) × (block.to ≤ span.lines.to))
+      (take (span.tunes.to - span.tunes.from) (drop span.tunes.from (tunes_in (blocks_in rules text))))
+  pub order : span.tunes.from ≤ span.tunes.to
+  pub most : span.tunes.to ≤ length (tunes_in (blocks_in rules text))
+  pub begins : span.lines.from ≤ s.at
+  pub ends : s.at + s.removed ≤ span.lines.to
+  pub inside : span.lines.to ≤ length text
+  pub count : length own ≡ span.lines.to - span.lines.from

@@ -33,7 +33,7 @@ pub map-over : {A B C : Type 0} (g : B → C) (h : A → B) (xs : List A) → ma
 map-over g h [] = refl
 map-over g h (x ∷ xs) = ap (λ l. g (h x) ∷ l) (map-over g h xs)
 
--- What stands beside a line of the new text has the addresses of its pasts.
+-- The origin of a line of the new text has the addresses of its pasts.
 pub beside_whole : {State Cell : Type 0} (cells : List Cell) (row : List (Option (Past State))) → length row ≡ length cells → pasts_beside cells row ≡ row
 beside_whole [] [] e = refl
 beside_whole [] (p ∷ row) e = absurd (omega arith)
@@ -129,7 +129,7 @@ map_flat : {X A B : Type 0} (f : A → B) (g : X → List A) (xs : List X) → m
 map_flat f g [] = refl
 map_flat f g (x ∷ xs) = map-append f (g x) (flat_map g xs) ∙ ap (λ l. map f (g x) ++ l) (map_flat f g xs)
 
--- What is held of the cells of a block is what is held at the addresses of their pasts.
+-- The kept states of the cells of a block are those at the addresses of their pasts.
 block_helds : {State Cell Items : Type 0} (steps : Steps State Cell Items) (read : List ℕ → List Cell) (laid : Layout State)
     (s : Splice) (old : List (Chained State Cell Items)) (rows : List (CarriedRow Cell)) (source : ℕ) (opening : State) (block : Block)
     → LiesInOrder laid → s.at + s.removed ≤ length laid.text → map cells_in rows ≡ map read (spliced laid.text s) → map origin_in rows ≡ origins read laid s

@@ -18,13 +18,13 @@ use Rattle.abc_tune_compiler.specs.Rules.{Rules}
 use Rattle.abc_live_text.specs.Blocks.{header_among, tunes_among}
 use Rattle.abc_live_text.specs.Pieces.{IsCarried, IsChain, LiesWithin, class_in, steps_taken}
 use Rattle.abc_live_text.specs.Chains.{IsHeaderChain, state_after_chain, header_place, header_steps, places_of}
-use Rattle.abc_live_text.specs.Lead.{BeginAlike, IsHeaderOpening, IsHeaderOpeningOf, IsLeadEdit, MayGoOn, lead_rows, lead_span, old_lead_rows, whole_lead}
+use Rattle.abc_live_text.specs.Lead.{BeginAlike, IsHeaderOpening, IsHeaderOpeningOf, IsLeadEdit, MayGoOn, lead_rows, old_lead_rows, whole_lead}
 use Rattle.abc_live_text.specs.Origin.{BlocksRise, rows_until}
-use Rattle.abc_live_text.specs.NewParts.{IsLead, AreNewParts, new_parts_view, span_stretch, splice_at, start_of}
+use Rattle.abc_live_text.specs.NewParts.{IsLead, AreNewParts, new_parts_view, span_stretch, span_to, splice_at, start_of}
 use Rattle.abc_live_text.specs.Row.{CarriedRow, Row, carried_row, new_row}
 use Rattle.abc_live_text.specs.KeptText.{KeptTextView, MayEndBy, ArePartsOf, parts_of}
 use Rattle.abc_live_text.specs.ReusedTunes.{AreRefolded}
-use Rattle.abc_live_text.specs.declared.stretch.Lead.{Lead}
+use Rattle.abc_live_text.specs.declared.stretch.Span.{Span}
 use Rattle.abc_live_text.proofs.EditCost.{IsKept}
 use Rattle.abc_live_text.proofs.Edits.{edit_of, fresh_row}
 use Rattle.abc_live_text.proofs.Refolds.{all_renewed, head_cost, kept_alike, old_chains, run_chains, run_cost, run_renewed}
@@ -66,22 +66,22 @@ place_ended line None within = λ block e. absurd (cc)
 place_ended line (Some own) within = λ block e. let same : own ≡ block = cc in subst (λ (b : Block). b.to ≤ line) same within
 
 -- The whole text is its first lines.
-pub whole_is_lead : {C State Cell Items : Type 0} (on : KeptTextView C State Cell Items) (lead : Lead) (end : ℕ) → lead ≡ whole_lead on → end ≤ length on.lines.text
+pub whole_is_lead : {C State Cell Items : Type 0} (on : KeptTextView C State Cell Items) (lead : Span) (end : ℕ) → lead ≡ whole_lead on → end ≤ length on.lines.text
     → IsLead on.tunes (length on.lines.text) end lead
 whole_is_lead on lead end e inside =
     let last : drop (length on.tunes) on.tunes ≡ [] = drop_all (length on.tunes) on.tunes (omega arith) in
     subst (IsLead on.tunes (length on.lines.text) end) (sym e)
-    (record { most = omega arith; to = ap (λ (t : List Block). start_of t (length on.lines.text)) (sym last); ends = inside })
+    (record { begins = refl; most = omega arith; to = ap (λ (t : List Block). start_of t (length on.lines.text)) (sym last); ends = inside })
 
--- The rows that are made of read lines are those of an edit.
-pub lead_edit : {C State Cell Items Defaults : Type 0} (rules : Rules State Cell Items Defaults) (on : KeptTextView C State Cell Items) (lead : Lead) (at removed : ℕ)
+-- The rows of lines that were read are those of an edit.
+pub lead_edit : {C State Cell Items Defaults : Type 0} (rules : Rules State Cell Items Defaults) (on : KeptTextView C State Cell Items) (lead : Span) (at removed : ℕ)
     (lines : Text) (new : List (Row Cell)) (made rows : List (CarriedRow Cell)) → at + removed ≤ length on.lines.text → IsLead on.tunes (length on.lines.text) (at + removed) lead
     → rows ≡ made → made ≡ lead_rows on lead at removed new → new ≡ map (new_row rules) lines → IsLeadEdit rules on (splice_at at removed lines) lead rows
 lead_edit rules on lead at removed lines new made rows inside is e m n = record { inside = inside; is_lead = is; rows_are = e ∙ (m ∙ ap (lead_rows on lead at removed) n) }
 
 -- A kept text, seen from within as `on` and from outside as `now`, and its first lines.
 module _ {C State Cell Items Defaults : Type 0} (steps : C → Steps State Cell Items) (rules : C → Rules State Cell Items Defaults) {on now : KeptTextView C State Cell Items} (view : on ≡ now)
-    (stands : ArePartsOf (steps on.compiler) (rules on.compiler) on.lines.text (parts_of on)) (at removed : ℕ) (lead : Lead)
+    (stands : ArePartsOf (steps on.compiler) (rules on.compiler) on.lines.text (parts_of on)) (at removed : ℕ) (lead : Span)
     (seen : IsLead now.tunes (length now.lines.text) (at + removed) lead) where
   is : IsLead on.tunes (length on.lines.text) (at + removed) lead
   is = subst (λ (k : KeptTextView C State Cell Items). IsLead k.tunes (length k.lines.text) (at + removed) lead) (sym view) seen
@@ -92,29 +92,29 @@ module _ {C State Cell Items Defaults : Type 0} (steps : C → Steps State Cell 
       (new_parts (steps on.compiler) (rules on.compiler) on.lines.text (splice_at at removed []) on.rows.items on.chains.items stands.read stands.chains_are).read
 
   own_is : old_lead_rows on lead ≡ first_run (rules on.compiler) on.lines.text (splice_at at removed []) on.rows.items lead
-  own_is = λ i. rows_until (map carried_row on.rows.items) 0 lead.to 0 (header_place (stands.header_is i) ∷ take lead.behind (stands.tunes_are i))
+  own_is = λ i. rows_until (map carried_row on.rows.items) 0 lead.lines.to 0 (header_place (stands.header_is i) ∷ take lead.tunes.to (stands.tunes_are i))
 
-  pub lead_rise : (tunes places : List Block) → tunes ≡ on.tunes → places ≡ header_place on.header ∷ take lead.behind tunes → BlocksRise 0 places lead.to
-  lead_rise tunes places e p = subst (λ (b : List Block). BlocksRise 0 b lead.to)
-      (sym (p ∙ (λ i. header_place (stands.header_is i) ∷ take lead.behind ((e ∙ stands.tunes_are) i)))) facts_of.rise
+  pub lead_rise : (tunes places : List Block) → tunes ≡ on.tunes → places ≡ header_place on.header ∷ take lead.tunes.to tunes → BlocksRise 0 places lead.lines.to
+  lead_rise tunes places e p = subst (λ (b : List Block). BlocksRise 0 b lead.lines.to)
+      (sym (p ∙ (λ i. header_place (stands.header_is i) ∷ take lead.tunes.to ((e ∙ stands.tunes_are) i)))) facts_of.rise
 
-  pub lead_inside : lead.to ≤ length on.rows.items
+  pub lead_inside : lead.lines.to ≤ length on.rows.items
   lead_inside = let a = facts_of.run.inside in let b = rows_count (steps on.compiler) (rules on.compiler) on stands in omega (arith, a, b)
 
-  old_is : (tunes places : List Block) (old : List (CarriedRow Cell)) → tunes ≡ on.tunes → places ≡ header_place on.header ∷ take lead.behind tunes
-      → old ≡ rows_until (map carried_row on.rows.items) 0 lead.to 0 places → old ≡ old_lead_rows on lead
-  old_is tunes places old e p o = o ∙ ap (λ (b : List Block). rows_until (map carried_row on.rows.items) 0 lead.to 0 b)
-      (p ∙ ap (λ (t : List Block). header_place on.header ∷ take lead.behind t) e)
+  old_is : (tunes places : List Block) (old : List (CarriedRow Cell)) → tunes ≡ on.tunes → places ≡ header_place on.header ∷ take lead.tunes.to tunes
+      → old ≡ rows_until (map carried_row on.rows.items) 0 lead.lines.to 0 places → old ≡ old_lead_rows on lead
+  old_is tunes places old e p o = o ∙ ap (λ (b : List Block). rows_until (map carried_row on.rows.items) 0 lead.lines.to 0 b)
+      (p ∙ ap (λ (t : List Block). header_place on.header ∷ take lead.tunes.to t) e)
 
-  pub lead_fits : (tunes places : List Block) (old : List (CarriedRow Cell)) → tunes ≡ on.tunes → places ≡ header_place on.header ∷ take lead.behind tunes
-      → old ≡ rows_until (map carried_row on.rows.items) 0 lead.to 0 places → at + removed ≤ length old
+  pub lead_fits : (tunes places : List Block) (old : List (CarriedRow Cell)) → tunes ≡ on.tunes → places ≡ header_place on.header ∷ take lead.tunes.to tunes
+      → old ≡ rows_until (map carried_row on.rows.items) 0 lead.lines.to 0 places → at + removed ≤ length old
   lead_fits tunes places old e p o =
       let count = ap length (old_is tunes places old e p o ∙ own_is) ∙ facts_of.run.count in
       let ends = is.ends in
       omega (arith, count, ends)
 
-  pub lead_carried : (tunes places : List Block) (new : List (Row Cell)) (old rows : List (CarriedRow Cell)) → tunes ≡ on.tunes → places ≡ header_place on.header ∷ take lead.behind tunes
-      → old ≡ rows_until (map carried_row on.rows.items) 0 lead.to 0 places
+  pub lead_carried : (tunes places : List Block) (new : List (Row Cell)) (old rows : List (CarriedRow Cell)) → tunes ≡ on.tunes → places ≡ header_place on.header ∷ take lead.tunes.to tunes
+      → old ≡ rows_until (map carried_row on.rows.items) 0 lead.lines.to 0 places
       → rows ≡ take at old ++ (map carried_row new ++ drop (at + removed) old) → All (IsCarried now.chains.items) rows
   lead_carried tunes places new old rows e p o r =
       let parts = facts_of.run.parts in
@@ -127,7 +127,7 @@ module _ {C State Cell Items Defaults : Type 0} (steps : C → Steps State Cell 
       (edited_carried on.chains.items old new at (at + removed) (subst (All (IsCarried on.chains.items)) (sym (old_is tunes places old e p o ∙ own_is)) own)))
 
 module _ {C State Cell Items Defaults : Type 0} {steps : Steps State Cell Items} {rules : Rules State Cell Items Defaults} {on : KeptTextView C State Cell Items}
-    (kept : IsKept steps rules on) {s : Splice} {lead : Lead} {run : List (CarriedRow Cell)} (edit : IsLeadEdit rules on s lead run) where
+    (kept : IsKept steps rules on) {s : Splice} {lead : Span} {run : List (CarriedRow Cell)} (edit : IsLeadEdit rules on s lead run) where
   abbrev pub now_blocks : List Block
   now_blocks = blocks_in rules (spliced on.lines.text s)
 
@@ -141,11 +141,11 @@ module _ {C State Cell Items Defaults : Type 0} {steps : Steps State Cell Items}
   facts = lead_facts rules on.lines.text s on.rows.items lead kept.stands.read
       (subst (λ (t : List Block). IsLead t (length on.lines.text) (s.at + s.removed) lead) kept.stands.tunes_are edit.is_lead) new_rows_are.read
 
-  -- The rows as they are made.
+  -- The rows as code builds them.
   runs : run ≡ new_run rules on.lines.text s on.rows.items lead
   runs =
       let old : old_lead_rows on lead ≡ first_run rules on.lines.text s on.rows.items lead =
-      λ i. rows_until (map carried_row on.rows.items) 0 lead.to 0 (header_place (kept.stands.header_is i) ∷ take lead.behind (kept.stands.tunes_are i)) in
+      λ i. rows_until (map carried_row on.rows.items) 0 lead.lines.to 0 (header_place (kept.stands.header_is i) ∷ take lead.tunes.to (kept.stands.tunes_are i)) in
       let own : map carried_row (map (new_row rules) s.lines) ≡ map (fresh_row rules) s.lines = map-over carried_row (new_row rules) s.lines in
       let a : s.at ≡ s.at - 0 = omega arith in
       let b : s.at + s.removed ≡ s.at + s.removed - 0 = omega arith in
@@ -196,11 +196,11 @@ module _ {C State Cell Items Defaults : Type 0} {steps : Steps State Cell Items}
     pub lead_cost : {before now after : Counters} → IsRaisedUpTo (header_steps steps rules.header on.chains.items new_rows (header_in now_blocks)) before now
         → IsRaisedUpTo (sum_by (steps_taken steps own on.chains.items run) (tunes_among run)) now after
         → IsRaisedUpTo (fresh_cells_after steps rules on.lines.text s) before after
-    lead_cost head raise = run_cost kept s edit.inside (lead_span lead) _ run facts.run runs own alike _ _ _ head raise
+    lead_cost head raise = run_cost kept s edit.inside (span_to lead.tunes.to lead.lines.to) _ run facts.run runs own alike _ _ _ head raise
 
     -- The chains after the first lines, which begin in the states of the new text.
-    rest : MayGoOn steps rules on lead.behind own
-        → AllZip (IsChainOf steps rules.cells now_opening on.lines.text) (drop lead.behind (drop 1 on.chains.items)) (drop lead.behind (tunes_in (blocks_in rules on.lines.text)))
+    rest : MayGoOn steps rules on lead.tunes.to own
+        → AllZip (IsChainOf steps rules.cells now_opening on.lines.text) (drop lead.tunes.to (drop 1 on.chains.items)) (drop lead.tunes.to (tunes_in (blocks_in rules on.lines.text)))
     rest goes =
         let was = opening_of steps.next rules on.lines.text (blocks_in rules on.lines.text) in
         let R = IsChainOf steps rules.cells was on.lines.text in
@@ -209,32 +209,33 @@ module _ {C State Cell Items Defaults : Type 0} {steps : Steps State Cell Items}
         let blocks = tunes_in (blocks_in rules on.lines.text) in
         let old = old_chains steps rules on.lines.text on.chains.items kept.stands.chains_are in
         ⊎_elim
-        (λ (all : length on.tunes ≤ lead.behind).
+        (λ (all : length on.tunes ≤ lead.tunes.to).
         let many = ap length kept.stands.tunes_are in
         let count = AllZip-long R chains blocks old in
-        let no_tunes : drop lead.behind blocks ≡ [] = drop_all lead.behind blocks (omega (arith, all, many)) in
-        let no_chains : drop lead.behind chains ≡ [] = drop_all lead.behind chains (omega (arith, all, many, count)) in
-        subst (λ c. AllZip Q c (drop lead.behind blocks)) (sym no_chains) (subst (λ (b : List Block). AllZip Q [] b) (sym no_tunes) tt))
+        let no_tunes : drop lead.tunes.to blocks ≡ [] = drop_all lead.tunes.to blocks (omega (arith, all, many)) in
+        let no_chains : drop lead.tunes.to chains ≡ [] = drop_all lead.tunes.to chains (omega (arith, all, many, count)) in
+        subst (λ c. AllZip Q c (drop lead.tunes.to blocks)) (sym no_chains) (subst (λ (b : List Block). AllZip Q [] b) (sym no_tunes) tt))
         (λ (begun : BeginAlike steps rules on own).
         let was_alike = kept_alike steps rules on begun.was kept.laws kept.lawful kept.stands begun.begins in
         let same : IsAlike steps was now_opening =
         kept.laws.transitive was begun.was now_opening (kept.laws.symmetric begun.was was was_alike) (kept.laws.transitive begun.was own now_opening begun.alike alike) in
-        zip_same R Q (λ (block : Block). Unit {0}) (drop lead.behind chains) (drop lead.behind blocks)
+        zip_same R Q (λ (block : Block). Unit {0}) (drop lead.tunes.to chains) (drop lead.tunes.to blocks)
         (λ chain block known is. record { folds = folds_alike steps was now_opening chain kept.laws same is.folds; cells = is.cells })
-        (λ k d l. tt) (zip_drop R lead.behind chains blocks old))
+        (λ k d l. tt) (zip_drop R lead.tunes.to chains blocks old))
         goes
 
     -- What is folded again of the first lines.
-    pub lead_renewed : {tunes : List Block} {made : List (Chained State Cell Items)} {reused_tunes : List (Option ℕ)} → MayGoOn steps rules on lead.behind own
+    pub lead_renewed : {tunes : List Block} {made : List (Chained State Cell Items)} {reused_tunes : List (Option ℕ)} → MayGoOn steps rules on lead.tunes.to own
         → AreRefolded steps on.chains.items own run tunes made reused_tunes
-        → AreNewParts steps rules on s (new_parts_view (span_stretch (lead_span lead) (length run)) header (Some first) tunes made reused_tunes)
+        → AreNewParts steps rules on s (new_parts_view (span_stretch lead (length run)) header (Some first) tunes made reused_tunes)
     lead_renewed {tunes = tunes} {made = made} {reused_tunes = reused_tunes} goes refolded =
-        run_renewed kept s edit.inside (lead_span lead) _ run facts.run runs own alike header (Some first) tunes made reused_tunes refolded begin.header_is
-        (begin.chain, run_chains kept s edit.inside (lead_span lead) _ run facts.run runs own alike tunes made refolded.tunes_are refolded.chains_are tt (rest goes))
+        subst (λ (l : Span). AreNewParts steps rules on s (new_parts_view (span_stretch l (length run)) header (Some first) tunes made reused_tunes)) (sym edit.is_lead.begins)
+        (run_renewed kept s edit.inside (span_to lead.tunes.to lead.lines.to) _ run facts.run runs own alike header (Some first) tunes made reused_tunes refolded begin.header_is
+        (begin.chain, run_chains kept s edit.inside (span_to lead.tunes.to lead.lines.to) _ run facts.run runs own alike tunes made refolded.tunes_are refolded.chains_are tt (rest goes))
         (inr (record {
           some = refl;
           front = refl;
           from = refl;
-          goes = subst (MayEndBy lead.to) (sym kept.stands.header_is) (place_ended lead.to (header_in (blocks_in rules on.lines.text)) facts.header_ends);
+          goes = subst (MayEndBy lead.lines.to) (sym kept.stands.header_is) (place_ended lead.lines.to (header_in (blocks_in rules on.lines.text)) facts.header_ends);
           comes = subst (MayEndBy (length run)) (sym begin.header_is) (header_ended (length run) (header_in now_blocks) header_lies);
-        }))
+        })))

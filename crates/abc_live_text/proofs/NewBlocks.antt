@@ -134,7 +134,7 @@ cut : (before behind : List LineClass) → 1 ≤ length behind → BeginTune beh
 cut before [] some begin = absurd (omega arith)
 cut before (x ∷ behind) some begin = x_line_cuts before behind x begin
 
--- It stays where what is after some lines begins a tune before and after.
+-- It stays if the lines after some lines begin a tune before and after.
 header_stays : (before old new : List LineClass) → 1 ≤ length old → 1 ≤ length new → BeginTune old → BeginTune new → header_in (blocks_of (before ++ new)) ≡ header_in (blocks_of (before ++ old))
 header_stays before old new some more begin begins =
     ap header_in (cut before new more begins)
@@ -165,7 +165,7 @@ run_begins before old behind front mid back run =
     ∙ (drop_past (length before) before (old ++ behind) (omega arith) ∙ (let z : length before - length before ≡ 0 = omega arith in ap (λ n. drop n (old ++ behind)) z)) in
     begin_front old behind run.some (subst BeginTune rest here)
 
--- What is after a stretch begins a tune where the tunes after it do.
+-- The lines after a stretch begin a tune if the tunes after it do.
 pub begin_rest : (before old behind : List LineClass) (front back : List Block)
     → tunes_in (blocks_of (before ++ (old ++ behind))) ≡ front ++ back → length before + length old ≡ start_of back (length (before ++ (old ++ behind))) → BeginTune behind
 begin_rest before old behind front back tunes to =

@@ -19,7 +19,7 @@ use Rattle.abc_live_cost.specs.OldItems.{IsChainOf}
 use Rattle.abc_live_text.specs.Row.{CarriedRow}
 use Rattle.abc_live_text.proofs.FreshSteps.{block_cells}
 
--- A chain is the fold from every state alike to its opening.
+-- A chain is the fold from every state equivalent to its opening.
 pub folds_alike : {State Cell Items : Type 0} (steps : Steps State Cell Items) (a b : State) (chain : Chained State Cell Items)
     → IsResumable steps → IsAlike steps a b → Folds steps a chain → Folds steps b chain
 folds_alike steps a b chain laws alike folds = record {
@@ -27,7 +27,7 @@ folds_alike steps a b chain laws alike folds = record {
   entries = other_tail steps laws [] chain.entries (states_from steps a chain.cells) (states_from steps b chain.cells) (alike_states steps laws a b chain.cells alike) folds.entries;
 }
 
--- The state after the last cell, up to states that are alike.
+-- The state after the last cell, up to equivalent states.
 last_state : {State Cell Items : Type 0} (steps : Steps State Cell Items) (placed : List (Placed Cell)) (entries : List State) (state : State)
     → AreAlike steps entries (states_from steps state (placed_values placed))
     → (x : State) × (slice_get entries (length (placed_values placed)) ≡ Some x) × IsAlike steps x (state_along steps.next state placed)
@@ -36,7 +36,7 @@ last_state steps [] (entry ∷ entries) state alike = (entry, refl, alike.0)
 last_state steps (cell ∷ placed) [] state alike = absurd alike
 last_state steps (cell ∷ placed) (entry ∷ entries) state alike = last_state steps placed entries (steps.next state cell.here) alike.1
 
--- The tunes begin in a state alike to the definition's.
+-- The tunes begin in a state equivalent to the definition's.
 pub opening_alike : {State Cell Items Defaults : Type 0} (steps : Steps State Cell Items) (rules : Rules State Cell Items Defaults)
     (text : Text) (chain : Chained State Cell Items) (header : Option Block)
     → IsResumable steps → AreLawful steps rules → IsHeaderChainOf steps rules text chain header

@@ -1,4 +1,4 @@
--- Lines along which origins are made.
+-- Lines with the origins that code gives them.
 use Rattle.std.proofs.Common.{◌≡◌, ℕ, zero, suc, ◌+◌, ◌-◌, ◌<◌, ◌≤◌, List, [], ◌∷◌, ◌++◌, map, Some, None, length, take, drop}
 use Rattle.std.proofs.Common.{get_or, refl, sym, ◌∙◌, ap, subst, arith, add-one, append_assoc, length-append}
 use Rattle.std.proofs.Math.Seq.{drop-cons}
@@ -61,7 +61,7 @@ pub rise_at : (at : ℕ) (blocks : List Block) (i : ℕ) (r : Block) (last : ℕ
 rise_at at blocks i r last rise inside is =
     subst (λ rest. BlocksRise at rest last) (drop-cons blocks i r inside ∙ (λ j. sym is j ∷ drop (sym (add-one i) j) blocks)) rise
 
--- The block of a number lies within so many lines.
+-- The block of a number lies within the first lines.
 pub rise_index : (at : ℕ) (blocks : List Block) (i : ℕ) (d : Block) (last : ℕ) → BlocksRise at (drop i blocks) last → i < length blocks
     → ((get_or blocks i d).from ≤ last) × ((get_or blocks i d).to ≤ last)
 rise_index at blocks i d last rise inside =

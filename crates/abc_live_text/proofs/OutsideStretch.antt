@@ -94,7 +94,7 @@ module _ {State Cell Items Defaults : Type 0} (steps : Steps State Cell Items) (
       ap (λ (h : Option Block). rules.tune (state_after_header steps.next rules new h)) header
       ∙ ap rules.tune (state_before steps.next rules text new from (header_in (blocks_in rules text)) e ends)
 
-  -- The chains of tunes outside the stretch, and those made for it, are those of the new text.
+  -- The chains of tunes outside the stretch, and the new ones of the stretch, are those of the new text.
   pub tunes_stay : (tunes made : List (Chained State Cell Items)) (rows : List (CarriedRow Cell)) (own now : State) (front behind : ℕ) (places : List Block)
       → IsResumable steps → take from new ≡ take from text → drop (from + came) new ≡ drop (from + gone) text
       → tunes_in (blocks_in rules new) ≡ take front (tunes_in (blocks_in rules text)) ++ (places ++ map (shifted gone came) (drop behind (tunes_in (blocks_in rules text))))
@@ -118,17 +118,17 @@ module _ {State Cell Items Defaults : Type 0} (steps : Steps State Cell Items) (
 -- So is the chain of a file header that is before the stretch.
 pub header_stays : {State Cell Items Defaults : Type 0} (steps : Steps State Cell Items) (rules : Rules State Cell Items Defaults)
     (text new : Text) (stretch : Stretch) (old made : List (Chained State Cell Items)) → AreChains steps rules text old
-    → header_in (blocks_in rules new) ≡ header_in (blocks_in rules text) → HeaderEnds stretch.from (header_in (blocks_in rules text)) → take stretch.from new ≡ take stretch.from text
+    → header_in (blocks_in rules new) ≡ header_in (blocks_in rules text) → HeaderEnds stretch.lines.from (header_in (blocks_in rules text)) → take stretch.lines.from new ≡ take stretch.lines.from text
     → AllZip (IsChainOf steps rules.cells (opening_of steps.next rules new (blocks_in rules new)) new)
-    (take stretch.front (drop 1 old) ++ (made ++ drop stretch.behind (drop 1 old))) (tunes_in (blocks_in rules new))
+    (take stretch.tunes.from (drop 1 old) ++ (made ++ drop stretch.tunes.to (drop 1 old))) (tunes_in (blocks_in rules new))
     → AreChains steps rules new (chains_after None stretch old made)
 header_stays steps rules text new stretch [] made chains header ends e all = absurd chains
 header_stays steps rules text new stretch (first ∷ tunes) made chains header ends e all = (
-  subst (λ (h : Option Block). IsHeaderChainOf steps rules new first h) (sym header) (header_before steps rules text new stretch.from first (header_in (blocks_in rules text)) e ends chains.0),
+  subst (λ (h : Option Block). IsHeaderChainOf steps rules new first h) (sym header) (header_before steps rules text new stretch.lines.from first (header_in (blocks_in rules text)) e ends chains.0),
   all,
 )
 
--- Where the file header and tunes of a stretch have been folded.
+-- The cost if the file header and the tunes of a stretch have been folded.
 pub stretch_cost : {State Cell Items Defaults : Type 0} (steps : Steps State Cell Items) (rules : Rules State Cell Items Defaults)
     (text : Text) (s : Splice) (old : List (Chained State Cell Items)) (rows : List (CarriedRow Cell)) (own : State) (front places back : List Block) (before now after : Counters)
     → IsResumable steps → s.at + s.removed ≤ length text → AreChains steps rules text old → AreRenewed steps rules text s old rows

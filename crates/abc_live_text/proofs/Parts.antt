@@ -42,14 +42,14 @@ part_moved a own b from to n e h k =
     long (suc from) [] k h = omega arith
     long (suc from) (x ∷ own) k h = long from own k (omega arith)
 
--- A part of two lists that begin alike.
+-- A part of two lists with the same beginning.
 pub part_before : {X : Type 0} (xs ys : List X) (from to n : ℕ) → take n xs ≡ take n ys → from ≤ to → to ≤ n → take (to - from) (drop from xs) ≡ take (to - from) (drop from ys)
 part_before xs ys from to n e h k =
     let sum : from + (to - from) ≡ to = omega arith in
     let own : take to xs ≡ take to ys = sym (take-take to n xs k) ∙ (ap (take to) e ∙ take-take to n ys k) in
     sym (drop-take from (to - from) xs) ∙ (ap (λ m. drop from (take m xs)) sum ∙ (ap (drop from) own ∙ (ap (λ m. drop from (take m ys)) (sym sum) ∙ drop-take from (to - from) ys)))
 
--- A part of two lists that end alike, the one from a place on and the other from another.
+-- A part of two lists with the same end, from a place of the one and a place of the other.
 pub part_behind : {X : Type 0} (xs ys : List X) (from to start gone came : ℕ) → drop (start + came) ys ≡ drop (start + gone) xs → start + gone ≤ from → from ≤ to
     → take (to - gone + came - (from - gone + came)) (drop (from - gone + came) ys) ≡ take (to - from) (drop from xs)
 part_behind xs ys from to start gone came e h k =

@@ -37,7 +37,7 @@ module _ {F State Cell Items Work : Type 0} (chains : List (Chained State Cell I
       let same : piece ≡ last = some_same piece last (sym (get_last pieces piece) ∙ ap (slice_get (pieces ++ piece ∷ [])) (sym count) ∙ is) in
       subst (λ p. IsLeftAt chains source place p) same left
 
-  -- Where pieces end after the cell of a line with `k` others before it.
+  -- Where pieces end after the cell of a line at index `k`.
   pub ends_next : (pieces : List (Piece F State Cell Items Work)) (piece : Piece F State Cell Items Work) (o : Option Origin) (k : ℕ)
       → LiesAt chains (address_from k o) piece → IfSome (address_from (k + 1) o) (λ a. EndsAt chains (pieces ++ piece ∷ []) a.0 a.1)
   ends_next pieces piece None k stands = tt
@@ -46,7 +46,7 @@ module _ {F State Cell Items Work : Type 0} (chains : List (Chained State Cell I
       subst (λ n. EndsAt chains (pieces ++ piece ∷ []) origin.source n) place
       (ends_one pieces piece origin.source (origin.first + k + 1) (left_one origin.source (origin.first + k) piece stands))
 
-  -- Where a line has an origin its pieces do end somewhere.
+  -- If a line has an origin, its pieces end somewhere.
   pub ends_there : (pieces : List (Piece F State Cell Items Work)) (o : Option Origin) (k : ℕ) → IsSome o
       → IfSome (address_from k o) (λ a. EndsAt chains pieces a.0 a.1) → IsSomeAnd (address_from k o) (λ a. EndsAt chains pieces a.0 a.1)
   ends_there pieces None k some ends = cc
@@ -74,7 +74,7 @@ module _ {F State Cell Items Work : Type 0} (chains : List (Chained State Cell I
   stands_one source i chain (Kept cell entered left items) e at =
       (ap (λ l. slice_get l i) e ∙ at.own_entry, ap (λ l. slice_get l (i + 1)) e ∙ at.next_entry)
 
-  -- Where a kept piece of a line stands.
+  -- The place of a kept piece of a line.
   pub own_place : {E : Type 0} {row : List Cell} {o : Option Origin} {k : ℕ} {chain : Chained State Cell Items} {source i : ℕ} (result : Result (Piece F State Cell Items Work) E)
       → IsPlaced chains row o k chain source i → IfOk result (λ piece. IsKeptAt chain i piece) → IfOk result (λ piece. LiesAt chains (address_from k o) piece)
   own_place (Err error) here at = tt

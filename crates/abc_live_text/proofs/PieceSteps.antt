@@ -1,4 +1,4 @@
--- The steps of pieces are those along cells and what is held of them.
+-- The steps of pieces are those along cells and their kept states.
 use Rattle.std.proofs.Common.{◌≡◌, ℕ, suc, ◌+◌, ◌<◌, true, false, List, [], ◌∷◌, ◌++◌, length, take, drop, get_or, refl, sym, ◌∙◌}
 use Rattle.std.proofs.Common.{ap, subst, ⊎_elim, arith, zero-add}
 use Rattle.std.proofs.lemmas.Bool.{cases_Bool}
@@ -27,7 +27,7 @@ same_test steps laws e a b h = ⊎_elim
     (cases_Bool (steps.alike e b)))
     (cases_Bool (steps.alike e a))
 
--- What is counted where a chain is prepared is what the steps over cells and held states are.
+-- A prepared chain counts the steps over its cells and kept states.
 pub steps_are_over : {F State Cell Items Work : Type 0} (steps : Steps State Cell Items) (laws : IsResumable steps) (a b : State) (pieces : List (Piece F State Cell Items Work))
     → IsAlike steps a b → ((k : ℕ) (d : Piece F State Cell Items Work) → k < length pieces → IsKept steps (get_or pieces k d))
     → steps_needed steps a pieces ≡ steps_over steps b (cells_of pieces) (kept_states_in pieces)

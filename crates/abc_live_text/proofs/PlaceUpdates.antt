@@ -1,11 +1,12 @@
--- Tunes that are put in place, one by one.
+-- Tunes that are replaced, one by one.
 use Rattle.std.proofs.Common.{◌≡◌, ℕ, suc, ◌+◌, ◌-◌, ◌<◌, ◌≤◌, List, [], ◌∷◌, ◌++◌, All, map, length, take, drop, set}
 use Rattle.std.proofs.Common.{get_or, refl, sym, ◌∙◌, ap, subst, arith, add-one, append_assoc, length-append}
 use Rattle.std.proofs.Math.Seq.{drop-append_seam, drop-cons, take-append_seam}
 use Rattle.std.proofs.lemmas.List.{drop-set-lt, length-take-le, take_more_set, take-append-drop}
 use Rattle.abc_book.specs.declared.block.Block.{Block}
+use Rattle.abc_lines.specs.ItemRange.{gone}
 use Rattle.abc_live_text.specs.Pieces.{LiesWithin}
-use Rattle.abc_live_text.specs.KeptText.{LiesAfter, gone, block_after}
+use Rattle.abc_live_text.specs.KeptText.{LiesAfter, block_after}
 use Rattle.abc_live_text.specs.declared.stretch.Stretch.{Stretch}
 
 -- The one at a place, and those after it.
@@ -23,14 +24,14 @@ move_more f xs next i x put inside is =
     ∙ ap (λ l. take i xs ++ (f x ∷ map f l)) behind
     ∙ ap (λ l. take i xs ++ map f l) (sym (cut_at xs i x inside is))
 
--- A tune after a stretch stays where as many lines came as went.
-stays : (stretch : Stretch) (block : Block) → gone stretch ≡ stretch.came → LiesAfter stretch block → block.from ≤ block.to → block ≡ block_after stretch block
+-- A tune after a stretch stays if as many lines came as went.
+stays : (stretch : Stretch) (block : Block) → gone stretch.lines ≡ stretch.lines.came → LiesAfter stretch block → block.from ≤ block.to → block ≡ block_after stretch block
 stays stretch block same beyond order =
-    let from : block.from ≡ block.from - gone stretch + stretch.came = omega (arith, same, beyond) in
-    let to : block.to ≡ block.to - gone stretch + stretch.came = omega (arith, same, beyond, order) in
+    let from : block.from ≡ block.from - gone stretch.lines + stretch.lines.came = omega (arith, same, beyond) in
+    let to : block.to ≡ block.to - gone stretch.lines + stretch.lines.came = omega (arith, same, beyond, order) in
     (λ j. record { kind = block.kind; from = from j; to = to j })
 
-all_stay : (stretch : Stretch) (blocks : List Block) → gone stretch ≡ stretch.came → All (LiesAfter stretch) blocks
+all_stay : (stretch : Stretch) (blocks : List Block) → gone stretch.lines ≡ stretch.lines.came → All (LiesAfter stretch) blocks
     → All (λ block. block.from ≤ block.to) blocks → blocks ≡ map (block_after stretch) blocks
 all_stay stretch [] same beyond order = refl
 all_stay stretch (block ∷ blocks) same beyond order =
@@ -38,13 +39,13 @@ all_stay stretch (block ∷ blocks) same beyond order =
     let rest = all_stay stretch blocks same (λ i d l. beyond (suc i) d (omega arith)) (λ i d l. order (suc i) d (omega arith)) in
     (λ j. one j ∷ rest j)
 
--- Tunes stay where as many lines came as went.
-pub none_moves : (stretch : Stretch) (tunes : List Block) (most : ℕ) → gone stretch ≡ stretch.came
-    → All (LiesAfter stretch) (drop stretch.behind tunes) → All (LiesWithin most) (drop stretch.behind tunes)
-    → tunes ≡ take stretch.behind tunes ++ map (block_after stretch) (drop stretch.behind tunes)
+-- Tunes stay if as many lines came as went.
+pub none_moves : (stretch : Stretch) (tunes : List Block) (most : ℕ) → gone stretch.lines ≡ stretch.lines.came
+    → All (LiesAfter stretch) (drop stretch.tunes.to tunes) → All (LiesWithin most) (drop stretch.tunes.to tunes)
+    → tunes ≡ take stretch.tunes.to tunes ++ map (block_after stretch) (drop stretch.tunes.to tunes)
 none_moves stretch tunes most same beyond within =
-    sym (take-append-drop stretch.behind tunes)
-    ∙ ap (λ l. take stretch.behind tunes ++ l) (all_stay stretch (drop stretch.behind tunes) same beyond (λ i d l. (within i d l).0))
+    sym (take-append-drop stretch.tunes.to tunes)
+    ∙ ap (λ l. take stretch.tunes.to tunes ++ l) (all_stay stretch (drop stretch.tunes.to tunes) same beyond (λ i d l. (within i d l).0))
 
 -- What holds of all after a place holds of the one there, and of those after it when another one is put there.
 pub one_behind : {X : Type 0} (P : X → Type 0) (xs : List X) (i : ℕ) (x : X) → All P (drop i xs) → i < length xs → x ≡ get_or xs i x → P x

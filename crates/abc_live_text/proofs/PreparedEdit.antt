@@ -1,4 +1,4 @@
--- What a prepared edit says, by what was folded again.
+-- The view of a prepared edit, by what was folded again.
 use Rattle.std.proofs.Common.{◌≡◌, ◌⊎◌, ℕ, suc, ◌+◌, ◌≤◌, List, [], ◌∷◌, ◌++◌, map, Option, Some, None, All, length, take}
 use Rattle.std.proofs.Common.{drop, refl, sym, ◌∙◌, ap, subst, arith, ⊎_elim, inl, inr, length-append, length-drop}
 use Rattle.std.proofs.lemmas.List.Elements.{All-cons, All-nil}
@@ -14,22 +14,22 @@ use Rattle.abc_live_text.specs.NewParts.{HeaderIsReplaced, AreNewParts, MayRepla
 use Rattle.abc_live_text.specs.NewParts.{NewPartsView, tunes_after}
 use Rattle.abc_live_text.specs.Row.{Row}
 use Rattle.abc_live_text.specs.KeptText.{AreRows, KeptPatchView, IsStretch, KeptTextView, LiesAmong, ArePartsOf, block_after}
-use Rattle.abc_live_text.specs.KeptText.{Parts, parts}
+use Rattle.abc_live_text.specs.KeptText.{Parts, kept_patch_view, parts}
 use Rattle.abc_live_text.proofs.EditCost.{IsKept}
 use Rattle.abc_live_text.specs.declared.stretch.Stretch.{Stretch}
 use Rattle.std.proofs.lemmas.List.{length-take-le, length-map}
 use Rattle.abc_live_text.proofs.Edits.{spliced_is}
 
-all_among : (stretch : Stretch) (tunes : List Block) → All (LiesWithin stretch.came) tunes → All (LiesAmong stretch) (map (moved stretch.from) tunes)
+all_among : (stretch : Stretch) (tunes : List Block) → All (LiesWithin stretch.lines.came) tunes → All (LiesAmong stretch) (map (moved stretch.lines.from) tunes)
 all_among stretch [] all = All-nil (LiesAmong stretch)
 all_among stretch (block ∷ tunes) all =
     let known = all 0 block (omega arith) in
-    let own : LiesAmong stretch (moved stretch.from block) = (omega arith, omega (arith, known.1)) in
-    All-cons (LiesAmong stretch) (moved stretch.from block) (map (moved stretch.from) tunes) own (all_among stretch tunes (λ i d l. all (suc i) d (omega arith)))
+    let own : LiesAmong stretch (moved stretch.lines.from block) = (omega arith, omega (arith, known.1)) in
+    All-cons (LiesAmong stretch) (moved stretch.lines.from block) (map (moved stretch.lines.from) tunes) own (all_among stretch tunes (λ i d l. all (suc i) d (omega arith)))
 
 tunes_behind : {State Cell Items Defaults : Type 0} (steps : Steps State Cell Items) (rules : Rules State Cell Items Defaults)
     (text : Text) (first : Option (Chained State Cell Items)) (stretch : Stretch) (old made : List (Chained State Cell Items)) → AreChains steps rules text old
-    → drop 1 (chains_after first stretch old made) ≡ take stretch.front (drop 1 old) ++ (made ++ drop stretch.behind (drop 1 old))
+    → drop 1 (chains_after first stretch old made) ≡ take stretch.tunes.from (drop 1 old) ++ (made ++ drop stretch.tunes.to (drop 1 old))
 tunes_behind steps rules text first stretch [] made own = absurd own
 tunes_behind steps rules text None stretch (chain ∷ tunes) made own = refl
 tunes_behind steps rules text (Some new) stretch (chain ∷ tunes) made own = refl
@@ -43,18 +43,7 @@ first_same steps rules text (Some new) stretch (chain ∷ tunes) made own none =
 
 -- What a prepared edit shows of a kept text, the text after it, what is kept of that, and what was folded again.
 abbrev pub patch_view : {C State Cell Items : Type 0} → KeptTextView C State Cell Items → Text → Parts State Cell Items → NewPartsView State Cell Items → List Block → KeptPatchView C State Cell Items
-patch_view on text kept new places = record {
-  on = on;
-  text = text;
-  rows = kept.rows;
-  header = kept.header;
-  tunes = kept.tunes;
-  chains = kept.chains;
-  stretch = new.stretch;
-  new_chains = new.new_chains;
-  places = places;
-  reused_tunes = new.reused_tunes;
-}
+patch_view on text kept new places = kept_patch_view on text kept new.stretch new.new_chains places new.reused_tunes
 
 module _ {C State Cell Items Defaults : Type 0} {steps : Steps State Cell Items} {rules : Rules State Cell Items Defaults}
     {on : KeptTextView C State Cell Items} {s : Splice} {new : NewPartsView State Cell Items}
@@ -82,7 +71,7 @@ module _ {C State Cell Items Defaults : Type 0} {steps : Steps State Cell Items}
 
   -- The stretch.
   pub new_stretch : {text : Text} {rows : List (Row Cell)} {all places : List Block} {chains : List (Chained State Cell Items)}
-      → text ≡ spliced on.lines.text s → all ≡ tunes_after new.stretch on.tunes new.tunes → places ≡ map (moved new.stretch.from) new.tunes
+      → text ≡ spliced on.lines.text s → all ≡ tunes_after new.stretch on.tunes new.tunes → places ≡ map (moved new.stretch.lines.from) new.tunes
       → chains ≡ chains_after new.first new.stretch on.chains.items new.new_chains
       → IsStretch s (patch_view on text (parts rows new.header all chains) new places)
   new_stretch {text = text} {rows = rows} {all = all} {places = places} {chains = chains} x t p c = record {
@@ -93,8 +82,8 @@ module _ {C State Cell Items Defaults : Type 0} {steps : Steps State Cell Items}
     inside = new_parts.inside;
     came = new_parts.came;
     chains_are = ap (drop 1) c ∙ tunes_behind steps rules on.lines.text new.first new.stretch on.chains.items new.new_chains kept.stands.chains_are;
-    tunes_are = t ∙ ap (λ l. take new.stretch.front on.tunes ++ (l ++ map (block_after new.stretch) (drop new.stretch.behind on.tunes))) (sym p);
-    places_count = ap length p ∙ (length-map new.tunes (moved new.stretch.from) ∙ sym new_parts.count);
+    tunes_are = t ∙ ap (λ l. take new.stretch.tunes.from on.tunes ++ (l ++ map (block_after new.stretch) (drop new.stretch.tunes.to on.tunes))) (sym p);
+    places_count = ap length p ∙ (length-map new.tunes (moved new.stretch.lines.from) ∙ sym new_parts.count);
     before = new_parts.before;
     beyond = new_parts.beyond;
     among = subst (All (LiesAmong new.stretch)) (sym p) (all_among new.stretch new.tunes new_parts.among);
@@ -107,14 +96,14 @@ module _ {C State Cell Items Defaults : Type 0} {steps : Steps State Cell Items}
         }))
         (λ (anew : HeaderIsReplaced new.first new.header on.header new.stretch). inl (record { front = anew.front; from = anew.from; goes = anew.goes; comes = anew.comes }))
         new_parts.keeps;
-    lines_before = ap (take new.stretch.from) x ∙ new_parts.lines_before;
-    lines_behind = ap (drop (new.stretch.from + new.stretch.came)) x ∙ new_parts.lines_behind;
+    lines_before = ap (take new.stretch.lines.from) x ∙ new_parts.lines_before;
+    lines_behind = ap (drop (new.stretch.lines.from + new.stretch.lines.came)) x ∙ new_parts.lines_behind;
   }
 
 -- A stretch has no more lines than the text.
 pub came_small : {C State Cell Items Defaults : Type 0} {steps : Steps State Cell Items} {rules : Rules State Cell Items Defaults} {on : KeptTextView C State Cell Items} {s : Splice}
     {new : NewPartsView State Cell Items} → s.at + s.removed ≤ length on.lines.text → AreNewParts steps rules on s new
-    → (most : ℕ) → length (spliced on.lines.text s) ≤ most → new.stretch.came ≤ most
+    → (most : ℕ) → length (spliced on.lines.text s) ≤ most → new.stretch.lines.came ≤ most
 came_small {on = on} {s = s} {new = new} inside new_parts most limit =
     let parts = ap length (spliced_is on.lines.text s) in
     let a = length-append (take s.at on.lines.text) (s.lines ++ drop (s.at + s.removed) on.lines.text) in

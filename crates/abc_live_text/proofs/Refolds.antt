@@ -62,7 +62,7 @@ refold_facts {State = State} steps old opening rows tunes here there made chains
       along = λ begun is. subst (λ (l : List Block). KnowsAlong steps old begun rows l reused_tunes) e (along begun (seen begun is));
     }
 
--- The steps of tunes where they lie in the text.
+-- The steps of tunes at their places in the text.
 pub sums_moved : {State Cell Items : Type 0} (steps : Steps State Cell Items) (own : State) (old : List (Chained State Cell Items))
     (a rows b : List (CarriedRow Cell)) (n : ℕ) (tunes : List Block) → n ≡ length a → All (LiesWithin (length rows)) tunes
     → sum_by (steps_taken steps own old rows) tunes ≡ sum_by (steps_taken steps own old (a ++ (rows ++ b))) (map (moved n) tunes)
@@ -167,7 +167,7 @@ module _ {C State Cell Items Defaults : Type 0} {steps : Steps State Cell Items}
   pub all_renewed : AreRenewed steps rules on.lines.text s on.chains.items all_rows
   all_renewed = new_parts steps rules on.lines.text s on.rows.items on.chains.items kept.stands.read kept.stands.chains_are
 
-  -- Where no more than the file header has been folded.
+  -- The cost if only the file header has been folded.
   pub head_cost : (before after : Counters) → IsRaisedUpTo (header_steps steps rules.header on.chains.items all_rows (header_in new_blocks)) before after
       → IsRaisedUpTo (fresh_cells_after steps rules on.lines.text s) before after
   head_cost before after raise =
@@ -175,14 +175,15 @@ module _ {C State Cell Items Defaults : Type 0} {steps : Steps State Cell Items}
       (kept.laws.reflexive new_opening) in
       raised_up _ _ before after (omega (arith, sum)) raise
 
-  module _ (span : Span) (old run : List (CarriedRow Cell)) (facts : IsEditedRun rules on.lines.text s on.rows.items span old) (runs : run ≡ stretch_rows rules s span.from old)
+  module _ (span : Span) (old run : List (CarriedRow Cell)) (facts : IsEditedRun rules on.lines.text s on.rows.items span old) (runs : run ≡ stretch_rows rules s span.lines.from old)
       (own : State) (alike : IsAlike steps own new_opening) where
     run_parts : all_rows ≡ facts.parts.before ++ (run ++ facts.parts.behind)
     run_parts = facts.parts.new_are ∙ ap (λ r. facts.parts.before ++ (r ++ facts.parts.behind)) (sym runs)
 
-    tunes_there : tunes_in new_blocks ≡ take span.front on.tunes ++ (map (moved span.from) (tunes_among run) ++ map (shifted (span.to - span.from) (length run)) (drop span.behind on.tunes))
-    tunes_there = facts.tunes ∙ (λ i. take span.front (sym kept.stands.tunes_are i)
-        ++ (map (moved span.from) (tunes_among (sym runs i)) ++ map (shifted (span.to - span.from) (length (sym runs i))) (drop span.behind (sym kept.stands.tunes_are i))))
+    tunes_there : tunes_in new_blocks ≡ take span.tunes.from on.tunes
+        ++ (map (moved span.lines.from) (tunes_among run) ++ map (shifted (span.lines.to - span.lines.from) (length run)) (drop span.tunes.to on.tunes))
+    tunes_there = facts.tunes ∙ (λ i. take span.tunes.from (sym kept.stands.tunes_are i)
+        ++ (map (moved span.lines.from) (tunes_among (sym runs i)) ++ map (shifted (span.lines.to - span.lines.from) (length (sym runs i))) (drop span.tunes.to (sym kept.stands.tunes_are i))))
 
     within : All (LiesWithin (length run)) (tunes_among run)
     within = tunes_within run (blocks_of (map class_in run)) refl
@@ -192,43 +193,45 @@ module _ {C State Cell Items Defaults : Type 0} {steps : Steps State Cell Items}
         → IsRaisedUpTo (sum_by (steps_taken steps own on.chains.items run) (tunes_among run)) now after
         → IsRaisedUpTo (fresh_cells_after steps rules on.lines.text s) before after
     run_cost before now after head raise =
-        let places = map (moved span.from) (tunes_among run) in
+        let places = map (moved span.lines.from) (tunes_among run) in
         let moved_sum : sum_by (steps_taken steps own on.chains.items run) (tunes_among run) ≡ sum_by (steps_taken steps own on.chains.items all_rows) places =
-        sums_moved steps own on.chains.items facts.parts.before run facts.parts.behind span.from (tunes_among run) facts.parts.count within
+        sums_moved steps own on.chains.items facts.parts.before run facts.parts.behind span.lines.from (tunes_among run) facts.parts.count within
         ∙ ap (λ r. sum_by (steps_taken steps own on.chains.items r) places) (sym run_parts) in
-        stretch_cost steps rules on.lines.text s on.chains.items all_rows own (take span.front on.tunes) places
-        (map (shifted (span.to - span.from) (length run)) (drop span.behind on.tunes)) before now after kept.laws inside kept.stands.chains_are all_renewed alike tunes_there head
+        stretch_cost steps rules on.lines.text s on.chains.items all_rows own (take span.tunes.from on.tunes) places
+        (map (shifted (span.lines.to - span.lines.from) (length run)) (drop span.tunes.to on.tunes)) before now after kept.laws inside kept.stands.chains_are all_renewed alike tunes_there head
         (subst (λ n. IsRaisedUpTo n now after) moved_sum raise)
 
-    line_sum : span.from + (span.to - span.from) ≡ span.to
+    line_sum : span.lines.from + (span.lines.to - span.lines.from) ≡ span.lines.to
     line_sum = let a = facts.begins in let b = facts.ends in omega (arith, a, b)
 
-    came_is : length run ≡ span.to - span.from - s.removed + length s.lines
-    came_is = ap length runs ∙ stretch_length rules s span.from span.to old facts.count facts.begins facts.ends
+    came_is : length run ≡ span.lines.to - span.lines.from - s.removed + length s.lines
+    came_is = ap length runs ∙ stretch_length rules s span.lines.from span.lines.to old facts.count facts.begins facts.ends
 
-    lines_past : drop (span.from + length run) new_text ≡ drop (span.from + (span.to - span.from)) on.lines.text
+    lines_past : drop (span.lines.from + length run) new_text ≡ drop (span.lines.from + (span.lines.to - span.lines.from)) on.lines.text
     lines_past =
         let sum = line_sum in
         let ends = facts.ends in
         let most = facts.inside in
-        lines_behind on.lines.text s span.from (span.to - span.from) (length run) facts.begins (omega (arith, sum, ends)) (omega (arith, sum, most)) came_is
+        lines_behind on.lines.text s span.lines.from (span.lines.to - span.lines.from) (length run) facts.begins (omega (arith, sum, ends)) (omega (arith, sum, most)) came_is
 
     placed_chains : (tunes : List Block) (made : List (Chained State Cell Items)) → tunes ≡ tunes_among run → AllZip (IsChain steps own run) made tunes
-        → AllZip (IsChain steps own all_rows) made (map (moved span.from) tunes)
-    placed_chains tunes made e chains = subst (λ r. AllZip (IsChain steps own r) made (map (moved span.from) tunes)) (sym run_parts)
-        (zips_moved steps own facts.parts.before run facts.parts.behind span.from made tunes facts.parts.count (subst (All (LiesWithin (length run))) (sym e) within) chains)
+        → AllZip (IsChain steps own all_rows) made (map (moved span.lines.from) tunes)
+    placed_chains tunes made e chains = subst (λ r. AllZip (IsChain steps own r) made (map (moved span.lines.from) tunes)) (sym run_parts)
+        (zips_moved steps own facts.parts.before run facts.parts.behind span.lines.from made tunes facts.parts.count (subst (All (LiesWithin (length run))) (sym e) within) chains)
 
     -- The chains of the tunes of the new text, if those outside begin in its states.
     pub run_chains : (tunes : List Block) (made : List (Chained State Cell Items)) → tunes ≡ tunes_among run → AllZip (IsChain steps own run) made tunes
-        → AllZip (IsChainOf steps rules.cells new_opening on.lines.text) (take span.front (drop 1 on.chains.items)) (take span.front old_blocks)
-        → AllZip (IsChainOf steps rules.cells new_opening on.lines.text) (drop span.behind (drop 1 on.chains.items)) (drop span.behind old_blocks)
-        → AllZip (IsChainOf steps rules.cells new_opening new_text) (take span.front (drop 1 on.chains.items) ++ (made ++ drop span.behind (drop 1 on.chains.items))) (tunes_in new_blocks)
+        → AllZip (IsChainOf steps rules.cells new_opening on.lines.text) (take span.tunes.from (drop 1 on.chains.items)) (take span.tunes.from old_blocks)
+        → AllZip (IsChainOf steps rules.cells new_opening on.lines.text) (drop span.tunes.to (drop 1 on.chains.items)) (drop span.tunes.to old_blocks)
+        → AllZip (IsChainOf steps rules.cells new_opening new_text) (take span.tunes.from (drop 1 on.chains.items) ++ (made ++ drop span.tunes.to (drop 1 on.chains.items))) (tunes_in new_blocks)
     run_chains tunes made e chains front back =
-        tunes_stay steps rules on.lines.text new_text span.from (span.to - span.from) (length run) (drop 1 on.chains.items) made all_rows own new_opening span.front span.behind
-        (map (moved span.from) tunes) kept.laws (lines_before on.lines.text s span.from facts.begins inside) lines_past
+        tunes_stay steps rules on.lines.text new_text span.lines.from (span.lines.to - span.lines.from) (length run) (drop 1 on.chains.items)
+        made all_rows own new_opening span.tunes.from span.tunes.to
+        (map (moved span.lines.from) tunes) kept.laws (lines_before on.lines.text s span.lines.from facts.begins inside) lines_past
         (tunes_there
-        ∙ (λ i. take span.front (kept.stands.tunes_are i) ++ (map (moved span.from) (sym e i) ++ map (shifted (span.to - span.from) (length run)) (drop span.behind (kept.stands.tunes_are i)))))
-        facts.before (subst (λ n. All (StartsFrom n) (drop span.behind old_blocks)) (sym line_sum) facts.behind) front back alike all_renewed.read.cells (placed_chains tunes made e chains)
+        ∙ (λ i. take span.tunes.from (kept.stands.tunes_are i)
+        ++ (map (moved span.lines.from) (sym e i) ++ map (shifted (span.lines.to - span.lines.from) (length run)) (drop span.tunes.to (kept.stands.tunes_are i)))))
+        facts.before (subst (λ n. All (StartsFrom n) (drop span.tunes.to old_blocks)) (sym line_sum) facts.behind) front back alike all_renewed.read.cells (placed_chains tunes made e chains)
 
     -- What is folded again, with the file header and its chain.
     pub run_renewed : (header : Option Block) (first : Option (Chained State Cell Items)) (tunes : List Block) (made : List (Chained State Cell Items)) (reused_tunes : List (Option ℕ))
@@ -238,24 +241,25 @@ module _ {C State Cell Items Defaults : Type 0} {steps : Steps State Cell Items}
         → AreNewParts steps rules on s (new_parts_view (span_stretch span (length run)) header first tunes made reused_tunes)
     run_renewed header first tunes made reused_tunes refolded is chains keeps =
         let stretch = span_stretch span (length run) in
-        let back = map (shifted (span.to - span.from) (length run)) (drop span.behind on.tunes) in
+        let back = map (shifted (span.lines.to - span.lines.from) (length run)) (drop span.tunes.to on.tunes) in
         let e = refolded.tunes_are in
-        let all : tunes_in new_blocks ≡ take span.front on.tunes ++ (map (moved span.from) tunes ++ back) =
-        tunes_there ∙ ap (λ (t : List Block). take span.front on.tunes ++ (map (moved span.from) t ++ back)) (sym e) in
+        let all : tunes_in new_blocks ≡ take span.tunes.from on.tunes ++ (map (moved span.lines.from) tunes ++ back) =
+        tunes_there ∙ ap (λ (t : List Block). take span.tunes.from on.tunes ++ (map (moved span.lines.from) t ++ back)) (sym e) in
         let here : All (LiesWithin (length run)) tunes = subst (All (LiesWithin (length run))) (sym e) within in
         let begun : AllZip (IsChain steps new_opening run) made tunes = zip_same (IsChain steps own run) (IsChain steps new_opening run) (LiesWithin (length run)) made tunes
         (λ chain block known own_chain. record { folds = folds_alike steps own new_opening chain kept.laws alike own_chain.folds; cells = own_chain.cells }) here refolded.chains_are in
-        let goes = subst (λ r. KnowsAlong steps on.chains.items new_opening r (map (moved span.from) tunes) reused_tunes) (sym run_parts)
-        (along_moved steps new_opening on.chains.items facts.parts.before run facts.parts.behind span.from tunes reused_tunes facts.parts.count here (refolded.along new_opening begun)) in
+        let goes = subst (λ r. KnowsAlong steps on.chains.items new_opening r (map (moved span.lines.from) tunes) reused_tunes) (sym run_parts)
+        (along_moved steps new_opening on.chains.items facts.parts.before run facts.parts.behind span.lines.from tunes reused_tunes facts.parts.count here (refolded.along new_opening begun)) in
         let order = facts.order in
-        let most : span.behind ≤ length on.tunes = subst (λ (t : List Block). span.behind ≤ length t) (sym kept.stands.tunes_are) facts.most in
-        let front_count : length (take span.front on.tunes) ≡ span.front = length-take-le span.front on.tunes (omega (arith, order, most)) in
-        let back_count : length back ≡ length on.tunes - span.behind = length-map (drop span.behind on.tunes) (shifted (span.to - span.from) (length run)) ∙ length-drop span.behind on.tunes in
-        let whole = taken_all steps new_opening on.chains.items all_rows (take span.front on.tunes) (map (moved span.from) tunes) back
-        span.front span.behind (length on.tunes) reused_tunes front_count back_count goes in
+        let most : span.tunes.to ≤ length on.tunes = subst (λ (t : List Block). span.tunes.to ≤ length t) (sym kept.stands.tunes_are) facts.most in
+        let front_count : length (take span.tunes.from on.tunes) ≡ span.tunes.from = length-take-le span.tunes.from on.tunes (omega (arith, order, most)) in
+        let back_count : length back ≡ length on.tunes - span.tunes.to =
+        length-map (drop span.tunes.to on.tunes) (shifted (span.lines.to - span.lines.from) (length run)) ∙ length-drop span.tunes.to on.tunes in
+        let whole = taken_all steps new_opening on.chains.items all_rows (take span.tunes.from on.tunes) (map (moved span.lines.from) tunes) back
+        span.tunes.from span.tunes.to (length on.tunes) reused_tunes front_count back_count goes in
         let same = kept.stands.tunes_are in
-        let before = subst (λ (t : List Block). All (Ends span.from) (take span.front t)) (sym same) facts.before in
-        let behind = subst (λ (t : List Block). All (StartsFrom span.to) (drop span.behind t)) (sym same) facts.behind in
+        let before = subst (λ (t : List Block). All (Ends span.lines.from) (take span.tunes.from t)) (sym same) facts.before in
+        let behind = subst (λ (t : List Block). All (StartsFrom span.lines.to) (drop span.tunes.to t)) (sym same) facts.behind in
         record {
           order = facts.order;
           most = most;
@@ -267,12 +271,12 @@ module _ {C State Cell Items Defaults : Type 0} {steps : Steps State Cell Items}
           tunes_are = all;
           chains_are = chains;
           count = sym (AllZip-long (IsChain steps own run) made tunes refolded.chains_are);
-          before = All-weaker (Ends span.from) (LiesBefore stretch) (λ b h. h.1) (take span.front on.tunes) before;
-          beyond = All-weaker (StartsFrom span.to) (LiesAfter stretch) (λ b h. h.0) (drop span.behind on.tunes) behind;
+          before = All-weaker (Ends span.lines.from) (LiesBefore stretch) (λ b h. h.1) (take span.tunes.from on.tunes) before;
+          beyond = All-weaker (StartsFrom span.lines.to) (LiesAfter stretch) (λ b h. h.0) (drop span.tunes.to on.tunes) behind;
           among = here;
-          amid = subst (λ (t : List Block). All (LiesAmid stretch) (take (span.behind - span.front) (drop span.front t))) (sym same) facts.amid;
+          amid = subst (λ (t : List Block). All (LiesAmid stretch) (take (span.tunes.to - span.tunes.from) (drop span.tunes.from t))) (sym same) facts.amid;
           keeps = keeps;
-          lines_before = lines_before on.lines.text s span.from facts.begins inside;
+          lines_before = lines_before on.lines.text s span.lines.from facts.begins inside;
           lines_behind = lines_past ∙ ap (λ n. drop n on.lines.text) line_sum;
           items = refolded.items;
           untouched = takes_untouched steps rules on.lines.text s on.chains.items all_rows

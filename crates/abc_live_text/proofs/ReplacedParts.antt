@@ -19,45 +19,46 @@ pub items_after : {X : Type 0} (list after : Gapped X) (at removed : ℕ) (new :
 unfolding after_splice
 items_after {X = X} list after at removed new e = ap (λ (l : Gapped X). l.items) e
 
--- The chains where the file header's stays.
-pub chains_same : {State Cell Items : Type 0} (stretch : Stretch) (old made : List (Chained State Cell Items)) → stretch.front ≤ stretch.behind → stretch.behind + 1 ≤ length old
-    → replaced_run old (stretch.front + 1) (stretch.behind - stretch.front) made ≡ chains_after None stretch old made
+-- The chains if the file header's stays.
+pub chains_same : {State Cell Items : Type 0} (stretch : Stretch) (old made : List (Chained State Cell Items)) → stretch.tunes.from ≤ stretch.tunes.to → stretch.tunes.to + 1 ≤ length old
+    → replaced_run old (stretch.tunes.from + 1) (stretch.tunes.to - stretch.tunes.from) made ≡ chains_after None stretch old made
 chains_same stretch [] made order inside = absurd (omega (arith, inside))
 chains_same stretch (first ∷ tunes) made order inside =
-    let a : stretch.front + 1 ≡ suc stretch.front = omega arith in
-    let b : stretch.front + 1 + (stretch.behind - stretch.front) ≡ suc stretch.behind = omega (arith, order) in
-    (λ i. take (a i) (first ∷ tunes) ++ made ++ drop (b i) (first ∷ tunes)) ∙ append_assoc (first ∷ take stretch.front tunes) made (drop stretch.behind tunes)
+    let a : stretch.tunes.from + 1 ≡ suc stretch.tunes.from = omega arith in
+    let b : stretch.tunes.from + 1 + (stretch.tunes.to - stretch.tunes.from) ≡ suc stretch.tunes.to = omega (arith, order) in
+    (λ i. take (a i) (first ∷ tunes) ++ made ++ drop (b i) (first ∷ tunes)) ∙ append_assoc (first ∷ take stretch.tunes.from tunes) made (drop stretch.tunes.to tunes)
 
--- The chains where it is folded again.
-pub chains_anew : {State Cell Items : Type 0} (first : Chained State Cell Items) (stretch : Stretch) (old made : List (Chained State Cell Items)) → stretch.front ≡ 0 → stretch.behind + 1 ≤ length old
-    → replaced_run old 0 (stretch.behind + 1) (first ∷ made) ≡ chains_after (Some first) stretch old made
+-- The chains if it is folded again.
+pub chains_anew : {State Cell Items : Type 0} (first : Chained State Cell Items) (stretch : Stretch) (old made : List (Chained State Cell Items))
+    → stretch.tunes.from ≡ 0 → stretch.tunes.to + 1 ≤ length old
+    → replaced_run old 0 (stretch.tunes.to + 1) (first ∷ made) ≡ chains_after (Some first) stretch old made
 chains_anew first stretch [] made front inside = absurd (omega (arith, inside))
 chains_anew first stretch (chain ∷ tunes) made front inside =
-    let b : 0 + (stretch.behind + 1) ≡ suc stretch.behind = omega arith in
+    let b : 0 + (stretch.tunes.to + 1) ≡ suc stretch.tunes.to = omega arith in
     ap (λ n. first ∷ (made ++ drop n (chain ∷ tunes))) b
-    ∙ ap (λ n. first ∷ (take n tunes ++ (made ++ drop stretch.behind tunes))) (sym front)
+    ∙ ap (λ n. first ∷ (take n tunes ++ (made ++ drop stretch.tunes.to tunes))) (sym front)
 
 -- A splice of chains that has been prepared.
 pub place_same : {State Cell Items E : Type 0} (result : Result (Patched (Chained State Cell Items)) E)
     (list : Gapped (Chained State Cell Items)) (stretch : Stretch) (first : Option (Chained State Cell Items))
-    (made new : List (Chained State Cell Items)) → first ≡ None → new ≡ made → stretch.front ≤ stretch.behind → stretch.behind + 1 ≤ length list.items
-    → IfOk result (λ patch. patch.after ≡ after_splice list (stretch.front + 1) (stretch.behind - stretch.front) new)
+    (made new : List (Chained State Cell Items)) → first ≡ None → new ≡ made → stretch.tunes.from ≤ stretch.tunes.to → stretch.tunes.to + 1 ≤ length list.items
+    → IfOk result (λ patch. patch.after ≡ after_splice list (stretch.tunes.from + 1) (stretch.tunes.to - stretch.tunes.from) new)
     → IfOk result (λ patch. patch.after.items ≡ chains_after first stretch list.items made)
 place_same (Err error) list stretch first made new none same order inside after = tt
 place_same (Ok patch) list stretch first made new none same order inside after =
-    items_after list patch.after (stretch.front + 1) (stretch.behind - stretch.front) new after
-    ∙ (ap (replaced_run list.items (stretch.front + 1) (stretch.behind - stretch.front)) same
+    items_after list patch.after (stretch.tunes.from + 1) (stretch.tunes.to - stretch.tunes.from) new after
+    ∙ (ap (replaced_run list.items (stretch.tunes.from + 1) (stretch.tunes.to - stretch.tunes.from)) same
     ∙ (chains_same stretch list.items made order inside ∙ ap (λ f. chains_after f stretch list.items made) (sym none)))
 
 pub place_anew : {State Cell Items E : Type 0} (result : Result (Patched (Chained State Cell Items)) E)
     (list : Gapped (Chained State Cell Items)) (stretch : Stretch) (first : Option (Chained State Cell Items))
-    (own : Chained State Cell Items) (made new : List (Chained State Cell Items)) → first ≡ Some own → new ≡ own ∷ made → MayReplaceHeader first stretch → stretch.behind + 1 ≤ length list.items
-    → IfOk result (λ patch. patch.after ≡ after_splice list 0 (stretch.behind + 1) new) → IfOk result (λ patch. patch.after.items ≡ chains_after first stretch list.items made)
+    (own : Chained State Cell Items) (made new : List (Chained State Cell Items)) → first ≡ Some own → new ≡ own ∷ made → MayReplaceHeader first stretch → stretch.tunes.to + 1 ≤ length list.items
+    → IfOk result (λ patch. patch.after ≡ after_splice list 0 (stretch.tunes.to + 1) new) → IfOk result (λ patch. patch.after.items ≡ chains_after first stretch list.items made)
 place_anew (Err error) list stretch first own made new some same anew inside after = tt
 place_anew (Ok patch) list stretch first own made new some same anew inside after =
     let is = subst (λ f. MayReplaceHeader f stretch) some anew in
-    items_after list patch.after 0 (stretch.behind + 1) new after
-    ∙ (ap (replaced_run list.items 0 (stretch.behind + 1)) same
+    items_after list patch.after 0 (stretch.tunes.to + 1) new after
+    ∙ (ap (replaced_run list.items 0 (stretch.tunes.to + 1)) same
     ∙ (chains_anew own stretch list.items made is inside ∙ ap (λ f. chains_after f stretch list.items made) (sym some)))
 
 -- The rows of the new text.

@@ -1,4 +1,4 @@
--- What is after an edit, once origins are made.
+-- The rows after an edit, with their origins.
 use Rattle.std.proofs.Common.{◌≡◌, ℕ, zero, suc, ◌+◌, ◌-◌, ◌<◌, ◌≤◌, List, [], ◌∷◌, ◌++◌, map, Option, Some, None, All, length}
 use Rattle.std.proofs.Common.{take, drop, slice_get, refl, sym, ◌∙◌, ap, arith, append_assoc, take-append-drop, drop-drop}
 use Rattle.std.proofs.Common.{length-append}

@@ -15,7 +15,7 @@ pub record IsScanning (before now : Counters) (k most : ℕ) : Type 0 where
   pub least : before.scanned ≤ now.scanned
   pub bound : raised now.scanned k ≤ raised before.scanned most
 
-pub raised_more : (count more k : ℕ) → count ≤ more → raised count k ≤ raised more k
+raised_more : (count more k : ℕ) → count ≤ more → raised count k ≤ raised more k
 unfolding raised
 raised_more count more k h = omega arith
 
@@ -29,12 +29,9 @@ scanned_once before after is = record {
 }
 
 pub scanning_done : (before now : Counters) (k most : ℕ) → IsScanning before now k most → IsScannedUpTo most before now
-scanning_done before now k most within = record {
-  folded = within.folded;
-  built = within.built;
-  least = within.least;
-  most = let least = raised-least now.scanned k in omega (arith, within.bound);
-}
+scanning_done before now k most within =
+    let least = raised-least now.scanned k in
+    record { folded = within.folded; built = within.built; least = within.least; most = omega (arith, least, within.bound) }
 
 pub scanning_more : (before now later : Counters) (i count most : ℕ) → i < count → IsScanning before now (count - i) most → IsScannedUpTo 1 now later → IsScanning before later (count - (i + 1)) most
 scanning_more before now later i count most inside within raise =
@@ -51,7 +48,7 @@ scanning_more before now later i count most inside within raise =
           omega (arith, step, sum, own);
     }
 
--- What is made of one line more.
+-- The rows after one more line.
 pub rows_next : {A : Type 0} (f : List ℕ → A) (lines : List (Vec ℕ)) (i : ℕ) (line : Vec ℕ) → line ≡ get_or lines i line
     → i < length lines → map f (lines_of (take i lines)) ++ f line.items ∷ [] ≡ map f (lines_of (take (i + 1) lines))
 rows_next f lines i line is inside =

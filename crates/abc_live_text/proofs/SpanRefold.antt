@@ -34,7 +34,7 @@ pub record IsSpanEdit {C State Cell Items Defaults : Type 0} (rules : Rules Stat
   pub is_span : IsSpan on.tunes (length on.lines.text) s.at s.removed span
   pub rows_are : rows ≡ span_rows on span s.at s.removed (map (new_row rules) s.lines)
 
--- It is one if the rows are made so of rows that were read from its lines.
+-- It is one if code builds the rows from rows that were read from its lines.
 pub span_edit : {C State Cell Items Defaults : Type 0} (rules : Rules State Cell Items Defaults) (on : KeptTextView C State Cell Items) (span : Span) (at removed : ℕ)
     (lines : Text) (new : List (Row Cell)) (made rows : List (CarriedRow Cell)) → at + removed ≤ length on.lines.text → IsSpan on.tunes (length on.lines.text) at removed span
     → rows ≡ made → made ≡ span_rows on span at removed new → new ≡ map (new_row rules) lines → IsSpanEdit rules on (splice_at at removed lines) span rows
@@ -46,19 +46,19 @@ module _ {C State Cell Items Defaults : Type 0} {steps : Steps State Cell Items}
   same : on ≡ on
   same = refl
 
-  runs : run ≡ stretch_rows rules s span.from (old_run rules on.lines.text s on.rows.items span)
+  runs : run ≡ stretch_rows rules s span.lines.from (old_run rules on.lines.text s on.rows.items span)
   runs = run_is (λ (k : C). steps) (λ (k : C). rules) same kept.stands s.at s.removed span edit.is_span s.lines run edit.rows_are
 
   facts : IsSpanRun rules on.lines.text s on.rows.items span
   facts = span_facts rules on.lines.text s on.rows.items span kept.stands.read
       (subst (λ (t : List Block). IsSpan t (length on.lines.text) s.at s.removed span) kept.stands.tunes_are edit.is_span) (all_renewed kept s edit.inside).read
 
-  same_before : take span.from (spliced on.lines.text s) ≡ take span.from on.lines.text
-  same_before = lines_before on.lines.text s span.from facts.run.begins edit.inside
+  same_before : take span.lines.from (spliced on.lines.text s) ≡ take span.lines.from on.lines.text
+  same_before = lines_before on.lines.text s span.lines.from facts.run.begins edit.inside
 
   -- Tunes begin as before.
   stays : opening_of steps.next rules (spliced on.lines.text s) (blocks_in rules (spliced on.lines.text s)) ≡ opening_of steps.next rules on.lines.text (blocks_in rules on.lines.text)
-  stays = opening_stays steps rules on.lines.text (spliced on.lines.text s) span.from (span.to - span.from) (length run) facts.header facts.header_ends same_before
+  stays = opening_stays steps rules on.lines.text (spliced on.lines.text s) span.lines.from (span.lines.to - span.lines.from) (length run) facts.header facts.header_ends same_before
 
   alike : IsAlike steps own (opening_of steps.next rules (spliced on.lines.text s) (blocks_in rules (spliced on.lines.text s)))
   alike = subst (λ o. IsAlike steps own o) (sym stays) (kept_alike steps rules on own kept.laws kept.lawful kept.stands opening)
@@ -80,7 +80,7 @@ module _ {C State Cell Items Defaults : Type 0} {steps : Steps State Cell Items}
       (kept.stands.header_is ∙ sym facts.header)
       (header_stays steps rules on.lines.text (spliced on.lines.text s) (span_stretch span (length run)) on.chains.items made kept.stands.chains_are facts.header facts.header_ends same_before
       (run_chains kept s edit.inside span _ run facts.run runs own alike tunes made refolded.tunes_are refolded.chains_are
-      (zip_take R span.front (drop 1 on.chains.items) blocks chains) (zip_drop R span.behind (drop 1 on.chains.items) blocks chains)))
+      (zip_take R span.tunes.from (drop 1 on.chains.items) blocks chains) (zip_drop R span.tunes.to (drop 1 on.chains.items) blocks chains)))
       (inl (record {
         none = refl;
         header_stays = refl;

@@ -1,4 +1,4 @@
--- Where the tunes before a stretch, in it and after it lie.
+-- The places of the tunes before a stretch, in it and after it.
 use Rattle.std.proofs.Common.{◌≡◌, ℕ, suc, ◌<◌, ◌≤◌, true, false, Bool, List, [], ◌∷◌, ◌++◌, map, All, filter, nat_le, nat_lt}
 use Rattle.std.proofs.Common.{refl, ◌∙◌, ap, arith, ⊎_elim}
 use Rattle.std.proofs.lemmas.Bool.{cases_Bool}

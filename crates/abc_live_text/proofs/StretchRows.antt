@@ -1,4 +1,4 @@
--- The rows of a stretch that begins with a tune, as they are made.
+-- The rows of a stretch that begins with a tune, as code builds them.
 use Rattle.std.proofs.Common.{◌≡◌, ℕ, suc, ◌+◌, ◌-◌, ◌≤◌, List, [], ◌∷◌, ◌++◌, map, All, length, take, drop, sym, ◌∙◌, ap, subst}
 use Rattle.std.proofs.Common.{arith}
 use Rattle.std.proofs.lemmas.List.{length-take-le, length-map}
@@ -83,23 +83,26 @@ module _ {C State Cell Items Defaults : Type 0} (steps : C → Steps State Cell 
   own_is lines =
       let tunes = tunes_in (blocks_in (rules on.compiler) on.lines.text) in
       let long = ap length stands.tunes_are in
-      let count : length (take span.front tunes) ≡ span.front = length-take-le span.front tunes (omega (arith, is.order, is.most, long)) in
-      let number : span.front + 1 ≡ 0 + suc (length (take span.front tunes)) = omega (arith, count) in
-      λ i. rows_until (map carried_row on.rows.items) span.from span.to (number i) (take (span.behind - span.front) (drop span.front (stands.tunes_are i)))
+      let count : length (take span.tunes.from tunes) ≡ span.tunes.from = length-take-le span.tunes.from tunes (omega (arith, is.order, is.most, long)) in
+      let number : span.tunes.from + 1 ≡ 0 + suc (length (take span.tunes.from tunes)) = omega (arith, count) in
+      λ i. rows_until (map carried_row on.rows.items) span.lines.from span.lines.to (number i) (take (span.tunes.to - span.tunes.from) (drop span.tunes.from (stands.tunes_are i)))
 
-  pub span_rise : (tunes : List Block) → tunes ≡ on.tunes → BlocksRise span.from (take (span.behind - span.front) (drop span.front tunes)) span.to
-  span_rise tunes e = subst (λ (t : List Block). BlocksRise span.from (take (span.behind - span.front) (drop span.front t)) span.to) (sym (e ∙ stands.tunes_are)) (facts_of []).rise
+  pub span_rise : (tunes : List Block) → tunes ≡ on.tunes → BlocksRise span.lines.from (take (span.tunes.to - span.tunes.from) (drop span.tunes.from tunes)) span.lines.to
+  span_rise tunes e =
+      subst (λ (t : List Block). BlocksRise span.lines.from (take (span.tunes.to - span.tunes.from) (drop span.tunes.from t)) span.lines.to) (sym (e ∙ stands.tunes_are)) (facts_of []).rise
 
-  pub span_inside : span.to ≤ length on.rows.items
+  pub span_inside : span.lines.to ≤ length on.rows.items
   span_inside = let a = (facts_of []).run.inside in let b = rows_count (steps on.compiler) (rules on.compiler) on stands in omega (arith, a, b)
 
   old_is : (tunes : List Block) (old : List (CarriedRow Cell)) → tunes ≡ on.tunes
-      → old ≡ rows_until (map carried_row on.rows.items) span.from span.to (span.front + 1) (take (span.behind - span.front) (drop span.front tunes)) → old ≡ old_span_rows on span
-  old_is tunes old e o = o ∙ ap (λ (t : List Block). rows_until (map carried_row on.rows.items) span.from span.to (span.front + 1) (take (span.behind - span.front) (drop span.front t))) e
+      → old ≡ rows_until (map carried_row on.rows.items) span.lines.from span.lines.to (span.tunes.from + 1) (take (span.tunes.to - span.tunes.from) (drop span.tunes.from tunes))
+      → old ≡ old_span_rows on span
+  old_is tunes old e o =
+      o ∙ ap (λ (t : List Block). rows_until (map carried_row on.rows.items) span.lines.from span.lines.to (span.tunes.from + 1) (take (span.tunes.to - span.tunes.from) (drop span.tunes.from t))) e
 
   pub span_fits : (tunes : List Block) (old : List (CarriedRow Cell)) → tunes ≡ on.tunes
-      → old ≡ rows_until (map carried_row on.rows.items) span.from span.to (span.front + 1) (take (span.behind - span.front) (drop span.front tunes))
-      → at - span.from + removed ≤ length old
+      → old ≡ rows_until (map carried_row on.rows.items) span.lines.from span.lines.to (span.tunes.from + 1) (take (span.tunes.to - span.tunes.from) (drop span.tunes.from tunes))
+      → at - span.lines.from + removed ≤ length old
   span_fits tunes old e o =
       let count = ap length (old_is tunes old e o ∙ own_is []) ∙ (facts_of []).run.count in
       let begins = is.begins in
@@ -107,8 +110,8 @@ module _ {C State Cell Items Defaults : Type 0} (steps : C → Steps State Cell 
       omega (arith, count, begins, ends)
 
   pub span_carried : (tunes : List Block) (new : List (Row Cell)) (old rows : List (CarriedRow Cell)) → tunes ≡ on.tunes
-      → old ≡ rows_until (map carried_row on.rows.items) span.from span.to (span.front + 1) (take (span.behind - span.front) (drop span.front tunes))
-      → rows ≡ take (at - span.from) old ++ (map carried_row new ++ drop (at - span.from + removed) old) → All (IsCarried now.chains.items) rows
+      → old ≡ rows_until (map carried_row on.rows.items) span.lines.from span.lines.to (span.tunes.from + 1) (take (span.tunes.to - span.tunes.from) (drop span.tunes.from tunes))
+      → rows ≡ take (at - span.lines.from) old ++ (map carried_row new ++ drop (at - span.lines.from + removed) old) → All (IsCarried now.chains.items) rows
   span_carried tunes new old rows e o r =
       let parts = (facts_of []).run.parts in
       let read = bare_read (rules on.compiler) on.lines.text on.rows.items stands.read in
@@ -117,14 +120,14 @@ module _ {C State Cell Items Defaults : Type 0} (steps : C → Steps State Cell 
       (old_run (rules on.compiler) on.lines.text (splice_at at removed []) on.rows.items span) parts.behind (subst (All (IsCarried on.chains.items)) parts.old_are all) in
       subst (λ (k : KeptTextView C State Cell Items). All (IsCarried k.chains.items) rows) view
       (subst (All (IsCarried on.chains.items)) (sym r)
-      (edited_carried on.chains.items old new (at - span.from) (at - span.from + removed) (subst (All (IsCarried on.chains.items)) (sym (old_is tunes old e o ∙ own_is [])) own)))
+      (edited_carried on.chains.items old new (at - span.lines.from) (at - span.lines.from + removed) (subst (All (IsCarried on.chains.items)) (sym (old_is tunes old e o ∙ own_is [])) own)))
 
-  -- The rows as they are made.
+  -- The rows as code builds them.
   pub run_is : (lines : Text) (rows : List (CarriedRow Cell)) → rows ≡ span_rows on span at removed (map (new_row (rules on.compiler)) lines)
-      → rows ≡ stretch_rows (rules on.compiler) (splice_at at removed lines) span.from (old_run (rules on.compiler) on.lines.text (splice_at at removed lines) on.rows.items span)
+      → rows ≡ stretch_rows (rules on.compiler) (splice_at at removed lines) span.lines.from (old_run (rules on.compiler) on.lines.text (splice_at at removed lines) on.rows.items span)
   run_is lines rows r =
       let from = is.begins in
       let same = own_is lines in
       let fresh : map carried_row (map (new_row (rules on.compiler)) lines) ≡ map (fresh_row (rules on.compiler)) lines = map-over carried_row (new_row (rules on.compiler)) lines in
-      let end : at - span.from + removed ≡ at + removed - span.from = omega (arith, from) in
-      r ∙ (λ i. take (at - span.from) (same i) ++ (fresh i ++ drop (end i) (same i)))
+      let end : at - span.lines.from + removed ≡ at + removed - span.lines.from = omega (arith, from) in
+      r ∙ (λ i. take (at - span.lines.from) (same i) ++ (fresh i ++ drop (end i) (same i)))

@@ -45,7 +45,7 @@ pub begin_behind : (blocks : List Block) (last : ℕ) → BeginBehind (start_of 
 begin_behind [] last = tt
 begin_behind (block ∷ blocks) last = omega arith
 
--- Where the parts of rising blocks lie.
+-- The places of the parts of rising blocks.
 pub among_parts : (front mid back : List Block) (count from to : ℕ) → BlocksRise 0 (front ++ (mid ++ back)) count
     → from ≡ start_of (mid ++ back) count → to ≡ start_of back count → IsAmong from to count front mid back
 among_parts front mid back count from to rise f t =
@@ -74,22 +74,41 @@ strict_rest at [] [] last rise = omega arith
 strict_rest at [] (block ∷ ys) last rise = let here : block.from ≤ block.from = omega arith in (here, rise.1, rise.2)
 strict_rest at (block ∷ xs) ys last rise = strict_rest block.to xs ys last rise.2
 
+-- The rows of a text are as many as its lines, and the places of its chains and its tunes rise.
+pub record IsLaidOut {State Cell Items Defaults : Type 0} (rules : Rules State Cell Items Defaults) (text : Text) (rows : List (Row Cell)) : Type 0 where
+  pub long : length (map carried_row rows) ≡ length text
+  pub rise : BlocksRise 0 (places_of (blocks_in rules text)) (length text)
+  pub strict : RiseFromTo 0 (tunes_in (blocks_in rules text)) (length text)
+
+pub laid_out : {State Cell Items Defaults : Type 0} (rules : Rules State Cell Items Defaults) (text : Text) (rows : List (Row Cell)) → AreRows rules text rows → IsLaidOut rules text rows
+laid_out rules text rows are =
+    let blocks = blocks_in rules text in
+    let all = map carried_row rows in
+    let classes = map rules.class text in
+    let read = bare_read rules text rows are in
+    let long : length all ≡ length text = sym (length-map all class_in) ∙ (ap length read.classes ∙ length-map text rules.class) in
+    record {
+      long = long;
+      rise = subst (BlocksRise 0 (places_of blocks)) long (places_rise all blocks (ap blocks_of (sym read.classes)));
+      strict = subst (RiseFromTo 0 (tunes_in blocks)) (length-map text rules.class) (tunes_strict 0 blocks (length classes) (blocks_rise classes));
+    }
+
 module _ {State Cell Items Defaults : Type 0} (rules : Rules State Cell Items Defaults) (text : Text) (s : Splice) (rows : List (Row Cell)) (span : Span) where
   abbrev pub mid_tunes : List Block
-  mid_tunes = take (span.behind - span.front) (drop span.front (tunes_in (blocks_in rules text)))
+  mid_tunes = take (span.tunes.to - span.tunes.from) (drop span.tunes.from (tunes_in (blocks_in rules text)))
 
   abbrev pub front_places : List Block
-  front_places = header_place (header_in (blocks_in rules text)) ∷ take span.front (tunes_in (blocks_in rules text))
+  front_places = header_place (header_in (blocks_in rules text)) ∷ take span.tunes.from (tunes_in (blocks_in rules text))
 
   abbrev pub old_run : List (CarriedRow Cell)
-  old_run = rows_until (map carried_row rows) span.from span.to (0 + length front_places) mid_tunes
+  old_run = rows_until (map carried_row rows) span.lines.from span.lines.to (0 + length front_places) mid_tunes
 
   -- What is known of a stretch that begins with a tune.
   pub record IsSpanRun : Type 0 where
     pub run : IsEditedRun rules text s rows span old_run
     pub header : header_in (blocks_in rules (spliced text s)) ≡ header_in (blocks_in rules text)
-    pub header_ends : HeaderEnds span.from (header_in (blocks_in rules text))
-    pub rise : BlocksRise span.from mid_tunes span.to
+    pub header_ends : HeaderEnds span.lines.from (header_in (blocks_in rules text))
+    pub rise : BlocksRise span.lines.from mid_tunes span.lines.to
 
   pub span_facts : AreRows rules text rows → IsSpan (tunes_in (blocks_in rules text)) (length text) s.at s.removed span
       → AreRead rules (spliced text s) (edit_of rules s (placed_from (map carried_row rows) 0 0 (places_of (blocks_in rules text))))
@@ -98,42 +117,39 @@ module _ {State Cell Items Defaults : Type 0} (rules : Rules State Cell Items De
       let blocks = blocks_in rules text in
       let tunes = tunes_in blocks in
       let head = header_place (header_in blocks) in
-      let front = take span.front tunes in
-      let back = drop span.behind tunes in
+      let front = take span.tunes.from tunes in
+      let back = drop span.tunes.to tunes in
       let all = map carried_row rows in
-      let read = bare_read rules text rows are in
-      let order : span.front ≤ span.behind = omega (arith, is.order) in
-      let whole = three_parts span.front span.behind tunes order in
-      let rest = two_parts span.front span.behind tunes order in
-      let long : length all ≡ length text = sym (length-map all class_in) ∙ (ap length read.classes ∙ length-map text rules.class) in
-      let same : blocks ≡ blocks_of (map class_in all) = ap blocks_of (sym read.classes) in
-      let rise : BlocksRise 0 (front_places ++ (mid_tunes ++ back)) (length text) =
-      subst (λ (l : List Block). BlocksRise 0 (head ∷ l) (length text)) whole (subst (BlocksRise 0 (places_of blocks)) long (places_rise all blocks same)) in
-      let from : span.from ≡ start_of (mid_tunes ++ back) (length text) = is.from ∙ ap (λ l. start_of l (length text)) rest in
-      let among_text = among_parts front_places mid_tunes back (length text) span.from span.to rise from is.to in
-      let among = subst (λ n. IsAmong span.from span.to n front_places mid_tunes back) (sym long) among_text in
-      let ordered : span.from ≤ span.to = omega (arith, is.begins, is.ends) in
-      let cut = parted rules s all span.from span.to front_places mid_tunes back among ordered (omega (arith, is.begins)) is.ends in
+      let laid = laid_out rules text rows are in
+      let order : span.tunes.from ≤ span.tunes.to = omega (arith, is.order) in
+      let whole = three_parts span.tunes.from span.tunes.to tunes order in
+      let rest = two_parts span.tunes.from span.tunes.to tunes order in
+      let rise : BlocksRise 0 (front_places ++ (mid_tunes ++ back)) (length text) = subst (λ (l : List Block). BlocksRise 0 (head ∷ l) (length text)) whole laid.rise in
+      let from : span.lines.from ≡ start_of (mid_tunes ++ back) (length text) = is.from ∙ ap (λ l. start_of l (length text)) rest in
+      let among_text = among_parts front_places mid_tunes back (length text) span.lines.from span.lines.to rise from is.to in
+      let among = subst (λ n. IsAmong span.lines.from span.lines.to n front_places mid_tunes back) (sym laid.long) among_text in
+      let ordered : span.lines.from ≤ span.lines.to = omega (arith, is.begins, is.ends) in
+      let cut = parted rules s all span.lines.from span.lines.to front_places mid_tunes back among ordered (omega (arith, is.begins)) is.ends in
       let places : placed_from all 0 0 (places_of blocks) ≡ placed_from all 0 0 (front_places ++ (mid_tunes ++ back)) = ap (λ (l : List Block). placed_from all 0 0 (head ∷ l)) whole in
-      let own : Parted rules s (placed_from all 0 0 (places_of blocks)) old_run span.from = subst (λ x. Parted rules s x old_run span.from) (sym places) cut in
-      let run = stretch_rows rules s span.from old_run in
+      let own : Parted rules s (placed_from all 0 0 (places_of blocks)) old_run span.lines.from = subst (λ x. Parted rules s x old_run span.lines.from) (sym places) cut in
+      let run = stretch_rows rules s span.lines.from old_run in
       let old_classes : map class_in own.before ++ (map class_in old_run ++ map class_in own.behind) ≡ map rules.class text =
       part_classes _ own.before old_run own.behind _ own.old_are (placed_read rules text rows are).classes in
       let new_classes : map class_in own.before ++ (map class_in run ++ map class_in own.behind) ≡ map rules.class (spliced text s) =
       part_classes _ own.before run own.behind _ own.new_are new.classes in
-      let count : length old_run ≡ span.to - span.from = length-until all span.from span.to (0 + length front_places) mid_tunes among.here among.inside in
-      let long_old : length (map class_in old_run) ≡ span.to - span.from = length-map old_run class_in ∙ count in
-      let long_before : length (map class_in own.before) ≡ span.from = length-map own.before class_in ∙ sym own.count in
+      let count : length old_run ≡ span.lines.to - span.lines.from = length-until all span.lines.from span.lines.to (0 + length front_places) mid_tunes among.here among.inside in
+      let long_old : length (map class_in old_run) ≡ span.lines.to - span.lines.from = length-map old_run class_in ∙ count in
+      let long_before : length (map class_in own.before) ≡ span.lines.from = length-map own.before class_in ∙ sym own.count in
       let long_all : length (map class_in own.before ++ (map class_in old_run ++ map class_in own.behind)) ≡ length text = ap length old_classes ∙ length-map text rules.class in
       let is_run : IsRun (map class_in own.before) (map class_in old_run) (map class_in own.behind) front mid_tunes back = record {
         tunes = ap (λ c. tunes_in (blocks_of c)) old_classes ∙ whole;
         from = long_before ∙ (from ∙ ap (start_of (mid_tunes ++ back)) (sym long_all));
         to = (let sum : length (map class_in own.before) + length (map class_in old_run)
-            ≡ span.to = omega (arith, long_before, long_old, ordered) in sum) ∙ (is.to ∙ ap (start_of back) (sym long_all));
+            ≡ span.lines.to = omega (arith, long_before, long_old, ordered) in sum) ∙ (is.to ∙ ap (start_of back) (sym long_all));
         some = omega (arith, long_old, is.begins, is.ends);
       } in
-      let k : ℕ = s.at - span.from in
-      let tail = map (fresh_row rules) s.lines ++ drop (s.at + s.removed - span.from) old_run in
+      let k : ℕ = s.at - span.lines.from in
+      let tail = map (fresh_row rules) s.lines ++ drop (s.at + s.removed - span.lines.from) old_run in
       let reused_tunes : map class_in run ≡ take k (map class_in old_run) ++ map class_in tail =
       map-append class_in (take k old_run) tail ∙ ap (λ l. l ++ map class_in tail) (sym (take-map class_in k old_run)) in
       let some_k : 1 ≤ k = omega (arith, is.begins) in
@@ -143,10 +159,7 @@ module _ {State Cell Items Defaults : Type 0} (rules : Rules State Cell Items De
       let some_new : 1 ≤ length (map class_in run) = subst (λ (l : List LineClass). 1 ≤ length l) (sym reused_tunes) (some_taken k (map class_in old_run) (map class_in tail) some_k is_run.some) in
       let law = tunes_after (map class_in own.before) (map class_in old_run) (map class_in run) (map class_in own.behind) front mid_tunes back is_run begins in
       let law_header = header_after (map class_in own.before) (map class_in old_run) (map class_in run) (map class_in own.behind) front mid_tunes back is_run some_new begins in
-      let classes = map rules.class text in
-      let strict = tunes_strict 0 blocks (length classes) (blocks_rise classes) in
-      let strict_text : RiseFromTo 0 tunes (length text) = subst (RiseFromTo 0 tunes) (length-map text rules.class) strict in
-      let strict_front : RiseFromTo 0 (front ++ (mid_tunes ++ back)) (length text) = subst (λ (l : List Block). RiseFromTo 0 l (length text)) whole strict_text in
+      let strict_front : RiseFromTo 0 (front ++ (mid_tunes ++ back)) (length text) = subst (λ (l : List Block). RiseFromTo 0 l (length text)) whole laid.strict in
       let strict_back : RiseFromTo 0 ((front ++ mid_tunes) ++ back) (length text) = subst (λ (l : List Block). RiseFromTo 0 l (length text)) (sym (append_assoc front mid_tunes back)) strict_front in
       record {
         run = record {
@@ -154,8 +167,8 @@ module _ {State Cell Items Defaults : Type 0} (rules : Rules State Cell Items De
           tunes = sym (ap (λ c. tunes_in (blocks_of c)) new_classes) ∙ (law
               ∙ (λ i. front ++ (map (moved (long_before i)) (tunes_in (blocks_of (map class_in run))) ++ map (shifted (long_old i) (length-map run class_in i)) back)));
           before = subst (λ n. All (Ends n) front) (sym from) (end_start front (mid_tunes ++ back) (length text) strict_front);
-          behind = all_starts (start_of back (length text)) back (length text) span.to (omega (arith, is.to)) (strict_rest 0 (front ++ mid_tunes) back (length text) strict_back);
-          amid = rise_amid span.from span.from mid_tunes span.to (omega arith) among_text.here;
+          behind = all_starts (start_of back (length text)) back (length text) span.lines.to (omega (arith, is.to)) (strict_rest 0 (front ++ mid_tunes) back (length text) strict_back);
+          amid = rise_amid span.lines.from span.lines.from mid_tunes span.lines.to (omega arith) among_text.here;
           order = order;
           most = is.most;
           begins = omega (arith, is.begins);
@@ -164,14 +177,14 @@ module _ {State Cell Items Defaults : Type 0} (rules : Rules State Cell Items De
           count = count;
         };
         header = sym (ap (λ c. header_in (blocks_of c)) new_classes) ∙ (law_header ∙ ap (λ c. header_in (blocks_of c)) old_classes);
-        header_ends = header_lies span.from (header_in blocks) (among_text.first);
+        header_ends = header_lies span.lines.from (header_in blocks) (among_text.first);
         rise = among_text.here;
       }
     where
-      header_lies : (line : ℕ) (header : Option Block) → BlocksRise 0 (header_place header ∷ take span.front (tunes_in (blocks_in rules text))) line → HeaderEnds line header
+      header_lies : (line : ℕ) (header : Option Block) → BlocksRise 0 (header_place header ∷ take span.tunes.from (tunes_in (blocks_in rules text))) line → HeaderEnds line header
       header_lies line None rise = λ block e. absurd (cc)
       header_lies line (Some own) rise = λ block e.
           let same : own ≡ block = cc in
-          let end = rise_to own.to (take span.front (tunes_in (blocks_in rules text))) line rise.2 in
+          let end = rise_to own.to (take span.tunes.from (tunes_in (blocks_in rules text))) line rise.2 in
           let here : Ends line own = (rise.1, end) in
           subst (Ends line) same here

@@ -1,4 +1,4 @@
--- An untouched tune goes along one old chain, from its first cell to its last, and begins alike.
+-- An untouched tune goes along one old chain, from its first cell to its last, and begins in an equivalent state.
 use Rattle.std.proofs.Common.{◌≡◌, ◌⊎◌, ◌↔◌, All, IsSome, ℕ, zero, suc, ◌+◌, ◌-◌, ◌<◌, ◌≤◌, ◌==◌, ◌&&◌, ◌||◌, not, cond, Bool}
 use Rattle.std.proofs.Common.{true, false, List, [], ◌∷◌, ◌++◌, map, Option, Some, None, length, take, drop, slice_get, refl, sym}
 use Rattle.std.proofs.Common.{◌∙◌, ap, subst, arith, ⊎_elim, inl, inr}
@@ -57,7 +57,7 @@ addresses_up source place (suc n) (Some past ∷ others) e =
     let p : past.place ≡ place = eqb-true past.place place own.1 in
     λ i. Some (s i, p i) ∷ addresses_up source (place + 1) n others both.1 i
 
--- rows whose cells are so many of a chain
+-- rows whose cells are consecutive cells of a chain
 
 both_same : (a b c d : ℕ) → a ≡ b → c ≡ d → ((a == b) && (c == d)) ≡ true
 both_same a b c d e f = grind (arith, nat_tests)
@@ -209,7 +209,7 @@ begins_held {State = State} {Cell = Cell} steps own old row others o cell cells 
     no_step steps own cell (cells ++ more_cells) (hold (Some (o.source, o.first))
     ∷ (map hold (addresses_from o.source (o.first + 1) cells) ++ more_helds)) (hold (Some (o.source, o.first))) refl (sym same ∙ none)
 
--- The old chain begins in a state that is held.
+-- The old chain begins in a kept state.
 begins_there : {State Cell Items : Type 0} (old : List (Chained State Cell Items)) (was : Chained State Cell Items) (o : Origin) (source : ℕ) (held : KeptState State)
     → slice_get old source ≡ Some was → o.source ≡ source → o.first ≡ 0 → kept_state_at (entries_at old) (Some (o.source, o.first)) ≡ Some held
     → slice_get was.entries 0 ≡ Some held.entry
@@ -296,14 +296,7 @@ find_row : {State Cell Items Defaults : Type 0} (rules : Rules State Cell Items 
     → slice_get (map rules.class text) n ≡ Some class → FoundRow {State = State} {Items = Items} {Defaults = Defaults} rules class rows n
 find_row rules class rows [] n cells e = absurd (cc)
 find_row rules class [] (line ∷ text) n cells e = absurd (cc)
-find_row rules class (row ∷ rows) (line ∷ text) zero cells e = record {
-  row = row;
-  line = line;
-  others = rows;
-  there = refl;
-  classed = cc;
-  read = cc;
-}
+find_row rules class (row ∷ rows) (line ∷ text) zero cells e = record { row = row; line = line; others = rows; there = refl; classed = cc; read = cc }
 find_row rules class (row ∷ rows) (line ∷ text) (suc n) cells e =
     let others : map cells_in rows ≡ map rules.cells text = cc in
     let found = find_row rules class rows text n others e in
@@ -372,7 +365,7 @@ all_untouched steps rules text s header tunes rows opening source (block ∷ blo
       all_untouched steps rules text s header tunes rows opening (source + 1) blocks reused_tunes laws inside chains read from (λ i d l. first (suc i) d (omega arith)) along.1,
     )
 
--- Where what goes along an old tune is reused, each untouched tune is.
+-- If each tune that goes along an old one is reused, each untouched tune is.
 pub takes_untouched : {State Cell Items Defaults : Type 0} (steps : Steps State Cell Items)
     (rules : Rules State Cell Items Defaults) (text : Text) (s : Splice) (old : List (Chained State Cell Items)) (rows : List (CarriedRow Cell)) (reused_tunes : List (Option ℕ))
     → IsResumable steps → AreLawful steps rules → s.at + s.removed ≤ length text → AreChains steps rules text old → AreRead rules (spliced text s) rows

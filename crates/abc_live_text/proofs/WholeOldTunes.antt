@@ -138,7 +138,7 @@ same_items steps opening was chain laws (inr (begun, own)) folds cells e =
     let alike : IsAlike steps begun opening = laws.transitive begun at.0 opening (laws.symmetric at.0 begun old) (laws.transitive at.0 at.1 opening at.4 new) in
     own.items ∙ (equal_items steps laws begun opening was.cells alike ∙ (ap (items_from steps opening) (sym cells) ∙ sym folds.items))
 
--- What goes along an old tune, and begins alike, has its items.
+-- What goes along an old tune, and begins in an equivalent state, has its items.
 pub taken_items : {State Cell Items : Type 0} (steps : Steps State Cell Items) (old : List (Chained State Cell Items))
     (rows : List (CarriedRow Cell)) (source : ℕ) (was chain : Chained State Cell Items) → IsResumable steps → All (IsCarried old) rows → All (IsFolded steps) old
     → slice_get old source ≡ Some was → (source ≡ 0 → ⊥) → is_along source (length was.cells) 0 rows ≡ true → are_alike_both steps.alike (slice_get was.entries 0) (slice_get chain.entries 0) ≡ true
@@ -178,7 +178,7 @@ zip_at P (a ∷ xs) [] i x y all e f inside = absurd all
 zip_at P (a ∷ xs) (b ∷ ys) zero x y all e f inside = subst (λ z. P x z) (sym f) (subst (λ z. P z b) (sym e) all.0)
 zip_at P (a ∷ xs) (b ∷ ys) (suc i) x y all e f inside = zip_at P xs ys i x y all.1 e f (omega arith)
 
--- A whole old chain that begins alike is the fold over the cells of the lines that go along it.
+-- A whole old chain that begins in an equivalent state is the fold over the cells of the lines that go along it.
 pub whole_folds : {State Cell Items : Type 0} (steps : Steps State Cell Items) (old : List (Chained State Cell Items)) (source : ℕ)
     (was : Chained State Cell Items) (opening : State) → IsResumable steps → All (IsFolded steps) old
     → slice_get old source ≡ Some was → are_alike_both steps.alike (slice_get was.entries 0) (Some opening) ≡ true → Folds steps opening was

@@ -12,7 +12,7 @@ pub record AreRead {State Cell Items Defaults : Type 0} (rules : Rules State Cel
   pub classes : map class_in rows ≡ map rules.class text
   pub cells : map cells_in rows ≡ map rules.cells text
 
--- The lines of a text from one on, where chains of these numbers hold them.
+-- The lines of a text from one on, if chains of these numbers hold them.
 abbrev pub placed_from : {Cell : Type 0} → List (CarriedRow Cell) → ℕ → ℕ → List Block → List (CarriedRow Cell)
 placed_from rows at source [] = map (at_origin None) (drop at rows)
 placed_from rows at source (block ∷ blocks) =

@@ -45,11 +45,11 @@ AreChains steps rules text (header ∷ tunes) =
     × AllZip (IsChainOf steps rules.cells (opening_of steps.next rules text (blocks_in rules text)) text) tunes
     (tunes_in (blocks_in rules text))
 
--- Where the chain of the file header lies; without one, nowhere.
+-- The place of the file header's chain; without one, an empty place.
 abbrev pub header_place : Option Block → Block
 header_place None = record { kind = Free; from = 0; to = 0 }
 header_place (Some block) = block
 
--- Where the chains of a text lie, in order.
+-- The places of the chains of a text, in order.
 abbrev pub places_of : List Block → List Block
 places_of blocks = header_place (header_in blocks) ∷ tunes_in blocks

@@ -9,6 +9,7 @@ use Rattle.abc_fold.specs.Work.{Counters, raised}
 use Rattle.abc_lines.specs.GapList.{Gapped}
 use Rattle.abc_lines.specs.Lines.{Lines, Prepared}
 use Rattle.abc_lines.specs.ListSplice.{Patched}
+use Rattle.abc_lines.specs.ItemRange.{gone}
 use Rattle.abc_lines.specs.Text.{Splice, Text}
 use Rattle.abc_live_cost.specs.FreshCells.{fresh_cells_after}
 use Rattle.abc_tune_compiler.specs.Book.{blocks_in, header_in, tunes_in}
@@ -57,8 +58,8 @@ pub record KeptTextView (C State Cell Items : Type 0) : Type 0 where
 abbrev pub parts_of : {C State Cell Items : Type 0} → KeptTextView C State Cell Items → Parts State Cell Items
 parts_of on = parts on.rows.items on.header on.tunes on.chains.items
 
--- A kept text, the text that is to take its place, what would be kept of that, and the stretch of lines outside which all
--- stays: the chains and the places of its tunes, and which of these have the items of old ones.
+-- A kept text, the text after an edit, the kept parts of that, and the stretch outside which nothing changes: the chains
+-- and the places of its tunes, and which of these have the items of old ones.
 pub record KeptPatchView (C State Cell Items : Type 0) : Type 0 where
   pub on : KeptTextView C State Cell Items
   pub text : Text
@@ -71,7 +72,7 @@ pub record KeptPatchView (C State Cell Items : Type 0) : Type 0 where
   pub places : List Block
   pub reused_tunes : List (Option ℕ)
 
--- What would be kept of the new text.
+-- The kept parts of the new text.
 abbrev pub parts_after : {C State Cell Items : Type 0} → KeptPatchView C State Cell Items → Parts State Cell Items
 parts_after patch = parts patch.rows patch.header patch.tunes patch.chains
 
@@ -88,23 +89,23 @@ abbrev pub patched_parts : {State Cell Items : Type 0} → Prepared → Patched 
 patched_parts lines rows header tunes chains =
     record { lines = lines; rows = rows; header = header; tunes = tunes; chains = chains }
 
--- What an edit that puts these makes of a kept text, by its stretch and what the tunes of the stretch have.
-abbrev pub kept_patch_view : {C State Cell Items : Type 0} → KeptTextView C State Cell Items → PatchedParts State Cell Items
+-- A prepared edit of a kept text, by the text after it, the kept parts of that, its stretch and the tunes of the stretch.
+abbrev pub kept_patch_view : {C State Cell Items : Type 0} → KeptTextView C State Cell Items → Text → Parts State Cell Items
     → Stretch → List (Chained State Cell Items) → List Block → List (Option ℕ) → KeptPatchView C State Cell Items
-kept_patch_view on new stretch new_chains places reused_tunes = record {
+kept_patch_view on text kept stretch new_chains places reused_tunes = record {
   on = on;
-  text = new.lines.after;
-  rows = new.rows.after.items;
-  header = new.header;
-  tunes = new.tunes;
-  chains = new.chains.after.items;
+  text = text;
+  rows = kept.rows;
+  header = kept.header;
+  tunes = kept.tunes;
+  chains = kept.chains;
   stretch = stretch;
   new_chains = new_chains;
   places = places;
   reused_tunes = reused_tunes;
 }
 
--- It belongs to a kept text, and puts there what is kept of the new text.
+-- The patched parts belong to a kept text, and are those of the new text.
 pub record IsPatch {C State Cell Items Defaults : Type 0} (steps : Steps State Cell Items)
     (rules : Rules State Cell Items Defaults) (on : KeptTextView C State Cell Items)
     (new : PatchedParts State Cell Items) : Type 0 where
@@ -122,27 +123,23 @@ Patches steps rules on new = IsPatch (steps on.compiler) (rules on.compiler) on 
 abbrev pub old_tunes : {C State Cell Items : Type 0} → KeptPatchView C State Cell Items → List (Chained State Cell Items)
 old_tunes patch = drop 1 patch.on.chains.items
 
--- How many lines the stretch had.
-abbrev pub gone : Stretch → ℕ
-gone stretch = stretch.to - stretch.from
-
 -- The place after the edit of a block that is after the stretch.
 abbrev pub block_after : Stretch → Block → Block
-block_after stretch block = shifted (gone stretch) stretch.came block
+block_after stretch block = shifted (gone stretch.lines) stretch.lines.came block
 
 -- Blocks before a stretch, after it, and in the lines that replace it.
 abbrev pub LiesBefore : Stretch → Block → Type 0
-LiesBefore stretch block = block.to ≤ stretch.from
+LiesBefore stretch block = block.to ≤ stretch.lines.from
 
 abbrev pub LiesAfter : Stretch → Block → Type 0
-LiesAfter stretch block = stretch.to ≤ block.from
+LiesAfter stretch block = stretch.lines.to ≤ block.from
 
 abbrev pub LiesAmong : Stretch → Block → Type 0
-LiesAmong stretch block = (stretch.from ≤ block.from) × (block.to ≤ stretch.from + stretch.came)
+LiesAmong stretch block = (stretch.lines.from ≤ block.from) × (block.to ≤ stretch.lines.from + stretch.lines.came)
 
--- Blocks that lie in what goes.
+-- Blocks in the lines that are replaced.
 abbrev pub LiesAmid : Stretch → Block → Type 0
-LiesAmid stretch block = (stretch.from ≤ block.from) × (block.to ≤ stretch.to)
+LiesAmid stretch block = (stretch.lines.from ≤ block.from) × (block.to ≤ stretch.lines.to)
 
 abbrev pub MayLieBefore : Stretch → Option Block → Type 0
 MayLieBefore stretch header = (block : Block) → header ≡ Some block → LiesBefore stretch block
@@ -152,10 +149,10 @@ MayEndBy line header = (block : Block) → header ≡ Some block → block.to �
 
 -- The stretch begins with the text, and the file header lies in it, before and after.
 pub record HoldsHeader {C State Cell Items : Type 0} (patch : KeptPatchView C State Cell Items) : Type 0 where
-  pub front : patch.stretch.front ≡ 0
-  pub from : patch.stretch.from ≡ 0
-  pub goes : MayEndBy patch.stretch.to patch.on.header
-  pub comes : MayEndBy patch.stretch.came patch.header
+  pub front : patch.stretch.tunes.from ≡ 0
+  pub from : patch.stretch.lines.from ≡ 0
+  pub goes : MayEndBy patch.stretch.lines.to patch.on.header
+  pub comes : MayEndBy patch.stretch.lines.came patch.header
 
 -- The file header lies before the stretch, and stays.
 pub record KeepsHeader {C State Cell Items : Type 0} (patch : KeptPatchView C State Cell Items) : Type 0 where
@@ -166,25 +163,26 @@ pub record KeepsHeader {C State Cell Items : Type 0} (patch : KeptPatchView C St
 -- All lines of a splice lie in the stretch of an edit, and nothing outside the stretch changes but the numbers of the
 -- lines after it.
 pub record IsStretch {C State Cell Items : Type 0} (s : Splice) (patch : KeptPatchView C State Cell Items) : Type 0 where
-  pub order : patch.stretch.front ≤ patch.stretch.behind
-  pub count : patch.stretch.behind ≤ length patch.on.tunes
-  pub begins : patch.stretch.from ≤ s.at
-  pub ends : s.at + s.removed ≤ patch.stretch.to
-  pub inside : patch.stretch.to ≤ length patch.on.lines.text
-  pub came : patch.stretch.came ≡ gone patch.stretch - s.removed + length s.lines
-  pub chains_are : drop 1 patch.chains ≡ take patch.stretch.front (old_tunes patch)
-      ++ (patch.new_chains ++ drop patch.stretch.behind (old_tunes patch))
-  pub tunes_are : patch.tunes ≡ take patch.stretch.front patch.on.tunes
-      ++ (patch.places ++ map (block_after patch.stretch) (drop patch.stretch.behind patch.on.tunes))
+  pub order : patch.stretch.tunes.from ≤ patch.stretch.tunes.to
+  pub count : patch.stretch.tunes.to ≤ length patch.on.tunes
+  pub begins : patch.stretch.lines.from ≤ s.at
+  pub ends : s.at + s.removed ≤ patch.stretch.lines.to
+  pub inside : patch.stretch.lines.to ≤ length patch.on.lines.text
+  pub came : patch.stretch.lines.came ≡ gone patch.stretch.lines - s.removed + length s.lines
+  pub chains_are : drop 1 patch.chains ≡ take patch.stretch.tunes.from (old_tunes patch)
+      ++ (patch.new_chains ++ drop patch.stretch.tunes.to (old_tunes patch))
+  pub tunes_are : patch.tunes ≡ take patch.stretch.tunes.from patch.on.tunes
+      ++ (patch.places ++ map (block_after patch.stretch) (drop patch.stretch.tunes.to patch.on.tunes))
   pub places_count : length patch.places ≡ length patch.new_chains
-  pub before : All (LiesBefore patch.stretch) (take patch.stretch.front patch.on.tunes)
-  pub beyond : All (LiesAfter patch.stretch) (drop patch.stretch.behind patch.on.tunes)
+  pub before : All (LiesBefore patch.stretch) (take patch.stretch.tunes.from patch.on.tunes)
+  pub beyond : All (LiesAfter patch.stretch) (drop patch.stretch.tunes.to patch.on.tunes)
   pub among : All (LiesAmong patch.stretch) patch.places
-  pub amid : All (LiesAmid patch.stretch) (take (patch.stretch.behind - patch.stretch.front)
-      (drop patch.stretch.front patch.on.tunes))
+  pub amid : All (LiesAmid patch.stretch) (take (patch.stretch.tunes.to - patch.stretch.tunes.from)
+      (drop patch.stretch.tunes.from patch.on.tunes))
   pub header_is : HoldsHeader patch ⊎ KeepsHeader patch
-  pub lines_before : take patch.stretch.from patch.text ≡ take patch.stretch.from patch.on.lines.text
-  pub lines_behind : drop (patch.stretch.from + patch.stretch.came) patch.text ≡ drop patch.stretch.to patch.on.lines.text
+  pub lines_before : take patch.stretch.lines.from patch.text ≡ take patch.stretch.lines.from patch.on.lines.text
+  pub lines_behind : drop (patch.stretch.lines.from + patch.stretch.lines.came) patch.text
+      ≡ drop patch.stretch.lines.to patch.on.lines.text
 
 -- `count` numbers in order, each of an old tune that stays.
 abbrev pub kept_numbers : ℕ → ℕ → List (Option ℕ)
@@ -194,8 +192,8 @@ kept_numbers first (suc count) = Some first ∷ kept_numbers (first + 1) count
 -- For each tune of the text after an edit the old one that has its items, if one is known. Of the `tunes` old ones those
 -- outside the stretch stay.
 abbrev pub reused_tunes_after : Stretch → ℕ → List (Option ℕ) → List (Option ℕ)
-reused_tunes_after stretch tunes reused_tunes = kept_numbers 0 stretch.front
-    ++ (reused_tunes ++ kept_numbers stretch.behind (tunes - stretch.behind))
+reused_tunes_after stretch tunes reused_tunes = kept_numbers 0 stretch.tunes.from
+    ++ (reused_tunes ++ kept_numbers stretch.tunes.to (tunes - stretch.tunes.to))
 
 abbrev pub all_reused_tunes : {C State Cell Items : Type 0} → KeptPatchView C State Cell Items → List (Option ℕ)
 all_reused_tunes patch = reused_tunes_after patch.stretch (length patch.on.tunes) patch.reused_tunes

@@ -9,28 +9,24 @@ use Rattle.abc_tune_compiler.specs.Rules.{Rules}
 use Rattle.abc_live_text.specs.Blocks.{header_among}
 use Rattle.abc_live_text.specs.Chains.{IsHeaderChain, IsHeaderChainOf, state_after_chain, header_place}
 use Rattle.abc_live_text.specs.Origin.{rows_until}
-use Rattle.abc_live_text.specs.NewParts.{AreNewParts, IsLead, NewPartsView, edited_rows}
+use Rattle.abc_live_text.specs.NewParts.{AreNewParts, IsLead, NewPartsView, edited_rows, span_to}
 use Rattle.abc_live_text.specs.Row.{CarriedRow, Row, carried_row, new_row}
 use Rattle.abc_live_text.specs.KeptText.{KeptTextView}
-use Rattle.abc_live_text.specs.declared.stretch.Lead.{Lead}
 use Rattle.abc_live_text.specs.declared.stretch.Span.{Span}
 
 -- The first lines of a text, with the chains that hold their cells.
-abbrev pub old_lead_rows : {C State Cell Items : Type 0} → KeptTextView C State Cell Items → Lead → List (CarriedRow Cell)
-old_lead_rows on lead = rows_until (map carried_row on.rows.items) 0 lead.to 0 (header_place on.header ∷ take lead.behind on.tunes)
+abbrev pub old_lead_rows : {C State Cell Items : Type 0} → KeptTextView C State Cell Items → Span → List (CarriedRow Cell)
+old_lead_rows on lead =
+    rows_until (map carried_row on.rows.items) 0 lead.lines.to 0 (header_place on.header ∷ take lead.tunes.to on.tunes)
 
 -- The same after an edit of them.
-abbrev pub lead_rows : {C State Cell Items : Type 0} → KeptTextView C State Cell Items → Lead → ℕ → ℕ → List (Row Cell)
+abbrev pub lead_rows : {C State Cell Items : Type 0} → KeptTextView C State Cell Items → Span → ℕ → ℕ → List (Row Cell)
     → List (CarriedRow Cell)
 lead_rows on lead at removed new = edited_rows at removed new (old_lead_rows on lead)
 
--- They begin with the text.
-abbrev pub lead_span : Lead → Span
-lead_span lead = record { front = 0; behind = lead.behind; from = 0; to = lead.to }
-
 -- All lines of a text.
-abbrev pub whole_lead : {C State Cell Items : Type 0} → KeptTextView C State Cell Items → Lead
-whole_lead on = record { behind = length on.tunes; to = length on.lines.text }
+abbrev pub whole_lead : {C State Cell Items : Type 0} → KeptTextView C State Cell Items → Span
+whole_lead on = span_to (length on.tunes) (length on.lines.text)
 
 -- The file header of a text that begins with these rows, its chain, and the state in which tunes begin after it.
 pub record IsHeaderOpening {State Cell Items Defaults : Type 0} (steps : Steps State Cell Items)
@@ -55,7 +51,7 @@ pub record IsKeptOpening {C State Cell Items Defaults : Type 0} (rules : Rules S
   pub there : first ≡ get_or on.chains.items 0 first
   pub begins : opening ≡ rules.tune (state_after_chain on.header first)
 
--- It is alike to another one.
+-- It is equivalent to another one.
 pub record BeginAlike {C State Cell Items Defaults : Type 0} (steps : Steps State Cell Items)
     (rules : Rules State Cell Items Defaults) (on : KeptTextView C State Cell Items) (opening : State) : Type 0 where
   pub was : State
@@ -69,16 +65,16 @@ MayGoOn steps rules on behind opening = (length on.tunes ≤ behind) ⊎ BeginAl
 
 -- An edit of the first lines of a text, and the rows of these lines after it.
 pub record IsLeadEdit {C State Cell Items Defaults : Type 0} (rules : Rules State Cell Items Defaults)
-    (on : KeptTextView C State Cell Items) (s : Splice) (lead : Lead) (rows : List (CarriedRow Cell)) : Type 0 where
+    (on : KeptTextView C State Cell Items) (s : Splice) (lead : Span) (rows : List (CarriedRow Cell)) : Type 0 where
   pub inside : s.at + s.removed ≤ length on.lines.text
   pub is_lead : IsLead on.tunes (length on.lines.text) (s.at + s.removed) lead
   pub rows_are : rows ≡ lead_rows on lead s.at s.removed (map (new_row rules) s.lines)
 
 -- New parts for an edit of the first lines, by its rows: if the file header opens so after it and tunes may go on, they are those
--- of the text after it. `Made` says of a result what holds of the parts that it has.
+-- of the text after it. `Made` lifts a property of parts to a result that has them.
 abbrev pub RefoldsLead : {C State Cell Items Defaults : Type 0} → Steps State Cell Items → Rules State Cell Items Defaults
-    → KeptTextView C State Cell Items → Lead → List (CarriedRow Cell) → Option Block → Chained State Cell Items → State
+    → KeptTextView C State Cell Items → Span → List (CarriedRow Cell) → Option Block → Chained State Cell Items → State
     → ((NewPartsView State Cell Items → Type 0) → Type 0) → Type 0
 RefoldsLead steps rules on lead rows header first opening Made = (s : Splice) → IsLeadEdit rules on s lead rows
-    → IsHeaderOpeningOf steps rules (spliced on.lines.text s) header first opening → MayGoOn steps rules on lead.behind opening
+    → IsHeaderOpeningOf steps rules (spliced on.lines.text s) header first opening → MayGoOn steps rules on lead.tunes.to opening
     → Made (AreNewParts steps rules on s)

@@ -11,17 +11,17 @@ use Rattle.abc_live_text.specs.declared.new_places.NewPlaces.TheVariants.{Whole,
 -- The places after an edit: all of them, or new ones for the stretch, and those after it moved.
 abbrev pub tune_places_after : NewPlaces → Stretch → List Block → List Block → List Block
 tune_places_after (Whole tunes) stretch old places = tunes.items
-tune_places_after Among stretch old places = take stretch.front old
-    ++ (places ++ map (block_after stretch) (drop stretch.behind old))
+tune_places_after Among stretch old places = take stretch.tunes.from old
+    ++ (places ++ map (block_after stretch) (drop stretch.tunes.to old))
 
 -- As many tunes come as go, and those after the stretch can be moved.
 pub record FitAmong (stretch : Stretch) (old places : List Block) : Type 0 where
-  pub count : stretch.front + length places ≡ stretch.behind
-  pub inside : stretch.behind ≤ length old
-  pub beyond : All (LiesAfter stretch) (drop stretch.behind old)
+  pub count : stretch.tunes.from + length places ≡ stretch.tunes.to
+  pub inside : stretch.tunes.to ≤ length old
+  pub beyond : All (LiesAfter stretch) (drop stretch.tunes.to old)
   pub within : All (LiesWithin MOST_LINES) old
-  pub lines : stretch.from ≤ stretch.to
-  pub numbers : stretch.came ≤ MOST_LINES
+  pub lines : stretch.lines.from ≤ stretch.lines.to
+  pub numbers : stretch.lines.came ≤ MOST_LINES
 
 -- New places among others replace as many old ones.
 abbrev pub MayReplaceTunes : NewPlaces → Stretch → List Block → List Block → Type 0

@@ -36,7 +36,7 @@ cells_at (chain ∷ chains) (suc k) = cells_at chains k
 abbrev pub IsFolded : {State Cell Items : Type 0} → Steps State Cell Items → Chained State Cell Items → Type 0
 IsFolded {State = State} steps chain = (chain ≡ no_cells) ⊎ ((opening : State) × Folds steps opening chain)
 
--- Where the old chains hold cells of a line, they are these.
+-- If the old chains hold the cells of a line, they are these.
 abbrev pub IsCarriedAt : {State Cell Items : Type 0} → List (Chained State Cell Items) → List Cell → Option Origin → Type 0
 IsCarriedAt chains cells None = Unit {0}
 IsCarriedAt chains cells (Some origin) = (k : ℕ) → k < length cells
@@ -50,7 +50,7 @@ abbrev pub address_from : ℕ → Option Origin → Option (ℕ × ℕ)
 address_from k None = None
 address_from k (Some origin) = Some (origin.source, origin.first + k)
 
--- What is held of the cells of a line.
+-- The kept states of the cells of a line.
 abbrev pub kept_states_at : {State Cell Items : Type 0} → List (Chained State Cell Items) → Option Origin → List Cell
     → List (Option (KeptState State))
 kept_states_at chains origin cells = map (kept_state_at (entries_at chains)) (addresses origin cells)

@@ -31,13 +31,13 @@ abbrev pub first_source : {Cell : Type 0} → List (CarriedRow Cell) → Option 
 first_source [] = None
 first_source (row ∷ rows) = option_map (λ origin. origin.source) row.origin
 
--- Whether two states are there, and are alike.
+-- Whether there are two states, and they are equivalent.
 abbrev pub are_alike_both : {State : Type 0} → (State → State → Bool) → Option State → Option State → Bool
 are_alike_both alike None other = false
 are_alike_both alike (Some state) None = false
 are_alike_both alike (Some state) (Some other) = alike state other
 
--- The cells of lines are those of an old tune, from its first to its last, and it began in a state alike to this one.
+-- The cells of lines are those of an old tune, from its first to its last, and it began in an equivalent state.
 pub record GoesAlong {State Cell Items : Type 0} (steps : Steps State Cell Items) (old : List (Chained State Cell Items))
     (opening : State) (rows : List (CarriedRow Cell)) : Type 0 where
   pub number : ℕ

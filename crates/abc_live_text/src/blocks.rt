@@ -72,7 +72,7 @@ pub(crate) fn blocks_of<K: Drop>(
     blocks(alloc, &classes)
 }
 
-/// Where the file header lies; without one, nowhere.
+/// The place of the file header; without one, an empty place.
 fn header_place(header: Option<Block>) -> Block
     ensures { result ≡ header_place header }
 {
@@ -86,7 +86,7 @@ fn header_place(header: Option<Block>) -> Block
     }
 }
 
-/// Where the chains of a text lie, in order.
+/// The places of the chains of a text, in order.
 pub(crate) fn places_of(
     alloc: Global,
     header: Option<Block>,

@@ -33,7 +33,7 @@ impl<F: Fold> Refold<'_, F> {
         Ok(chain)
     }
 
-    /// The chain of a block. It is an old one if one holds exactly the cells of the block and begins alike.
+    /// The chain of a block: an old one if one has exactly the cells of the block and begins in an equivalent state.
     pub(crate) fn chain_over(
         &self,
         block: &Block,

@@ -76,14 +76,14 @@ pub struct KeptPatch<C: Compiler> {
 
 impl<C: Compiler> Model for KeptPatch<C> {
     ghost use Rattle.abc_live_text.specs.NewPlaces.{MayReplaceTunes, tune_places_after};
-    ghost use Rattle.abc_live_text.specs.KeptText.{KeptPatchView, Patches, kept_patch_view, patched_parts};
+    ghost use Rattle.abc_live_text.specs.KeptText.{KeptPatchView, Patches, kept_patch_view, parts, patched_parts};
     ghost use Rattle.abc_fold.specs.Steps.{};
 
     ghost Value = { KeptPatchView C C.State C.Cell C.Items };
 
-    ghost view = { λ p. kept_patch_view p.on.value (patched_parts p.lines p.rows p.header
-        (tune_places_after p.tunes p.stretch p.on.value.tunes
-        p.places.items) p.chains) p.stretch p.new_chains.items p.places.items p.reused_tunes.items };
+    ghost view = { λ p. kept_patch_view p.on.value p.lines.after (parts p.rows.after.items p.header
+        (tune_places_after p.tunes p.stretch p.on.value.tunes p.places.items) p.chains.after.items)
+        p.stretch p.new_chains.items p.places.items p.reused_tunes.items };
 
     ghost invariant = { λ p. let t = p.on.value in Patches C.steps C.rules t
         (patched_parts p.lines p.rows p.header (tune_places_after p.tunes p.stretch t.tunes p.places.items) p.chains)
@@ -165,7 +165,7 @@ impl<C: Compiler> KeptText<C> {
             (λ p. MayReplaceTunes p.patches.tunes p.new_parts.stretch self.now.tunes
             p.patches.places.items) }
         ensures places { IfOk result (λ p. p.patches.places.items
-            ≡ map (moved p.new_parts.stretch.from) p.new_parts.folded.tunes.items) }
+            ≡ map (moved p.new_parts.stretch.lines.from) p.new_parts.folded.tunes.items) }
         ensures counted { let c = self.now.compiler in
             IsWorkUpTo (length lines.now) (fresh_cells_in (C.steps c) (C.rules c) self.now (splice_from at removed lines.now))
             (C.Work.counts work.old) (C.Work.counts work.new) }

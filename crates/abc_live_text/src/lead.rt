@@ -16,7 +16,7 @@ use crate::kept_text::KeptText;
 use crate::new_parts::{NewParts, edited_rows};
 use crate::origin::{CarriedRow, rows_with_origins};
 use crate::row::Row;
-use crate::stretch::{Lead, lead_of};
+use crate::stretch::{Span, lead_of, span_to};
 use abc_book::Block;
 use abc_fold::{Chain, Counts, Fold, Shared};
 use abc_tune_compiler::Compiler;
@@ -32,7 +32,7 @@ pub(crate) struct HeaderOpening<C: Compiler> {
 
 impl<C: Compiler> KeptText<C> {
     /// The first lines, which an edit ending at `end` may change if no tune begins before it.
-    fn lead(&self, end: usize) -> Lead
+    fn lead(&self, end: usize) -> Span
         requires { end ≤ length self.now.lines.text }
         ensures { IsLead self.now.tunes (length self.now.lines.text) end result }
     {
@@ -40,19 +40,16 @@ impl<C: Compiler> KeptText<C> {
     }
 
     /// All lines.
-    fn whole_lead(&self) -> Lead
+    fn whole_lead(&self) -> Span
         ensures { result ≡ whole_lead self.now }
     {
-        Lead {
-            behind: self.tunes.len(),
-            to: self.lines.len(),
-        }
+        span_to(self.tunes.len(), self.lines.len())
     }
 
     /// The rows of the first lines of the text after an edit of them.
     fn lead_rows(
         &self,
-        lead: Lead,
+        lead: Span,
         at: usize,
         removed: usize,
         new: &[Row<C::Cell>],
@@ -63,8 +60,8 @@ impl<C: Compiler> KeptText<C> {
         ensures carried { IfOk result (λ rows. All (IsCarried self.now.chains.items) rows.items) }
     {
         let alloc = self.lines.allocator();
-        let places = places_of(alloc, self.header, &self.tunes[..lead.behind])?;
-        let old = rows_with_origins(alloc, &self.rows, 0, lead.to, 0, &places)?;
+        let places = places_of(alloc, self.header, &self.tunes[..lead.tunes.to])?;
+        let old = rows_with_origins(alloc, &self.rows, 0, lead.lines.to, 0, &places)?;
         let rows = edited_rows(alloc, &old, at, removed, new)?;
         Ok(rows)
     }
@@ -109,7 +106,7 @@ impl<C: Compiler> KeptText<C> {
     /// Folds the tunes of the first lines again, by the new file header and the new rows of these lines.
     fn refold_lead(
         &self,
-        lead: Lead,
+        lead: Span,
         header: HeaderOpening<C>,
         rows: &[CarriedRow<C::Cell>],
         work: &mut C::Work,
@@ -131,7 +128,7 @@ impl<C: Compiler> KeptText<C> {
         } = header;
         let folded = self.refold_rows(&opening, rows, work)?;
         Ok(NewParts {
-            stretch: lead.span().stretch(rows.len()),
+            stretch: lead.stretch(rows.len()),
             header,
             first: Some(first),
             folded,
@@ -158,7 +155,7 @@ impl<C: Compiler> KeptText<C> {
         let lead = self.lead(at + removed);
         let rows = self.lead_rows(lead, at, removed, new)?;
         let header = self.header_opening(&rows, work)?;
-        if self.may_go_on(lead.behind, &header.opening) {
+        if self.may_go_on(lead.tunes.to, &header.opening) {
             return self.refold_lead(lead, header, &rows, work);
         }
         let whole = self.whole_lead();

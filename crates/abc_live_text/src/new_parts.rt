@@ -93,16 +93,16 @@ impl<C: Compiler> KeptText<C> {
         ensures carried { IfOk result (λ rows. All (IsCarried self.now.chains.items) rows.items) }
     {
         let alloc = self.lines.allocator();
-        let places = &self.tunes[span.front..span.behind];
+        let places = &self.tunes[span.tunes.from..span.tunes.to];
         let old = rows_with_origins(
             alloc,
             &self.rows,
-            span.from,
-            span.to,
-            span.front + 1,
+            span.lines.from,
+            span.lines.to,
+            span.tunes.from + 1,
             places,
         )?;
-        let rows = edited_rows(alloc, &old, at - span.from, removed, new)?;
+        let rows = edited_rows(alloc, &old, at - span.lines.from, removed, new)?;
         Ok(rows)
     }
 

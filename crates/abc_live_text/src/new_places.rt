@@ -3,7 +3,7 @@
 ghost use Rattle.std.specs.Prelude.{◌≡◌, ◌+◌, ◌-◌, ◌≤◌, ◌++◌, All, IfOk, OnOk, drop, length, map, take};
 ghost use Rattle.abc_live_text.specs.Pieces.{LiesWithin};
 ghost use Rattle.abc_live_text.specs.NewPlaces.{MayReplaceTunes, tune_places_after};
-ghost use Rattle.abc_live_text.specs.KeptText.{LiesAfter, gone, block_after};
+ghost use Rattle.abc_live_text.specs.KeptText.{LiesAfter, block_after};
 ghost use Rattle.abc_lines.specs.declared.limits.TheConstants.{MOST_LINES};
 
 use crate::stretch::Stretch;
@@ -23,28 +23,28 @@ pub(crate) enum NewPlaces {
 fn block_after(block: Block, stretch: Stretch) -> Block
     requires beyond { LiesAfter stretch block }
     requires within { LiesWithin MOST_LINES block }
-    requires lines { stretch.from ≤ stretch.to }
-    requires numbers { stretch.came ≤ MOST_LINES }
+    requires lines { stretch.lines.from ≤ stretch.lines.to }
+    requires numbers { stretch.lines.came ≤ MOST_LINES }
     ensures { result ≡ block_after stretch block }
 {
-    let gone = stretch.to - stretch.from;
+    let gone = stretch.lines.to - stretch.lines.from;
     Block {
         kind: block.kind,
-        from: block.from - gone + stretch.came,
-        to: block.to - gone + stretch.came,
+        from: block.from - gone + stretch.lines.came,
+        to: block.to - gone + stretch.lines.came,
     }
 }
 
 /// Appends the places after the edit of the tunes that are after the stretch.
 fn append_after(tunes: &mut Vec<Block>, old: &[Block], stretch: Stretch) -> Result<(), AllocError>
-    requires inside { stretch.behind ≤ length old.now }
-    requires beyond { All (LiesAfter stretch) (drop stretch.behind old.now) }
+    requires inside { stretch.tunes.to ≤ length old.now }
+    requires beyond { All (LiesAfter stretch) (drop stretch.tunes.to old.now) }
     requires within { All (LiesWithin MOST_LINES) old.now }
-    requires lines { stretch.from ≤ stretch.to }
-    requires numbers { stretch.came ≤ MOST_LINES }
-    ensures { OnOk result (tunes.new.items ≡ tunes.old.items ++ map (block_after stretch) (drop stretch.behind old.now)) }
+    requires lines { stretch.lines.from ≤ stretch.lines.to }
+    requires numbers { stretch.lines.came ≤ MOST_LINES }
+    ensures { OnOk result (tunes.new.items ≡ tunes.old.items ++ map (block_after stretch) (drop stretch.tunes.to old.now)) }
 {
-    for i in stretch.behind..old.len() {
+    for i in stretch.tunes.to..old.len() {
         tunes.push(block_after(old[i], stretch))?;
     }
     Ok(())
@@ -57,17 +57,17 @@ fn all_places(
     stretch: Stretch,
     places: &[Block],
 ) -> Result<Vec<Block>, AllocError>
-    requires order { stretch.front ≤ stretch.behind }
-    requires inside { stretch.behind ≤ length old.now }
-    requires beyond { All (LiesAfter stretch) (drop stretch.behind old.now) }
+    requires order { stretch.tunes.from ≤ stretch.tunes.to }
+    requires inside { stretch.tunes.to ≤ length old.now }
+    requires beyond { All (LiesAfter stretch) (drop stretch.tunes.to old.now) }
     requires within { All (LiesWithin MOST_LINES) old.now }
-    requires lines { stretch.from ≤ stretch.to }
-    requires numbers { stretch.came ≤ MOST_LINES }
-    ensures { IfOk result (λ tunes. tunes.items ≡ take stretch.front old.now
-        ++ (places.now ++ map (block_after stretch) (drop stretch.behind old.now))) }
+    requires lines { stretch.lines.from ≤ stretch.lines.to }
+    requires numbers { stretch.lines.came ≤ MOST_LINES }
+    ensures { IfOk result (λ tunes. tunes.items ≡ take stretch.tunes.from old.now
+        ++ (places.now ++ map (block_after stretch) (drop stretch.tunes.to old.now))) }
 {
     let mut tunes = Vec::new(alloc);
-    tunes.extend_from_slice(&old[..stretch.front])?;
+    tunes.extend_from_slice(&old[..stretch.tunes.from])?;
     tunes.extend_from_slice(places)?;
     append_after(&mut tunes, old, stretch)?;
     Ok(tunes)
@@ -85,18 +85,18 @@ fn replace_places(tunes: &mut Vec<Block>, front: usize, places: &[Block])
 
 /// Moves the tunes after a stretch to their places after the edit.
 fn move_after(tunes: &mut Vec<Block>, stretch: Stretch)
-    requires inside { stretch.behind ≤ length tunes.old.items }
-    requires beyond { All (LiesAfter stretch) (drop stretch.behind tunes.old.items) }
-    requires within { All (LiesWithin MOST_LINES) (drop stretch.behind tunes.old.items) }
-    requires lines { stretch.from ≤ stretch.to }
-    requires numbers { stretch.came ≤ MOST_LINES }
-    ensures { tunes.new.items ≡ take stretch.behind tunes.old.items
-        ++ map (block_after stretch) (drop stretch.behind tunes.old.items) }
+    requires inside { stretch.tunes.to ≤ length tunes.old.items }
+    requires beyond { All (LiesAfter stretch) (drop stretch.tunes.to tunes.old.items) }
+    requires within { All (LiesWithin MOST_LINES) (drop stretch.tunes.to tunes.old.items) }
+    requires lines { stretch.lines.from ≤ stretch.lines.to }
+    requires numbers { stretch.lines.came ≤ MOST_LINES }
+    ensures { tunes.new.items ≡ take stretch.tunes.to tunes.old.items
+        ++ map (block_after stretch) (drop stretch.tunes.to tunes.old.items) }
 {
-    if stretch.to - stretch.from == stretch.came {
+    if stretch.lines.to - stretch.lines.from == stretch.lines.came {
         return;
     }
-    for i in stretch.behind..tunes.len() {
+    for i in stretch.tunes.to..tunes.len() {
         tunes[i] = block_after(tunes[i], stretch);
     }
 }
@@ -109,17 +109,17 @@ impl NewPlaces {
         stretch: Stretch,
         places: &[Block],
     ) -> Result<NewPlaces, AllocError>
-        requires order { stretch.front ≤ stretch.behind }
-        requires inside { stretch.behind ≤ length old.now }
-        requires beyond { All (LiesAfter stretch) (drop stretch.behind old.now) }
+        requires order { stretch.tunes.from ≤ stretch.tunes.to }
+        requires inside { stretch.tunes.to ≤ length old.now }
+        requires beyond { All (LiesAfter stretch) (drop stretch.tunes.to old.now) }
         requires within { All (LiesWithin MOST_LINES) old.now }
-        requires lines { stretch.from ≤ stretch.to }
-        requires numbers { stretch.came ≤ MOST_LINES }
-        ensures after { IfOk result (λ tunes. tune_places_after tunes stretch old.now places.now ≡ take stretch.front old.now
-            ++ (places.now ++ map (block_after stretch) (drop stretch.behind old.now))) }
+        requires lines { stretch.lines.from ≤ stretch.lines.to }
+        requires numbers { stretch.lines.came ≤ MOST_LINES }
+        ensures after { IfOk result (λ tunes. tune_places_after tunes stretch old.now places.now ≡ take stretch.tunes.from old.now
+            ++ (places.now ++ map (block_after stretch) (drop stretch.tunes.to old.now))) }
         ensures put { IfOk result (λ tunes. MayReplaceTunes tunes stretch old.now places.now) }
     {
-        if places.len() == stretch.behind - stretch.front {
+        if places.len() == stretch.tunes.to - stretch.tunes.from {
             return Ok(NewPlaces::Among);
         }
         let tunes = all_places(alloc, old, stretch, places)?;
@@ -134,7 +134,7 @@ impl NewPlaces {
         match self {
             NewPlaces::Whole(whole) => *tunes = whole,
             NewPlaces::Among => {
-                replace_places(tunes, stretch.front, places);
+                replace_places(tunes, stretch.tunes.from, places);
                 move_after(tunes, stretch);
             }
         }

@@ -31,17 +31,17 @@ pub(crate) struct PartPatches<C: Compiler> {
 
 /// The places in the text of the tunes of a stretch.
 fn tune_places(alloc: Global, tunes: &[Block], stretch: Stretch) -> Result<Vec<Block>, AllocError>
-    requires within { All (LiesWithin stretch.came) tunes.now }
-    requires numbers { stretch.from + stretch.came ≤ usize.MAX }
-    ensures { IfOk result (λ places. places.items ≡ map (moved stretch.from) tunes.now) }
+    requires within { All (LiesWithin stretch.lines.came) tunes.now }
+    requires numbers { stretch.lines.from + stretch.lines.came ≤ usize.MAX }
+    ensures { IfOk result (λ places. places.items ≡ map (moved stretch.lines.from) tunes.now) }
 {
     let mut places = Vec::new(alloc);
     for i in 0..tunes.len() {
         let block = &tunes[i];
         places.push(Block {
             kind: block.kind,
-            from: block.from + stretch.from,
-            to: block.to + stretch.from,
+            from: block.from + stretch.lines.from,
+            to: block.to + stretch.lines.from,
         })?;
     }
     Ok(places)
@@ -69,8 +69,8 @@ impl<C: Compiler> KeptText<C> {
         first: &Option<Shared<Chain<C>>>,
         new_chains: &[Shared<Chain<C>>],
     ) -> Result<SplicePatch<Shared<Chain<C>>>, AllocError>
-        requires order { stretch.front ≤ stretch.behind }
-        requires inside { stretch.behind + 1 ≤ length self.now.chains.items }
+        requires order { stretch.tunes.from ≤ stretch.tunes.to }
+        requires inside { stretch.tunes.to + 1 ≤ length self.now.chains.items }
         requires anew { MayReplaceHeader first.now stretch }
         ensures on { IfOk result (λ patch. patch.on ≡ self.now.chains) }
         ensures after { IfOk result (λ patch. patch.after.items
@@ -83,15 +83,15 @@ impl<C: Compiler> KeptText<C> {
         match first {
             None => {
                 append_shares(&mut new, new_chains)?;
-                let count = stretch.behind - stretch.front;
+                let count = stretch.tunes.to - stretch.tunes.from;
                 self.chains
-                    .splice_prepare(alloc, stretch.front + 1, count, new)
+                    .splice_prepare(alloc, stretch.tunes.from + 1, count, new)
             }
             Some(first) => {
                 new.push(first.share()?)?;
                 append_shares(&mut new, new_chains)?;
                 self.chains
-                    .splice_prepare(alloc, 0, stretch.behind + 1, new)
+                    .splice_prepare(alloc, 0, stretch.tunes.to + 1, new)
             }
         }
     }
@@ -105,14 +105,14 @@ impl<C: Compiler> KeptText<C> {
         new_parts: &NewParts<C>,
     ) -> Result<PartPatches<C>, AllocError>
         requires range { at + removed ≤ length self.now.lines.text }
-        requires order { new_parts.now.stretch.front ≤ new_parts.now.stretch.behind }
-        requires inside { new_parts.now.stretch.behind ≤ length self.now.tunes }
-        requires lines { new_parts.now.stretch.from ≤ new_parts.now.stretch.to }
-        requires beyond { All (LiesAfter new_parts.now.stretch) (drop new_parts.now.stretch.behind self.now.tunes) }
-        requires within { All (LiesWithin new_parts.now.stretch.came) new_parts.now.folded.tunes.items }
+        requires order { new_parts.now.stretch.tunes.from ≤ new_parts.now.stretch.tunes.to }
+        requires inside { new_parts.now.stretch.tunes.to ≤ length self.now.tunes }
+        requires lines { new_parts.now.stretch.lines.from ≤ new_parts.now.stretch.lines.to }
+        requires beyond { All (LiesAfter new_parts.now.stretch) (drop new_parts.now.stretch.tunes.to self.now.tunes) }
+        requires within { All (LiesWithin new_parts.now.stretch.lines.came) new_parts.now.folded.tunes.items }
         requires anew { MayReplaceHeader new_parts.now.first new_parts.now.stretch }
-        requires numbers { new_parts.now.stretch.came ≤ MOST_LINES }
-        requires from { new_parts.now.stretch.from ≤ length self.now.lines.text }
+        requires numbers { new_parts.now.stretch.lines.came ≤ MOST_LINES }
+        requires from { new_parts.now.stretch.lines.from ≤ length self.now.lines.text }
         ensures rows_on { IfOk result (λ p. p.rows.on ≡ self.now.rows) }
         ensures rows { IfOk result (λ p. p.rows.after.items ≡ replaced_run self.now.rows.items at removed new.items) }
         ensures chains_on { IfOk result (λ p. p.chains.on ≡ self.now.chains) }
@@ -124,7 +124,7 @@ impl<C: Compiler> KeptText<C> {
         ensures put { IfOk result
             (λ p. MayReplaceTunes p.tunes new_parts.now.stretch self.now.tunes p.places.items) }
         ensures places { IfOk result (λ p. p.places.items
-            ≡ map (moved new_parts.now.stretch.from) new_parts.now.folded.tunes.items) }
+            ≡ map (moved new_parts.now.stretch.lines.from) new_parts.now.folded.tunes.items) }
     {
         let alloc = self.lines.allocator();
         let stretch = new_parts.stretch;

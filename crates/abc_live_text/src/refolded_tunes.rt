@@ -1,9 +1,7 @@
 //! The tunes of a stretch, folded again.
 
 ghost use Rattle.std.specs.Prelude.{IfOk};
-ghost use Rattle.std.specs.List.{sum_by};
-ghost use Rattle.abc_live_text.specs.Blocks.{tunes_among};
-ghost use Rattle.abc_live_text.specs.Refold.{IsRefold, refold_steps};
+ghost use Rattle.abc_live_text.specs.Refold.{IsRefold, all_refold_steps};
 ghost use Rattle.abc_live_text.specs.ReusedTunes.{AreRefolded};
 ghost use Rattle.abc_fold.specs.Work.{IsRaisedUpTo};
 
@@ -28,7 +26,7 @@ impl<F: Fold> Refold<'_, F> {
         requires { IsRefold (F.steps self.now.fold.now) self.now }
         ensures value { IfOk result (λ r. AreRefolded (F.steps self.now.fold.now) self.now.chains.now.items self.now.opening.now
             self.now.rows.now r.tunes.items r.new_chains.items r.reused_tunes.items) }
-        ensures counted { IsRaisedUpTo (sum_by (refold_steps (F.steps self.now.fold.now) self.now) (tunes_among self.now.rows.now))
+        ensures counted { IsRaisedUpTo (all_refold_steps (F.steps self.now.fold.now) self.now)
             (F.Work.counts work.old) (F.Work.counts work.new) }
     {
         let alloc = self.chains.allocator();

@@ -1,34 +1,23 @@
 //! The stretch of a text that an edit may change.
 
 ghost use Rattle.std.specs.Prelude.{◌≡◌, ◌+◌, ◌-◌, ◌<◌, ◌≤◌, IfSome, drop, length};
-ghost use Rattle.abc_live_text.specs.Lead.{lead_span};
-ghost use Rattle.abc_live_text.specs.NewParts.{IsLead, IsSpan, span_stretch, start_of};
+ghost use Rattle.abc_live_text.specs.NewParts.{IsLead, IsSpan, span_stretch, span_to, start_of};
 
 use abc_book::Block;
+use abc_lines::{ItemRange, Replacement};
 
-/// The lines and the tunes of a text that an edit may change, all counted from 0: the lines `from..to`, which become
-/// `came` lines, and the tunes `front..behind`.
+/// The part of a text that an edit may change: its old tunes, and its lines, which others replace.
 #[derive(Clone, Copy)]
 pub struct Stretch {
-    /// How many tunes are before the stretch.
-    pub front: usize,
-    /// The first old tune after it.
-    pub behind: usize,
-    /// How many lines are before it.
-    pub from: usize,
-    /// The first old line after it.
-    pub to: usize,
-    /// How many lines it has after the edit.
-    pub came: usize,
+    pub tunes: ItemRange,
+    pub lines: Replacement,
 }
 
-/// The stretch of an edit before it is known how many lines it has then.
+/// The old tunes and the old lines of a stretch.
 #[derive(Clone, Copy)]
 pub(crate) struct Span {
-    pub(crate) front: usize,
-    pub(crate) behind: usize,
-    pub(crate) from: usize,
-    pub(crate) to: usize,
+    pub(crate) tunes: ItemRange,
+    pub(crate) lines: ItemRange,
 }
 
 impl Span {
@@ -37,33 +26,23 @@ impl Span {
         ensures { result ≡ span_stretch self came }
     {
         Stretch {
-            front: self.front,
-            behind: self.behind,
-            from: self.from,
-            to: self.to,
-            came,
+            tunes: self.tunes,
+            lines: Replacement {
+                from: self.lines.from,
+                to: self.lines.to,
+                came,
+            },
         }
     }
 }
 
-/// The first lines of a text, up to one of its tunes or to its end, and how many tunes begin among them.
-#[derive(Clone, Copy)]
-pub(crate) struct Lead {
-    pub(crate) behind: usize,
-    pub(crate) to: usize,
-}
-
-impl Lead {
-    /// The lines and the tunes from the first ones on.
-    pub(crate) fn span(self) -> Span
-        ensures { result ≡ lead_span self }
-    {
-        Span {
-            front: 0,
-            behind: self.behind,
-            from: 0,
-            to: self.to,
-        }
+/// The first tunes and the first lines of a text.
+pub(crate) fn span_to(tunes: usize, lines: usize) -> Span
+    ensures { result ≡ span_to tunes lines }
+{
+    Span {
+        tunes: ItemRange { from: 0, to: tunes },
+        lines: ItemRange { from: 0, to: lines },
     }
 }
 
@@ -108,22 +87,23 @@ pub(crate) fn span_of(tunes: &[Block], count: usize, at: usize, removed: usize) 
     }
     let behind = begun_before(tunes, begun, at + removed);
     Some(Span {
-        front: begun - 1,
-        behind,
-        from: tunes[begun - 1].from,
-        to: start_at(tunes, behind, count),
+        tunes: ItemRange {
+            from: begun - 1,
+            to: behind,
+        },
+        lines: ItemRange {
+            from: tunes[begun - 1].from,
+            to: start_at(tunes, behind, count),
+        },
     })
 }
 
 /// The prefix that an edit ending at `end` can affect: up to the first tune that begins at `end` or later.
 #[tactic(auto, using(crate::proofs::Spans::starts_late))]
-pub(crate) fn lead_of(tunes: &[Block], count: usize, end: usize) -> Lead
+pub(crate) fn lead_of(tunes: &[Block], count: usize, end: usize) -> Span
     requires { end ≤ count }
     ensures { IsLead tunes.now count end result }
 {
     let behind = begun_before(tunes, 0, end);
-    Lead {
-        behind,
-        to: start_at(tunes, behind, count),
-    }
+    span_to(behind, start_at(tunes, behind, count))
 }

@@ -49,7 +49,7 @@ ends held old new k w stored is put here none =
     both (seen stored_of old new k w puts ∙ ap (λ s. with_entry (λ n. stored_of (slot_at old n)) k s) here)
     (seen job_bytes_of old new k w puts ∙ ap (λ c. with_entry (λ n. job_bytes_of (slot_at old n)) k c) none)
 
--- what fails only where a slot is missing does not fail where it is there
+-- an insertion that fails only without a slot succeeds with one
 pub succeeds : {A E : Type 0} {P : Type 0} (r : Result A E) (slot : Option SlotView) → OnOk r P → OnErr r (slot ≡ None) → is_some slot ≡ true → P
 succeeds (Ok x) slot done missing there = done
 succeeds (Err e) slot done missing there = absurd (false≢true (sym (ap is_some missing) ∙ there))

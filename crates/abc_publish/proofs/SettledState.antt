@@ -78,7 +78,7 @@ all_idle (slot ∷ slots) none =
 pub idle_entries : (slots : Slots) → All (λ (e : ℕ × SlotView). slot_at slots e.0 ≡ Some e.1) slots → ((n : ℕ) → job_bytes_of (slot_at slots n) ≡ None) → list_all is_idle slots ≡ true
 idle_entries slots found idle = all_idle slots (λ k d inside. sym (ap job_bytes_of (found k d inside)) ∙ idle _)
 
--- the entries seen of the slots held tell whether every number is idle
+-- the entries of the slots decide whether every number is idle
 pub idle_exactly : (held slots entries : Slots) (r : Bool) → held ≡ slots → entries ≡ held → r ≡ list_all is_idle entries → All (λ (e : ℕ × SlotView). slot_at held e.0 ≡ Some e.1) held
     → (IsTrue r → (n : ℕ) → job_bytes_of (slot_at slots n) ≡ None) × (((n : ℕ) → job_bytes_of (slot_at slots n) ≡ None) → IsTrue r)
 idle_exactly held slots entries r are shown is found =

@@ -18,7 +18,7 @@ use std::collections::BTreeMap;
 use std::marker::Model;
 
 /// A directory with the file of each reference number, as the jobs that have ended left it, and the jobs that are under
-/// way. Contracts read both by `maps_of`, as maps from numbers; they see a list of slots, and several lists may give
+/// way. Contracts read both by `maps_of`, as maps from numbers; they see a list of slots, and several lists may have
 /// the same maps.
 #[derive(Drop)]
 pub struct Publisher {

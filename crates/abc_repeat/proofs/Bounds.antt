@@ -1,4 +1,4 @@
--- A play has no more places than marks that are passed as often as any of them asks for.
+-- A play has at most the number of marks times the greatest number of passes that a mark asks for.
 use Rattle.std.proofs.Common.{◌≡◌, ℕ, zero, suc, ◌+◌, ◌*◌, ◌<◌, ◌≤◌, min, max, Bool, true, false, cond, ◌||◌, List, [], ◌∷◌, ◌++◌, length, map, refl, ap, subst, ◌∙◌, arith, length-append}
 use Rattle.std.proofs.lemmas.Nat.{mul-le}
 use Rattle.abc_repeat.specs.declared.mark.Mark.{Mark}
@@ -93,7 +93,7 @@ play_within ms =
     subst (λ (l : List Mark). length (plays_from 0 (map strain_of texts)) ≤ most_passes l * length l) (texts_back false false ms)
     (texts_within (most_passes (marks_in texts)) 0 texts (omega arith))
 
--- a bound that is less than the greatest value
+-- a bound below the greatest value
 pub within_bound : (ms : List Mark) (p bound top : ℕ) → p ≡ min (most_passes ms) top → bound ≡ min (p * length ms) top → bound < top
     → length (play_of ms) ≤ bound
 within_bound ms p bound top passes is small =

@@ -3,11 +3,11 @@ use Rattle.std.proofs.Common.{◌≡◌, ℕ, zero, suc, ◌+◌, ◌-◌, ◌<�
 use Rattle.std.specs.List.{concat, slice_range}
 use Rattle.std.proofs.lemmas.List.{take-append-drop, take_all, take_at, drop_all, drop-append-le}
 
--- the end is there once
+-- one copy of the end
 pub copies_once : (begin : ℕ) (xs : List ℕ) → xs ≡ take begin xs ++ (drop begin xs ++ [])
 copies_once begin xs = sym (take-append-drop begin xs) ∙ ap (λ l. take begin xs ++ l) (sym (append-nil (drop begin xs)))
 
--- nothing is there
+-- no copy
 nothing_copied : (n : ℕ) → concat (replicate n []) ≡ []
 nothing_copied zero = refl
 nothing_copied (suc n) = nothing_copied n
@@ -16,7 +16,7 @@ pub copies_none : (begin n : ℕ) (xs : List ℕ) → length xs ≤ begin → xs
 copies_none begin n xs past =
     sym (ap (λ l. take begin xs ++ concat (replicate n l)) (drop_all begin xs past) ∙ ap (λ l. take begin xs ++ l) (nothing_copied n) ∙ append-nil (take begin xs) ∙ take_all begin xs past)
 
--- some copies are the list and more
+-- some copies begin with the list
 copies_front : (begin n : ℕ) (xs : List ℕ) → take begin xs ++ concat (replicate (suc n) (drop begin xs)) ≡ xs ++ concat (replicate n (drop begin xs))
 copies_front begin n xs =
     sym (append_assoc (take begin xs) (drop begin xs) (concat (replicate n (drop begin xs)))) ∙ ap (λ l. l ++ concat (replicate n (drop begin xs))) (take-append-drop begin xs)

@@ -1,4 +1,4 @@
--- How marks are cut into the texts of strains.
+-- The cutting of marks into the texts of strains.
 use Rattle.std.proofs.Common.{◌≡◌, ℕ, suc, ◌+◌, ◌-◌, ◌<◌, Bool, false, ◌⊎◌, List, [], ◌∷◌, ◌++◌, length, map, get_or, drop, refl, sym, ap, ◌∙◌, inl, inr, ⊎_elim, arith, append_assoc}
 use Rattle.std.proofs.Math.Seq.{drop-append_seam}
 use Rattle.std.proofs.lemmas.Bool.{cases_Bool, cond-true, cond-false}
@@ -8,7 +8,7 @@ use Rattle.abc_repeat.specs.Mark.{is_ending, opens_next}
 use Rattle.abc_repeat.specs.Strain.{text_of, strain_of, ends_strain, put_first, texts_of, front_of, first_text, opens_after, strains_from}
 use Rattle.abc_repeat.specs.Play.{plays_from, strain_play}
 
--- the marks of a strain that a text is are that text
+-- the marks of the strain of a text are the text
 pub text_back : (ms : List Mark) → text_of (strain_of ms) ≡ ms
 text_back [] = refl
 text_back (marks.Play ∷ ms) = ap (λ l. marks.Play ∷ l) (text_back ms)

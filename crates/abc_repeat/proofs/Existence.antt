@@ -14,7 +14,7 @@ use Rattle.std.proofs.lemmas.Bool.Decides.{nat_tests}
 use Rattle.abc_repeat.proofs.Cuts.{one_or_cut}
 use Rattle.abc_repeat.proofs.Readings.{single_stays, stays, ends, inside_stays, bar_stays, bar_ends, sign_stays}
 
--- what is inside an ending, and the strains that it makes, of which the first's common part is the run
+-- the marks inside an ending, and the strains that they make: the common part of the first is the run
 data IsInside : List Mark → List Strain → Type 0 where
   last_run : (body : List Mark) → AllPass in_ending body → IsInside body (without_endings body ∷ [])
   closed_run : (body rest : List Mark) (bar : Mark) (strains : List Strain) → AllPass in_ending body → closes_ending bar ≡ true → goes_on bar rest ≡ false → IsStrains (opens_next bar) rest strains
@@ -91,12 +91,12 @@ outside_more o m ms strains e plain (with_endings same common rest endings bar l
     subst (λ s. IsStrains same (m ∷ ((common ++ endings_text endings) ++ rest)) (s ∷ later)) (sym (with_plain m (record { common = common; endings = endings }) plain))
     (with_endings same (m ∷ common) rest endings bar later (All-cons (λ x. in_common same x ≡ true) m common e h) are stops behind)
 
--- what an ending leads by: marks that are neither signs nor single bars do not
+-- the marks between endings: no signs, and only single bars
 leads_single : (m : Mark) (rest : List Mark) → in_ending m ≡ true → leads_to_ending (m ∷ rest) ≡ true → (is_single m && leads_to_ending rest) ≡ true
 leads_single (marks.Bar closes opens double) rest e f = f
 leads_single _ rest e f = cc
 
--- a body that leads to an ending after it is a gap, and so is what follows it up to that sign
+-- a body that leads to an ending after it is a gap, and so are the marks after it up to that sign
 body_gap : (body rest : List Mark) → AllPass in_ending body → leads_to_ending (body ++ rest) ≡ true → AllPass is_single body × (leads_to_ending rest ≡ true)
 body_gap [] rest h e = (All-nil (λ m. is_single m ≡ true), e)
 body_gap (m ∷ body) rest h e =
@@ -166,7 +166,7 @@ open_single closes opens double e =
     let second : opens ≡ 0 = zero_below opens zeros.1 in
     (λ i. is_single (marks.Bar (first i) (second i) (both.1 i)))
 
--- the two readings of what follows: in a common part, and inside an ending
+-- the two readings of the rest: in a common part, and inside an ending
 record Readings (ms : List Mark) : Type 0 where
   pub outside : (opened : Bool) → IsStrains opened ms (strains_from opened ms)
   pub inside : (opened : Bool) → IsInside ms (map strain_of (texts_of opened true ms))

@@ -1,4 +1,4 @@
--- What is played is in the section, and each of its places is that of something played.
+-- Each place of a play is in the section and has a played item.
 use Rattle.std.proofs.Common.{◌≡◌, ℕ, ◌+◌, Bool, true, false, cond, Some, List, [], ◌∷◌, ◌++◌, length, map, All, refl, sym, ap, ◌∙◌, arith, append_assoc, append-nil, length-append}
 use Rattle.std.specs.Prelude.{slice_get}
 use Rattle.std.specs.List.{flat_map, range_with_len}
@@ -96,7 +96,7 @@ joined_back opened inside (m ∷ ms) =
           ∙ ap (λ l. m ∷ l) (joined_back opened (Rattle.std.specs.Prelude.◌||◌ inside (is_ending m)) ms)
     ]
 
--- each place of a play is that of something played
+-- each place of a play has a played item
 pub play_played : (ms : List Mark) → All (IsPlayed ms) (play_of ms)
 unfolding play_of
 play_played ms =

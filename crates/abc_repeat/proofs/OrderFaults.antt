@@ -13,7 +13,7 @@ use Rattle.abc_repeat.specs.declared.fault.OrderFault.TheVariants.{TooLong}
 use Rattle.abc_repeat.specs.Section.{first_section}
 use Rattle.abc_repeat.specs.Order.{sections_of, has_unknown, IsTooLong}
 
--- what tables that agree say
+-- the sections of equal tables
 pub filter_map-agree : (f g : ℕ → Option ℕ) → ((x : ℕ) → f x ≡ g x) → (xs : List ℕ) → filter_map f xs ≡ filter_map g xs
 filter_map-agree f g agree [] = refl
 filter_map-agree f g agree (x ∷ xs) = ap (λ o. cons_option o (filter_map f xs)) (agree x) ∙ ap (cons_option (g x)) (filter_map-agree f g agree xs)

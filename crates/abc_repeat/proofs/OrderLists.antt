@@ -4,7 +4,7 @@ use Rattle.std.specs.List.{concat, filter_map}
 use Rattle.std.specs.Option.{option_to_list}
 use Rattle.std.proofs.lemmas.List.Elements.{filter_map-append}
 
--- what copies of letters play
+-- the play of copies of letters
 pub filter_map-copies : (section : ℕ → Option ℕ) (n : ℕ) (item : List ℕ) → filter_map section (concat (replicate n item)) ≡ concat (replicate n (filter_map section item))
 filter_map-copies section zero item = refl
 filter_map-copies section (suc n) item =
@@ -25,7 +25,7 @@ push_same (x ∷ xs) (y ∷ ys) j k e =
     let first : x ≡ y = cc in
     (ap (λ z. z ∷ xs) first ∙ ap (λ l. y ∷ l) same.0, same.1)
 
--- what `pop` leaves and gives
+-- the list and the element that `pop` returns
 pub popped : (all xs rest : List ℕ) (k : ℕ) (last : Option ℕ) → all ≡ xs ++ k ∷ [] → all ≡ rest ++ option_to_list last → (0 < length all → IsSome last) → (rest ≡ xs) × (last ≡ Some k)
 popped all xs rest k None is split some = let h : IsSome {T = ℕ} None = some (omega (arith, ap length is, length-append xs (k ∷ []))) in cc
 popped all xs rest k (Some j) is split some = let same = push_same rest xs j k (sym split ∙ is) in (same.0, ap Some same.1)

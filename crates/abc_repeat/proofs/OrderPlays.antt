@@ -1,4 +1,4 @@
--- What the front of an order plays, byte by byte.
+-- The play of the front of an order, byte by byte.
 use Rattle.std.proofs.Common.{◌≡◌, ℕ, ◌+◌, ◌<◌, ◌≤◌, false, true, List, [], ◌∷◌, ◌++◌, length, take, drop, replicate, Option, None, Some, IsSome, Vec}
 use Rattle.std.proofs.Common.{Global, refl, sym, ap, ◌∙◌, subst, arith, length-append, append_assoc, append-nil}
 use Rattle.std.specs.List.{concat, cons_option, filter_map}
@@ -23,7 +23,7 @@ begins_inside section played play is =
     let whole = ap length (is.sections ∙ sections-append section (letters_around played.around ++ played.before) played.item) in
     omega (arith, whole, is.begin, length-append (sections_with section (letters_around played.around ++ played.before)) (filter_map section played.item))
 
--- the last item is played as often as its count says
+-- the last item is played `count` times
 pub item_ended : (section : ℕ → Option ℕ) (around before item items : List ℕ) (begin n : ℕ)
     → items ≡ sections_with section (around ++ before ++ item) → begin ≡ length (sections_with section (around ++ before))
     → take begin items ++ concat (replicate n (drop begin items)) ≡ sections_with section (around ++ (before ++ concat (replicate n item)))
@@ -117,11 +117,11 @@ digit_played section played play b n is digit longer =
     subst (λ p. IsPlayOf section p (record play { count = Some n })) (sym (reads_digit played b digit))
     (record { sections = is.sections; groups = is.groups; begin = is.begin; count = ap Some (longer ∙ ap (λ o. count_on o b) is.count) })
 
--- a byte that says nothing
+-- a byte without a meaning
 pub silent_played : (section : ℕ → Option ℕ) (played : Played) (play : OrderPlay) (b : ℕ) → IsPlayOf section played play → is_order_byte b ≡ false → IsPlayOf section (read_on played b) play
 silent_played section played play b is silent = subst (λ p. IsPlayOf section p play) (sym (reads_silent played b silent)) is
 
--- as many groups are open
+-- the same number of groups is open
 pub length-begins : (section : ℕ → Option ℕ) (around : List (List ℕ)) → length (group_begins section around) ≡ length around
 length-begins section [] = refl
 length-begins section (before ∷ around) =

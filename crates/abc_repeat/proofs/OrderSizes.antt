@@ -1,4 +1,4 @@
--- How many sections the front of an order plays.
+-- The number of sections that the front of an order plays.
 use Rattle.std.proofs.Common.{◌≡◌, ℕ, ◌+◌, ◌-◌, ◌*◌, ◌^◌, ◌<◌, true, false, min, List, [], ◌∷◌, ◌++◌, length, replicate, Option, None, Some, IsSome, refl, sym, ap, ◌∙◌, subst, arith, length-append}
 use Rattle.std.specs.List.{concat, cons_option, filter_map}
 use Rattle.std.specs.Option.{option_to_list, unwrap_or, is_some}
@@ -17,7 +17,7 @@ pub times_of : (count : Option ℕ) → unwrap_or count 1 ≡ count_or_once coun
 times_of None = refl
 times_of (Some n) = refl
 
--- what the innermost group plays
+-- the play of the innermost group
 pub so_far_size : (section : ℕ → Option ℕ) (before item : List ℕ) (n b i product top : ℕ) → b ≡ min (length (filter_map section before)) top → i ≡ min (length (filter_map section item)) top
     → product ≡ min (i * n) top → min (b + product) top ≡ min (length (filter_map section (before ++ concat (replicate n item)))) top
 so_far_size section before item n b i product top before_is item_is multiplied =
@@ -76,11 +76,11 @@ digit_sized section played size b n is digit longer =
     subst (λ p. IsSizeOf section p (record size { count = Some n })) (sym (reads_digit played b digit))
     (record { around = is.around; before = is.before; item = is.item; count = ap Some (longer ∙ ap (λ o. count_on o b) is.count) })
 
--- a byte that says nothing
+-- a byte without a meaning
 pub silent_sized : (section : ℕ → Option ℕ) (played : Played) (size : OrderSize) (b : ℕ) → IsSizeOf section played size → is_order_byte b ≡ false → IsSizeOf section (read_on played b) size
 silent_sized section played size b is silent = subst (λ p. IsSizeOf section p size) (sym (reads_silent played b silent)) is
 
--- as many groups are open
+-- the same number of groups is open
 pub length-sizes : (section : ℕ → Option ℕ) (around : List (List ℕ)) → length (sizes_of section around) ≡ length around
 length-sizes section [] = refl
 length-sizes section (letters ∷ around) = length-append (sizes_of section around) (size_of section letters ∷ []) ∙ ap (λ k. k + 1) (length-sizes section around) ∙ omega arith

@@ -43,7 +43,7 @@ late_ending pass at (ending ∷ endings) h =
     ap (λ b. cond b (places_from (at + 1) ending.run) (first_ending pass (at + 1 + length ending.run) endings)) (late ending.numbers pass h)
     ∙ late_ending pass (at + 1 + length ending.run) endings h
 
--- how much an ending plays does not depend on where it begins
+-- the size of the play of an ending does not depend on its place
 pub length-first_ending : (pass at other : ℕ) (endings : List Ending) → length (first_ending pass at endings) ≡ length (first_ending pass other endings)
 length-first_ending pass at other [] = refl
 length-first_ending pass at other (ending ∷ endings) =
@@ -65,7 +65,7 @@ length-passes at strain (suc n) =
     let before = length-passes at strain n in
     omega arith
 
--- how many places the play of a strain has, wherever it begins
+-- the number of places of the play of a strain, at any place
 pub length-strain_play : (at : ℕ) (strain : Strain) → length (strain_play at strain)
     ≡ most_passes (text_of strain) * count_by is_play strain.common + endings_size strain (most_passes (text_of strain))
 unfolding strain_play
@@ -96,7 +96,7 @@ passes_to-late at strain (suc n) top none h k = ⊎_elim
     ∙ passes_to-late at strain n top none h more)
     (cases_lt n top)
 
--- marks are passed once at least
+-- marks have at least one pass
 pub most_passes-some : (ms : List Mark) → 1 ≤ most_passes ms
 most_passes-some [] = omega arith
 most_passes-some (m ∷ ms) = let h = most_passes-some ms in omega arith

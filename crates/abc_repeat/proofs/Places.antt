@@ -1,11 +1,11 @@
--- The places of what is played of some marks.
+-- The places of the played items of some marks.
 use Rattle.std.proofs.Common.{◌≡◌, ℕ, ◌+◌, true, false, cond, List, [], ◌∷◌, length, count_by, refl, ◌∙◌, arith}
 use Rattle.std.proofs.lemmas.List.Recursion.{is_count_by}
 use Rattle.abc_repeat.specs.declared.mark.Mark.{Mark}
 use Rattle.abc_repeat.specs.Mark.{is_play}
 use Rattle.abc_repeat.specs.Play.{places_from}
 
--- how many of some marks are played
+-- the number of played items of some marks
 abbrev played : List Mark → ℕ
 played [] = 0
 played (m ∷ ms) = cond (is_play m) (1 + played ms) (played ms)

@@ -112,7 +112,7 @@ inner_front opened run rest numbers (barred body gap bar h closes opens singles)
     ∙ ap (λ l. put_front body (put_first bar l)) (gap_front opened gap behind singles)
     ∙ sym (put_front-append body (bar ∷ gap) (texts_of opened true behind))
 
--- what may be after endings that such a bar ends
+-- the marks that may follow endings that such a bar ends
 abbrev Behind : Option Mark → List Mark → Type 0
 Behind None rest = rest ≡ []
 Behind (Some bar) rest = goes_on bar rest ≡ false

@@ -10,7 +10,7 @@ use Rattle.abc_repeat.proofs.Cuts.{plays_more, nothing_left}
 pub rest_of : (n : ℕ) (ms : List Mark) → take (length ms - n) (drop n ms) ≡ drop n ms
 rest_of n ms = take_all (length ms - n) (drop n ms) (omega (arith, length-drop n ms))
 
--- the play of the rest is that of its first strain, and that of what is left after it
+-- the play of the rest is that of its first strain, and that of the marks after it
 pub rest_more : (at : ℕ) (opened : Bool) (ms text : List Mark) → text ≡ first_text opened (take (length ms - at) (drop at ms))
     → plays_from at (strains_from opened (drop at ms)) ≡ strain_play at (strain_of text) ++ plays_from (at + length text) (strains_from (opens_after false text) (drop (at + length text) ms))
 rest_more at opened ms text is =
@@ -29,7 +29,7 @@ strain_short at opened ms text most is small =
     ap length (rest_more at opened ms text is) ∙ length-append (strain_play at (strain_of text)) rest in
     omega arith
 
--- what is left is no longer than it was
+-- the marks after a strain are no longer than before
 pub rest_short : (at : ℕ) (opened behind : Bool) (ms text : List Mark) (most : ℕ) → text ≡ first_text opened (take (length ms - at) (drop at ms)) → behind ≡ opens_after false text
     → length (plays_from at (strains_from opened (drop at ms))) ≤ most → length (plays_from (at + length text) (strains_from behind (drop (at + length text) ms))) ≤ most
 rest_short at opened behind ms text most is opens small =
@@ -40,7 +40,7 @@ rest_short at opened behind ms text most is opens small =
     ap (λ o. length (plays_from (at + length text) (strains_from o (drop (at + length text) ms)))) opens in
     omega arith
 
--- one strain more is put
+-- one more strain is appended
 pub put_strain_more : (items put : List ℕ) (at : ℕ) (opened behind : Bool) (ms text : List Mark) → text ≡ first_text opened (take (length ms - at) (drop at ms)) → behind ≡ opens_after false text
     → put ≡ items ++ strain_play at (strain_of text)
     → put ++ plays_from (at + length text) (strains_from behind (drop (at + length text) ms)) ≡ items ++ plays_from at (strains_from opened (drop at ms))

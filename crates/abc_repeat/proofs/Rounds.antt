@@ -1,4 +1,4 @@
--- The passes of a strain are put one after another.
+-- The passes of a strain are appended one after another.
 use Rattle.std.proofs.Common.{◌≡◌, ℕ, suc, ◌+◌, ◌-◌, ◌*◌, ◌<◌, ◌≤◌, min, List, [], ◌∷◌, ◌++◌, length, count_by, take, drop, sym, ap, ◌∙◌, ⊎_elim, arith, append_assoc, append-nil}
 use Rattle.std.proofs.lemmas.Bool.{cases_lt}
 use Rattle.std.proofs.lemmas.Bool.Decides.{nat_tests}
@@ -14,7 +14,7 @@ use Rattle.abc_repeat.proofs.Rests.{rest_of}
 use Rattle.abc_repeat.proofs.Runs.{first_ending_at}
 use Rattle.abc_repeat.proofs.Sizes.{length-play}
 
--- a pass beyond the 32nd puts no ending
+-- a pass beyond the 32nd appends no ending
 pub none_put : (items : List ℕ) (at pass : ℕ) (strain : Strain) → 32 < pass → items ≡ items ++ ending_of at strain pass
 none_put items at pass strain h = sym (ap (λ l. items ++ l) (late_ending pass (at + length strain.common) strain.endings h) ∙ append-nil items)
 
@@ -42,21 +42,21 @@ play_is : (at : ℕ) (text : List Mark) → strain_play at (strain_of text) ≡ 
 unfolding strain_play
 play_is at text = ap (λ l. passes_to at (strain_of text) (most_passes l)) (text_back text)
 
--- where the common part plays nothing
+-- a common part that plays nothing
 silent_rounds : (at e p many top : ℕ) (strain : Strain) → places_from at strain.common ≡ [] → 32 ≤ top → p ≡ min many top → e ≡ min p 32 → passes_to at strain e ≡ passes_to at strain many
 silent_rounds at e p many top strain none wide is rounds = ⊎_elim
     (λ less. let same : e ≡ many = omega arith in ap (passes_to at strain) same)
     (λ more. let same : e ≡ 32 = omega arith in ap (passes_to at strain) same ∙ sym (passes_to-late at strain many 32 none (omega arith) more))
     (cases_lt many 32)
 
--- a strain that plays something is passed no oftener than it plays places
+-- a strain that plays something has no more passes than places
 loud_passes : (many c endings total top : ℕ) → 0 < c → total ≡ many * c + endings → total ≤ top → many ≤ top
 loud_passes many c endings total top some is small = let h : many * 1 ≤ many * c = mul-le many 1 many c (omega arith) (omega arith) in omega arith
 
 some_rounds : (n p : ℕ) → rounds_of (suc n) p ≡ p
 some_rounds n p = grind (arith, nat_tests)
 
--- after all rounds the strain is put
+-- after all passes the strain is appended
 pub rounds_end : (at e p rounds top : ℕ) (text : List Mark) (common : List ℕ) → 32 ≤ top → p ≡ min (most_passes text) top → common ≡ places_from at (strain_of text).common
     → rounds ≡ rounds_of (length common) p → e ≡ rounds → length (strain_play at (strain_of text)) ≤ top → passes_to at (strain_of text) e ≡ strain_play at (strain_of text)
 rounds_end at e p rounds top text [] wide passes is turns done short =

@@ -1,4 +1,4 @@
--- Marks in the words of the rules, and by the tests of the computed play.
+-- Marks by the rules, and by the tests of the computed play.
 use Rattle.std.proofs.Common.{◌≡◌, ℕ, ◌<◌, ltb, Bool, true, false, not, ◌&&◌, ◌⊎◌, inl, inr, ⊎_elim, List, [], ◌∷◌, ◌++◌, refl, sym, ap, ◌∙◌, arith}
 use Rattle.std.specs.Prelude.{All}
 use Rattle.std.specs.List.{AllPass}

@@ -1,4 +1,4 @@
--- The passes of a strain in the words of the rules, and as they are computed.
+-- The passes of a strain by the rules, and as they are computed.
 use Rattle.std.proofs.Common.{◌≡◌, ℕ, zero, suc, ◌+◌, ◌-◌, ◌<◌, ◌≤◌, max, leb, eqb, true, false, ◌&&◌, ◌⊎◌, inl, inr, ⊎_elim, List, [], ◌∷◌, ◌++◌, length, refl, sym, ap, ◌∙◌, subst, arith}
 use Rattle.std.specs.Prelude.{All}
 use Rattle.std.specs.List.{Contains}
@@ -84,7 +84,7 @@ asked_below ms _ (by_ending numbers i has number) =
     let here = greatest-above numbers i number in
     omega arith
 
--- so many are asked for
+-- the number of passes that the marks ask for
 has_head : (m : Mark) (ms : List Mark) → Contains (m ∷ ms) m
 has_head m ms = (0, omega arith, refl)
 
@@ -117,7 +117,7 @@ most_is_count ms = (most_asked ms, asked_below ms)
 pub count_is_most : (ms : List Mark) (n : ℕ) → IsPassCount ms n → n ≡ most_passes ms
 count_is_most ms n h = let low = asked_below ms n h.0 in let high = h.1 (most_passes ms) (most_asked ms) in omega arith
 
--- what takes its turn
+-- the played items
 pub turns_are : (at : ℕ) (ms : List Mark) → turns_from at ms ≡ places_from at ms
 turns_are at [] = refl
 turns_are at (marks.Play ∷ ms) = ap (λ l. at ∷ l) (turns_are (at + 1) ms)

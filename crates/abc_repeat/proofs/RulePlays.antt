@@ -1,4 +1,4 @@
--- The play of a section is one by the rules, and there is no other.
+-- The play of a section follows the rules, and no other play does.
 use Rattle.std.proofs.Common.{◌≡◌, ℕ, ◌+◌, ltb, Bool, true, false, Option, Some, None, List, [], ◌∷◌, ◌++◌, length, refl, sym, ap, ◌∙◌, subst, append-nil}
 use Rattle.std.specs.List.{AllPass}
 use Rattle.abc_repeat.specs.declared.mark.Mark.{Mark}
@@ -52,7 +52,7 @@ endings_placed (to_a_bar numbers body bar h closes) at =
     (until_bar at numbers body bar (all_inside_told body h) (end_told bar closes))
 endings_placed (another numbers run endings closing inner are) at = inner_placed at numbers endings closing inner (endings_placed are)
 
--- what ends the last ending is a bar
+-- a bar ends the last ending
 closing_bar : {endings : List Ending} {closing : Option Mark} → AreEndings endings closing → (bar : Mark) → closing ≡ Some bar → closes_ending bar ≡ true
 closing_bar (to_the_end numbers body h) bar is = cc
 closing_bar (to_a_bar numbers body own h closes) bar is = let same : own ≡ bar = cc in subst (λ m. closes_ending m ≡ true) same closes

@@ -1,4 +1,4 @@
--- Where the run of an ending is in a strain.
+-- The place of the run of an ending in a strain.
 use Rattle.std.proofs.Common.{◌≡◌, ℕ, suc, ◌+◌, true, false, cond, List, [], ◌∷◌, length, drop, refl, ap, ◌∙◌, arith}
 use Rattle.abc_repeat.specs.declared.mark.Mark.{Mark}
 use Rattle.abc_repeat.specs.declared.mark.Mark.TheVariants as marks
@@ -6,7 +6,7 @@ use Rattle.abc_repeat.specs.Mark.{has_number}
 use Rattle.abc_repeat.specs.Strain.{strain_of}
 use Rattle.abc_repeat.specs.Play.{places_from, first_ending, run_start}
 
--- the places of the run that begins after so many marks
+-- the places of the run that begins after `n` marks
 abbrev run_at : ℕ → ℕ → List Mark → List ℕ
 run_at at start ms = places_from (at + start) (strain_of (drop start ms)).common
 

@@ -1,4 +1,4 @@
--- How many places are played.
+-- The number of places that are played.
 use Rattle.std.proofs.Common.{◌≡◌, ℕ, suc, ◌+◌, ◌-◌, ◌*◌, ◌≤◌, min, Bool, false, List, length, count_by, take, drop, sym, ap, ◌∙◌, ⊎_elim, arith, zero-add, length-append}
 use Rattle.std.proofs.lemmas.Bool.{cases_lt}
 use Rattle.abc_repeat.specs.declared.mark.Mark.{Mark}
@@ -12,7 +12,7 @@ use Rattle.abc_repeat.proofs.Places.{length-places}
 use Rattle.abc_repeat.proofs.Rests.{rest_of, rest_more}
 use Rattle.abc_repeat.proofs.Runs.{first_ending_at}
 
--- one pass more
+-- one more pass
 pub endings_more : (text run : List Mark) (e start : ℕ) → start ≡ run_start (e + 1) text → run ≡ (strain_of (take (length text - start) (drop start text))).common
     → endings_size (strain_of text) (e + 1) ≡ endings_size (strain_of text) e + count_by is_play run
 unfolding endings_size
@@ -62,7 +62,7 @@ length-play_at at text = length-play at text ∙ sym (length-play 0 text)
 sums_join : (size one next a b z top : ℕ) → one ≡ min a top → next ≡ min (size + one) top → z ≡ a + b → min (next + b) top ≡ min (size + z) top
 sums_join size one next a b z top e f g = omega arith
 
--- one strain more
+-- one more strain
 pub total_more : (at size one next top : ℕ) (opened behind : Bool) (ms text : List Mark) → text ≡ first_text opened (take (length ms - at) (drop at ms)) → behind ≡ opens_after false text
     → one ≡ min (length (strain_play 0 (strain_of text))) top → next ≡ min (size + one) top
     → min (next + length (plays_from (at + length text) (strains_from behind (drop (at + length text) ms)))) top ≡ min (size + length (plays_from at (strains_from opened (drop at ms)))) top

@@ -12,7 +12,7 @@ use Rattle.abc_repeat.specs.Runs.{Run, items_at, items_played, marks_in}
 use Rattle.abc_repeat.proofs.Cuts.{text_back}
 use Rattle.abc_repeat.proofs.Passes.{most_passes-some}
 
--- a strain, told by what is played of it: how often it is passed, its common part, and the endings with their numbers
+-- a strain by its play: the number of passes, the common part, and the endings with their numbers
 pub record Told (A : Type 0) : Type 0 where
   pub passes : ℕ
   pub common : List A
@@ -43,12 +43,12 @@ tolds opened inside (run ∷ rest) =
     (told_with run.items run.mark nothing ∷ tolds (opens_next run.mark) false rest)
     (told_first run (tolds opened (inside || is_ending run.mark) rest))
 
--- what a pass plays of endings
+-- the play of a pass through endings
 abbrev pub told_ending : {A : Type 0} → ℕ → List (ℕ × List A) → List A
 told_ending pass [] = []
 told_ending pass (ending ∷ endings) = cond (has_number ending.0 pass) ending.1 (told_ending pass endings)
 
--- what a pass plays of a strain
+-- the play of a pass through a strain
 abbrev pub told_pass : {A : Type 0} → Told A → ℕ → List A
 told_pass told pass = told.common ++ told_ending pass told.endings
 
@@ -56,18 +56,18 @@ told_pass told pass = told.common ++ told_ending pass told.endings
 abbrev pub told_play : {A : Type 0} → Told A → List A
 told_play told = flat_map (told_pass told) (range_with_len 1 told.passes)
 
--- what is at the places from one on is what runs say
+-- the marks from a place on are those of runs
 abbrev StandAt : {A : Type 0} → (ℕ → List A) → ℕ → List (Run A) → Type 0
 StandAt found at [] = ⊤
 StandAt found at (run ∷ rest) = (found at ≡ run.items) × StandAt found (at + 1) rest
 
--- a text at a place is told
+-- a text at a place by its play
 record IsTold {A : Type 0} (found : ℕ → List A) (at : ℕ) (text : List Mark) (told : Told A) : Type 0 where
   passes : told.passes ≡ most_passes text
   common : flat_map found (places_from at (strain_of text).common) ≡ told.common
   ending : (pass : ℕ) → flat_map found (ending_of at (strain_of text) pass) ≡ told_ending pass told.endings
 
--- texts from a place on are told
+-- texts from a place on by their play
 data AreTold {A : Type 0} (found : ℕ → List A) : ℕ → List (List Mark) → List (Told A) → Type 0 where
   none : (at : ℕ) → AreTold found at [] []
   one : (at : ℕ) (text : List Mark) (texts : List (List Mark)) (told : Told A) (others : List (Told A))
@@ -76,7 +76,7 @@ data AreTold {A : Type 0} (found : ℕ → List A) : ℕ → List (List Mark) �
 nothing_told : {A : Type 0} (found : ℕ → List A) (at : ℕ) → IsTold found at [] nothing
 nothing_told found at = record { passes = refl; common = refl; ending = λ pass. refl }
 
--- one mark more
+-- one more mark
 more_told : {A : Type 0} (found : ℕ → List A) (at : ℕ) (items : List A) (mark : Mark) (text : List Mark) (told : Told A)
     → found at ≡ items → IsTold found (at + 1) text told → IsTold found at (mark ∷ text) (told_with items mark told)
 more_told found at items marks.Play text told here rest =
@@ -156,7 +156,7 @@ plays_told found _ _ _ (one at text texts told others is rest) =
     ∙ (λ i. strain_told found at text told is i ++ flat_map found (plays_from (at + length (text_back text i)) (map strain_of texts)))
     ∙ ap (λ l. told_play told ++ l) (plays_told found (at + length text) texts others rest)
 
--- what stands one place further on
+-- the marks from the next place on
 moved : {A : Type 0} (found other : ℕ → List A) (at : ℕ) (runs : List (Run A))
     → ((k : ℕ) → other (suc k) ≡ found k) → StandAt found at runs → StandAt other (at + 1) runs
 moved found other at [] same h = tt
@@ -168,7 +168,7 @@ stand : {A : Type 0} (runs : List (Run A)) → StandAt (items_at runs) 0 runs
 stand [] = tt
 stand (run ∷ rest) = (refl, moved (items_at rest) (items_at (run ∷ rest)) 0 rest (λ k. refl) (stand rest))
 
--- what is played of runs is that of their strains
+-- the play of runs is that of their strains
 pub played_told : {A : Type 0} (runs : List (Run A)) → items_played runs ≡ flat_map told_play (tolds false false runs)
 unfolding play_of
 played_told runs =

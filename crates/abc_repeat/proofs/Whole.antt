@@ -9,7 +9,7 @@ use Rattle.abc_repeat.specs.Strain.{ends_strain, leads_to_ending}
 use Rattle.abc_repeat.specs.Runs.{Run, turn, marks_in, items_played, AreJoined, PassesSingleBars}
 use Rattle.abc_repeat.proofs.Told.{Told, nothing, told_with, told_first, tolds, told_play, played_told}
 
--- runs that make the same strains whatever is before them
+-- runs that make the same strains after any runs
 record AreAlike {A : Type 0} (runs others : List (Run A)) : Type 0 where
   leads : leads_to_ending (marks_in runs) ≡ leads_to_ending (marks_in others)
   strains : (opened inside : Bool) → tolds opened inside runs ≡ tolds opened inside others

@@ -20,7 +20,7 @@ abbrev pub is_repeat : Mark → Bool
 is_repeat (marks.Bar closes opens double) = nat_lt 0 closes || nat_lt 0 opens
 is_repeat _ = false
 
--- A bar line whose middle is not a single thin line. ABC 2.1 section 4.8; what double means is not in ABC 2.1.
+-- A bar line whose middle is not a single thin line. ABC 2.1 section 4.8; the meaning of double is not in ABC 2.1.
 abbrev pub is_double : Mark → Bool
 is_double (marks.Bar closes opens double) = double
 is_double _ = false
@@ -43,12 +43,12 @@ closes_common opened m = is_repeat m || (is_double m && not opened)
 abbrev pub closes_ending : Mark → Bool
 closes_ending m = is_repeat m || is_double m
 
--- Whether an ending with these numbers is for a pass: bit i - 1 is pass i. ABC 2.1 section 4.10; that
--- there are 32 is not in ABC 2.1.
+-- Whether an ending with these numbers is for a pass: bit i - 1 is pass i. ABC 2.1 section 4.10; the bound of 32 is not
+-- in ABC 2.1.
 unfoldable pub has_number : ℕ → ℕ → Bool
 has_number numbers pass = nat_le pass LAST_PASS && (bit_at numbers (pass - 1) == 1)
 
--- The greatest of the numbers up to one that an ending has, 0 if it has none.
+-- The greatest number of an ending up to a bound, 0 if it has none.
 unfoldable pub greatest_number_to : ℕ → ℕ → ℕ
 greatest_number_to numbers zero = 0
 greatest_number_to numbers (suc n) = if has_number numbers (suc n) then suc n else greatest_number_to numbers n
@@ -57,7 +57,7 @@ greatest_number_to numbers (suc n) = if has_number numbers (suc n) then suc n el
 unfoldable pub greatest_number : ℕ → ℕ
 greatest_number numbers = greatest_number_to numbers LAST_PASS
 
--- How many passes a mark asks for: a repeat bar one more than it has colons before it, an ending its
+-- The number of passes that a mark asks for: of a repeat bar one more than the colons before it, of an ending its
 -- greatest number. Not in ABC 2.1.
 abbrev pub passes_of : Mark → ℕ
 passes_of marks.Play = 1

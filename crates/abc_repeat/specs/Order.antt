@@ -5,9 +5,9 @@ use Rattle.std.specs.Option.{is_none}
 pub use Rattle.abc_fields.specs.Letters.{letters_of}
 use Rattle.abc_repeat.specs.Section.{first_section}
 
--- The sections that are played of those with these letters, counted from 1: first the opening section,
--- which is 0; then for each letter of the order the first section of that letter, and nothing if it
--- has none. Without an order all of them, in the order of the text. Not in ABC 2.1.
+-- The sections that are played, among sections with these letters, counted from 1. First comes the opening section, 0.
+-- Then comes the first section of each letter of the order, if it has one. Without an order all sections are played in
+-- the order of the text. Not in ABC 2.1.
 unfoldable pub sections_of : Option (List ℕ) → List ℕ → List ℕ
 sections_of None letters = range_with_len 0 (1 + length letters)
 sections_of (Some order) letters = 0 ∷ filter_map (first_section letters) (letters_of order)

@@ -1,4 +1,4 @@
--- The sections that the front of an order plays, as they are written.
+-- The sections that the front of an order plays, in a list.
 use Rattle.std.specs.Prelude.{◌≡◌, ℕ, List, [], ◌∷◌, ◌++◌, length, filter_map, Option}
 use Rattle.abc_fields.specs.Letters.{Played}
 use Rattle.abc_repeat.specs.declared.order_play.OrderPlay.{OrderPlay}
@@ -12,13 +12,13 @@ letters_around (before ∷ around) = letters_around around ++ before
 abbrev pub sections_with : (ℕ → Option ℕ) → List ℕ → List ℕ
 sections_with section letters = 0 ∷ filter_map section letters
 
--- Where each open group begins in what is written, the innermost last.
+-- The beginning of each open group in the list, the innermost last.
 abbrev pub group_begins : (ℕ → Option ℕ) → List (List ℕ) → List ℕ
 group_begins section [] = []
 group_begins section (before ∷ around) = group_begins section around
     ++ length (sections_with section (letters_around (before ∷ around))) ∷ []
 
--- What the front of an order plays is written.
+-- The list holds the play of the front of an order.
 pub record IsPlayOf (section : ℕ → Option ℕ) (played : Played) (play : OrderPlay) : Type 0 where
   pub sections : play.sections.items ≡ sections_with section (letters_around played.around ++ played.before ++ played.item)
   pub groups : play.groups.items ≡ group_begins section played.around

@@ -13,7 +13,7 @@ abbrev pub places_from : ℕ → List Mark → List ℕ
 places_from at [] = []
 places_from at (m ∷ ms) = if is_play m then at ∷ places_from (at + 1) ms else places_from (at + 1) ms
 
--- What a pass plays of endings that begin at this place: the first that is for it. ABC 2.1 section 4.9.
+-- The play of a pass through endings that begin at this place: the first ending for the pass. ABC 2.1 section 4.9.
 abbrev pub first_ending : ℕ → ℕ → List Ending → List ℕ
 first_ending pass at [] = []
 first_ending pass at (ending ∷ endings) =
@@ -24,7 +24,7 @@ first_ending pass at (ending ∷ endings) =
 abbrev pub ending_of : ℕ → Strain → ℕ → List ℕ
 ending_of at strain pass = first_ending pass (at + length strain.common) strain.endings
 
--- What a pass plays of a strain that begins at this place: its common part, then the ending.
+-- The play of a pass through a strain that begins at this place: its common part, then the ending.
 abbrev pub pass_of : ℕ → Strain → ℕ → List ℕ
 pass_of at strain pass = places_from at strain.common ++ ending_of at strain pass
 
@@ -33,19 +33,19 @@ abbrev pub run_start : ℕ → List Mark → ℕ
 run_start pass [] = 0
 run_start pass (m ∷ ms) = if is_for pass m then 1 else 1 + run_start pass ms
 
--- The number of passes through marks: the most that one of them asks for, one if none does. Not in ABC 2.1.
+-- The number of passes through marks: the greatest number that a mark asks for, or one. Not in ABC 2.1.
 abbrev pub most_passes : List Mark → ℕ
 most_passes [] = 1
 most_passes (m ∷ ms) = max (passes_of m) (most_passes ms)
 
--- How many places the endings of a strain play in this many passes.
+-- The number of places that the endings of a strain play in this number of passes.
 unfoldable pub endings_size : Strain → ℕ → ℕ
 endings_size strain zero = 0
 endings_size strain (suc passes) =
     endings_size strain passes + length (first_ending (suc passes) (length strain.common) strain.endings)
 
--- How many of its passes a strain is played through, if its common part plays `common` places: if that
--- is none, passes beyond the 32nd play nothing.
+-- The number of passes in which a strain is played, if its common part plays `common` places: without any, passes
+-- beyond the 32nd play nothing.
 abbrev pub rounds_of : ℕ → ℕ → ℕ
 rounds_of common passes = if common == 0 then min passes LAST_PASS else passes
 

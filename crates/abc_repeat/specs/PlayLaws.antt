@@ -1,6 +1,5 @@
--- The play of a section in the words of the rules, apart from the definitions by which it is computed. ABC 2.1 sections 4.8 to
--- 4.10.
--- ABC 2.1 does not say what a double bar is, where strains and endings begin and end, and how often a strain is passed.
+-- The play of a section by the rules, without the definitions that compute it. ABC 2.1 sections 4.8 to 4.10. ABC 2.1
+-- does not define double bars, the places of strains and endings, and the number of passes.
 use Rattle.std.specs.Prelude.{◌≡◌, ℕ, ◌+◌, ◌-◌, ◌/◌, ◌%◌, ◌^◌, ◌<◌, ◌≤◌, ◌⊎◌, Bool, true, ⊤, List, [], ◌∷◌, ◌++◌, length, All}
 use Rattle.std.specs.Prelude.{Option, Some, None}
 use Rattle.std.specs.List.{Contains}
@@ -40,7 +39,7 @@ IsCommonBar before m = IsRepeatBar m ⊎ (IsDoubleBar m × (before ≡ 0))
 abbrev pub EndsCommon : ℕ → Mark → Type 0
 EndsCommon before m = IsSign m ⊎ IsCommonBar before m
 
--- A mark that neither takes its turn nor is a sign, a repeat bar or a double bar.
+-- A mark that is no played item, sign, repeat bar or double bar.
 abbrev pub IsBetween : Mark → Type 0
 IsBetween m = (¬ (m ≡ marks.Play)) × (¬ EndsEnding m)
 
@@ -59,11 +58,9 @@ pub record PlacedEnding : Type 0 where
 abbrev pub placed_ending : ℕ → ℕ → List Mark → PlacedEnding
 placed_ending at numbers run = record { numbers = numbers; from = at + 1; run = run }
 
--- The endings of a strain, of which the first sign is at this place; their marks; and the bar that ends the last one, if the
--- section
--- does not. After an ending another one of the strain comes if its sign ends it, or if a bar with no colons after it does and the
--- sign
--- is the next mark but for those between. Not in ABC 2.1.
+-- The endings of a strain with the first sign at this place; their marks; and the bar that ends the last one, if the
+-- section does not. An ending has a next one in the strain if the sign of the next ends it. So does a bar without
+-- colons after it, if the sign is the next mark apart from single bars. Not in ABC 2.1.
 pub data AreEndingsFrom : ℕ → List PlacedEnding → List Mark → Option Mark → Type 0 where
   until_end : (at numbers : ℕ) (body : List Mark) → All (λ m. ¬ EndsEnding m) body
       → AreEndingsFrom at (placed_ending at numbers body ∷ []) (marks.Ending numbers ∷ body) None
@@ -80,29 +77,29 @@ pub data AreEndingsFrom : ℕ → List PlacedEnding → List Mark → Option Mar
       → AreEndingsFrom at (placed_ending at numbers (body ++ marks.Bar closes 0 double ∷ gap) ∷ endings)
       (marks.Ending numbers ∷ ((body ++ marks.Bar closes 0 double ∷ gap) ++ text)) closing
 
--- An ending has a number, of which bit 0 is the first and which go up to 32. ABC 2.1 section 4.10; the bound is not in ABC 2.1.
+-- An ending has a number from 1 to 32: bit 0 is number 1. ABC 2.1 section 4.10; the bound is not in ABC 2.1.
 abbrev pub HasNumber : ℕ → ℕ → Type 0
 HasNumber numbers i = (0 < i) × (i ≤ 32) × ((numbers / 2 ^ (i - 1)) % 2 ≡ 1)
 
--- So many passes are asked for by the marks of a strain: one, one more than a bar has colons before it, or as a number of an ending
--- says. Not in ABC 2.1.
+-- The marks of a strain ask for this number of passes: one, one more than the colons before a bar, or the number of an
+-- ending. Not in ABC 2.1.
 pub data AsksFor (text : List Mark) : ℕ → Type 0 where
   once : AsksFor text 1
   by_bar : (closes opens : ℕ) (double : Bool) → Contains text (marks.Bar closes opens double) → AsksFor text (1 + closes)
   by_ending : (numbers i : ℕ) → Contains text (marks.Ending numbers) → HasNumber numbers i → AsksFor text i
 
--- The number of passes of a strain: the greatest that is asked for. Not in ABC 2.1.
+-- The number of passes of a strain: the greatest number that its marks ask for. Not in ABC 2.1.
 abbrev pub IsPassCount : List Mark → ℕ → Type 0
 IsPassCount text passes = AsksFor text passes × ((i : ℕ) → AsksFor text i → i ≤ passes)
 
--- The places of what takes its turn of some marks, of which the first is at this place.
+-- The places of the played items of some marks, the first of which is at this place.
 abbrev pub turns_from : ℕ → List Mark → List ℕ
 turns_from at [] = []
 turns_from at (marks.Play ∷ ms) = at ∷ turns_from (at + 1) ms
 turns_from at (marks.Bar closes opens double ∷ ms) = turns_from (at + 1) ms
 turns_from at (marks.Ending numbers ∷ ms) = turns_from (at + 1) ms
 
--- A pass plays of endings the first that has its number, if any has it. ABC 2.1 section 4.9.
+-- A pass plays the first ending with its number, if there is one. ABC 2.1 section 4.9.
 pub data PlaysEnding (pass : ℕ) : List PlacedEnding → List ℕ → Type 0 where
   none : PlaysEnding pass [] []
   first : (ending : PlacedEnding) (endings : List PlacedEnding) → HasNumber ending.numbers pass
@@ -123,9 +120,9 @@ pub record IsStrainPlay (at : ℕ) (text common : List Mark) (endings : List Pla
   pub count : IsPassCount text passes
   pub played : PlaysPasses (turns_from at common) endings passes play
 
--- The play of marks from the beginning of a strain to the section's end. The bar before them has `before` colons after it; the
--- first of them is at place `at`. The next strain begins after a bar that ends the common part; or after a bar that ends an
--- ending, if it has colons after it or no sign comes. Not in ABC 2.1.
+-- The play of marks from the beginning of a strain to the section's end. The bar before them has `before` colons after
+-- it; the first of them is at place `at`. The next strain begins after a bar that ends the common part. It also begins
+-- after a bar that ends an ending, if the bar has colons after it or no sign comes. Not in ABC 2.1.
 pub data IsPlayFrom : ℕ → ℕ → List Mark → List ℕ → Type 0 where
   ends_in_common : (before at : ℕ) (common : List Mark) (play : List ℕ) → All (λ m. ¬ EndsCommon before m) common
       → IsStrainPlay at common common [] play
@@ -152,10 +149,10 @@ pub data IsPlayFrom : ℕ → ℕ → List Mark → List ℕ → Type 0 where
 abbrev pub IsPlayOfSection : List Mark → List ℕ → Type 0
 IsPlayOfSection ms play = IsPlayFrom 0 0 ms play
 
--- The play of each section is one by the rules.
+-- The play of each section follows the rules.
 abbrev pub IsByTheRules : Type 0
 IsByTheRules = (ms : List Mark) → IsPlayOfSection ms (play_of ms)
 
--- By the rules each section has no other play.
+-- No other play of a section follows the rules.
 abbrev pub HasNoOtherPlay : Type 0
 HasNoOtherPlay = (ms : List Mark) (play : List ℕ) → IsPlayOfSection ms play → play ≡ play_of ms

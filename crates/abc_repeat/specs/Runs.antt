@@ -6,7 +6,7 @@ use Rattle.abc_repeat.specs.declared.mark.Mark.TheVariants as marks
 use Rattle.abc_repeat.specs.Mark.{is_single}
 use Rattle.abc_repeat.specs.Play.{play_of}
 
--- A mark, and the items that are played at its turn.
+-- A mark, and the items played at its turn.
 pub record Run (A : Type 0) : Type 0 where
   pub mark : Mark
   pub items : List A
@@ -23,7 +23,7 @@ marks_in runs = map (λ run. run.mark) runs
 abbrev pub items_at : {A : Type 0} → List (Run A) → ℕ → List A
 items_at runs at = slice_index_or (map (λ run. run.items) runs) at []
 
--- The items that are played of runs, in order of play: each run whole at its turn.
+-- The items played of runs, in order of play: each run whole at its turn.
 abbrev pub items_played : {A : Type 0} → List (Run A) → List A
 items_played runs = flat_map (items_at runs) (play_of (marks_in runs))
 

@@ -1,5 +1,5 @@
--- Strains: what repeat bars, double bars and endings make of the marks of a voice in a section. ABC 2.1
--- sections 4.8 and 4.9; where they begin and end is not in ABC 2.1.
+-- Strains: repeat bars, double bars and endings divide the marks of a voice in a section. ABC 2.1 sections 4.8 and 4.9;
+-- the places of their beginnings and ends are not in ABC 2.1.
 use Rattle.std.specs.Prelude.{◌≡◌, ℕ, Bool, true, false, not, ◌&&◌, ◌||◌, if◌then◌else◌, List, [], ◌∷◌, ◌++◌, map, Option, Some}
 use Rattle.std.specs.Prelude.{None}
 use Rattle.std.specs.List.{AllPass}
@@ -30,11 +30,11 @@ endings_text (ending ∷ endings) = marks.Ending ending.numbers ∷ (ending.run 
 abbrev pub text_of : Strain → List Mark
 text_of strain = strain.common ++ endings_text strain.endings
 
--- What may be in a common part before its end. Not in ABC 2.1.
+-- A mark that may be in a common part before its end. Not in ABC 2.1.
 abbrev pub in_common : Bool → Mark → Bool
 in_common opened m = not (is_ending m) && not (closes_common opened m)
 
--- What may be in an ending before its end. Not in ABC 2.1.
+-- A mark that may be in an ending before its end. Not in ABC 2.1.
 abbrev pub in_ending : Mark → Bool
 in_ending m = is_play m || is_single m
 
@@ -47,8 +47,8 @@ leads_to_ending (m ∷ rest) = is_ending m || (is_single m && leads_to_ending re
 abbrev pub goes_on : Mark → List Mark → Bool
 goes_on bar rest = not (opens_next bar) && leads_to_ending rest
 
--- The run of an ending with another after it: up to that one's sign, or up to a bar that opens nothing
--- and single bars after it. Not in ABC 2.1.
+-- The run of an ending before another one: up to the sign of that one, or up to a bar that opens nothing and single
+-- bars after it. Not in ABC 2.1.
 pub data IsInnerRun : List Mark → Type 0 where
   straight : (body : List Mark) → AllPass in_ending body → IsInnerRun body
   barred : (body gap : List Mark) (bar : Mark) → AllPass in_ending body → closes_ending bar ≡ true → opens_next bar ≡ false
@@ -65,8 +65,8 @@ pub data AreEndings : List Ending → Option Mark → Type 0 where
       → AreEndings endings closing
       → AreEndings (record { numbers = numbers; run = run } ∷ endings) closing
 
--- The marks are these strains one after another, of which the first is opened or not. The last one runs
--- to the section's end; each other ends with a bar, whose colons say whether the next is opened.
+-- The marks are these strains, one after another; the first is opened or not. The last one runs to the section's end.
+-- Each other one ends with a bar, whose colons open the next strain or not.
 pub data IsStrains : Bool → List Mark → List Strain → Type 0 where
   last_common : (opened : Bool) (common : List Mark) → AllPass (in_common opened) common
       → IsStrains opened common (without_endings common ∷ [])
@@ -106,12 +106,12 @@ front_of (text ∷ texts) = text
 unfoldable pub first_text : Bool → List Mark → List Mark
 first_text opened ms = front_of (texts_of opened false ms)
 
--- Whether the strain after some marks is opened: their last one says so.
+-- Whether the last of some marks opens the strain after them.
 abbrev pub opens_after : Bool → List Mark → Bool
 opens_after opened [] = opened
 opens_after opened (m ∷ ms) = opens_after (opens_next m) ms
 
--- A mark before a strain: an ending's sign takes what was common after it for its run.
+-- A mark before a strain: the common part after an ending's sign becomes the run of the ending.
 abbrev pub with_mark : Mark → Strain → Strain
 with_mark marks.Play strain = record strain { common = marks.Play ∷ strain.common }
 with_mark (marks.Bar closes opens double) strain = record strain { common = marks.Bar closes opens double ∷ strain.common }

@@ -10,16 +10,16 @@ pub fn one_reading()
     ensures once { HasOneReading }
 {}
 
-/// Each strain is played in as many passes as its marks ask for at most. A pass plays the common part and then the first
-/// ending with its number. The rules say which marks belong to a strain and to an ending (ABC 2.1 sections 4.8 to 4.10;
-/// what they leave open is not in ABC 2.1).
+/// The number of passes of a strain is the greatest that its marks ask for. A pass plays the common part and then the
+/// first ending with its number. The rules assign marks to strains and endings (ABC 2.1 sections 4.8 to 4.10; the rest
+/// is not in ABC 2.1).
 pub fn plays_by_the_rules()
     ensures exists { IsByTheRules }
     ensures once { HasNoOtherPlay }
 {}
 
-/// The items between two marks are played as a whole wherever they are played. A bar line that neither repeats nor is
-/// double changes nothing.
+/// The items between two marks are always played as a whole. A bar line that neither repeats nor is double changes
+/// nothing.
 pub fn runs_are_whole<A>()
     ensures joined { AreJoined A }
     ensures single { PassesSingleBars A }

@@ -11,17 +11,17 @@ use abc_text::LAST_PASS;
 pub enum Mark {
     /// A played item: a note, a chord, a rest, a bar rest, a field or a program.
     Play,
-    /// A bar line: its colons before and after it, and whether its middle is other than a single thin line.
+    /// A bar line: the colons before and after it, and whether its middle is not a single thin line.
     Bar {
         closes: usize,
         opens: usize,
         double: bool,
     },
-    /// The beginning of an ending, as `[1` or `[2,4`: bit `i - 1` is set if it is for pass `i`, of 32.
+    /// The beginning of an ending, as `[1` or `[2,4`: bit `i - 1` is set if the ending is for pass `i`, up to 32.
     Ending(u32),
 }
 
-/// Whether an ending with these numbers is for a pass, counted from 1.
+/// Returns whether an ending with these numbers is for a pass, counted from 1.
 #[tactic(auto, unfolding(crate::specs::Mark::has_number))]
 fn has_number(numbers: u32, pass: u64) -> bool
     requires { 0 < pass }
@@ -38,21 +38,21 @@ fn greatest_number(numbers: u32) -> u32
 }
 
 impl Mark {
-    /// Whether it is a played item.
+    /// Returns whether it is a played item.
     pub(crate) fn is_play(self) -> bool
         ensures { result ≡ is_play self }
     {
         matches!(self, Mark::Play)
     }
 
-    /// Whether it begins an ending.
+    /// Returns whether it begins an ending.
     pub fn is_ending(self) -> bool
         ensures { result ≡ is_ending self }
     {
         matches!(self, Mark::Ending(_))
     }
 
-    /// Whether it is a bar line that neither repeats nor is double.
+    /// Returns whether it is a bar line that neither repeats nor is double.
     pub(crate) fn is_single(self) -> bool
         ensures { result ≡ is_single self }
     {
@@ -66,7 +66,7 @@ impl Mark {
         }
     }
 
-    /// Whether it is a repeat bar that opens the strain after it.
+    /// Returns whether it is a repeat bar that opens the strain after it.
     pub fn opens_next(self) -> bool
         ensures { result ≡ opens_next self }
     {
@@ -76,7 +76,7 @@ impl Mark {
         }
     }
 
-    /// Whether it ends the common part of a strain, opened or not.
+    /// Returns whether it ends the common part of a strain, opened or not.
     pub(crate) fn closes_common(self, opened: bool) -> bool
         ensures { result ≡ closes_common opened self }
     {
@@ -90,7 +90,7 @@ impl Mark {
         }
     }
 
-    /// Whether it is a bar line that ends an ending.
+    /// Returns whether it is a bar line that ends an ending.
     pub fn closes_ending(self) -> bool
         ensures { result ≡ closes_ending self }
     {
@@ -108,7 +108,7 @@ impl Mark {
         }
     }
 
-    /// Whether it begins an ending that is for a pass, counted from 1.
+    /// Returns whether it begins an ending that is for a pass, counted from 1.
     pub(crate) fn is_for(self, pass: u64) -> bool
         requires { 0 < pass }
         ensures { result ≡ is_for pass self }

@@ -22,13 +22,13 @@ const _: () = prove!(MOST_SECTIONS == 1 << 12);
 /// The sections that are played.
 #[derive(Debug, Drop)]
 pub struct Played {
-    /// In order of play: 0 is the opening section, the others are counted from 1 in the order of the text.
+    /// The sections in order of play: 0 is the opening section, the others count from 1 in the order of the text.
     pub sections: Vec<usize>,
     /// Whether the order has a letter without a section.
     pub unknown: bool,
 }
 
-/// Whether an order has a letter without a section.
+/// Returns whether an order has a letter without a section.
 fn has_unknown(order: &[u8], sections: &FirstSections) -> bool
     ensures { result ≡ list_any (λ b. is_ascii_uppercase b && is_none (section_of sections.now b)) order.now }
 {

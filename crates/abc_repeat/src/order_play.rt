@@ -17,7 +17,7 @@ use crate::section::FirstSections;
 use arrayvec::ArrayVec;
 use std::alloc::{AllocError, Global};
 
-/// Repeats the sections from `begin` on, so that they are there this many times. No loop runs if there are none.
+/// Repeats the sections from `begin` on, so that there are `times` copies of them. Without sections it runs no loop.
 fn put_copies(sections: &mut Vec<usize>, begin: usize, times: u32) -> Result<(), AllocError>
     requires inside { begin ≤ vec_len sections.old }
     requires some { 0 < times }
@@ -36,7 +36,7 @@ fn put_copies(sections: &mut Vec<usize>, begin: usize, times: u32) -> Result<(),
 /// The sections that the front of an order plays.
 #[derive(Drop)]
 struct OrderPlay {
-    /// The sections that are played so far, with the last item once.
+    /// The sections played so far, with the last item once.
     sections: Vec<usize>,
     /// The beginning of each open group, the innermost last.
     groups: ArrayVec<usize, MOST_GROUPS>,
@@ -62,7 +62,7 @@ impl OrderPlay {
         })
     }
 
-    /// Plays the last item as often as its count says.
+    /// Plays the last item `count` times, or once without a count.
     fn end_item(&mut self) -> Result<(), AllocError>
         requires inside { self.old.begin ≤ vec_len self.old.sections }
         requires counted { 0 < count_or_once self.old.count }
@@ -77,7 +77,7 @@ impl OrderPlay {
         Ok(())
     }
 
-    /// Reads one byte more of an order.
+    /// Reads one more byte of an order.
     fn read(&mut self, byte: u8, sections: &FirstSections) -> Result<(), AllocError>
         requires inside { self.old.begin ≤ vec_len self.old.sections }
         requires room { byte ≡ open_parenthesis → array_vec_len self.old.groups < MOST_GROUPS }

@@ -16,11 +16,11 @@ use arrayvec::ArrayVec;
 /// The number of sections that the front of an order plays, at most 2^64 - 1.
 #[derive(Drop)]
 struct OrderSize {
-    /// Before each open group, inside the one around it; the innermost last.
+    /// The sections before each open group, in the group around it; the innermost last.
     around: ArrayVec<u64, MOST_GROUPS>,
-    /// In the innermost group, before its last item.
+    /// The sections of the innermost group before its last item.
     before: u64,
-    /// That item, played once.
+    /// The sections of that item, played once.
     item: u64,
     /// Its count so far.
     count: Option<u32>,
@@ -49,7 +49,7 @@ impl OrderSize {
             .saturating_add(self.item.saturating_mul(times as u64))
     }
 
-    /// Reads one byte more of an order.
+    /// Reads one more byte of an order.
     fn read(&mut self, byte: u8, sections: &FirstSections)
         requires room { byte ≡ open_parenthesis → array_vec_len self.old.around < MOST_GROUPS }
         requires short { is_ascii_digit byte ≡ true → count_on self.old.count byte < 2 ^ 32 }

@@ -30,7 +30,7 @@ fn put_places(play: &mut Vec<usize>, marks: &[Mark], from: usize) -> Result<(), 
     Ok(())
 }
 
-/// Appends what a pass plays of the endings of a strain that begins at `from`.
+/// Appends the places that a pass plays of the endings of a strain that begins at `from`.
 fn put_ending(
     play: &mut Vec<usize>,
     text: &[Mark],
@@ -48,7 +48,7 @@ fn put_ending(
     put_places(play, up_to_ending(&text[start..]), from + start)
 }
 
-/// Returns how many of its passes a strain is played through. Passes that play nothing are left out.
+/// Returns the number of passes in which a strain is played, without the passes that play nothing.
 fn rounds(common: &[usize], passes: u64) -> u64
     ensures { result ≡ rounds_of (length common.now) passes }
 {
@@ -59,7 +59,7 @@ fn rounds(common: &[usize], passes: u64) -> u64
     }
 }
 
-/// Appends the play of a strain that begins at `from`. Passes that play nothing are left out. The search for an ending
+/// Appends the play of a strain that begins at `from`, without the passes that play nothing. The search for an ending
 /// begins at the first ending.
 fn put_strain(
     alloc: Global,
@@ -99,8 +99,8 @@ fn put_play(alloc: Global, play: &mut Vec<usize>, marks: &[Mark]) -> Result<(), 
     Ok(())
 }
 
-/// Returns the places of the played items, in order of play (ABC 2.1 sections 4.8 to 4.10), or `TooLong` if there are more
-/// than `room` or `MOST_PLACES`. The caller puts fields that are played with an ending after its sign.
+/// Returns the places of the played items, in order of play (ABC 2.1 sections 4.8 to 4.10), or `TooLong` if there are
+/// more than `room` or `MOST_PLACES`. Fields that are played with an ending have to come after its sign.
 ///
 /// No contract bounds its time. The body goes through the marks and through the places that are played.
 #[inline(never)]

@@ -11,7 +11,7 @@ use crate::pass::{count_played, most_passes, run_start};
 use crate::strain::{first_strain, opens_after, up_to_ending};
 use abc_text::LAST_PASS;
 
-/// Returns how many places the endings of a strain play in this many passes, at most 2^64 - 1.
+/// Returns the number of places that the endings of a strain play in this number of passes, at most 2^64 - 1.
 fn endings_size(text: &[Mark], passes: u64) -> u64
     ensures { result ≡ min (endings_size (strain_of text.now) (min passes LAST_PASS)) (2 ^ 64 - 1) }
 {

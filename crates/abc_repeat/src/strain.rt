@@ -5,7 +5,7 @@ ghost use Rattle.abc_repeat.specs.Strain.{leads_to_ending, ends_strain, strain_o
 
 use crate::mark::Mark;
 
-/// Whether only single bars come before the next ending's sign.
+/// Returns whether only single bars come before the next ending's sign.
 fn leads_to_ending(marks: &[Mark]) -> bool
     ensures { result ≡ leads_to_ending marks.now }
 {
@@ -17,7 +17,7 @@ fn leads_to_ending(marks: &[Mark]) -> bool
     false
 }
 
-/// Whether a mark ends its strain, in its common part or inside an ending; `rest` comes after the mark.
+/// Returns whether a mark ends its strain, in its common part or inside an ending; `rest` comes after the mark.
 fn ends_strain(opened: bool, inside: bool, mark: Mark, rest: &[Mark]) -> bool
     ensures { result ≡ ends_strain opened inside mark rest.now }
 {
@@ -45,7 +45,7 @@ pub(crate) fn first_strain(marks: &[Mark], opened: bool) -> &[Mark]
     marks
 }
 
-/// Whether the strain after these marks is opened, which depends on the last one.
+/// Returns whether the last of these marks opens the strain after them.
 pub(crate) fn opens_after(marks: &[Mark]) -> bool
     ensures { result ≡ opens_after false marks.now }
 {

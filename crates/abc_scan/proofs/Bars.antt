@@ -69,7 +69,7 @@ middle_first (g ∷ gs) rest some =
     let size = (strokes_first g.opened g.more (closing g.closed)).1 in
     (ap colons whole ∙ first.0, omega (arith, size, length-append (strokes_text g) (middle_text gs)))
 
--- what is read after the colons that close
+-- the bar line read after the colons that close
 bar_from : (text behind : List ℕ) (closes : ℕ) → colons text ≡ closes → drop closes text ≡ behind → bar_at text ≡ bar_behind closes behind
 unfolding bar_at
 bar_from text behind closes count cut = let e : drop (colons text) text ≡ behind = ap (λ k. drop k text) count ∙ cut in λ i. bar_behind (count i) (e i)
@@ -149,7 +149,7 @@ colons_longest front rest bar is =
 pub bar_longest : (front rest : List ℕ) (bar : BarLine) → IsBar front bar → Finds (bar_at (front ++ rest)) front bar
 bar_longest front rest bar is = ⊎_elim (λ strokes. strokes_longest front rest bar strokes) (λ alone. colons_longest front rest bar alone) is
 
--- what is counted as a middle is one
+-- the middle counted is one of the grammar
 record Inner (text : List ℕ) : Type 0 where
   pub more : ℕ
   pub closed : Bool

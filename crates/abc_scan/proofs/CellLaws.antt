@@ -1,4 +1,4 @@
--- The cells of a line are its tokens, cut after each bar line and nowhere else.
+-- The cells of a line are its tokens, cut exactly after each bar line.
 use Rattle.std.proofs.Common.{◌≡◌, ℕ, Bool, cond, suc, ◌+◌, ◌-◌, ◌<◌, true, false, List, [], ◌∷◌, ◌++◌, length, take, drop, refl, sym, ap, ◌∙◌, subst, arith, append_assoc, append-nil}
 use Rattle.std.specs.Prelude.{All, ◌==◌}
 use Rattle.std.proofs.lemmas.Bool.{cond-true, cond-false, cond_both, eqb-true, false≢true}
@@ -79,7 +79,7 @@ are_cells (t ∷ ts) = cond_both (ends_cell t) ((t ∷ []) ∷ cells_of ts) (put
     (λ bar. bar_cells t ts (cells_of ts) bar (are_cells ts))
     (λ plain. put_cells t ts (cells_of ts) plain (are_cells ts))
 
--- the first cell, and those of what follows it
+-- the first cell, and those after it
 either_cell : (bar : Bool) (t : Spanned TokenKind) (ts : Tokens) → put_first t (cells_of ts) ≡ take (suc (first_size ts)) (t ∷ ts) ∷ cells_of (drop (suc (first_size ts)) (t ∷ ts))
     → cond bar ((t ∷ []) ∷ cells_of ts) (put_first t (cells_of ts)) ≡ take (cond bar 1 (suc (first_size ts))) (t ∷ ts) ∷ cells_of (drop (cond bar 1 (suc (first_size ts))) (t ∷ ts))
 either_cell true t ts more = refl

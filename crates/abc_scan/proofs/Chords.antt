@@ -25,7 +25,7 @@ use Rattle.abc_scan.proofs.Readings.{Finds, IsSpelled, one_front, mapped, finds-
 use Rattle.abc_scan.proofs.Rests.{extra_space_longest, extra_space_sound}
 use Rattle.abc_scan.proofs.Starts.{by_start, note_starts, tie_starts, blank_starts, silent_by, Known, start_known}
 
--- what is read is the longest part
+-- the part read is the longest
 part_longest : (after_bar : Bool) (front rest : List ℕ) (kind : ChordPartKind) → SpellsPart after_bar front kind → Finds (part_reading_at after_bar (front ++ rest)) front kind
 unfolding part_reading_at
 part_longest after_bar front rest (kinds.Note note) is =
@@ -47,7 +47,7 @@ part_longest after_bar front rest kinds.NoEffect is =
     is
 part_longest after_bar front rest kinds.BadByte is = absurd is
 
--- what is read is a part
+-- the part read is one of the grammar
 part_by_sound : (start : Start) (after_bar : Bool) (b : ℕ) (rest : List ℕ) → Known b start → IfSome (part_by start (b ∷ rest)) (IsSpelled (SpellsPart after_bar) (b ∷ rest))
 part_by_sound starts.Note after_bar b rest known =
     wrapped-sound IsNote (SpellsPart after_bar) kinds.Note (b ∷ rest) (note_at (b ∷ rest)) (λ front note is. is) (note_sound (b ∷ rest))

@@ -1,4 +1,4 @@
--- Each class stands exactly where its words hold.
+-- A line has a class exactly if the class's description holds.
 use Rattle.std.proofs.Common.{◌≡◌, ℕ, Bool, true, false, cond, not, ◌&&◌, Option, Some, None, List, [], ◌∷◌, ◌++◌, refl, sym, ap, ◌∙◌, subst, ⊎_elim, IsTrue}
 use Rattle.std.specs.Prelude.{IfSome, ◌↔◌, ◌==◌}
 use Rattle.std.proofs.lemmas.Bool.{eqb-true, eq-eqb, eqb-false, and_parts, and_from, or_from, cases_Bool, both_ways, not_from_true, not_from_false, false_from_ne_true, not-true, cond-true, cond-false}
@@ -41,7 +41,7 @@ comment_to : (blanks rest : List ℕ) → AreBlanks blanks → first_visible (bl
 comment_to [] rest h = refl
 comment_to (b ∷ bs) rest h = visible_later b (bs ++ 37 ∷ rest) (All-head (λ b. IsTrue (is_blank b)) b bs h) ∙ comment_to bs rest (All-tail (λ b. IsTrue (is_blank b)) b bs h)
 
--- the test of a field, as its words
+-- the test of a field, and its description
 field-sound : (text : List ℕ) → IfSome (field_letter text) (IsFieldLine text)
 field-sound [] = tt
 field-sound (a ∷ []) = tt
@@ -74,7 +74,7 @@ field_visible text letter h =
     let seen = named_visible letter h.named in
     (ap first_visible h.spelling ∙ visible_here letter (58 ∷ h.value) seen.0, seen.1)
 
--- the five classes, from what the first visible byte and the letter say, and whether a directive is read
+-- the five classes, by the first visible byte, the letter, and whether a directive is read
 pub record Told (seen letter : Option ℕ) (directive : Bool) (B P D : Type 0) (F : ℕ → Type 0) : Type 0 where
   pub blank_is : seen ≡ None → B
   pub is_blank : B → seen ≡ None

@@ -1,4 +1,4 @@
--- The first closing byte of a text, and what is known of a text without one.
+-- The first closing byte of a text, and laws of a text without one.
 use Rattle.std.proofs.Common.{◌≡◌, ℕ, ◌+◌, ◌<◌, ◌≤◌, Bool, true, false, not, Option, Some, None, is_some, List, [], ◌∷◌, ◌++◌, length, take, drop, refl, sym, ap, ◌∙◌, subst, ⊎_elim, arith, append-nil}
 use Rattle.std.proofs.Common.{length-append, length-drop, length-take, take-append-drop, ◌-◌}
 use Rattle.std.specs.Prelude.{IfSome, ◌==◌, nat_lt}
@@ -35,7 +35,7 @@ place-first closing inside rest lacks =
     let within : prefix_len (is_other closing) (inside ++ closing ∷ rest) < length (inside ++ closing ∷ rest) = omega (arith, size, length-append inside (closing ∷ rest)) in
     cond-true _ _ _ (lt-ltb _ _ within) ∙ ap Some size
 
--- what stands at the place that is found
+-- the byte at the place that is found
 pub record IsFirst (closing : ℕ) (text : List ℕ) (place : ℕ) : Type 0 where
   pub behind : List ℕ
   pub cut : text ≡ take place text ++ closing ∷ behind
@@ -69,7 +69,7 @@ closed_front closing text place first =
       (λ i. take (sym exact i + 1) (first.cut i)) ∙ take-append-add (take place text) (closing ∷ first.behind) 1,
     )
 
--- a text that has no place of it is without it
+-- a text without a place of the byte is without the byte
 pub place_lacks : (closing : ℕ) (text : List ℕ) (place : Option ℕ) → place ≡ place_of closing text → is_some place ≡ false → HasNoByte closing text
 place_lacks closing text (Some place) e none = absurd (false≢true (sym none))
 place_lacks closing text None e none =
@@ -79,7 +79,7 @@ place_lacks closing text None e none =
     (λ past. subst (HasNoByte closing) (take_all size text past) (front_passes (is_other closing) text))
     (cases_lt size (length text))
 
--- what is missing in a text is missing in every later part of it
+-- a byte that a text lacks is missing in every later part of it
 lacks-drop : (n closing : ℕ) (text : List ℕ) → HasNoByte closing text → HasNoByte closing (drop n text)
 lacks-drop n closing text lacks = All-drop (λ b. is_other closing b ≡ true) n text lacks
 
@@ -89,7 +89,7 @@ absent-drop n absent text is = record {
   no_bracket = λ e. lacks-drop n closing_bracket text (is.no_bracket e);
 }
 
--- what is missing in what is left of a text is missing after the first byte of that, and after the token that begins there
+-- a byte that the rest lacks is missing after the first byte of the rest, and after its first token
 pub absent_next : (absent : KnownAbsent) (text : List ℕ) (at : ℕ) → IsKnownAbsent absent (drop at text) → IsKnownAbsent absent (drop 1 (take (length text - at) (drop at text)))
 absent_next absent text at is = subst (λ l. IsKnownAbsent absent (drop 1 l)) (sym (take_rest text at)) (absent-drop 1 absent (drop at text) is)
 
@@ -101,13 +101,15 @@ absent_behind absent text at size front is =
     ap (λ l. drop (size - 1) (drop 1 l)) (take_rest text at) ∙ ap (drop (size - 1)) (drop-drop 1 at text) ∙ drop-drop (size - 1) (at + 1) text ∙ ap (λ n. drop n text) sum in
     subst (IsKnownAbsent absent) cut (absent-drop (size - 1) absent (drop 1 (take (length text - at) (drop at text))) is)
 
--- a front of what is left of a text is inside the text
+-- a front of the rest of a text is inside the text
 pub front_inside : (text : List ℕ) (at size : ℕ) → at ≤ length text → IsFront (take (length text - at) (drop at text)) size → at + size ≤ length text
 front_inside text at size inside front = omega (arith, front.inside, ap length (take_rest text at), length-drop at text)
 
--- what is not in the rest, where the byte that closes was looked for
+-- the byte is not in the rest in which it was searched
 pub lacks_rest : (closing : ℕ) (text : List ℕ) → HasNoByte closing (drop 1 text) → HasNoByte closing (take (length text - 1) (drop 1 text))
 lacks_rest closing text = subst (HasNoByte closing) (sym (take_rest text 1))
 
 pub rest_lacks : (closing : ℕ) (text : List ℕ) → HasNoByte closing (take (length text - 1) (drop 1 text)) → HasNoByte closing (drop 1 text)
 rest_lacks closing text = subst (HasNoByte closing) (take_rest text 1)
+
+pub ruleset rests = (lacks_rest, rest_lacks)

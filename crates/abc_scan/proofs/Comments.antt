@@ -1,4 +1,4 @@
--- What is read of a line: no carriage return at its end, and no comment.
+-- The text read of a line has no carriage return at its end, and no comment.
 use Rattle.std.proofs.Common.{◌≡◌, ℕ, true, false, List, [], ◌∷◌, ◌++◌, refl, sym, ap, ◌∙◌, inl, inr, ⊎_elim}
 use Rattle.std.specs.Prelude.{◌==◌, ◌&&◌, not}
 use Rattle.std.proofs.lemmas.Bool.{cond-false, cond_both, eqb-true, eqb-false, and_parts, and_cases, or_parts, not-true, not-false}
@@ -47,7 +47,7 @@ reads before (b ∷ bs) = cond_both ((b == 37) && not (before == 92)) [] (b ∷ 
 pub cuts_comments : CutsComments
 cuts_comments text = reads 32 text
 
--- where no byte is a `%` there is no comment
+-- a text without `%` has no comment
 pub no_comment : (before : ℕ) (text : List ℕ) → list_any (λ b. b == 37) text ≡ false → before_comment before text ≡ text
 no_comment before [] none = refl
 no_comment before (b ∷ bs) none =

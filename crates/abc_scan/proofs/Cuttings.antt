@@ -1,4 +1,4 @@
--- Each text has one cutting, whatever its parts are.
+-- Each text has one cutting, for any kind of parts.
 use Rattle.std.proofs.Common.{◌≡◌, ℕ, zero, suc, ◌+◌, ◌-◌, ◌<◌, ◌≤◌, Bool, Option, Some, None, List, [], ◌∷◌, ◌++◌, length, take, drop, refl, sym, ap, ◌∙◌, subst, inl, inr, ⊎_elim, arith}
 use Rattle.std.proofs.Common.{append_assoc, length-append, length-drop, length-take-le, take-append-drop}
 use Rattle.std.specs.Prelude.{unwrap_or, All, IfSome}
@@ -10,7 +10,7 @@ use Rattle.abc_text.proofs.Fronts.{drop_exact}
 use Rattle.abc_scan.specs.Front.{IsFront}
 use Rattle.abc_scan.proofs.Readings.{Finds, IsSpelled}
 
--- a reading finds the longest part that the grammar has, and nothing else
+-- a reading finds exactly the longest part of the grammar
 pub record Reads {K : Type 0} (spells : Bool → List ℕ → K → Type 0) (reading : Bool → List ℕ → Option (K × ℕ)) : Type 0 where
   pub longest : (after_bar : Bool) (front rest : List ℕ) (kind : K) → spells after_bar front kind → Finds (reading after_bar (front ++ rest)) front kind
   pub sound : (after_bar : Bool) (text : List ℕ) → IfSome (reading after_bar text) (IsSpelled (spells after_bar) text)
@@ -33,11 +33,11 @@ cutting_from-rest reader after_bar at (suc k) b bs some =
     let f : at + 1 + k ≡ at + suc k = omega arith in
     ap (λ n. cutting_from reader after_bar (at + 1) n bs) e ∙ cutting_from-inside reader after_bar (at + 1) k bs ∙ ap (λ n. cutting_from reader after_bar n 0 (drop k bs)) f
 
--- the parts of what follows a first part
+-- the parts after a first part
 abbrev pub behind : {K : Type 0} → Reader K → ℕ → List ℕ → K × ℕ → List (Spanned K)
 behind reader at text first = cutting_from reader (reader.kinds.is_bar first.0) (at + first.1) 0 (drop first.1 text)
 
--- the first part, and the parts of what follows it
+-- the first part, and the parts after it
 pub cutting_from-first : {K : Type 0} (reader : Reader K) (after_bar : Bool) (at : ℕ) (text : List ℕ) → 0 < length text → 0 < (next reader after_bar text).1
     → cutting_from reader after_bar at 0 text ≡ part_at at (next reader after_bar text) ∷ behind reader at text (next reader after_bar text)
 cutting_from-first reader after_bar at [] some size = absurd (omega arith)
@@ -71,7 +71,7 @@ read_by kinds reading = record { kinds = kinds; reading = reading }
 abbrev pub spelled_by : {K : Type 0} → Kinds K → (Bool → List ℕ → K → Type 0) → Grammar K
 spelled_by kinds spells = record { kinds = kinds; spells = spells }
 
--- what comes first in a text, of what is read there
+-- the first part of a text, by the reading there
 abbrev or_alone : {K : Type 0} → Kinds K → List ℕ → Option (K × ℕ) → K × ℕ
 or_alone kinds text o = unwrap_or o (unmatched_at kinds text, 1)
 
@@ -173,7 +173,7 @@ module _ {K : Type 0} (kinds : Kinds K) (spells : Bool → List ℕ → K → Ty
       let token : t ≡ part_at at found = λ i. record { kind = sym kind i; from = from i; to = end i } in
       (λ i. token i ∷ later i) ∙ sym (cutting_from-first (read_by kinds reading) after_bar at text left some)
 
--- what holds of each kind that is spelled, and of each byte alone, holds of all parts
+-- a law of each kind that is spelled, and of each byte alone, holds of all parts
 pub cut-all : {K : Type 0} (kinds : Kinds K) (spells : Bool → List ℕ → K → Type 0) (P : K → Type 0) → ((after_bar : Bool) (text : List ℕ) (kind : K) → spells after_bar text kind → P kind)
     → ((text : List ℕ) → P (unmatched_at kinds text)) → (after_bar : Bool) (at : ℕ) (text : List ℕ) (parts : List (Spanned K)) → IsCuttingFrom (spelled_by kinds spells) after_bar at text parts
     → All (λ t. P t.kind) parts

@@ -39,7 +39,7 @@ delimited_longest front rest is =
     ∙ closed_read is.closing is.inside rest is.first_closing
     ∙ ap Some long
 
--- what is read is such a token
+-- the token read is one of the grammar
 closed_here : (opening closing : ℕ) (rest : List ℕ) (place : ℕ) → AreDelimiters opening closing → IsFirst closing rest place → IsSized IsDelimited (opening ∷ rest) (place + 2)
 closed_here opening closing rest place delimiters first =
     let closed = closed_front closing rest place first in
@@ -99,7 +99,7 @@ inline_field_longest front rest field is =
       same = λ _. (λ i. record { letter = field.letter; value = is.value_is i });
     }
 
--- what is read is such a field
+-- the field read is one of the grammar
 inline_here : (letter sign : ℕ) (rest : List ℕ) (place : ℕ) → is_ascii_alphabetic letter ≡ true → sign ≡ colon → IsFirst closing_bracket (letter ∷ sign ∷ rest) place
     → IsSpelled IsInlineField (opening_bracket ∷ letter ∷ sign ∷ rest) (field_of (take place (letter ∷ sign ∷ rest)), place + 2)
 inline_here letter sign rest zero alphabetic is_colon first =

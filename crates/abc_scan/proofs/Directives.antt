@@ -1,4 +1,4 @@
--- What is read of a line is the directive that it spells.
+-- The directive read from a line is the one that it spells.
 use Rattle.std.proofs.Common.{◌≡◌, ℕ, ◌≤◌, true, false, cond, Option, Some, None, List, [], ◌∷◌, ◌++◌, codes, length, take, drop, refl, sym, ap, ◌∙◌, subst, inl, inr, ⊎_elim, arith, length-take-le}
 use Rattle.std.proofs.Common.{take-append-drop}
 use Rattle.std.specs.Prelude.{IfSome, ◌⊎◌, ◌==◌, is_some}
@@ -49,7 +49,7 @@ word-sound word P text o other later more =
     (λ yes. later (sym (take-append-drop (length word) text) ∙ ap (λ l. l ++ drop (length word) text) ((bytes_eq-Decides (take (length word) text) word).0 yes)))
     (λ _. more)
 
--- what follows
+-- the text after it
 comment-blanks : (comment : List ℕ) → (comment ≡ []) ⊎ ((rest : List ℕ) × (comment ≡ 37 ∷ rest)) → (leading_blanks comment ≡ 0) × (is_comment_or_none comment ≡ true)
 comment-blanks comment is = ⊎_elim
     (λ none. subst (λ l. (leading_blanks l ≡ 0) × (is_comment_or_none l ≡ true)) (sym none) (refl, refl))
@@ -80,7 +80,7 @@ end-sound P directive end later =
     }))
     (λ _. tt)
 
--- a number is no blank, and what may stand after it no digit
+-- a number is no blank, and no digit may follow it
 digit-no_blank : (d : ℕ) → is_digit d ≡ true → is_blank d ≡ false
 digit-no_blank d is =
     let range = digit_range d is in
@@ -126,7 +126,7 @@ program-read text number is =
     ∙ gap-read program_directive is.second_gap (is.digits ++ is.end) is.second_gap_is (number-no_blank is.digits is.end is.number_is.some is.number_is.digits)
     ∙ program_directive-read is.digits is.end number is.number_is is.end_is
 
--- how far accidentals reach
+-- the reach of accidentals
 reach-word : (text : List ℕ) → directive_of (codes "%%propagate-accidentals" ++ text) ≡ after_gap reach_directive text
 unfolding directive_of
 reach-word text = refl
@@ -153,7 +153,7 @@ pub directive-read : (text : List ℕ) (directive : Directive) → IsDirective t
 directive-read text (directives.Program number) is = program-read text number is
 directive-read text (directives.Reach reach) is = reach-read text reach is
 
--- what is read is spelled so: a program
+-- the program read is spelled so
 number-sound : (P : Directive → Type 0) (text : List ℕ) (o : Option (ℕ × ℕ)) → IfSome o (IsSpelled IsNumber text)
     → ((number : ℕ × ℕ) → IsNumber (take number.1 text) number.0 → IsEnd (drop number.1 text) → P (directives.Program number.0)) → IfSome (program_by text o) P
 number-sound P text None is later = tt
@@ -183,7 +183,7 @@ program-sound text behind cut =
     })))
     tt)
 
--- how far accidentals reach
+-- the reach of accidentals
 name-sound : (P : Directive → Type 0) (reach : Reach) (text : List ℕ) (other : Option Directive)
     → ((reach : Reach) (end : List ℕ) → text ≡ name_of reach ++ end → IsEnd end → P (directives.Reach reach))
     → IfSome other P → IfSome (cond (begins_with (name_of reach) text) (directive_at_end (directives.Reach reach) (drop (length (name_of reach)) text)) other) P

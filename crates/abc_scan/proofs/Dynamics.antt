@@ -1,4 +1,4 @@
--- What is read of a decoration is the dynamic that it spells.
+-- The dynamic read from a decoration is the one that it spells.
 use Rattle.std.proofs.Common.{◌≡◌, ℕ, cond, Option, Some, None, List, [], ◌∷◌, ◌++◌, codes, bytes_eq, length, refl, sym, ap, ◌∙◌, inl, inr, arith, length-append}
 use Rattle.std.specs.Prelude.{IfSome}
 use Rattle.std.proofs.lemmas.Bool.{cond_both}
@@ -38,11 +38,11 @@ own_read _ = refl
 pub dynamic-read : (text : List ℕ) (dynamic : Dynamic) → IsDynamic text dynamic → dynamic_of text ≡ Some dynamic
 dynamic-read text dynamic is = ap dynamic_of is ∙ own_read dynamic
 
--- what spells none is read as none
+-- a text that spells none is read as none
 pub dynamic-none : (text : List ℕ) → ((dynamic : Dynamic) → IsDynamic text dynamic → ⊥) → dynamic_of text ≡ None
 dynamic-none text none = none_found (IsDynamic text) (dynamic_of text) none (dynamic-sound text)
 
--- a dynamic stands between delimiters
+-- a dynamic is between delimiters
 name-lacks : (dynamic : Dynamic) → HasNoByte 33 (name_of dynamic)
 name-lacks Ppp = AllPass-from_list_all (is_other 33) (name_of Ppp) refl
 name-lacks dynamic = AllPass-from_list_all (is_other 33) (name_of dynamic) refl

@@ -38,7 +38,7 @@ pub passes_none : (text : List ℕ) → range_at text ≡ None → passes_at tex
 unfolding passes_at ranges_at
 passes_none text read = ap (λ o. option_map as_passes (option_map (ranges_behind text) o)) read
 
--- passes, at least as long as any ranges that stand there
+-- passes, at least as long as any ranges there
 passes_longest : (front rest : List ℕ) (ranges : List PassRange) → IsRanges front ranges → Finds (passes_at (front ++ rest)) front (passes_of ranges)
 unfolding passes_at
 passes_longest front rest ranges is =

@@ -14,7 +14,7 @@ use Rattle.abc_text.proofs.Fronts.{front_passes, front_exact, front_none, drop_e
 use Rattle.abc_scan.proofs.Lengths.{length_longest, length_sound, length_size-le}
 use Rattle.abc_scan.proofs.Readings.{Finds, IsSpelled, byte_and}
 
--- what follows the inside makes no field of it
+-- the text after the inside makes no field of it
 begins_inside : (inside rest : List ℕ) → begins_field (inside ++ closing_bracket ∷ rest) ≡ begins_field inside
 begins_inside [] [] = refl
 begins_inside [] (x ∷ xs) = refl
@@ -48,7 +48,7 @@ frame_longest front rest frame is =
           λ i. record { inside = is.size_is i; length = value i };
     }
 
--- what is read is such a frame
+-- the frame read is one of the grammar
 frame_here : (inside behind : List ℕ) → AllPass is_inside inside → begins_field inside ≡ false
     → IsSpelled IsFrame (opening_bracket ∷ (inside ++ closing_bracket ∷ behind)) (record { inside = length inside; length = length_at behind }, length inside + 2 + length_size behind)
 frame_here inside behind inside_is no_field =

@@ -16,7 +16,7 @@ use Rattle.abc_text.proofs.Fronts.{front_passes, front_append, drop_exact, front
 use Rattle.abc_scan.proofs.Marks.{cut_in_three, same_text, run_covers, same_covers, same_pass}
 use Rattle.abc_scan.proofs.Readings.{Covers, covers_both}
 
--- what is read as a length, and how many bytes it takes
+-- the length read, and its size in bytes
 abbrev pub read_length : List ℕ → WrittenLength × ℕ
 read_length text = (length_at text, length_size text)
 
@@ -69,7 +69,7 @@ unfolding length_at
 value_from text rest n count cut = let e : drop (over_size text) text ≡ rest = ap (λ k. drop k text) count ∙ cut in λ i. written_length (take (count i) text) (slashes_size (e i)) (take
     (under_size (e i)) (drop (slashes_size (e i)) (e i)))
 
--- no digit stands where slashes begin
+-- no digit is at the first slash
 no_digits : (s : ℕ) (under rest : List ℕ) → (0 < length under → s ≡ 1) → 0 < length (replicate s 47 ++ under) → prefix_len is_digit (replicate s 47 ++ (under ++ rest)) ≡ 0
 no_digits zero under rest one some = let e : zero ≡ 1 = one some in absurd (omega arith)
 no_digits (suc s) under rest one some = front_none is_digit 47 (replicate s 47 ++ (under ++ rest)) refl
@@ -138,7 +138,7 @@ length_size-le text =
     let under = under_size-le rest in
     omega (arith, size, over, slashes, under, length-drop (over_size text) text, length-drop (slashes_size rest) rest)
 
--- where neither a digit nor a slash stands, no length is written
+-- no length is written without a digit or a slash
 record NoneBehind (rest : List ℕ) : Type 0 where
   pub over : over_size rest ≡ 0
   pub slashes : slashes_size rest ≡ 0

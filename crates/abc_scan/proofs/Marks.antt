@@ -1,4 +1,4 @@
--- What the readers of numbers, bar lines, endings and marks share.
+-- Lemmas that the readers of numbers, bar lines, endings and marks share.
 use Rattle.std.proofs.Common.{◌≡◌, ℕ, suc, ◌+◌, Bool, true, List, [], ◌∷◌, ◌++◌, length, take, drop, replicate, refl, sym, ap, ◌∙◌, inl, inr, ⊎_elim, arith, take-add, drop-drop, append_assoc}
 use Rattle.std.proofs.Common.{length-take-le}
 use Rattle.std.specs.Prelude.{◌==◌, ◌||◌, ◌⊎◌}

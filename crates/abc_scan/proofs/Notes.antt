@@ -48,7 +48,7 @@ accidental_read (Some Flat) b rest n = cond-false _ _ _ n.no_flat
 accidental_read (Some Sharp) b rest n = cond-false _ _ _ n.no_sharp
 accidental_read _ b rest n = refl
 
--- what is read as an accidental stands there
+-- an accidental that is read is there
 doubled : (n b : ℕ) (bs : List ℕ) → b ≡ n → begins_with_byte n bs ≡ true → b ∷ bs ≡ n ∷ n ∷ drop 2 (b ∷ bs)
 doubled n b [] e h = cc
 doubled n b (c ∷ cs) e h = λ i. e i ∷ eqb-true c n h i ∷ cs
@@ -66,7 +66,7 @@ accidental_sound (b ∷ bs) =
     (λ flat. cond_both (begins_with_byte 95 bs) _ _ (λ a. Stands a (b ∷ bs)) (λ two. doubled 95 b bs (eqb-true b 95 flat) two) (λ _. ap (λ x. x ∷ bs) (eqb-true b 95 flat)))
     (λ _. cond_both (b == 61) _ _ (λ a. Stands a (b ∷ bs)) (λ natural. ap (λ x. x ∷ bs) (eqb-true b 61 natural)) (λ _. refl)))
 
--- after the marks of a note stands nothing that is one
+-- no mark follows the marks of a note
 digit_no_mark : (b : ℕ) → is_digit b ≡ true → is_octave_mark b ≡ false
 digit_no_mark b h = let range = digit_range b h in or_from _ _ (ne_eqb b 39 (λ e. absurd (omega arith))) (ne_eqb b 44 (λ e. absurd (omega arith)))
 
@@ -90,7 +90,7 @@ note_read rest note b letter =
     (λ i. drop (accidental_size (sign i)) text) ∙ drop_exact (accidental_size note.accidental) (accidental_text note.accidental) (b ∷ rest) refl in
     (λ i. note_behind (sign i) (behind i)) ∙ ap (option_map (note_of note.accidental b rest)) ((letter_exact b note.letter).1 letter)
 
--- a letter alone is read where neither an octave mark nor a length stands after it
+-- a letter is read alone if neither an octave mark nor a length follows it
 record Alone (rest : List ℕ) : Type 0 where
   pub marks : marks_size rest ≡ 0
   pub size : length_size rest ≡ 0
@@ -159,7 +159,7 @@ note_longest front rest note is =
           λ i. record { accidental = note.accidental; letter = note.letter; octave = octaves i; length = (same i).1 };
     }
 
--- what is read as a note is one
+-- the note read is one of the grammar
 note_here : (a : Option Accidental) (b : ℕ) (rest : List ℕ) (letter : Letter) → IsLetter b letter → IsSpelled IsNote (accidental_text a ++ (b ∷ rest)) (note_of a b rest letter)
 note_here a b rest letter is =
     let behind = drop (marks_size rest) rest in

@@ -86,7 +86,7 @@ range_exact front rest range is = ⊎_elim
     ∙ ap (λ n. Some (range, n)) (sym (from_to_length front range two)))
     is
 
--- what is read as a range is one: a dash and a number
+-- the range read is one of the grammar: a dash and a number
 abbrev IsDashed : List ℕ → ℕ × ℕ → Type 0
 IsDashed text last = (1 + last.1 ≤ length text) × (take (1 + last.1) text ≡ 45 ∷ take last.1 (drop 1 text)) × IsNumber (take last.1 (drop 1 text)) last.0
 
@@ -164,7 +164,7 @@ pub ranges_from : (text : List ℕ) (first : PassRange × ℕ) → range_at text
 unfolding ranges_at
 ranges_from text first read = ap (option_map (ranges_behind text)) read
 
--- a comma, and what is read after it as a list
+-- a comma, and the list read after it
 list_behind : (bs : List ℕ) (o : Option (PassRange × ℕ)) (ranges : List PassRange) (size : ℕ) → range_at bs ≡ o → option_map (ranges_behind bs) o ≡ Some (ranges, size)
     → more_from 0 (44 ∷ bs) ≡ (ranges, 1 + size)
 list_behind bs None ranges size read e = cc
@@ -216,7 +216,7 @@ ranges_longest (range ∷ next ∷ others) front rest (one, several, spelling, o
       same = λ e. ap (λ l. range ∷ l) (later.same (omega (arith, long, e)));
     }
 
--- what is read as a list of ranges is one
+-- the list of ranges read is one of the grammar
 abbrev IsMore : List ℕ → List PassRange × ℕ → Type 0
 IsMore text more = (more.1 ≤ length text) × (((more.0 ≡ []) × (more.1 ≡ 0)) ⊎ ((rest : List ℕ) × (take more.1 text ≡ 44 ∷ rest) × IsRanges rest more.0))
 

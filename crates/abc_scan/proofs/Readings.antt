@@ -1,4 +1,4 @@
--- What a reader of a token promises beside what it computes.
+-- The promises of a reader of a token beside its result.
 use Rattle.std.proofs.Common.{◌≡◌, ℕ, suc, ◌+◌, ◌≤◌, ◌<◌, Bool, true, cond, Option, Some, None, List, ◌∷◌, ◌++◌, length, take, refl, sym, ap, subst, ⊎_elim, arith, length-append}
 use Rattle.std.specs.Prelude.{IfSome, ◌==◌, ◌&&◌}
 use Rattle.std.specs.Option.{option_map}
@@ -6,7 +6,7 @@ use Rattle.std.proofs.lemmas.Bool.{cond_both, cases_lt, eqb-true, and_parts}
 use Rattle.abc_scan.specs.Cutting.{as_kind, of_kind}
 use Rattle.abc_scan.specs.Front.{IsFront, after_byte}
 
--- it finds, where the front of its text spells this value, nothing shorter, and if as long the same
+-- if the front of its text spells this value, it finds nothing shorter, and if as long the same
 pub record Finds {V : Type 0} (read : Option (V × ℕ)) (front : List ℕ) (value : V) : Type 0 where
   pub found : V
   pub size : ℕ
@@ -18,7 +18,7 @@ pub record Finds {V : Type 0} (read : Option (V × ℕ)) (front : List ℕ) (val
 abbrev pub Covers : {V : Type 0} → V × ℕ → List ℕ → V → Type 0
 Covers read front value = (length front ≤ read.1) × (length front ≡ read.1 → value ≡ read.0)
 
--- what it finds is a front of the text, which spells it
+-- it finds a value that a front of the text spells
 abbrev pub IsSpelled : {V : Type 0} → (List ℕ → V → Type 0) → List ℕ → V × ℕ → Type 0
 IsSpelled spells text read = IsFront text read.1 × spells (take read.1 text) read.0
 
@@ -32,7 +32,7 @@ one_front b rest = record { some = omega arith; inside = omega arith }
 pub front_more : (n b : ℕ) (rest : List ℕ) → n ≤ length rest → IsFront (b ∷ rest) (1 + n)
 front_more n b rest inside = record { some = omega arith; inside = omega arith }
 
--- what holds of each value that is found, and of what it is made into
+-- a law of each value that is found, and of the value made from it
 pub mapped : {A B : Type 0} (P : A → Type 0) (Q : B → Type 0) (f : A → B) (o : Option A) → ((x : A) → P x → Q (f x)) → IfSome o P → IfSome (option_map f o) Q
 mapped P Q f None step h = tt
 mapped P Q f (Some x) step h = step x h
@@ -65,14 +65,14 @@ finds-sized kind o front size read long = record { found = kind; size = size; is
 pub finds-one : {K : Type 0} (kind : K) (front : List ℕ) → length front ≡ 1 → Finds (Some (kind, 1)) front kind
 finds-one kind front one = record { found = kind; size = 1; is_read = refl; long = omega (arith, one); same = λ _. refl }
 
--- a byte, and what is found after it
+-- a byte, and the value found after it
 pub finds-after : {V : Type 0} (o : Option (V × ℕ)) (front : List ℕ) (value : V) (b : ℕ) (written : List ℕ) (read : V × ℕ) → front ≡ b ∷ written → o ≡ Some (after_byte read)
     → Covers read written value → Finds o front value
 finds-after o front value b written read spelled is covers =
     let long : length front ≡ suc (length written) = ap length spelled in
     record { found = read.0; size = 1 + read.1; is_read = is; long = omega (arith, long, covers.0); same = λ e. covers.1 (omega (arith, long, e)) }
 
--- a reader after another: where the first takes more than its own, nothing is left to the second
+-- a reader after another: if the first takes more than its own bytes, nothing is left to the second
 pub covers_both : {A B : Type 0} (first : A × ℕ) (second : B × ℕ) (a b : List ℕ) (x : A) (y : B) → Covers first a x → (length a ≡ first.1 → Covers second b y)
     → (0 < length b → first.1 ≤ length a) → Covers {V = A × B} ((first.0, second.0), first.1 + second.1) (a ++ b) (x, y)
 covers_both first second a b x y one two apart =
@@ -88,7 +88,7 @@ covers_both first second a b x y one two apart =
     (omega (arith, sum, exact, next.0), λ e. let rest = next.1 (omega (arith, sum, exact, e)) in λ i. (one.1 exact i, rest i)))
     (cases_lt (length a) first.1)
 
--- what is found where a text begins with this byte
+-- the value found if a text begins with this byte
 pub byte_first : {A : Type 0} (P : List ℕ → A → Type 0) (byte b : ℕ) (bs : List ℕ) (o other : Option A) → IfSome o (P (byte ∷ bs)) → IfSome other (P (b ∷ bs))
     → IfSome (cond (b == byte) o other) (P (b ∷ bs))
 byte_first P byte b bs o other h more =

@@ -15,7 +15,7 @@ use Rattle.abc_scan.proofs.Marks.{take_one_more, two_tested, two_known}
 use Rattle.abc_scan.proofs.Numbers.{optional_number_longest, optional_number_sound}
 use Rattle.abc_scan.proofs.Readings.{Finds, IsSpelled, IsSized, front_more, finds-after}
 
--- one of two letters, and what is read after it
+-- one of two letters, and the length read after it
 letter_sound : {V : Type 0} (Is : List ℕ → V → Type 0) (b m n : ℕ) (rest : List ℕ) (read : V × ℕ) → read.1 ≤ length rest → ((b ≡ m) ⊎ (b ≡ n) → Is (b ∷ take read.1 rest) read.0)
     → IfSome (cond ((b == m) || (b == n)) (Some (after_byte read)) None) (IsSpelled Is (b ∷ rest))
 letter_sound Is b m n rest read inside spelled =

@@ -1,4 +1,4 @@
--- Where the tokens of a line lie, and which lengths they have.
+-- The places and the lengths of the tokens of a line.
 use Rattle.std.proofs.Common.{◌≡◌, ℕ, Bool, false, ◌+◌, ◌^◌, ◌<◌, ◌≤◌, Option, Some, None, List, [], ◌∷◌, length, refl, sym, ap, ◌∙◌, subst, arith, length-append, ltb-false}
 use Rattle.std.specs.Prelude.{All, nat_lt, ◌==◌, ◌&&◌, not}
 use Rattle.std.specs.List.{AllPass}
@@ -23,7 +23,7 @@ use Rattle.abc_scan.specs.Text.{before_comment, without_comment}
 use Rattle.abc_scan.specs.Chord.{SpellsPart, part_kinds, inside_of, IsChord}
 use Rattle.abc_scan.specs.Cutting.{unmatched_at, IsCuttingFrom, IsSpan, JoinFromTo}
 use Rattle.abc_scan.specs.Line.{cutting_of, directive_token, tokens_in, tokens_of, covered_in, covered_of, HasPartLength, HasLength}
-use Rattle.abc_scan.specs.Token.{Spells, opens, unmatched_byte, is_bar, line_kinds, line_grammar, reading_at, next_token}
+use Rattle.abc_scan.specs.Token.{Spells, opens, is_bar, line_kinds, line_grammar, reading_at, next_token}
 use Rattle.abc_text.specs.Digit.{is_digit, decimal}
 use Rattle.abc_text.specs.LineEnd.{without_return}
 use Rattle.abc_text.proofs.Decimals.{decimal-lt}
@@ -82,12 +82,9 @@ token-range after_bar text (kinds.Rest value) is = length-range is.written value
 token-range after_bar text (kinds.Chord chord) is = chord-range text chord is
 token-range after_bar text _ is = tt
 
-byte-alone : (b : ℕ) → HasLength (unmatched_byte b)
-byte-alone b = cond_both (opens b) kinds.Unclosed kinds.BadByte HasLength (λ _. tt) (λ _. tt)
-
 token-alone : (text : List ℕ) → HasLength (unmatched_at line_kinds text)
 token-alone [] = tt
-token-alone (b ∷ bs) = byte-alone b
+token-alone (b ∷ bs) = cond_both (opens b) kinds.Unclosed kinds.BadByte HasLength (λ _. tt) (λ _. tt)
 
 -- of every cutting
 pub record Laid (at : ℕ) (tokens : List (Spanned TokenKind)) (end len : ℕ) : Type 0 where
@@ -108,7 +105,7 @@ laid_cut after_bar at text (t ∷ ts) len (front, rest, cut, first, from, to, mo
       (from, subst (JoinFromTo t.to ts) end l.1),
     )
 
--- what is read of a line is no longer than the line, and of a field not empty
+-- the text read of a line is no longer than the line, and of a field not empty
 before_comment-le : (before : ℕ) (text : List ℕ) → length (before_comment before text) ≤ length text
 before_comment-le before [] = omega arith
 before_comment-le before (b ∷ bs) =

@@ -1,4 +1,4 @@
--- What tokens begin with, and what is read by that.
+-- The first bytes of tokens, and the tokens read by them.
 use Rattle.std.proofs.Common.{◌≡◌, ◌≢◌, ℕ, zero, suc, ◌<◌, ◌≤◌, Bool, true, false, Option, Some, None, List, [], ◌∷◌, ◌++◌, length, replicate, refl, sym, ap, ◌∙◌, subst, inl, inr, ⊎_elim, arith}
 use Rattle.std.proofs.Common.{append_assoc}
 use Rattle.std.specs.Prelude.{◌⊎◌, ◌==◌, ◌||◌, ◌&&◌, unwrap_or}
@@ -46,7 +46,7 @@ use Rattle.abc_scan.proofs.Endings.{ranges_text}
 use Rattle.abc_scan.proofs.Marks.{two_known}
 use Rattle.abc_scan.proofs.Readings.{Finds}
 
--- what is no field, no bracket and no delimiter is read as a mark
+-- a text that begins with no field, bracket or delimiter is read as a mark
 pub mark_reading : (start : Start) (after_bar : Bool) (text : List ℕ) → start ≢ starts.InlineField → start ≢ starts.Bracket → start ≢ starts.Delimited
     → reading_by start after_bar text ≡ mark_by start after_bar text
 mark_reading starts.InlineField after_bar text a b c = absurd (a refl)
@@ -54,7 +54,7 @@ mark_reading starts.Bracket after_bar text a b c = absurd (b refl)
 mark_reading starts.Delimited after_bar text a b c = absurd (c refl)
 mark_reading _ after_bar text a b c = refl
 
--- what is read by the first bytes is read
+-- the token read by the first bytes is the token read
 pub by_start : {K : Type 0} (by : Start → Option (K × ℕ)) (text front : List ℕ) (kind : K) (start : Start) → start_of text ≡ start → Finds (by start) front kind → Finds (by (start_of text)) front kind
 by_start by text front kind start e found = subst (λ s. Finds (by s) front kind) (sym e) found
 
@@ -69,7 +69,7 @@ digit_by P a b c e f g h i j k d is =
     by_cases P 52 d f (λ n4. by_cases P 53 d g (λ n5. by_cases P 54 d h (λ n6. by_cases P 55 d i (λ n7.
     by_cases P 56 d j (λ n8. by_cases P 57 d k (λ n9. absurd (omega (arith, range, n0, n1, n2, n3, n4, n5, n6, n7, n8, n9))))))))))))
 
--- what each kind of token begins with
+-- the first bytes of each kind of token
 letter_starts : (letter : Letter) (rest : List ℕ) → (start_of (capital letter ∷ rest) ≡ starts.Note) × (start_of (small letter ∷ rest) ≡ starts.Note)
 unfolding byte_start
 letter_starts C rest = (refl, refl)
@@ -224,7 +224,7 @@ single_starts b rest is =
     (λ fails. inr (cond-false _ _ _ no_bracket ∙ cond-false _ _ _ fails ∙ cond-true _ _ _ is))
     (cases_Bool (b == 40))
 
--- a token without effect is found if it is at each of the ways in which it can begin
+-- a token without effect is found at each of its possible first bytes
 pub silent_by : {K : Type 0} (by : Start → Option (K × ℕ)) (front rest : List ℕ) (kind : K) → HasNoEffect front → (IsDelimited front → Finds (by starts.Delimited) front kind)
     → (IsExtraSpace front → Finds (by starts.Space) front kind) → (length front ≡ 1 → Finds (by starts.Parenthesis) front kind) → (length front ≡ 1 → Finds (by starts.Single) front kind)
     → Finds (by (start_of (front ++ rest))) front kind
@@ -244,7 +244,7 @@ silent_by by front rest kind is delimited space parenthesis single =
     other)
     is
 
--- what the first byte is, by what it begins
+-- the first byte, by the kind of token that it begins
 abbrev pub Known : ℕ → Start → Type 0
 Known b starts.Parenthesis = b ≡ 40
 Known b starts.Tie = b ≡ 45

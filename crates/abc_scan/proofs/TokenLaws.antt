@@ -70,7 +70,7 @@ chord_longer front rest written chord size spelled bytes is = ⊎_elim
     absurd (too_short written rest is.framed.inside is.framed.written size bytes (omega (arith, short, ap length spelled)) chord_text))
     (cases_lt (length front) size)
 
--- an ending that begins with `[` is read where no chord is
+-- an ending that begins with `[` is read if no chord is there
 bracket_finds : (after_bar : Bool) (front rest written : List ℕ) (passes : Option ℕ) (o : Option (Chord × ℕ)) → IfSome o (IsSpelled IsChord (front ++ rest)) → front ≡ 91 ∷ written
     → AllPass is_range_byte written → Finds (ending_at after_bar (front ++ rest)) front passes
     → Finds (or_else (as_kind kinds.Chord o) (as_kind kinds.Ending (ending_at after_bar (front ++ rest)))) front (kinds.Ending passes)
@@ -89,7 +89,7 @@ parenthesis_finds text front (Some r) is one =
     let two : 2 ≤ r.1 = omega (arith, p, length-take-le r.1 text is.0.inside, ap length is.1.spelling, long) in
     record { found = kinds.Tuplet r.0; size = r.1; is_read = refl; long = omega (arith, two, one); same = λ e. absurd (omega (arith, two, one, e)) }
 
--- what is read is the longest token
+-- the token read is the longest
 module _ (after_bar : Bool) (front rest : List ℕ) where
   abbrev text : List ℕ
   text = front ++ rest
@@ -111,7 +111,7 @@ module _ (after_bar : Bool) (front rest : List ℕ) where
       (λ (d : start_of text ≡ starts.Digit). wrapped starts.Digit kinds.Ending (ending_at after_bar text) passes refl d f)
       (ending_starts after_bar front rest passes is)
 
-  -- what stands between delimiters
+  -- a text between delimiters
   enclosed_finds : (kind : TokenKind) → IsDelimited front → dynamic_or_ignored (dynamic_of front) ≡ kind → Finds (by starts.Delimited) front kind
   enclosed_finds kind d is =
       let size = length front in
@@ -158,7 +158,7 @@ token_longest : (after_bar : Bool) (front rest : List ℕ) (kind : TokenKind) �
 unfolding reading_at
 token_longest after_bar front rest kind is = token_finds after_bar front rest kind is
 
--- what is read is a token
+-- the token read is one of the grammar
 spells_enclosed : (after_bar : Bool) (front : List ℕ) (o : Option Dynamic) → dynamic_of front ≡ o → IfSome o (IsDynamic front) → IsDelimited front → Spells after_bar front (dynamic_or_ignored o)
 spells_enclosed after_bar front None e is d = (inl d, λ dynamic is. let k : None ≡ Some dynamic = sym e ∙ dynamic-read front dynamic is in cc)
 spells_enclosed after_bar front (Some dynamic) e is d = is

@@ -34,7 +34,7 @@ further_longest front rest value is = ⊎_elim
     subst (λ l. Covers (further_at (l ++ rest)) front value) (sym some.spelling) (omega (arith, long, number.0), λ e. number.1 (omega (arith, long, e))))
     is
 
--- where no digit follows, just the same is read
+-- if no digit follows, the same number is read
 further_exact : (front rest : List ℕ) (value : Option ℕ) → HasColon front value → prefix_len is_digit rest ≡ 0 → further_at (front ++ rest) ≡ (value, length front)
 further_exact front rest None is none =
     let empty : front ≡ 58 ∷ [] = is.spelling ∙ ap (λ l. 58 ∷ l) is.value_is in

@@ -13,7 +13,7 @@ pub record Strokes : Type 0 where
   pub more : ℕ
   pub closed : Bool
 
--- How they are written.
+-- The spelling of strokes.
 abbrev pub strokes_text : Strokes → List ℕ
 strokes_text s =
     (if s.opened then opening_bracket ∷ [] else [])
@@ -23,7 +23,7 @@ strokes_text s =
 abbrev pub middle_text : List Strokes → List ℕ
 middle_text groups = flat_map strokes_text groups
 
--- Whether a middle is another one than a single `|`. Not in ABC 2.1.
+-- Whether a middle is not a single `|`. Not in ABC 2.1.
 abbrev pub is_double : List ℕ → Bool
 is_double middle = not (bytes_eq middle (codes "|"))
 
@@ -47,7 +47,7 @@ pub record HasColons (text : List ℕ) (bar : BarLine) : Type 0 where
 abbrev pub IsBar : List ℕ → BarLine → Type 0
 IsBar text bar = HasStrokes text bar ⊎ HasColons text bar
 
--- How many colons a text begins with.
+-- The number of colons at the front of a text.
 abbrev pub colons : List ℕ → ℕ
 colons text = prefix_len (λ b. b == colon) text
 
@@ -57,12 +57,12 @@ goes_on before b rest =
     (b == bar_stroke) || ((b == opening_bracket) && begins_with_byte bar_stroke rest)
     || ((b == closing_bracket) && (before == bar_stroke))
 
--- How many bytes of a middle a text that follows this byte begins with.
+-- The number of bytes of a middle at the front of a text after this byte.
 abbrev pub middle_from : ℕ → List ℕ → ℕ
 middle_from before [] = 0
 middle_from before (b ∷ bs) = if goes_on before b bs then 1 + middle_from b bs else 0
 
--- How many bytes of a middle a text begins with. It follows nothing, which counts as a space.
+-- The number of bytes of a middle at the front of a text. It follows nothing, which counts as a space.
 abbrev pub middle_size : List ℕ → ℕ
 middle_size text = middle_from space text
 
@@ -71,18 +71,18 @@ abbrev pub bar_of_colons : ℕ → Option (BarLine × ℕ)
 bar_of_colons count =
     if nat_lt count 2 then None else Some (record { closes = count - 1; opens = count - 1; double = true }, count)
 
--- The bar line of colons, a middle of `middle` bytes, and what follows it, and how many bytes it takes.
+-- The bar line of colons, a middle of `middle` bytes and the text after it, and its size in bytes.
 abbrev pub with_middle : ℕ → ℕ → List ℕ → BarLine × ℕ
 with_middle closes middle behind = (
   record { closes = closes; opens = colons (drop middle behind); double = is_double (take middle behind) },
   closes + middle + colons (drop middle behind),
 )
 
--- The bar line of colons and what follows them.
+-- The bar line of colons and the text after them.
 abbrev pub bar_behind : ℕ → List ℕ → Option (BarLine × ℕ)
 bar_behind closes behind =
     if middle_size behind == 0 then bar_of_colons closes else Some (with_middle closes (middle_size behind) behind)
 
--- The longest bar line at the front of a text, and how many bytes it takes.
+-- The longest bar line at the front of a text, and its size in bytes.
 unfoldable pub bar_at : List ℕ → Option (BarLine × ℕ)
 bar_at text = bar_behind (colons text) (drop (colons text) text)

@@ -22,16 +22,16 @@ pub record IsBroken (text : List ℕ) (value : BrokenRhythm) : Type 0 where
 abbrev pub direction_of : ℕ → Option Direction
 direction_of b = if b == greater_sign then Some Right else (if b == less_sign then Some Left else None)
 
--- How many of the same mark a text begins with: the fourth belongs to another token.
+-- The number of equal marks at the front of a text: the fourth belongs to another token.
 abbrev pub marks_at : ℕ → List ℕ → ℕ
 marks_at mark text = prefix_len (λ b. b == mark) (take 3 text)
 
--- The longest mark of a direction at the front of a text, and how many bytes it takes.
+-- The longest mark of a direction at the front of a text, and its size in bytes.
 abbrev pub marks_of : List ℕ → Direction → BrokenRhythm × ℕ
 marks_of text direction =
     (record { direction = direction; marks = marks_at (mark_of direction) text }, marks_at (mark_of direction) text)
 
--- The longest mark at the front of a text, and how many bytes it takes.
+-- The longest mark at the front of a text, and its size in bytes.
 unfoldable pub broken_at : List ℕ → Option (BrokenRhythm × ℕ)
 broken_at [] = None
 broken_at (b ∷ bs) = option_map (marks_of (b ∷ bs)) (direction_of b)

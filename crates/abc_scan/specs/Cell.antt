@@ -30,13 +30,13 @@ join_cells cells = flat_map (λ cell. cell) cells
 abbrev pub but_last : List (List (Spanned TokenKind)) → List (List (Spanned TokenKind))
 but_last cells = take (length cells - 1) cells
 
--- The cells are these tokens, cut after each bar line and nowhere else.
+-- The cells are these tokens, cut exactly after each bar line.
 pub record AreCells (tokens : List (Spanned TokenKind)) (cells : List (List (Spanned TokenKind))) : Type 0 where
   pub whole : join_cells cells ≡ tokens
   pub each : All IsCell cells
   pub closed : All EndsWithBar (but_last cells)
 
--- A token before what the first cell has so far.
+-- A token before the tokens of the first cell so far.
 abbrev pub put_first : Spanned TokenKind → List (List (Spanned TokenKind)) → List (List (Spanned TokenKind))
 put_first token [] = (token ∷ []) ∷ []
 put_first token (cell ∷ cells) = (token ∷ cell) ∷ cells
@@ -46,7 +46,7 @@ abbrev pub cells_of : List (Spanned TokenKind) → List (List (Spanned TokenKind
 cells_of [] = []
 cells_of (t ∷ ts) = if ends_cell t then (t ∷ []) ∷ cells_of ts else put_first t (cells_of ts)
 
--- How many tokens are in the first cell of a line.
+-- The number of tokens in the first cell of a line.
 abbrev pub first_size : List (Spanned TokenKind) → ℕ
 first_size [] = 0
 first_size (t ∷ ts) = if ends_cell t then 1 else suc (first_size ts)
@@ -55,7 +55,7 @@ first_size (t ∷ ts) = if ends_cell t then 1 else suc (first_size ts)
 abbrev pub HasNoBar : List (Spanned TokenKind) → Type 0
 HasNoBar tokens = All (λ t. ends_cell t ≡ false) tokens
 
--- One more token after cells and the tokens of a begun one, whatever follows it.
+-- One more token after cells and the tokens of an open one, before any text.
 abbrev pub GoOnWith : Spanned TokenKind → List (List (Spanned TokenKind)) → List (Spanned TokenKind)
     → List (List (Spanned TokenKind)) → List (Spanned TokenKind) → Type 0
 GoOnWith token cells begun more_cells more_begun =

@@ -16,7 +16,7 @@ use Rattle.abc_scan.specs.Note.{IsNote, note_at}
 use Rattle.abc_scan.specs.Single.{IsBlankToken, IsTie}
 use Rattle.abc_scan.specs.Start.{start_of}
 
--- The bytes spell a part of a chord of this kind. A bad byte is what spells none. Which parts there are is not in ABC 2.1.
+-- The bytes spell a part of a chord of this kind. A bad byte spells none. The kinds of parts are not in ABC 2.1.
 abbrev pub SpellsPart : Bool → List ℕ → ChordPartKind → Type 0
 SpellsPart after_bar text (kinds.Note note) = IsNote text note
 SpellsPart after_bar text kinds.Tie = IsTie text
@@ -27,7 +27,7 @@ SpellsPart after_bar text kinds.BadByte = ⊥
 abbrev pub part_kinds : Kinds ChordPartKind
 part_kinds = record { unmatched = λ b. kinds.BadByte; is_bar = λ k. false }
 
--- What spells a part of a chord.
+-- The grammar of the parts of a chord.
 abbrev pub part_grammar : Grammar ChordPartKind
 part_grammar = record { kinds = part_kinds; spells = SpellsPart }
 
@@ -42,7 +42,7 @@ pub record IsChord (text : List ℕ) (chord : Chord) : Type 0 where
   pub length_is : chord.length ≡ frame.length
   pub parts_are : IsCuttingFrom part_grammar false 1 (inside_of frame text) chord.parts
 
--- The longest part at the front of a text that begins in this way, and how many bytes it takes.
+-- The longest part at the front of a text that begins in this way, and its size in bytes.
 abbrev pub part_by : Start → List ℕ → Option (ChordPartKind × ℕ)
 part_by starts.Note text = as_kind kinds.Note (note_at text)
 part_by starts.Parenthesis text = Some (kinds.NoEffect, 1)
@@ -53,11 +53,11 @@ part_by starts.Space text = of_kind kinds.NoEffect (extra_space_at text)
 part_by starts.Single text = Some (kinds.NoEffect, 1)
 part_by _ text = None
 
--- The longest part at the front of a text, and how many bytes it takes.
+-- The longest part at the front of a text, and its size in bytes.
 unfoldable pub part_reading_at : Bool → List ℕ → Option (ChordPartKind × ℕ)
 part_reading_at after_bar text = part_by (start_of text) text
 
--- What is read of the inside of a chord.
+-- The reader of the inside of a chord.
 abbrev pub part_reader : Reader ChordPartKind
 part_reader = record { kinds = part_kinds; reading = part_reading_at }
 
@@ -69,6 +69,6 @@ parts_of text = cutting_from part_reader false 1 0 text
 abbrev pub chord_of : Frame → List ℕ → Chord
 chord_of frame text = record { parts = parts_of (inside_of frame text); length = frame.length }
 
--- The longest chord at the front of a text, and how many bytes it takes.
+-- The longest chord at the front of a text, and its size in bytes.
 unfoldable pub chord_at : List ℕ → Option (Chord × ℕ)
 chord_at text = option_map (λ r. (chord_of r.0 text, r.1)) (frame_at text)

@@ -26,8 +26,8 @@ abbrev pub begins_bar : List ℕ → Bool
 begins_bar [] = false
 begins_bar (b ∷ bs) = (b == bar_stroke) || (b == colon)
 
--- The letter of the field that a text is: a letter, a colon, and what follows. A note or rest
--- before a repeat bar, as `C:|`, is no field. ABC 2.1 section 3; the exception is not in ABC 2.1.
+-- The letter of the field that a text is: a letter, a colon, and a value. A note or rest before a repeat bar, as `C:|`,
+-- is no field. ABC 2.1 section 3; the exception is not in ABC 2.1.
 abbrev pub field_letter : List ℕ → Option ℕ
 field_letter [] = None
 field_letter (letter ∷ []) = None
@@ -57,20 +57,19 @@ class_of line = class_of_text (without_return line)
 abbrev pub BeginsWithPercent : List ℕ → Type 0
 BeginsWithPercent text = (blanks : List ℕ) × (rest : List ℕ) × AreBlanks blanks × (text ≡ blanks ++ percent ∷ rest)
 
--- Such a line that is no directive. ABC 2.1 sections 2.2 and 11: other directives than those that are read are passed
--- over.
+-- A comment line that is no directive. ABC 2.1 sections 2.2 and 11: unknown directives are ignored.
 abbrev pub IsCommentLine : List ℕ → Type 0
 IsCommentLine text = BeginsWithPercent text × ¬ IsDirectiveLine text
 
--- A field with this letter: the letter, a colon, and what follows, which after a letter of a note or
--- rest is not `|` or `:`. ABC 2.1 section 3; the exception is not in ABC 2.1.
+-- A field with this letter: the letter, a colon, and a value. After a letter of a note or rest the value does not begin
+-- with `|` or `:`. ABC 2.1 section 3; the exception is not in ABC 2.1.
 pub record IsFieldLine (text : List ℕ) (letter : ℕ) : Type 0 where
   pub value : List ℕ
   pub spelling : text ≡ letter ∷ colon ∷ value
   pub named : IsTrue (names_field letter)
   pub no_repeat : IsTrue (is_music_letter letter) → IsTrue (begins_bar value) → ⊥
 
--- Whatever is none of these.
+-- Any other line.
 abbrev pub IsMusicLine : List ℕ → Type 0
 IsMusicLine text =
     ¬ AreBlanks text × ¬ IsCommentLine text × ¬ IsDirectiveLine text × ((letter : ℕ) → ¬ IsFieldLine text letter)

@@ -4,22 +4,22 @@ use Rattle.std.specs.Prelude.{◌≡◌, ℕ, zero, suc, ◌+◌, ◌-◌, ◌<�
 use Rattle.std.specs.Option.{option_map}
 use Rattle.abc_scan.specs.declared.spanned.Spanned.{Spanned}
 
--- What a byte is that begins no part, and which parts are bar lines.
+-- The kind of a byte that begins no part, and the test for bar lines.
 pub record Kinds (K : Type 0) : Type 0 where
   pub unmatched : ℕ → K
   pub is_bar : K → Bool
 
--- What spells a part, which may depend on whether a bar line is directly before it.
+-- The grammar of parts. It may depend on whether a bar line is directly before the part.
 pub record Grammar (K : Type 0) : Type 1 where
   pub kinds : Kinds K
   pub spells : Bool → List ℕ → K → Type 0
 
--- What is read at the front of a text as a part, and how many bytes it takes.
+-- The part read at the front of a text, and its size in bytes.
 pub record Reader (K : Type 0) : Type 0 where
   pub kinds : Kinds K
   pub reading : Bool → List ℕ → Option (K × ℕ)
 
--- The byte at the front of a text, as one that begins no part.
+-- The first byte of a text, as a byte that begins no part.
 abbrev pub unmatched_at : {K : Type 0} → Kinds K → List ℕ → K
 unmatched_at kinds [] = kinds.unmatched 0
 unmatched_at kinds (b ∷ bs) = kinds.unmatched b
@@ -33,7 +33,7 @@ pub record IsLongest {K : Type 0} (spells : List ℕ → K → Type 0) (text fro
 abbrev pub SpellsNone : {K : Type 0} → (List ℕ → K → Type 0) → List ℕ → Type 0
 SpellsNone {K} spells text = (front rest : List ℕ) (kind : K) → text ≡ front ++ rest → spells front kind → ⊥
 
--- What is cut off a text: its longest part, or one byte if it begins with none.
+-- The next part of a text: the longest one, or one byte if no part begins there.
 abbrev pub IsNext : {K : Type 0} → Kinds K → (List ℕ → K → Type 0) → List ℕ → List ℕ → K → Type 0
 IsNext kinds spells text front kind =
     IsLongest spells text front kind ⊎ (SpellsNone spells text × (length front ≡ 1) × (kind ≡ unmatched_at kinds text))
@@ -45,15 +45,15 @@ IsCuttingFrom grammar after_bar at text (t ∷ ts) =
     (front : List ℕ) × (rest : List ℕ) × (text ≡ front ++ rest) × IsNext grammar.kinds (grammar.spells after_bar) text front t.kind
     × (t.from ≡ at) × (t.to ≡ at + length front) × IsCuttingFrom grammar (grammar.kinds.is_bar t.kind) t.to rest ts
 
--- A value that was read, as a part of this kind.
+-- A part of this kind with the value read.
 abbrev pub as_kind : {V K : Type 0} → (V → K) → Option (V × ℕ) → Option (K × ℕ)
 as_kind kind found = option_map (λ r. (kind r.0, r.1)) found
 
--- So many bytes that were read, as a part of this kind.
+-- A part of this kind and size.
 abbrev pub of_kind : {K : Type 0} → K → Option ℕ → Option (K × ℕ)
 of_kind kind found = option_map (λ size. (kind, size)) found
 
--- What comes first in a text, and how many bytes it takes: what is read there, else one byte.
+-- The first part of a text, and its size in bytes: the part read there, else one byte.
 abbrev pub next : {K : Type 0} → Reader K → Bool → List ℕ → K × ℕ
 next reader after_bar text = unwrap_or (reader.reading after_bar text) (unmatched_at reader.kinds text, 1)
 
@@ -61,7 +61,7 @@ next reader after_bar text = unwrap_or (reader.reading after_bar text) (unmatche
 abbrev pub part_at : {K : Type 0} → ℕ → K × ℕ → Spanned K
 part_at at first = record { kind = first.0; from = at; to = at + first.1 }
 
--- The parts of a text that begins at this place, and whose first `inside` bytes belong to the part before it.
+-- The parts of a text that begins at this place. Its first `inside` bytes belong to the part before.
 abbrev pub cutting_from : {K : Type 0} → Reader K → Bool → ℕ → ℕ → List ℕ → List (Spanned K)
 cutting_from reader after_bar at inside [] = []
 cutting_from reader after_bar at zero (b ∷ bs) =

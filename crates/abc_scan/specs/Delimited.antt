@@ -24,7 +24,7 @@ pub record IsDelimited (text : List ℕ) : Type 0 where
 abbrev pub closed_by : ℕ → List ℕ → Option ℕ
 closed_by closing rest = option_map (λ place. place + 2) (place_of closing rest)
 
--- How many bytes the token between delimiters at the front of a text takes.
+-- The size in bytes of the token between delimiters at the front of a text.
 unfoldable pub delimited_at : List ℕ → Option ℕ
 delimited_at [] = None
 delimited_at (b ∷ rest) =

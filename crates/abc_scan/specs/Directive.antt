@@ -16,7 +16,7 @@ use Rattle.abc_scan.specs.Number.{number_at}
 abbrev pub IsGap : List ℕ → Type 0
 IsGap text = (1 ≤ length text) × AreBlanks text
 
--- What may follow a directive: blanks, and then nothing or a comment.
+-- The text that may follow a directive: blanks, and then nothing or a comment.
 pub record IsEnd (text : List ℕ) : Type 0 where
   pub blanks : List ℕ
   pub comment : List ℕ
@@ -36,13 +36,13 @@ pub record IsProgramLine (text : List ℕ) (number : ℕ) : Type 0 where
   pub number_is : IsNumber digits number
   pub end_is : IsEnd end
 
--- The word for how far accidentals reach.
+-- The word for the reach of accidentals.
 abbrev pub name_of : Reach → List ℕ
 name_of Not = codes "not"
 name_of Octave = codes "octave"
 name_of Pitch = codes "pitch"
 
--- The line that says how far accidentals reach.
+-- The line that sets the reach of accidentals.
 pub record IsReachLine (text : List ℕ) (reach : Reach) : Type 0 where
   pub gap : List ℕ
   pub end : List ℕ
@@ -63,7 +63,7 @@ IsDirectiveLine text = (directive : Directive) × IsDirective text directive
 abbrev pub begins_with : List ℕ → List ℕ → Bool
 begins_with word text = bytes_eq (take (length word) text) word
 
--- What is read after the blanks that a text begins with; nothing if there is none.
+-- The reading of a text after its leading blanks; none if it has no leading blank.
 abbrev pub after_gap : (List ℕ → Option Directive) → List ℕ → Option Directive
 after_gap reading text = if leading_blanks text == 0 then None else reading (drop (leading_blanks text) text)
 
@@ -72,7 +72,7 @@ abbrev pub is_comment_or_none : List ℕ → Bool
 is_comment_or_none [] = true
 is_comment_or_none (b ∷ bs) = b == percent
 
--- A directive, if what follows may come after it.
+-- A directive, if the text after it may follow a directive.
 abbrev pub directive_at_end : Directive → List ℕ → Option Directive
 directive_at_end directive end = if is_comment_or_none (drop (leading_blanks end) end) then Some directive else None
 
@@ -85,11 +85,11 @@ program_by text (Some number) = directive_at_end (directives.Program number.0) (
 abbrev pub program_directive : List ℕ → Option Directive
 program_directive text = program_by text (number_at text)
 
--- What is read after `%%MIDI` and its blanks.
+-- The directive read after `%%MIDI` and its blanks.
 abbrev pub midi_directive : List ℕ → Option Directive
 midi_directive text = if begins_with (codes "program") text then after_gap program_directive (drop 7 text) else None
 
--- What is read after `%%propagate-accidentals` and its blanks.
+-- The directive read after `%%propagate-accidentals` and its blanks.
 abbrev pub reach_directive : List ℕ → Option Directive
 reach_directive text =
     if begins_with (codes "not") text then directive_at_end (directives.Reach Not) (drop 3 text)
@@ -108,6 +108,6 @@ directive_of text =
 abbrev pub is_directive : List ℕ → Bool
 is_directive text = is_some (directive_of text)
 
--- A text spells one directive at most, which is the one that is read.
+-- A text spells at most one directive: the one that is read.
 abbrev pub ReadsDirectives : Type 0
 ReadsDirectives = (text : List ℕ) (directive : Directive) → (directive_of text ≡ Some directive) ↔ IsDirective text directive

@@ -5,27 +5,22 @@ use Rattle.abc_scan.specs.declared.dynamic.Dynamic.{Dynamic}
 use Rattle.abc_scan.specs.declared.dynamic.Dynamic.TheVariants.{Ppp, Pp, P, Mp, Mf, F, Ff, Fff}
 use Rattle.abc_scan.specs.Byte.{exclamation}
 
--- The MIDI velocity of notes that are so loud. Not in ABC 2.1.
-abbrev pub velocity_of : Dynamic → ℕ
-velocity_of Ppp = 30
-velocity_of Pp = 45
-velocity_of P = 60
-velocity_of Mp = 75
-velocity_of Mf = 90
-velocity_of F = 105
-velocity_of Ff = 120
-velocity_of Fff = 127
+-- The name of a dynamic (ABC 2.1 section 4.14), and the MIDI velocity of notes with it (not in ABC 2.1).
+abbrev pub name_and_velocity : Dynamic → List ℕ × ℕ
+name_and_velocity Ppp = (codes "ppp", 30)
+name_and_velocity Pp = (codes "pp", 45)
+name_and_velocity P = (codes "p", 60)
+name_and_velocity Mp = (codes "mp", 75)
+name_and_velocity Mf = (codes "mf", 90)
+name_and_velocity F = (codes "f", 105)
+name_and_velocity Ff = (codes "ff", 120)
+name_and_velocity Fff = (codes "fff", 127)
 
--- The name of a dynamic. ABC 2.1 section 4.14.
 abbrev pub name_of : Dynamic → List ℕ
-name_of Ppp = codes "ppp"
-name_of Pp = codes "pp"
-name_of P = codes "p"
-name_of Mp = codes "mp"
-name_of Mf = codes "mf"
-name_of F = codes "f"
-name_of Ff = codes "ff"
-name_of Fff = codes "fff"
+name_of dynamic = (name_and_velocity dynamic).0
+
+abbrev pub velocity_of : Dynamic → ℕ
+velocity_of dynamic = (name_and_velocity dynamic).1
 
 -- A dynamic: its name between exclamation marks. ABC 2.1 section 4.14.
 abbrev pub IsDynamic : List ℕ → Dynamic → Type 0

@@ -77,7 +77,7 @@ pub record IsEnding (after_bar : Bool) (text : List ℕ) (passes : Option ℕ) :
 abbrev pub range_bits : PassRange → ℕ
 range_bits range = 2 ^ range.last - 2 ^ (range.first - 1)
 
--- Passes and those of a range more, or none if the range is refused.
+-- Passes together with those of another range, or none if the range is refused.
 abbrev pub with_range : Option ℕ → PassRange → Option ℕ
 with_range None range = None
 with_range (Some passes) range = if is_accepted range then Some (bit_or passes (range_bits range)) else None
@@ -86,12 +86,12 @@ with_range (Some passes) range = if is_accepted range then Some (bit_or passes (
 abbrev pub passes_of : List PassRange → Option ℕ
 passes_of ranges = fold with_range (Some 0) ranges
 
--- The number after a dash at the front of a text, and how many bytes it takes without the dash.
+-- The number after a dash at the front of a text, and its size in bytes without the dash.
 abbrev pub last_at : List ℕ → Option (ℕ × ℕ)
 last_at [] = None
 last_at (b ∷ bs) = if b == minus_sign then number_at bs else None
 
--- The longest range of its first number and, perhaps, its last, and how many bytes it takes.
+-- The longest range of its first number and, perhaps, its last, and its size in bytes.
 abbrev pub range_of : ℕ → ℕ → Option (ℕ × ℕ) → PassRange × ℕ
 range_of first size None = (record { first = first; last = first }, size)
 range_of first size (Some last) = (record { first = first; last = last.0 }, size + 1 + last.1)
@@ -100,16 +100,16 @@ range_of first size (Some last) = (record { first = first; last = last.0 }, size
 abbrev pub range_behind : List ℕ → ℕ × ℕ → PassRange × ℕ
 range_behind text first = range_of first.0 first.1 (last_at (drop first.1 text))
 
--- The longest range at the front of a text, and how many bytes it takes.
+-- The longest range at the front of a text, and its size in bytes.
 unfoldable pub range_at : List ℕ → Option (PassRange × ℕ)
 range_at text = option_map (range_behind text) (number_at text)
 
--- A comma and the longest range after it at the front of a text, and how many bytes both take.
+-- A comma and the longest range after it at the front of a text, and the size of both in bytes.
 abbrev pub next_range : List ℕ → Option (PassRange × ℕ)
 next_range [] = None
 next_range (b ∷ bs) = if b == comma then option_map after_byte (range_at bs) else None
 
--- How many bytes a range takes, if there is one.
+-- The size of a range in bytes, if there is one.
 abbrev pub range_size : Option (PassRange × ℕ) → ℕ
 range_size None = 0
 range_size (Some range) = range.1
@@ -119,8 +119,8 @@ abbrev pub and_more : Option (PassRange × ℕ) → List PassRange × ℕ → Li
 and_more None more = ([], 0)
 and_more (Some range) more = (range.0 ∷ more.0, range.1 + more.1)
 
--- The ranges with their commas at the front of a text, whose first `inside` bytes belong to
--- the range before them, and how many bytes they take.
+-- The ranges with their commas at the front of a text, whose first `inside` bytes belong to the range before them, and
+-- their size in bytes.
 abbrev pub more_from : ℕ → List ℕ → List PassRange × ℕ
 more_from inside [] = ([], 0)
 more_from zero (b ∷ bs) = and_more (next_range (b ∷ bs)) (more_from (range_size (next_range (b ∷ bs)) - 1) bs)
@@ -131,7 +131,7 @@ abbrev pub ranges_behind : List ℕ → PassRange × ℕ → List PassRange × �
 ranges_behind text first =
     let more = more_from 0 (drop first.1 text) in (first.0 ∷ more.0, first.1 + more.1)
 
--- The longest list of ranges at the front of a text, and how many bytes it takes.
+-- The longest list of ranges at the front of a text, and its size in bytes.
 unfoldable pub ranges_at : List ℕ → Option (List PassRange × ℕ)
 ranges_at text = option_map (ranges_behind text) (range_at text)
 
@@ -139,11 +139,11 @@ ranges_at text = option_map (ranges_behind text) (range_at text)
 abbrev pub as_passes : List PassRange × ℕ → Option ℕ × ℕ
 as_passes ranges = (passes_of ranges.0, ranges.1)
 
--- The longest ranges at the front of a text as passes, and how many bytes they take.
+-- The longest ranges at the front of a text as passes, and their size in bytes.
 unfoldable pub passes_at : List ℕ → Option (Option ℕ × ℕ)
 passes_at text = option_map as_passes (ranges_at text)
 
--- The longest ending mark at the front of a text, and how many bytes it takes.
+-- The longest ending mark at the front of a text, and its size in bytes.
 unfoldable pub ending_at : Bool → List ℕ → Option (Option ℕ × ℕ)
 ending_at after_bar [] = None
 ending_at after_bar (b ∷ bs) =

@@ -11,7 +11,6 @@ begins_field [] = false
 begins_field (letter ∷ []) = false
 begins_field (letter ∷ sign ∷ rest) = is_ascii_alphabetic letter && (sign == colon)
 
--- The field that a text is: its letter, and what follows the colon. Blanks at the ends are no part of
--- a value.
+-- The field of a text: its letter, and the text after the colon. Blanks at the ends are no part of a value.
 abbrev pub field_of : List ℕ → Field
 field_of text = record { letter = slice_index text 0; value = trim_blanks (drop 2 text) }

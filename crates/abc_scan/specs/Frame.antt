@@ -21,17 +21,17 @@ pub record IsFrame (text : List ℕ) (frame : Frame) : Type 0 where
   pub size_is : frame.inside ≡ length inside
   pub length_is : IsLength written frame.length
 
--- The frame with `size` bytes inside, if this is what follows them, and how many bytes it takes.
+-- The frame with `size` bytes inside that this text follows, and its size in bytes.
 abbrev pub closed_frame : ℕ → List ℕ → Option (Frame × ℕ)
 closed_frame size [] = None
 closed_frame size (b ∷ behind) =
     if b == closing_bracket then Some (record { inside = size; length = length_at behind }, size + 2 + length_size behind) else None
 
--- How many bytes that may be inside a chord a text begins with.
+-- The number of bytes at the front of a text that may be inside a chord.
 abbrev pub inside_size : List ℕ → ℕ
 inside_size text = prefix_len is_inside text
 
--- The frame at the front of a text, and how many bytes the chord takes.
+-- The frame at the front of a text, and its size in bytes.
 unfoldable pub frame_at : List ℕ → Option (Frame × ℕ)
 frame_at [] = None
 frame_at (b ∷ rest) =

@@ -6,6 +6,6 @@ pub record IsFront (text : List ℕ) (size : ℕ) : Type 0 where
   pub some : 0 < size
   pub inside : size ≤ length text
 
--- A value that is read after one byte, and how many bytes both take.
+-- A value that is read after one byte, and the size of both in bytes.
 abbrev pub after_byte : {V : Type 0} → V × ℕ → V × ℕ
 after_byte read = (read.0, 1 + read.1)

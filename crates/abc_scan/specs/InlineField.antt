@@ -23,12 +23,11 @@ abbrev pub opens_field : List ℕ → Bool
 opens_field [] = false
 opens_field (b ∷ inside) = (b == opening_bracket) && begins_field inside
 
--- The field that begins a text and is closed by its first `]`, and how many bytes both brackets and
--- the field take.
+-- The field that begins a text and ends at its first `]`, and its size in bytes with both brackets.
 abbrev pub closed_field : List ℕ → Option (Field × ℕ)
 closed_field inside = option_map (λ place. (field_of (take place inside), place + 2)) (place_of closing_bracket inside)
 
--- The inline field at the front of a text, and how many bytes it takes.
+-- The inline field at the front of a text, and its size in bytes.
 unfoldable pub inline_field_at : List ℕ → Option (Field × ℕ)
 inline_field_at [] = None
 inline_field_at (b ∷ inside) = if (b == opening_bracket) && begins_field inside then closed_field inside else None

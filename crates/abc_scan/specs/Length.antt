@@ -37,7 +37,7 @@ abbrev pub written_length : List ℕ → ℕ → List ℕ → WrittenLength
 written_length over slashes under =
     if nat_lt 29 slashes then Refused else factor (number_or over 1) (number_or under (2 ^ slashes))
 
--- A length text: digits, then nothing, or one slash with digits, or one or more slashes.
+-- A length text: digits, then nothing, one slash with digits, or one or more slashes.
 pub record IsLength (text : List ℕ) (value : WrittenLength) : Type 0 where
   pub over : List ℕ
   pub slashes : ℕ
@@ -60,20 +60,20 @@ abbrev pub HasFactor : WrittenLength → Type 0
 HasFactor (Factor num den) = IsFactor num den
 HasFactor Refused = Unit {0}
 
--- The longest length text at the front of a text: its digits, and after them its slashes, and after
--- one slash digits again. How many digits come first.
+-- The number of leading digits of the longest length text: digits, then slashes, then digits again after a single
+-- slash.
 abbrev pub over_size : List ℕ → ℕ
 over_size text = prefix_len is_digit text
 
--- How many slashes follow the digits.
+-- The number of slashes after the digits.
 abbrev pub slashes_size : List ℕ → ℕ
 slashes_size rest = prefix_len is_slash rest
 
--- How many digits follow the slashes: only one slash takes any.
+-- The number of digits after the slashes: only a single slash has any.
 abbrev pub under_size : List ℕ → ℕ
 under_size rest = if slashes_size rest == 1 then prefix_len is_digit (drop (slashes_size rest) rest) else 0
 
--- How many bytes it takes.
+-- The size of the length text in bytes.
 unfoldable pub length_size : List ℕ → ℕ
 length_size text =
     let rest = drop (over_size text) text in

@@ -25,14 +25,18 @@ IsCutting text tokens = IsCuttingFrom line_grammar false 0 text tokens
 abbrev pub cutting_of : List ℕ → List (Spanned TokenKind)
 cutting_of text = cutting_from line_reader false 0 0 text
 
--- One token, which is the whole text.
-abbrev pub field_token : List ℕ → List (Spanned TokenKind)
-field_token text = record { kind = kinds.Field (field_of text); from = 0; to = length text } ∷ []
+-- One token for a whole text of `size` bytes.
+abbrev pub whole_token : TokenKind → ℕ → List (Spanned TokenKind)
+whole_token kind size = record { kind = kind; from = 0; to = size } ∷ []
 
--- One token of `size` bytes, which is the directive that was read.
+-- One token for the whole text of a field.
+abbrev pub field_token : List ℕ → List (Spanned TokenKind)
+field_token text = whole_token (kinds.Field (field_of text)) (length text)
+
+-- One token of `size` bytes: the directive that is read.
 abbrev pub directive_token : Option Directive → ℕ → List (Spanned TokenKind)
 directive_token None size = []
-directive_token (Some directive) size = record { kind = kinds.Directive directive; from = 0; to = size } ∷ []
+directive_token (Some directive) size = whole_token (kinds.Directive directive) size
 
 -- Whether lines of a class have tokens: blank lines and comments have none.
 abbrev pub has_tokens : LineClass → Bool
@@ -52,14 +56,14 @@ tokens_in _ text = []
 unfoldable pub tokens_of : List ℕ → List (Spanned TokenKind)
 tokens_of line = tokens_in (class_of line) (without_return line)
 
--- How many bytes of a text its tokens cover: a blank line and a comment have none.
+-- The number of bytes of a text that its tokens cover: none of a blank line or a comment.
 abbrev pub covered_in : LineClass → List ℕ → ℕ
 covered_in (classes.Field letter) text = length (without_comment text)
 covered_in classes.Directive text = length text
 covered_in classes.Music text = length (without_comment text)
 covered_in _ text = 0
 
--- How many bytes the tokens of a line cover.
+-- The number of bytes that the tokens of a line cover.
 unfoldable pub covered_of : List ℕ → ℕ
 covered_of line = covered_in (class_of line) (without_return line)
 
@@ -75,7 +79,7 @@ HasLength (kinds.Rest value) = HasFactor value
 HasLength (kinds.Chord chord) = HasFactor chord.length × All (λ p. HasPartLength p.kind) chord.parts
 HasLength _ = Unit {0}
 
--- What `cutting_of` gives is a cutting of the text.
+-- `cutting_of` gives a cutting of the text.
 abbrev pub CutsEachText : Type 0
 CutsEachText = (text : List ℕ) → IsCutting text (cutting_of text)
 

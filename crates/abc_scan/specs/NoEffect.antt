@@ -22,7 +22,7 @@ pub record IsSingle (text : List ℕ) : Type 0 where
 abbrev pub HasNoEffect : List ℕ → Type 0
 HasNoEffect text = IsDelimited text ⊎ (IsExtraSpace text ⊎ IsSingle text)
 
--- How many bytes the extra space at the front of a text takes.
+-- The size in bytes of the extra space at the front of a text.
 unfoldable pub extra_space_at : List ℕ → Option ℕ
 extra_space_at [] = None
 extra_space_at (b ∷ rest) = if b == small_y then Some (1 + (optional_number_at rest).1) else None

@@ -15,7 +15,7 @@ use Rattle.abc_scan.specs.declared.note.Note.{Note}
 use Rattle.abc_scan.specs.Byte.{apostrophe, comma, equals_sign, caret, underscore}
 use Rattle.abc_scan.specs.Length.{IsLength, is_slash, length_at, length_size}
 
--- How an accidental, or none, is written. ABC 2.1 section 4.2.
+-- The spelling of an accidental, or of none. ABC 2.1 section 4.2.
 abbrev pub accidental_text : Option Accidental → List ℕ
 accidental_text None = []
 accidental_text (Some accidental) = spelling accidental
@@ -65,15 +65,15 @@ accidental_at (b ∷ bs) =
     else (if b == underscore then (if begins_with_byte underscore bs then Some DoubleFlat else Some Flat)
     else (if b == equals_sign then Some Natural else None))
 
--- How many bytes an accidental takes.
+-- The size of an accidental in bytes.
 abbrev pub accidental_size : Option Accidental → ℕ
 accidental_size a = length (accidental_text a)
 
--- How many octave marks a text begins with.
+-- The number of octave marks at the front of a text.
 abbrev pub marks_size : List ℕ → ℕ
 marks_size text = prefix_len is_octave_mark text
 
--- The longest note of an accidental, a letter's byte and what follows it, and how many bytes it takes.
+-- The longest note of an accidental, a letter's byte and the text after it, and its size in bytes.
 abbrev pub note_of : Option Accidental → ℕ → List ℕ → Letter → Note × ℕ
 note_of accidental byte rest letter = (
   record {
@@ -85,12 +85,12 @@ note_of accidental byte rest letter = (
   accidental_size accidental + 1 + marks_size rest + length_size (drop (marks_size rest) rest),
 )
 
--- The longest note of an accidental and what follows it, and how many bytes it takes.
+-- The longest note of an accidental and the text after it, and its size in bytes.
 abbrev pub note_behind : Option Accidental → List ℕ → Option (Note × ℕ)
 note_behind accidental [] = None
 note_behind accidental (b ∷ rest) = option_map (note_of accidental b rest) (letter_of b)
 
--- The longest note at the front of a text, and how many bytes it takes.
+-- The longest note at the front of a text, and its size in bytes.
 unfoldable pub note_at : List ℕ → Option (Note × ℕ)
 note_at text = note_behind (accidental_at text) (drop (accidental_size (accidental_at text)) text)
 
@@ -112,7 +112,7 @@ pub record IsPlain (byte num : ℕ) (note : Note) : Type 0 where
   pub letter : letter_of byte ≡ Some note.letter
   pub plain : note ≡ plain_note byte num note.letter
 
--- A note and the bytes that it takes are what is read at the front of a text, which begins with its letter.
+-- Reading the front of a text gives this note and size, and the text begins with the note's letter.
 pub record IsShort (text : List ℕ) (read : Note × ℕ) : Type 0 where
   pub byte : ℕ
   pub rest : List ℕ
@@ -124,7 +124,7 @@ pub record IsShort (text : List ℕ) (read : Note × ℕ) : Type 0 where
 abbrev pub is_rest_letter : ℕ → Bool
 is_rest_letter b = (b == 122) || (b == 120)
 
--- The longest rest at the front of a text, and how many bytes it takes.
+-- The longest rest at the front of a text, and its size in bytes.
 unfoldable pub rest_at : List ℕ → Option (WrittenLength × ℕ)
 rest_at [] = None
 rest_at (b ∷ rest) = if is_rest_letter b then Some (length_at rest, 1 + length_size rest) else None

@@ -1,4 +1,4 @@
--- Which kind of token a text can begin with, by its first bytes.
+-- The kind of token that a text can begin with, by its first bytes.
 use Rattle.std.specs.Prelude.{ℕ, Bool, ◌&&◌, ◌||◌, List, [], ◌∷◌, if◌then◌else◌, ◌==◌, nat_le}
 use Rattle.std.specs.Char.{is_ascii_alphabetic, is_ascii_digit}
 use Rattle.abc_scan.specs.declared.start.Start.{Start}
@@ -22,7 +22,7 @@ abbrev pub begins_note : ℕ → Bool
 begins_note b =
     (nat_le 65 b && nat_le b 71) || (nat_le 97 b && nat_le b 103) || (b == caret) || (b == underscore) || (b == equals_sign)
 
--- What one of the remaining bytes begins.
+-- The kind of token that one of the remaining bytes begins.
 abbrev pub mark_start : ℕ → Start
 mark_start b =
     if is_rest_letter b then starts.Rest
@@ -34,7 +34,7 @@ mark_start b =
     else (if b == small_y then starts.Space
     else starts.Nothing))))))
 
--- What a byte other than `[` begins.
+-- The kind of token that a byte other than `[` begins.
 unfoldable pub byte_start : ℕ → Start
 byte_start b =
     if b == open_parenthesis then starts.Parenthesis
@@ -44,8 +44,8 @@ byte_start b =
     else (if begins_note b then starts.Note
     else mark_start b))))
 
--- What a `[` begins, by the bytes after it: a bar line if a `|` follows, an inline field if a letter and
--- a colon follow.
+-- The kind of token that a `[` begins, by the bytes after it: a bar line if a `|` follows, an inline field if a letter
+-- and a colon follow.
 unfoldable pub bracket_start : List ℕ → Start
 bracket_start [] = starts.Bracket
 bracket_start (b ∷ []) = if b == bar_stroke then starts.BarLine else starts.Bracket
@@ -53,7 +53,7 @@ bracket_start (b ∷ c ∷ rest) =
     if b == bar_stroke then starts.BarLine
     else (if is_ascii_alphabetic b && (c == colon) then starts.InlineField else starts.Bracket)
 
--- What a text begins with.
+-- The kind of token that a text begins with.
 abbrev pub start_of : List ℕ → Start
 start_of [] = starts.Nothing
 start_of (b ∷ rest) = if b == opening_bracket then bracket_start rest else byte_start b

@@ -22,14 +22,14 @@ abbrev pub last_or : ℕ → List ℕ → ℕ
 last_or before [] = before
 last_or before (b ∷ bs) = last_or b bs
 
--- What is read of a text that follows this byte is its front: each `%` in it directly follows a
--- backslash, and after it comes nothing, or a comment, whose `%` does not.
+-- The text read after this byte is a front of the text. Each `%` in the front directly follows a backslash. After the
+-- front comes nothing, or a comment, whose `%` does not follow one.
 pub record IsRead (before : ℕ) (text read : List ℕ) : Type 0 where
   pub comment : List ℕ
   pub spelling : text ≡ read ++ comment
   pub escaped : (front rest : List ℕ) → read ≡ front ++ percent ∷ rest → last_or before front ≡ backslash
   pub begins : (comment ≡ []) ⊎ ((rest : List ℕ) × (comment ≡ percent ∷ rest) × (last_or before read ≢ backslash))
 
--- What is left of each text without its comment is what is read of it.
+-- Each text without its comment is the text that is read.
 abbrev pub CutsComments : Type 0
 CutsComments = (text : List ℕ) → IsRead space text (without_comment text)

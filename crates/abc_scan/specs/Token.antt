@@ -1,4 +1,4 @@
--- What a music line is made of. ABC 2.1 section 4.
+-- The tokens of a music line. ABC 2.1 section 4.
 use Rattle.std.specs.Prelude.{◌≡◌, ℕ, Bool, true, false, Option, Some, None, List, take, if◌then◌else◌, ◌||◌, ◌==◌}
 use Rattle.std.specs.Option.{option_map}
 use Rattle.abc_scan.specs.declared.dynamic.Dynamic.{Dynamic}
@@ -22,8 +22,8 @@ use Rattle.abc_scan.specs.Single.{IsBlankToken, IsTie}
 use Rattle.abc_scan.specs.Start.{start_of}
 use Rattle.abc_scan.specs.Tuplet.{IsTuplet, tuplet_at}
 
--- The bytes spell a token of this kind, with a bar line directly before them or without. A field line and a
--- directive line are no tokens of music, and a byte alone is what spells none.
+-- The bytes spell a token of this kind, with a bar line directly before them or without. A field line and a directive
+-- line are no tokens of music. A byte alone spells none.
 abbrev pub Spells : Bool → List ℕ → TokenKind → Type 0
 Spells after_bar text (kinds.Note note) = IsNote text note
 Spells after_bar text (kinds.Rest value) = IsRest text value
@@ -57,16 +57,16 @@ is_bar _ = false
 abbrev pub line_kinds : Kinds TokenKind
 line_kinds = record { unmatched = unmatched_byte; is_bar = is_bar }
 
--- What spells a token of a line.
+-- The grammar of the tokens of a line.
 abbrev pub line_grammar : Grammar TokenKind
 line_grammar = record { kinds = line_kinds; spells = Spells }
 
--- The first of two readings that there is.
+-- The first reading, or else the second.
 abbrev pub or_else : Option (TokenKind × ℕ) → Option (TokenKind × ℕ) → Option (TokenKind × ℕ)
 or_else (Some token) other = Some token
 or_else None other = other
 
--- What a text between delimiters is: a dynamic, or a token without effect.
+-- The kind of a text between delimiters: a dynamic, or a token without effect.
 abbrev pub dynamic_or_ignored : Option Dynamic → TokenKind
 dynamic_or_ignored None = kinds.NoEffect
 dynamic_or_ignored (Some dynamic) = kinds.Dynamic dynamic
@@ -75,8 +75,8 @@ dynamic_or_ignored (Some dynamic) = kinds.Dynamic dynamic
 abbrev pub enclosed_token : List ℕ → ℕ → TokenKind × ℕ
 enclosed_token text size = (dynamic_or_ignored (dynamic_of (take size text)), size)
 
--- The longest token at the front of a text that begins in this way, if it can be read without memory and
--- without a search for its end, and how many bytes it takes. A tuplet is longer than its `(`.
+-- The longest token of this kind at the front of a text, and its size in bytes. None if it needs memory or a search for
+-- its end. A tuplet is longer than its `(`.
 abbrev pub mark_by : Start → Bool → List ℕ → Option (TokenKind × ℕ)
 mark_by starts.Note after_bar text = as_kind kinds.Note (note_at text)
 mark_by starts.Rest after_bar text = as_kind kinds.Rest (rest_at text)
@@ -91,8 +91,8 @@ mark_by starts.Space after_bar text = of_kind kinds.NoEffect (extra_space_at tex
 mark_by starts.Single after_bar text = Some (kinds.NoEffect, 1)
 mark_by _ after_bar text = None
 
--- The longest token at the front of a text that begins in this way, and how many bytes it takes. A chord is
--- longer than the ending that begins with the same bytes.
+-- The longest token at the front of a text that begins in this way, and its size in bytes. A chord is longer than the
+-- ending that begins with the same bytes.
 abbrev pub reading_by : Start → Bool → List ℕ → Option (TokenKind × ℕ)
 reading_by starts.InlineField after_bar text = as_kind kinds.InlineField (inline_field_at text)
 reading_by starts.Bracket after_bar text =
@@ -100,18 +100,18 @@ reading_by starts.Bracket after_bar text =
 reading_by starts.Delimited after_bar text = option_map (enclosed_token text) (delimited_at text)
 reading_by start after_bar text = mark_by start after_bar text
 
--- The longest token at the front of a text, and how many bytes it takes.
+-- The longest token at the front of a text, and its size in bytes.
 unfoldable pub reading_at : Bool → List ℕ → Option (TokenKind × ℕ)
 reading_at after_bar text = reading_by (start_of text) after_bar text
 
--- What is read of a line.
+-- The reader of the tokens of a line.
 abbrev pub line_reader : Reader TokenKind
 line_reader = record { kinds = line_kinds; reading = reading_at }
 
--- What comes first in a text, and how many bytes it takes: a token, else one byte that begins none.
+-- The first token of a text, and its size in bytes: a token, else one byte that begins none.
 abbrev pub next_token : Bool → List ℕ → TokenKind × ℕ
 next_token after_bar text = next line_reader after_bar text
 
--- What comes first in a text, and how many bytes it takes, whether a bar line is before it or not.
+-- The first token of a text, and its size in bytes, whether a bar line is before it or not.
 abbrev pub ComesFirst : TokenKind × ℕ → List ℕ → Type 0
 ComesFirst token text = (after_bar : Bool) → next_token after_bar text ≡ token

@@ -13,11 +13,11 @@ pub struct BarLine {
     pub closes: u32,
     /// The colons after its strokes.
     pub opens: u32,
-    /// Whether its strokes and brackets are more than a single `|`, or none.
+    /// Whether its strokes and brackets are not a single `|`.
     pub double: bool,
 }
 
-/// Whether a byte between its neighbours belongs to the middle of a bar line.
+/// Returns whether a byte between its neighbours belongs to the middle of a bar line.
 fn goes_on(before: u8, byte: u8, rest: &[u8]) -> bool
     ensures { result ≡ goes_on before byte rest.now }
 {
@@ -29,7 +29,7 @@ fn goes_on(before: u8, byte: u8, rest: &[u8]) -> bool
     }
 }
 
-/// How many bytes of strokes and brackets a text begins with.
+/// Returns the number of bytes of strokes and brackets at the front of a text.
 fn middle_size(text: &[u8]) -> usize
     ensures value { result ≡ middle_size text.now }
     ensures inside { result ≤ length text.now }
@@ -44,7 +44,7 @@ fn middle_size(text: &[u8]) -> usize
     text.len()
 }
 
-/// Whether a middle is another one than a single `|`.
+/// Returns whether a middle is not a single `|`.
 fn is_double(middle: &[u8]) -> bool
     ensures { result ≡ is_double middle.now }
 {
@@ -68,7 +68,7 @@ fn bar_of_colons(count: usize) -> Option<(BarLine, usize)>
     Some((bar, count))
 }
 
-/// The bar line at the front of a text, and how many bytes it takes.
+/// The bar line at the front of a text, and its size in bytes.
 #[tactic(auto, unfolding(crate::specs::Bar::bar_at))]
 pub(crate) fn bar_at(text: &[u8]) -> Option<(BarLine, usize)>
     requires { length text.now < 2 ^ 31 }

@@ -6,8 +6,7 @@ ghost use Rattle.abc_scan.specs.BarRest.{bar_rest_at};
 
 use crate::number::optional_number_at;
 
-/// How many bars the rest at the front of a text takes, if it is written, and how many bytes
-/// it takes itself.
+/// Returns the number of bars of the rest at the front of a text, if one is written, and the size of the rest in bytes.
 #[tactic(auto, unfolding(crate::specs::BarRest::bar_rest_at))]
 pub(crate) fn bar_rest_at(text: &[u8]) -> Option<(Option<u32>, usize)>
     ensures value { result ≡ bar_rest_at text.now }

@@ -6,7 +6,7 @@ ghost use Rattle.abc_scan.specs.Broken.{direction_of, marks_at, broken_at};
 
 use crate::run::run_of;
 
-/// Which way marks point, away from the longer note.
+/// The direction of marks, away from the longer note.
 #[derive(Clone, Copy, PartialEq, Eq)]
 pub enum Direction {
     /// `>`: the note before it is longer.
@@ -15,11 +15,11 @@ pub enum Direction {
     Left,
 }
 
-/// Marks between two notes (ABC 2.1 section 4.4).
+/// A mark between two notes (ABC 2.1 section 4.4).
 #[derive(Clone, Copy, PartialEq, Eq)]
 pub struct BrokenRhythm {
     pub direction: Direction,
-    /// How many marks, 1 to 3.
+    /// The number of marks, 1 to 3.
     pub marks: u8,
 }
 
@@ -34,7 +34,7 @@ fn direction_of(byte: u8) -> Option<Direction>
     }
 }
 
-/// How many of the same mark a text begins with, counted up to three.
+/// Returns the number of equal marks at the front of a text, counted up to three.
 fn marks_at(mark: u8, text: &[u8]) -> usize
     ensures value { result ≡ marks_at mark text.now }
     ensures few { result ≤ 3 }
@@ -43,7 +43,7 @@ fn marks_at(mark: u8, text: &[u8]) -> usize
     run_of(mark, &text[..text.len().min(3)])
 }
 
-/// The marks at the front of a text, and how many bytes they take.
+/// The marks at the front of a text, and their size in bytes.
 #[tactic(auto, unfolding(crate::specs::Broken::broken_at))]
 pub(crate) fn broken_at(text: &[u8]) -> Option<(BrokenRhythm, usize)>
     ensures value { result ≡ broken_at text.now }

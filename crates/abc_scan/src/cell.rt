@@ -9,8 +9,8 @@ use abc_text::Sequence;
 use std::alloc::{AllocError, Global};
 use std::marker::Model;
 
-/// A field line, or the tokens of a music line up to and with a bar line or the line's end. It carries all that is known of
-/// its tokens: nobody has to read the line again. A copy shares them. Contracts see the tokens.
+/// A field line, or the tokens of a music line up to and with a bar line or the line's end. It holds its tokens with
+/// their values, so no caller reads the line again. A copy shares them. Contracts see the tokens.
 #[derive(Drop)]
 pub struct Cell {
     tokens: Shared<Sequence<Token>>,
@@ -51,7 +51,7 @@ impl Cell {
     }
 }
 
-/// How many of these tokens are in the first cell.
+/// Returns the number of these tokens that are in the first cell.
 fn first_size(tokens: &[Token]) -> usize
     ensures value { result ≡ first_size tokens.now }
     ensures inside { result ≤ length tokens.now }

@@ -27,7 +27,7 @@ pub struct Chord {
     pub length: WrittenLength,
 }
 
-/// The part at the front of a text, and how many bytes it takes.
+/// The part at the front of a text, and its size in bytes.
 #[tactic(auto, unfolding(crate::specs::Chord::part_reading_at))]
 fn part_reading_at(text: &[u8], absent: &mut KnownAbsent) -> Option<(ChordPartKind, usize)>
     requires known { IsKnownAbsent absent.old (drop 1 text.now) }
@@ -55,7 +55,7 @@ fn part_reading_at(text: &[u8], absent: &mut KnownAbsent) -> Option<(ChordPartKi
     }
 }
 
-/// What comes first in a text, and how many bytes it takes.
+/// The first part of a text, and its size in bytes.
 fn next_part(text: &[u8], absent: &mut KnownAbsent) -> (ChordPartKind, usize)
     requires some { 0 < length text.now }
     requires known { IsKnownAbsent absent.old (drop 1 text.now) }
@@ -89,7 +89,7 @@ fn parts_of(alloc: Global, text: &[u8]) -> Result<Sequence<ChordPart>, AllocErro
     Ok(Sequence::from(parts))
 }
 
-/// The chord at the front of a text, and how many bytes it takes.
+/// The chord at the front of a text, and its size in bytes.
 #[tactic(auto, unfolding(crate::specs::Chord::chord_at))]
 pub(crate) fn chord_at(alloc: Global, text: &[u8]) -> Result<Option<(Chord, usize)>, AllocError>
     requires { length text.now < 2 ^ 31 }

@@ -3,7 +3,7 @@
 use crate::note::Note;
 use crate::spanned::Spanned;
 
-/// What a part of a chord is.
+/// The kind of a part of a chord.
 #[derive(Clone, Copy)]
 pub enum ChordPartKind {
     Note(Note),

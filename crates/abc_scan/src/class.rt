@@ -10,7 +10,7 @@ ghost use Rattle.abc_text.specs.LineEnd.{without_return};
 use crate::directive::is_directive;
 use abc_text::{is_blank, without_return};
 
-/// What a line of an ABC text is, by its own bytes (ABC 2.1 sections 2.2 and 11).
+/// The class of a line of an ABC text, by its own bytes (ABC 2.1 sections 2.2 and 11).
 #[derive(Clone, Copy)]
 pub enum LineClass {
     /// Nothing but blanks.
@@ -25,21 +25,21 @@ pub enum LineClass {
     Music,
 }
 
-/// Whether a byte may precede the colon of a field.
+/// Returns whether a byte may precede the colon of a field.
 fn names_field(byte: u8) -> bool
     ensures { result ≡ names_field byte }
 {
     byte.is_ascii_alphabetic() || byte == b'+'
 }
 
-/// Whether a byte is the letter of a note or a rest.
+/// Returns whether a byte is the letter of a note or a rest.
 fn is_music_letter(byte: u8) -> bool
     ensures { result ≡ is_music_letter byte }
 {
     matches!(byte, b'A'..=b'G' | b'a'..=b'g' | b'x' | b'z')
 }
 
-/// Whether a text begins as the rest of a repeat bar does, after its first colon.
+/// Returns whether a text begins as the rest of a repeat bar does, after its first colon.
 fn begins_bar(text: &[u8]) -> bool
     ensures { result ≡ begins_bar text.now }
 {
@@ -49,7 +49,7 @@ fn begins_bar(text: &[u8]) -> bool
     }
 }
 
-/// The letter of the field that a text is, if it is one.
+/// The letter of the field that a text is, or none.
 fn field_letter(text: &[u8]) -> Option<u8>
     ensures { result ≡ field_letter text.now }
 {

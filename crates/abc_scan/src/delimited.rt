@@ -9,10 +9,9 @@ ghost use Rattle.abc_scan.specs.Note.{begins_with_byte};
 
 use crate::known_absent::{KnownAbsent, find, place_of};
 
-/// How many bytes the quoted text, decoration or grace group at the front of a text takes: up to
-/// the first closing byte (ABC 2.1 sections 4.12, 4.14, 4.18 and 4.19). A grace group that nothing
-/// closes is remembered.
-#[tactic(auto, using(crate::proofs::Closings::lacks_rest, crate::proofs::Closings::rest_lacks), unfolding(crate::specs::Delimited::delimited_at))]
+/// Returns the size in bytes of the quoted text, decoration or grace group at the front of a text. It ends at the first
+/// closing byte (ABC 2.1 sections 4.12, 4.14, 4.18 and 4.19). `absent` remembers a missing `}`.
+#[tactic(auto, using(crate::proofs::Closings::rests), unfolding(crate::specs::Delimited::delimited_at))]
 pub(crate) fn delimited_at(text: &[u8], absent: &mut KnownAbsent) -> Option<usize>
     requires { IsKnownAbsent absent.old (drop 1 text.now) }
     ensures value { result ≡ delimited_at text.now }

@@ -8,8 +8,8 @@ ghost use Rattle.abc_scan.specs.Directive.{midi_directive, program_directive, re
 use crate::number::number_at;
 use abc_text::leading_blanks;
 
-/// How far the accidental of a note reaches, up to the end of its bar (ABC 2.1 section 11.3; what the
-/// three words mean here is not in ABC 2.1).
+/// The reach of a note's accidental, up to the end of its bar (ABC 2.1 section 11.3; the meaning of the three words is
+/// not in ABC 2.1).
 #[derive(Clone, Copy, PartialEq, Eq)]
 pub enum Reach {
     /// To its own note alone.
@@ -23,14 +23,14 @@ pub enum Reach {
 /// An instruction to a program (ABC 2.1 section 11). Other such lines are comments.
 #[derive(Clone, Copy)]
 pub enum Directive {
-    /// The MIDI program to play with: its number as it is written, which may be none of MIDI's
-    /// (an extension of abc2midi).
+    /// The MIDI program to play with, by its number as written. MIDI may have no such program (an extension of
+    /// abc2midi).
     Program(u32),
-    /// How far accidentals reach.
+    /// The reach of accidentals.
     Reach(Reach),
 }
 
-/// Whether a text is empty or begins as a comment.
+/// Returns whether a text is empty or begins as a comment.
 fn is_comment_or_none(text: &[u8]) -> bool
     ensures { result ≡ is_comment_or_none text.now }
 {
@@ -59,7 +59,7 @@ fn program_directive(text: &[u8]) -> Option<Directive>
     directive_at_end(Directive::Program(number), &text[size..])
 }
 
-/// The rest of a text after the blanks that it begins with; none if it begins with none.
+/// The rest of a text after its leading blanks; none if it has no leading blank.
 fn skip_gap(text: &[u8]) -> Option<&[u8]>
     ensures value { IfSome result (λ rest. rest.now ≡ drop (leading_blanks text.now) text.now) }
     ensures gap { MatchOption result ((leading_blanks text.now == 0) ≡ true) (λ _. (leading_blanks text.now == 0) ≡ false) }
@@ -128,7 +128,7 @@ pub(crate) fn directive_of(text: &[u8]) -> Option<Directive>
     }
 }
 
-/// Whether a text spells a directive.
+/// Returns whether a text spells a directive.
 pub(crate) fn is_directive(text: &[u8]) -> bool
     ensures { result ≡ is_directive text.now }
 {

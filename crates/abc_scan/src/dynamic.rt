@@ -3,7 +3,7 @@
 ghost use Rattle.std.specs.Prelude.{◌≡◌, ◌≤◌, ◌<◌};
 ghost use Rattle.abc_scan.specs.Dynamic.{dynamic_of, velocity_of};
 
-/// How loud what follows is played (ABC 2.1 section 4.14).
+/// The loudness of the notes after it (ABC 2.1 section 4.14).
 #[derive(Clone, Copy, PartialEq, Eq)]
 pub enum Dynamic {
     Ppp,
@@ -17,7 +17,7 @@ pub enum Dynamic {
 }
 
 impl Dynamic {
-    /// The MIDI velocity of notes that are so loud, 1 to 127. Not in ABC 2.1.
+    /// The MIDI velocity of notes with this dynamic, 1 to 127. Not in ABC 2.1.
     pub fn velocity(self) -> u8
         ensures value { result ≡ velocity_of self }
         ensures some { 0 < result }

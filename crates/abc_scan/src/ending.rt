@@ -14,7 +14,7 @@ struct PassRange {
     last: u32,
 }
 
-/// Whether a range names passes in order, of those that there can be.
+/// Returns whether a range names passes in order, up to the last possible pass.
 fn is_accepted(range: PassRange) -> bool
     ensures { result ≡ is_accepted range }
 {
@@ -30,7 +30,7 @@ fn range_bits(range: PassRange) -> u32
     ((1u64 << range.last) - (1u64 << (range.first - 1))) as u32
 }
 
-/// Passes and those of one range more, if it is accepted.
+/// Passes together with those of another range, if it is accepted.
 fn with_range(passes: Option<u32>, range: PassRange) -> Option<u32>
     ensures { result ≡ with_range passes range }
 {
@@ -42,7 +42,7 @@ fn with_range(passes: Option<u32>, range: PassRange) -> Option<u32>
     }
 }
 
-/// The number after a dash at the front of a text, and how many bytes it takes without the dash.
+/// The number after a dash at the front of a text, and its size in bytes without the dash.
 fn last_at(text: &[u8]) -> Option<(u32, usize)>
     ensures value { result ≡ last_at text.now }
     ensures inside { IfSome result (λ r. 1 + r.1 ≤ length text.now) }
@@ -53,7 +53,7 @@ fn last_at(text: &[u8]) -> Option<(u32, usize)>
     }
 }
 
-/// The number or the range at the front of a text, and how many bytes it takes.
+/// The number or the range at the front of a text, and its size in bytes.
 #[tactic(auto, unfolding(crate::specs::Ending::range_at))]
 fn range_at(text: &[u8]) -> Option<(PassRange, usize)>
     ensures value { result ≡ range_at text.now }
@@ -66,7 +66,7 @@ fn range_at(text: &[u8]) -> Option<(PassRange, usize)>
     }
 }
 
-/// The range after a comma at the front of a text, and how many bytes both take.
+/// The range after a comma at the front of a text, and the size of both in bytes.
 fn next_range(text: &[u8]) -> Option<(PassRange, usize)>
     ensures value { result ≡ next_range text.now }
     ensures front { IfSome result (λ r. IsFront text.now r.1) }
@@ -80,7 +80,7 @@ fn next_range(text: &[u8]) -> Option<(PassRange, usize)>
     }
 }
 
-/// The ranges at the front of a text as passes, and how many bytes they take.
+/// The ranges at the front of a text as passes, and their size in bytes.
 fn passes_at(text: &[u8]) -> Option<(Option<u32>, usize)>
     ensures value { result ≡ passes_at text.now }
     ensures front { IfSome result (λ r. IsFront text.now r.1) }
@@ -94,9 +94,8 @@ fn passes_at(text: &[u8]) -> Option<(Option<u32>, usize)>
     Some((passes, size))
 }
 
-/// The ending mark at the front of a text, and how many bytes it takes. Directly after a bar line its
-/// `[` may be left out. The passes that it names are bit `i - 1` for pass `i`, or None if it names one
-/// that there cannot be.
+/// The ending mark at the front of a text, and its size in bytes. Directly after a bar line its `[` may be left out.
+/// Its passes are bits, `i - 1` for pass `i`, or None if a pass is out of range.
 #[tactic(auto, unfolding(crate::specs::Ending::ending_at))]
 pub(crate) fn ending_at(after_bar: bool, text: &[u8]) -> Option<(Option<u32>, usize)>
     ensures value { result ≡ ending_at after_bar text.now }

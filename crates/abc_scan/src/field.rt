@@ -11,11 +11,11 @@ use std::alloc::{AllocError, Global};
 pub struct Field {
     /// The letter before the colon, or `+`.
     pub letter: u8,
-    /// What follows the colon, without the blanks at its ends.
+    /// The text after the colon, without the blanks at its ends.
     pub value: Sequence<u8>,
 }
 
-/// Whether a text begins with a letter and a colon.
+/// Returns whether a text begins with a letter and a colon.
 pub(crate) fn begins_field(text: &[u8]) -> bool
     ensures { result ≡ begins_field text.now }
 {
@@ -25,7 +25,7 @@ pub(crate) fn begins_field(text: &[u8]) -> bool
     }
 }
 
-/// The field that a text is: its letter, its colon, and what follows.
+/// The field of a text: its letter, its colon, and its value.
 pub(crate) fn field_of(alloc: Global, text: &[u8]) -> Result<Field, AllocError>
     ensures { IfOk result (λ field. field ≡ field_of text.now) }
 {

@@ -8,23 +8,23 @@ ghost use Rattle.abc_scan.specs.Frame.{is_inside, frame_at};
 use crate::field::begins_field;
 use crate::length::{WrittenLength, length_at};
 
-/// What surrounds the notes of a chord.
+/// The brackets and the outer length of a chord.
 #[derive(Clone, Copy)]
 pub(crate) struct Frame {
-    /// How many bytes are between the brackets.
+    /// The number of bytes between the brackets.
     pub(crate) inside: usize,
     /// The length after the brackets.
     pub(crate) length: WrittenLength,
 }
 
-/// Whether a byte may be between the brackets of a chord.
+/// Returns whether a byte may be between the brackets of a chord.
 fn is_inside(byte: u8) -> bool
     ensures { result ≡ is_inside byte }
 {
     byte != b'[' && byte != b']' && byte != b'|'
 }
 
-/// How many such bytes a text begins with.
+/// Returns the number of bytes at the front of a text that may be inside a chord.
 fn inside_size(text: &[u8]) -> usize
     ensures value { result ≡ prefix_len is_inside text.now }
     ensures inside { result ≤ length text.now }
@@ -32,8 +32,7 @@ fn inside_size(text: &[u8]) -> usize
     text.iter().take_while(|byte| is_inside(**byte)).count()
 }
 
-/// The frame of the chord at the front of a text, and how many bytes the chord takes (ABC 2.1
-/// section 4.17).
+/// The frame of the chord at the front of a text, and its size in bytes (ABC 2.1 section 4.17).
 #[tactic(auto, unfolding(crate::specs::Frame::frame_at))]
 pub(crate) fn frame_at(text: &[u8]) -> Option<(Frame, usize)>
     ensures value { result ≡ frame_at text.now }

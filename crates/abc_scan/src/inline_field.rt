@@ -9,9 +9,9 @@ use crate::field::{Field, begins_field, field_of};
 use crate::known_absent::{KnownAbsent, find};
 use std::alloc::{AllocError, Global};
 
-/// The inline field at the front of a text, and how many bytes it takes: up to the first `]`
-/// (ABC 2.1 section 3.2). A field that nothing closes is remembered.
-#[tactic(auto, using(crate::proofs::Closings::lacks_rest, crate::proofs::Closings::rest_lacks), unfolding(crate::specs::InlineField::inline_field_at))]
+/// The inline field at the front of a text, and its size in bytes: up to the first `]` (ABC 2.1 section 3.2). `absent`
+/// remembers a missing `]`.
+#[tactic(auto, using(crate::proofs::Closings::rests), unfolding(crate::specs::InlineField::inline_field_at))]
 pub(crate) fn inline_field_at(
     alloc: Global,
     text: &[u8],

@@ -1,11 +1,11 @@
-//! Bytes that close what another byte opened, and the memory of searches for them that failed.
+//! Closing bytes, and the memory of failed searches for them.
 
 ghost use Rattle.std.specs.Prelude.{◌≡◌, ◌<◌, ℕ, List, IfSome, is_none, length, true};
 ghost use Rattle.abc_text.specs.Cut.{HasNoByte};
 ghost use Rattle.abc_scan.specs.KnownAbsent.{place_of, IsKnownAbsent};
 
-/// Which closing bytes are known to be absent from the rest of a text, so that a search that failed
-/// once is not made again. A `"` or `!` that finds no other needs no such flag: it is the last one.
+/// The closing bytes that are known to be absent from the rest of a text. They save a second search. A `"` or `!` needs
+/// no flag: if it finds no other, it is the last one.
 #[derive(Clone, Copy)]
 pub(crate) struct KnownAbsent {
     pub(crate) brace: bool,
@@ -24,7 +24,7 @@ impl KnownAbsent {
     }
 }
 
-/// The place of the first such byte in a text.
+/// Returns the place of the first closing byte in a text.
 pub(crate) fn place_of(closing: u8, text: &[u8]) -> Option<usize>
     ensures value { result ≡ place_of closing text.now }
     ensures inside { IfSome result (λ place. place < length text.now) }
@@ -32,8 +32,8 @@ pub(crate) fn place_of(closing: u8, text: &[u8]) -> Option<usize>
     text.iter().position(|byte| *byte == closing)
 }
 
-/// The place of the first such byte in a text, unless it is known to be absent there. A search
-/// that fails is remembered.
+/// Returns the place of the first closing byte in a text, without a search if the byte is known to be absent. Remembers
+/// a search that fails.
 #[tactic(auto, using(crate::proofs::Closings::place_none, crate::proofs::Closings::place_lacks))]
 pub(crate) fn find(absent: &mut bool, closing: u8, text: &[u8]) -> Option<usize>
     requires { absent.old ≡ true → HasNoByte closing text.now }

@@ -8,7 +8,7 @@ ghost use Rattle.abc_scan.specs.Length.{begins_length, is_slash, number_or, writ
 use crate::run::run_of;
 use abc_text::{LONGEST_NUMBER, decimal, digits, is_digit};
 
-/// The value of a length text: what it multiplies the unit note length by (ABC 2.1 section 4.3).
+/// The value of a length text: the factor of the unit note length (ABC 2.1 section 4.3).
 #[derive(Clone, Copy)]
 pub enum WrittenLength {
     /// `num / den`, each from 1 to 999,999,999.
@@ -17,7 +17,7 @@ pub enum WrittenLength {
     Refused,
 }
 
-/// How many slashes a text begins with.
+/// Returns the number of slashes at the front of a text.
 fn slashes(text: &[u8]) -> usize
     ensures value { result ≡ prefix_len is_slash text.now }
     ensures inside { result ≤ length text.now }
@@ -25,7 +25,7 @@ fn slashes(text: &[u8]) -> usize
     run_of(b'/', text)
 }
 
-/// How many digits follow the slashes: only one slash can have some.
+/// Returns the number of digits after the slashes: only a single slash has any.
 fn digits_behind(slashes: usize, text: &[u8]) -> usize
     ensures value { result ≡ (if slashes == 1 then prefix_len is_digit text.now else 0) }
     ensures inside { result ≤ length text.now }
@@ -66,7 +66,7 @@ fn written_length(over: &[u8], slashes: usize, under: &[u8]) -> WrittenLength
     }
 }
 
-/// Whether a text begins with a digit or a slash.
+/// Returns whether a text begins with a digit or a slash.
 pub(crate) fn begins_length(text: &[u8]) -> bool
     ensures { result ≡ begins_length text.now }
 {
@@ -76,7 +76,7 @@ pub(crate) fn begins_length(text: &[u8]) -> bool
     }
 }
 
-/// The length that a text begins with, and how many bytes it takes.
+/// The length that a text begins with, and its size in bytes.
 #[tactic(auto, unfolding(crate::specs::Length::length_at, crate::specs::Length::length_size))]
 fn some_length_at(text: &[u8]) -> (WrittenLength, usize)
     ensures value { result.0 ≡ length_at text.now }
@@ -92,7 +92,7 @@ fn some_length_at(text: &[u8]) -> (WrittenLength, usize)
     (value, over + slashes + under)
 }
 
-/// The length at the front of a text, and how many bytes it takes. Most notes have none.
+/// The length at the front of a text, and its size in bytes. Most notes have none.
 #[inline(always)]
 #[tactic(auto, unfolding(crate::specs::Length::length_at, crate::specs::Length::length_size))]
 pub(crate) fn length_at(text: &[u8]) -> (WrittenLength, usize)

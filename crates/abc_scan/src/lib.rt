@@ -1,5 +1,4 @@
-//! The lines of an ABC text: which class each is of, the tokens that a music line is cut into, and
-//! its cells.
+//! The lines of an ABC text: the class of each line, the tokens of a music line, and its cells.
 #![tactic(auto)]
 
 mod bar;

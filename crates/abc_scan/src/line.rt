@@ -5,7 +5,8 @@ ghost use Rattle.abc_fold.specs.Work.{raised};
 ghost use Rattle.abc_scan.specs.Cutting.{IsSpan, JoinFromTo};
 ghost use Rattle.abc_scan.specs.Class.{class_of};
 ghost use Rattle.abc_scan.specs.Directive.{directive_of};
-ghost use Rattle.abc_scan.specs.Line.{cutting_of, directive_token, field_token, has_tokens, tokens_in, tokens_of, covered_of};
+ghost use Rattle.abc_scan.specs.Line.{cutting_of, directive_token, field_token, whole_token};
+ghost use Rattle.abc_scan.specs.Line.{has_tokens, tokens_in, tokens_of, covered_of};
 ghost use Rattle.abc_scan.specs.Line.{HasLength};
 
 use crate::class::{LineClass, class_of};
@@ -19,10 +20,10 @@ use abc_fold::{Shared, Work};
 use abc_text::without_return;
 use std::alloc::{AllocError, Global};
 
-/// The longest text that is cut: the places in it, and the octaves of its notes, are small numbers.
+/// The longest text that `scan` cuts. The places in it, and the octaves of its notes, fit small numbers.
 const LONGEST_CUT: usize = (1 << 31) - 1;
 
-/// Returns a text, if it is not too long to be cut.
+/// Returns a text, if it is not too long for `scan`.
 pub(crate) fn check_length(text: &[u8]) -> Result<&[u8], AllocError>
     ensures same { IfOk result (λ short. short.now ≡ text.now) }
     ensures short { IfOk result (λ short. length short.now < 2 ^ 31) }
@@ -57,19 +58,27 @@ fn cut(alloc: Global, text: &[u8]) -> Result<Vec<Token>, AllocError>
     Ok(tokens)
 }
 
+/// Returns one token of this kind for a whole text.
+fn whole_token(alloc: Global, kind: TokenKind, text: &[u8]) -> Result<Vec<Token>, AllocError>
+    requires { length text.now < 2 ^ 31 }
+    ensures { IfOk result (λ tokens. tokens.items ≡ whole_token kind (length text.now)) }
+{
+    let mut tokens = Vec::with_capacity(alloc, 1)?;
+    tokens.push(Spanned {
+        kind,
+        from: 0,
+        to: text.len() as u32,
+    })?;
+    Ok(tokens)
+}
+
 /// One token for the whole text of a field.
 fn field_token(alloc: Global, text: &[u8]) -> Result<Vec<Token>, AllocError>
     requires { length text.now < 2 ^ 31 }
     ensures { IfOk result (λ tokens. tokens.items ≡ field_token text.now) }
 {
     let field = Shared::new(alloc, field_of(alloc, text)?)?;
-    let mut tokens = Vec::with_capacity(alloc, 1)?;
-    tokens.push(Spanned {
-        kind: TokenKind::Field(field),
-        from: 0,
-        to: text.len() as u32,
-    })?;
-    Ok(tokens)
+    whole_token(alloc, TokenKind::Field(field), text)
 }
 
 /// One token for the whole text of a directive, with its comment.
@@ -80,13 +89,7 @@ fn directive_token(alloc: Global, text: &[u8]) -> Result<Vec<Token>, AllocError>
     let Some(directive) = directive_of(text) else {
         return Ok(Vec::new(alloc));
     };
-    let mut tokens = Vec::with_capacity(alloc, 1)?;
-    tokens.push(Spanned {
-        kind: TokenKind::Directive(directive),
-        from: 0,
-        to: text.len() as u32,
-    })?;
-    Ok(tokens)
+    whole_token(alloc, TokenKind::Directive(directive), text)
 }
 
 /// The tokens of a text of this class, which has no carriage return at its end.

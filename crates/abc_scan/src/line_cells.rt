@@ -18,12 +18,12 @@ use abc_fold::Work;
 use abc_text::without_return;
 use std::alloc::{AllocError, Global};
 
-/// For how many tokens of a cell, and for how many cells of a line, room is taken at first.
+/// The first capacity of a list of tokens, and of a list of cells.
 const USUAL_TOKENS: usize = 32;
 
 const USUAL_CELLS: usize = 8;
 
-/// Ends the open cell: its tokens leave their list, which keeps its room.
+/// Ends the open cell: moves its tokens out of their list, which keeps its capacity.
 fn end_cell(alloc: Global, cells: &mut Vec<Cell>, begun: &mut Vec<Token>) -> Result<(), AllocError>
     ensures cells { OnOk result (cells.new.items ≡ cells.old.items ++ begun.old.items ∷ []) }
     ensures begun { OnOk result (begun.new.items ≡ []) }

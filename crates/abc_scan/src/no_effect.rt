@@ -6,7 +6,7 @@ ghost use Rattle.abc_scan.specs.NoEffect.{extra_space_at};
 
 use crate::number::optional_number_at;
 
-/// How many bytes the `y` at the front of a text takes, with its number (ABC 2.1 section 6.1.2).
+/// Returns the size in bytes of the `y` at the front of a text, with its number (ABC 2.1 section 6.1.2).
 #[tactic(auto, unfolding(crate::specs::NoEffect::extra_space_at))]
 pub(crate) fn extra_space_at(text: &[u8]) -> Option<usize>
     ensures value { result ≡ extra_space_at text.now }

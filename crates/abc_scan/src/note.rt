@@ -21,7 +21,7 @@ pub struct Note {
     pub length: WrittenLength,
 }
 
-/// The accidental at the front of a text, and how many bytes it takes.
+/// The accidental at the front of a text, and its size in bytes.
 #[tactic(auto, unfolding(crate::specs::Note::accidental_at))]
 fn accidental_at(text: &[u8]) -> (Option<Accidental>, usize)
     ensures value { result.0 ≡ accidental_at text.now }
@@ -38,7 +38,7 @@ fn accidental_at(text: &[u8]) -> (Option<Accidental>, usize)
     }
 }
 
-/// How many octave marks a text begins with.
+/// Returns the number of octave marks at the front of a text.
 fn octave_marks(text: &[u8]) -> usize
     ensures value { result ≡ prefix_len is_octave_mark text.now }
     ensures inside { result ≤ length text.now }
@@ -56,7 +56,7 @@ fn letter_octave(letter: u8) -> usize
     if letter < b'a' { 0 } else { 1 }
 }
 
-/// How often a mark is among the marks of a note.
+/// Returns how often a mark is among the marks of a note.
 fn occurrences(marks: &[u8], mark: u8) -> usize
     ensures value { result ≡ count_by (λ b. b == mark) marks.now }
     ensures inside { result ≤ length marks.now }
@@ -74,7 +74,7 @@ fn octave(letter: u8, marks: &[u8]) -> i32
     raised as i32 - lowered as i32
 }
 
-/// Whether a text begins with neither an octave mark nor a length.
+/// Returns whether a text begins with neither an octave mark nor a length.
 #[inline(always)]
 fn ends_letter(text: &[u8]) -> bool
     ensures { result ≡ ends_letter text.now }
@@ -100,7 +100,7 @@ fn plain_note(byte: u8, num: u32) -> Option<Note>
     })
 }
 
-/// Whether a byte is a digit that alone is a length: 0 is refused.
+/// Returns whether a byte is a digit that alone is a length: 0 is refused.
 #[inline(always)]
 fn is_factor(byte: u8) -> bool
     ensures { result ≡ is_factor byte }
@@ -108,8 +108,8 @@ fn is_factor(byte: u8) -> bool
     matches!(byte, b'1'..=b'9')
 }
 
-/// The note at the front of a text that is a letter alone or one with one digit, and how many bytes it takes: most notes
-/// are such.
+/// The note at the front of a text that is a letter alone or one with one digit, and its size in bytes: most notes are
+/// such.
 #[inline(always)]
 #[tactic(auto, using(crate::proofs::Notes::letter_alone, crate::proofs::Notes::letter_digit))]
 pub(crate) fn short_note_at(text: &[u8]) -> Option<(Note, usize)>
@@ -125,7 +125,7 @@ pub(crate) fn short_note_at(text: &[u8]) -> Option<(Note, usize)>
     }
 }
 
-/// The note at the front of a text, and how many bytes it takes.
+/// The note at the front of a text, and its size in bytes.
 #[tactic(auto, unfolding(crate::specs::Note::note_at))]
 pub(crate) fn note_at(text: &[u8]) -> Option<(Note, usize)>
     requires { length text.now < 2 ^ 31 }
@@ -151,7 +151,7 @@ pub(crate) fn note_at(text: &[u8]) -> Option<(Note, usize)>
     }
 }
 
-/// The length of the rest at the front of a text, and how many bytes the rest takes.
+/// The length of the rest at the front of a text, and its size in bytes.
 #[tactic(auto, unfolding(crate::specs::Note::rest_at))]
 pub(crate) fn rest_at(text: &[u8]) -> Option<(WrittenLength, usize)>
     ensures value { result ≡ rest_at text.now }

@@ -6,7 +6,7 @@ ghost use Rattle.abc_scan.specs.Number.{number_size, number_at, optional_number_
 
 use abc_text::{LARGEST_NUMBER, LONGEST_NUMBER, decimal, digits};
 
-/// How many digits of a number a text begins with.
+/// Returns the number of digits of a number at the front of a text.
 fn number_size(text: &[u8]) -> usize
     ensures value { result ≡ number_size text.now }
     ensures few { result ≤ LONGEST_NUMBER }
@@ -15,7 +15,7 @@ fn number_size(text: &[u8]) -> usize
     digits(&text[..text.len().min(LONGEST_NUMBER)])
 }
 
-/// The number of one to nine digits at the front of a text, and how many bytes it takes.
+/// The number of one to nine digits at the front of a text, and its size in bytes.
 #[tactic(auto, using(crate::proofs::Numbers::number_digits), unfolding(crate::specs::Number::number_at))]
 pub(crate) fn number_at(text: &[u8]) -> Option<(u32, usize)>
     ensures value { result ≡ number_at text.now }
@@ -29,7 +29,7 @@ pub(crate) fn number_at(text: &[u8]) -> Option<(u32, usize)>
     Some((decimal(&text[..size]), size))
 }
 
-/// The number at the front of a text, if there is one, and how many bytes it takes.
+/// The number at the front of a text, if there is one, and its size in bytes.
 pub(crate) fn optional_number_at(text: &[u8]) -> (Option<u32>, usize)
     ensures value { result ≡ optional_number_at text.now }
     ensures small { IfSome result.0 (λ n. n ≤ LARGEST_NUMBER) }

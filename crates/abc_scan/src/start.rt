@@ -1,9 +1,9 @@
-//! Which kind of token a text can begin with, by its first bytes.
+//! The kind of token that a text can begin with, by its first bytes.
 
 ghost use Rattle.std.specs.Prelude.{◌≡◌};
 ghost use Rattle.abc_scan.specs.Start.{byte_start, bracket_start, start_of};
 
-/// The kinds of token that begin with different bytes: what begins as one of them is of no other.
+/// The kinds of token by their first bytes: a token of one kind never begins as a token of another.
 #[derive(Clone, Copy)]
 pub(crate) enum Start {
     Note,
@@ -30,7 +30,7 @@ pub(crate) enum Start {
     Nothing,
 }
 
-/// What a byte other than `[` begins.
+/// Returns the kind of token that a byte other than `[` begins.
 #[tactic(auto, unfolding(crate::specs::Start::byte_start))]
 fn byte_start(byte: u8) -> Start
     ensures { result ≡ byte_start byte }
@@ -54,7 +54,7 @@ fn byte_start(byte: u8) -> Start
     }
 }
 
-/// What a `[` begins, by the bytes after it.
+/// Returns the kind of token that a `[` begins, by the bytes after it.
 #[tactic(auto, unfolding(crate::specs::Start::bracket_start))]
 fn bracket_start(rest: &[u8]) -> Start
     ensures { result ≡ bracket_start rest.now }
@@ -66,7 +66,7 @@ fn bracket_start(rest: &[u8]) -> Start
     }
 }
 
-/// What a text begins with.
+/// Returns the kind of token that a text begins with.
 pub(crate) fn start_of(text: &[u8]) -> Start
     ensures { result ≡ start_of text.now }
 {

@@ -1,4 +1,4 @@
-//! The part of a line that is read.
+//! The part of a line that the scanner reads.
 
 ghost use Rattle.std.specs.Prelude.{◌≡◌, ◌≤◌, length};
 ghost use Rattle.abc_scan.specs.Text.{without_comment};
@@ -18,7 +18,7 @@ fn up_to_comment(text: &[u8]) -> &[u8]
     text
 }
 
-/// A text without its comment. Most have no `%`, and a search for one byte is faster than a walk that knows the byte before.
+/// A text without its comment. Most texts have no `%`, and a search for one byte is faster than a walk with the byte before.
 #[tactic(auto, using(crate::proofs::Comments::no_comment))]
 pub(crate) fn without_comment(text: &[u8]) -> &[u8]
     ensures value { result.now ≡ without_comment text.now }

@@ -1,4 +1,4 @@
-//! What a music line is made of.
+//! The tokens of a music line.
 
 ghost use Rattle.std.specs.Prelude.{◌≡◌, ◌<◌, ◌^◌, drop, length, false, IfOk, IfSome};
 ghost use Rattle.abc_scan.specs.Front.{IsFront};
@@ -29,7 +29,7 @@ use std::alloc::{AllocError, Global};
 /// A part of a line, with its value read.
 pub type Token = Spanned<TokenKind>;
 
-/// What a token is.
+/// The kind of a token.
 #[derive(Clone, Drop)]
 pub enum TokenKind {
     Note(Note),
@@ -55,7 +55,7 @@ pub enum TokenKind {
     Field(Shared<Field>),
     /// A whole directive line, with its comment.
     Directive(Directive),
-    /// A byte that opens what nothing closes.
+    /// An opening byte without its closing byte.
     Unclosed,
     /// Another byte of a music line that begins no token.
     BadByte,
@@ -64,7 +64,7 @@ pub enum TokenKind {
 /// A text has a token for nearly each of its letters: each takes 32 bytes.
 const _: () = prove!(size_of::<Token>() == 32);
 
-/// Whether a token is a bar line.
+/// Returns whether a token is a bar line.
 pub(crate) fn is_bar(kind: &TokenKind) -> bool
     ensures { result ≡ is_bar kind.now }
 {
@@ -81,7 +81,7 @@ fn unmatched_byte(byte: u8) -> TokenKind
     }
 }
 
-/// The ending at the front of a text, and how many bytes it takes.
+/// The ending at the front of a text, and its size in bytes.
 fn ending_mark_at(after_bar: bool, text: &[u8]) -> Option<(TokenKind, usize)>
     ensures value { result ≡ mark_by Start.Digit after_bar text.now }
     ensures front { IfSome result (λ r. IsFront text.now r.1) }
@@ -90,7 +90,7 @@ fn ending_mark_at(after_bar: bool, text: &[u8]) -> Option<(TokenKind, usize)>
     Some((TokenKind::Ending(passes), size))
 }
 
-/// The chord at the front of a text, or the ending, and how many bytes it takes.
+/// The chord at the front of a text, or the ending, and its size in bytes.
 fn bracket_at(
     alloc: Global,
     after_bar: bool,
@@ -107,7 +107,7 @@ fn bracket_at(
     Ok(ending_mark_at(after_bar, text))
 }
 
-/// The inline field at the front of a text, and how many bytes it takes.
+/// The inline field at the front of a text, and its size in bytes.
 fn field_at(
     alloc: Global,
     text: &[u8],
@@ -127,7 +127,7 @@ fn field_at(
     }
 }
 
-/// What a text between delimiters is: a dynamic, or a token without effect.
+/// Returns the kind of a text between delimiters: a dynamic, or a token without effect.
 fn dynamic_or_ignored(text: &[u8]) -> TokenKind
     ensures { result ≡ dynamic_or_ignored (dynamic_of text.now) }
 {
@@ -137,7 +137,7 @@ fn dynamic_or_ignored(text: &[u8]) -> TokenKind
     }
 }
 
-/// The token between delimiters at the front of a text, and how many bytes it takes.
+/// The token between delimiters at the front of a text, and its size in bytes.
 fn enclosed_at(text: &[u8], absent: &mut KnownAbsent) -> Option<(TokenKind, usize)>
     requires { IsKnownAbsent absent.old (drop 1 text.now) }
     ensures value { result ≡ reading_by Start.Delimited false text.now }
@@ -148,7 +148,7 @@ fn enclosed_at(text: &[u8], absent: &mut KnownAbsent) -> Option<(TokenKind, usiz
     Some((dynamic_or_ignored(&text[..size]), size))
 }
 
-/// The tuplet at the front of a text, or its `(` alone, and how many bytes it takes.
+/// The tuplet at the front of a text, or its `(` alone, and its size in bytes.
 fn parenthesis_at(text: &[u8]) -> Option<(TokenKind, usize)>
     requires { 0 < length text.now }
     ensures value { result ≡ mark_by Start.Parenthesis false text.now }
@@ -160,8 +160,8 @@ fn parenthesis_at(text: &[u8]) -> Option<(TokenKind, usize)>
     }
 }
 
-/// The token at the front of a text that begins in this way, and how many bytes it takes, if it can
-/// be read without memory and without a search for its end.
+/// The token of this kind at the front of a text, and its size in bytes. None if it needs memory or a search for its
+/// end.
 fn mark_at(start: Start, after_bar: bool, text: &[u8]) -> Option<(TokenKind, usize)>
     requires some { 0 < length text.now }
     requires short { length text.now < 2 ^ 31 }
@@ -202,7 +202,7 @@ fn mark_at(start: Start, after_bar: bool, text: &[u8]) -> Option<(TokenKind, usi
     }
 }
 
-/// The token at the front of a text, if it is a blank or a short note, and how many bytes it takes: most tokens are such.
+/// The token at the front of a text, if it is a blank or a short note, and its size in bytes: most tokens are such.
 #[inline(always)]
 #[tactic(auto, using(crate::proofs::Starts::blank_first, crate::proofs::Starts::note_first))]
 pub(crate) fn short_token_at(text: &[u8]) -> Option<(TokenKind, usize)>
@@ -219,7 +219,7 @@ pub(crate) fn short_token_at(text: &[u8]) -> Option<(TokenKind, usize)>
     }
 }
 
-/// What comes first in a text, and how many bytes it takes: a token, else one byte that begins none.
+/// The first token of a text, and its size in bytes: a token, else one byte that begins none.
 #[tactic(auto, using(crate::proofs::Starts::mark_reading), unfolding(crate::specs::Token::reading_at))]
 pub(crate) fn next_token(
     alloc: Global,

@@ -6,8 +6,8 @@ ghost use Rattle.abc_scan.specs.Tuplet.{further_at, tuplet_at};
 
 use crate::number::{number_at, optional_number_at};
 
-/// A tuplet mark as it is written (ABC 2.1 section 4.13): the next `r` notes in the time of `q` for each
-/// `p` of them. The numbers may be 0; whether they make a tuplet is judged by who reads the mark.
+/// A tuplet mark as it is written (ABC 2.1 section 4.13): the next `r` notes in the time of `q` for each `p` of them.
+/// The numbers may be 0: the caller decides whether they make a tuplet.
 #[derive(Clone, Copy)]
 pub struct Tuplet {
     pub p: u32,
@@ -17,7 +17,7 @@ pub struct Tuplet {
     pub r: Option<u32>,
 }
 
-/// The number after a colon at the front of a text, and how many bytes both take.
+/// The number after a colon at the front of a text, and the size of both in bytes.
 fn further_at(text: &[u8]) -> (Option<u32>, usize)
     ensures value { result ≡ further_at text.now }
     ensures inside { result.1 ≤ length text.now }
@@ -31,7 +31,7 @@ fn further_at(text: &[u8]) -> (Option<u32>, usize)
     }
 }
 
-/// The tuplet mark at the front of a text, and how many bytes it takes.
+/// The tuplet mark at the front of a text, and its size in bytes.
 #[tactic(auto, unfolding(crate::specs::Tuplet::tuplet_at))]
 pub(crate) fn tuplet_at(text: &[u8]) -> Option<(Tuplet, usize)>
     ensures value { result ≡ tuplet_at text.now }

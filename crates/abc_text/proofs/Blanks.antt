@@ -38,7 +38,7 @@ trim_end-gap front gap h none =
     let size : length (front ++ gap) - suffix_len is_blank (front ++ gap) ≡ length front = omega (arith, back, length-reverse gap, length-append front gap) in
     take_exact _ front gap size
 
--- a text read from its end: the part before its last blanks, and these
+-- a text read from its end: the part before its trailing blanks, and these blanks
 back_parts : (text : List ℕ) → text ≡ reverse (drop (suffix_len is_blank text) (reverse text)) ++ reverse (take (suffix_len is_blank text) (reverse text))
 back_parts text =
     let back = reverse text in
@@ -58,20 +58,20 @@ trim_end-parts text =
     let gap = reverse (take (suffix_len is_blank text) (reverse text)) in
     (gap, back_parts text ∙ ap (λ x. x ++ gap) (sym (trim_end-reverse text)), AllPass-reverse is_blank _ (front_passes is_blank (reverse text)))
 
--- it is nothing, or ends with another byte than a blank
+-- the trimmed text is empty, or does not end with a blank
 pub trim_end-stops : (text : List ℕ) → (trim_end text ≡ []) ⊎ ((xs : List ℕ) × (y : ℕ) × (trim_end text ≡ xs ++ y ∷ []) × (is_blank y ≡ false))
 trim_end-stops text = ⊎_elim
     (λ none. inl (trim_end-reverse text ∙ ap reverse none))
     (λ some. inr (reverse some.1, some.0, trim_end-reverse text ∙ ap reverse some.2 ∙ reverse-append (some.0 ∷ []) some.1, some.3))
     (front_stops is_blank (reverse text))
 
--- a text that ends with other bytes than blanks
+-- a text that does not end with a blank
 pub back_other : (front xs : List ℕ) → AllPass (λ b. not (is_blank b)) xs → 1 ≤ length xs → suffix_len is_blank (front ++ xs) ≡ 0
 back_other front xs h some =
     ap (prefix_len is_blank) (reverse-append front xs)
     ∙ front_other is_blank (reverse xs) (reverse front) (AllPass-reverse (λ b. not (is_blank b)) xs h) (omega (arith, some, length-reverse xs))
 
--- a text is no longer without them
+-- trimming makes no text longer
 pub trim_start-le : (text : List ℕ) → length (trim_start text) ≤ length text
 unfolding trim_start
 trim_start-le text = omega (arith, length-drop (prefix_len is_blank text) text)

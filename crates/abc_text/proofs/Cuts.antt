@@ -35,7 +35,7 @@ cut_at-none byte text h =
     let past : length text ≤ position_or_len (λ b. b == byte) text = omega (arith, all) in
     cond-false _ _ _ (le-ltb _ _ past)
 
--- the cut is at the first such byte
+-- the cut is at the first byte of this value
 pub cut_at-cuts : (byte : ℕ) (text : List ℕ) (parts : List ℕ × List ℕ) → cut_at byte text ≡ Some parts → IsCut byte text parts.0 parts.1
 unfolding cut_at
 cut_at-cuts byte text parts e =
@@ -50,7 +50,7 @@ cut_at-cuts byte text parts e =
       first = subst (HasNoByte byte) front (front_passes (λ b. not (b == byte)) text);
     }
 
--- a text that has no place for such a byte has no such byte
+-- a text without a place of the byte has no such byte
 pub no_place : (byte : ℕ) (text : List ℕ) → None ≡ position (λ b. b == byte) text → HasNoByte byte text
 no_place byte text e = ⊎_elim
     (λ inside. let found : Some (position_or_len (λ b. b == byte) text) ≡ None = sym (cond-true _ _ _ (lt-ltb _ _ inside)) ∙ sym e in cc)

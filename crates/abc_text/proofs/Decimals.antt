@@ -1,4 +1,4 @@
--- How large the number is that digits write.
+-- The size of the number that digits write.
 use Rattle.std.proofs.Common.{◌≡◌, ℕ, zero, suc, ◌+◌, ◌-◌, ◌*◌, ◌<◌, ◌≤◌, true, List, [], ◌∷◌, length, get_or, take, subst, arith, length-take-le}
 use Rattle.std.specs.List.{AllPass, fold}
 use Rattle.std.proofs.lemmas.List.Sums.{fold_more}

@@ -11,7 +11,7 @@ use Rattle.std.proofs.lemmas.List.Elements.{All-nil, All-cons, All-head, All-tai
 one_more : (n : ℕ) → 1 + n ≡ suc n
 one_more n = omega arith
 
--- it passes
+-- the front passes
 pub front_passes : (p : ℕ → Bool) (xs : List ℕ) → AllPass p (take (prefix_len p xs) xs)
 front_passes p [] = All-nil _
 front_passes p (x ∷ xs) = ⊎_elim
@@ -20,7 +20,7 @@ front_passes p (x ∷ xs) = ⊎_elim
     (λ fails. subst (λ n. AllPass p (take n (x ∷ xs))) (sym (cond-false (p x) (1 + prefix_len p xs) 0 fails)) (All-nil _))
     (cases_Bool (p x))
 
--- what follows it is nothing, or begins with an element that does not pass
+-- the rest is empty, or begins with an element that does not pass
 pub front_stops : (p : ℕ → Bool) (xs : List ℕ) → (drop (prefix_len p xs) xs ≡ []) ⊎ ((y : ℕ) × (ys : List ℕ) × (drop (prefix_len p xs) xs ≡ y ∷ ys) × (p y ≡ false))
 front_stops p [] = inl refl
 front_stops p (x ∷ xs) = ⊎_elim
@@ -30,12 +30,12 @@ front_stops p (x ∷ xs) = ⊎_elim
     (inr (x, xs, refl, fails)))
     (cases_Bool (p x))
 
--- a list that passes, and what follows it
+-- a list that passes, and the rest
 pub front_append : (p : ℕ → Bool) (xs rest : List ℕ) → AllPass p xs → prefix_len p (xs ++ rest) ≡ length xs + prefix_len p rest
 front_append p [] rest h = omega arith
 front_append p (x ∷ xs) rest h = cond-true (p x) _ _ (All-head (λ y. p y ≡ true) x xs h) ∙ (let e = front_append p xs rest (All-tail (λ y. p y ≡ true) x xs h) in omega (arith, e))
 
--- the front is such a list where nothing that passes follows it
+-- the front is such a list if the rest begins with no element that passes
 pub front_exact : (p : ℕ → Bool) (xs rest : List ℕ) → AllPass p xs → prefix_len p rest ≡ 0 → prefix_len p (xs ++ rest) ≡ length xs
 front_exact p xs rest h none = front_append p xs rest h ∙ ap (λ n. length xs + n) none ∙ add-zero (length xs)
 

@@ -14,27 +14,20 @@ use Rattle.abc_text.specs.Letter.{IsLetter, letter_of, capital, small}
 use Rattle.abc_text.specs.Accidental.{spelling, accidental_of}
 
 -- a letter is read from its capital and its small form
+letter_of-forms : (letter : Letter) → (letter_of (capital letter) ≡ Some letter) × (letter_of (small letter) ≡ Some letter)
+unfolding letter_of
+letter_of-forms C = (refl, refl)
+letter_of-forms D = (refl, refl)
+letter_of-forms E = (refl, refl)
+letter_of-forms F = (refl, refl)
+letter_of-forms G = (refl, refl)
+letter_of-forms A = (refl, refl)
+letter_of-forms B = (refl, refl)
+
 pub letter_of-capital : (letter : Letter) → letter_of (capital letter) ≡ Some letter
-unfolding letter_of
-letter_of-capital C = refl
-letter_of-capital D = refl
-letter_of-capital E = refl
-letter_of-capital F = refl
-letter_of-capital G = refl
-letter_of-capital A = refl
-letter_of-capital B = refl
+letter_of-capital letter = (letter_of-forms letter).0
 
-pub letter_of-small : (letter : Letter) → letter_of (small letter) ≡ Some letter
-unfolding letter_of
-letter_of-small C = refl
-letter_of-small D = refl
-letter_of-small E = refl
-letter_of-small F = refl
-letter_of-small G = refl
-letter_of-small A = refl
-letter_of-small B = refl
-
--- and from no other byte
+-- and no letter is read from another byte
 pub letter_of-is : (byte : ℕ) (letter : Letter) → letter_of byte ≡ Some letter → IsLetter byte letter
 unfolding letter_of
 letter_of-is byte letter e = grind (arith, common_steps)
@@ -42,7 +35,7 @@ letter_of-is byte letter e = grind (arith, common_steps)
 pub letter_exact : (byte : ℕ) (letter : Letter) → (letter_of byte ≡ Some letter) ↔ IsLetter byte letter
 letter_exact byte letter = (
   letter_of-is byte letter,
-  λ is. ⊎_elim (λ e. ap letter_of e ∙ letter_of-capital letter) (λ e. ap letter_of e ∙ letter_of-small letter) is,
+  λ is. ⊎_elim (λ e. ap letter_of e ∙ letter_of-capital letter) (λ e. ap letter_of e ∙ (letter_of-forms letter).1) is,
 )
 
 -- an accidental is read from its spelling, and from no other text

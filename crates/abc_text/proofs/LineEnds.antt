@@ -31,7 +31,7 @@ return_at text b =
 pub drops_one_return : DropsOneReturn
 drops_one_return = (refl, return_at)
 
--- a line is no longer without it
+-- dropping it makes no line longer
 pub without_return-le : (line : List ℕ) → length (without_return line) ≤ length line
 without_return-le line =
     cond_both (ends_with nat_eq line (carriage_return ∷ [])) (take (length line - 1) line) line (λ l. length l ≤ length line)

@@ -31,13 +31,13 @@ number_of-other text h = no_number (leb 1 (length text) && leb (length text) LON
 some_number : (some short all : Bool) (n : ℕ) → some ≡ true → short ≡ true → all ≡ true → ◌≡◌ {A = Option ℕ} (Some n) (cond (some && short && all) (Some n) None)
 some_number some short all n e f g = rw (e, f, g) refl
 
--- any other is one
+-- any other text is a number
 pub number_of-whole : (text : List ℕ) → 1 ≤ length text → length text ≤ LONGEST_NUMBER → list_all is_digit text ≡ true → Some (decimal text) ≡ number_of text
 unfolding number_of
 number_of-whole text some few digits =
     some_number (leb 1 (length text)) (leb (length text) LONGEST_NUMBER) (list_all is_digit text) _ (grind (arith, nat_tests)) (grind (arith, nat_tests)) digits
 
--- what a text spells, and the reading of it, are one
+-- the number read is the one that a text spells
 spelled : (b : Bool) (v n : ℕ) → ◌≡◌ {A = Option ℕ} (cond b (Some v) None) (Some n) → (b ≡ true) × (n ≡ v)
 spelled true v n e = (refl, cc)
 spelled false v n e = cc
@@ -61,7 +61,7 @@ number_of-spelled text n h = sym (ap Some h.value ∙ number_of-whole text h.som
 pub number_exact : (text : List ℕ) (o : Option ℕ) → o ≡ number_of text → (n : ℕ) → (o ≡ Some n) ↔ IsNumber text n
 number_exact text o e n = (λ h. number_of-spells text n (sym e ∙ h), λ h. e ∙ number_of-spelled text n h)
 
--- its size
+-- the size of a number
 pub number_small : (text : List ℕ) (n : ℕ) → IsNumber text n → n ≤ LARGEST_NUMBER
 number_small text n h = let below = decimal-lt text h.digits h.few in omega (arith, below, h.value)
 

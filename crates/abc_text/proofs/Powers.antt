@@ -6,7 +6,7 @@ use Rattle.std.proofs.lemmas.Nat.{pow_pos}
 use Rattle.std.proofs.Math.Nat.{pow-le-pow_right}
 use Rattle.abc_text.specs.Power.{IsPowerUpTo, is_power_up_to, power_up_to}
 
--- what passes is a power
+-- a number that passes is a power
 pub power_from : (most n : ℕ) → is_power_up_to most n ≡ true → IsPowerUpTo most n
 unfolding is_power_up_to
 power_from zero n e = record { power = 0; small = omega arith; value = eqb-true n 1 e }
@@ -33,7 +33,7 @@ unfolding is_power_up_to
 power_none zero n none = ne_eqb n 1 (none 0 (omega arith))
 power_none (suc most) n none = or_from _ _ (ne_eqb n (2 ^ suc most) (none (suc most) (omega arith))) (power_none most n (λ k small. none k (omega arith)))
 
--- its size
+-- the size of a power
 pub power_least : (most n : ℕ) → IsPowerUpTo most n → 1 ≤ n
 power_least most n h = omega (arith, pow_pos h.power, h.value)
 

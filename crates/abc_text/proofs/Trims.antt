@@ -1,4 +1,4 @@
--- To trim blanks by characters is to trim them by bytes: a blank is one byte and a piece of its own.
+-- Trimming blanks by characters trims them by bytes: a blank is one byte and one piece.
 use Rattle.std.proofs.Common.{◌≡◌, ℕ, zero, suc, ◌+◌, ◌-◌, ◌<◌, ◌≤◌, Bool, true, false, cond, List, [], ◌∷◌, ◌++◌, length, take, drop, get_or, slice_index, Option, Some, None, refl, sym, ap, ◌∙◌}
 use Rattle.std.proofs.Common.{⊎_elim, arith, length-append, length-drop}
 use Rattle.std.specs.Char.{encode_utf8}
@@ -93,7 +93,7 @@ kept_end-step : (t : ℕ → Bool) (a : ℕ) (s : ℕ × ℕ × ℕ) (ss : List 
 unfolding kept_end
 kept_end-step t a s ss = refl
 
--- blanks leave the end where it is
+-- leading blanks do not move the end
 blanks_end : (gap : List ℕ) (off a : ℕ) → AreBlanks gap → kept_end is_blank a (spans_from off (pieces gap)) ≡ a
 blanks_end [] off a h = ap (kept_end is_blank a) (spans-nil [] off refl) ∙ kept_end-nil is_blank a
 blanks_end (b ∷ bs) off a h =
@@ -103,7 +103,7 @@ blanks_end (b ∷ bs) off a h =
     ∙ ap (λ e. kept_end is_blank e (spans_from (off + 1) (pieces bs))) (cond-true (is_blank b) a (off + 1) yes)
     ∙ blanks_end bs (off + 1) a (All-tail (λ y. is_blank y ≡ true) b bs h)
 
--- a text that is one piece and ends with another byte than a blank does not read as one
+-- a text of one piece that does not end with a blank does not read as a blank
 whole_other : (text : List ℕ) → (decoded text).size ≡ length text → is_blank (get_or text (length text - 1) 0) ≡ false → is_blank (first_char text) ≡ false
 whole_other text whole last = ⊎_elim
     (λ yes.
@@ -114,7 +114,7 @@ whole_other text whole last = ⊎_elim
     (λ no. no)
     (cases_Bool (is_blank (first_char text)))
 
--- a text that ends with another byte than a blank is kept whole
+-- a text that does not end with a blank stays whole
 ends : (fuel : ℕ) (text : List ℕ) (off a : ℕ) → length text ≤ fuel → 0 < length text → is_blank (get_or text (length text - 1) 0) ≡ false
     → kept_end is_blank a (spans_from off (pieces text)) ≡ off + length text
 ends zero text off a le some last = absurd (omega arith)
@@ -175,7 +175,7 @@ trim_end_by_blanks text =
     ∙ kept_all text in
     ap (λ k. take k text) kept ∙ ap (take (length front)) e ∙ take_exact (length front) front gap refl
 
--- at both
+-- at both ends
 pub trim_by_blanks : (text : List ℕ) → trim_end_by is_blank (trim_start_by is_blank text) ≡ trim_blanks text
 unfolding trim_blanks
 trim_by_blanks text = ap (trim_end_by is_blank) (trim_start_by_blanks text) ∙ trim_end_by_blanks (trim_start text)

@@ -74,7 +74,7 @@ front_word text some = ⊎_elim
     (λ all. word_alone text (omega (arith, prefix_len-le-length (λ b. not (is_blank b)) text)) all)
     (cases_lt (bytes_before_blank text) (length text))
 
--- after the blanks stands a word
+-- a word follows the blanks
 some_ink : (text : List ℕ) → leading_blanks text < length text → 0 < bytes_before_blank (drop (leading_blanks text) text)
 some_ink text inside =
     let n = leading_blanks text in
@@ -98,16 +98,21 @@ place text inside =
       words = behind_blanks text ∙ front_word (drop from text) some ∙ (λ i. take (same i) (drop from text) ∷ words_of (drop-drop size from text i));
     }
 
--- where a text has a word, it is its first
-pub first_word_is : (text : List ℕ) (from to : ℕ) → Some (from, to) ≡ first_word text → IsPlace text from to
+-- a law of the word after the blanks of a text is one of its first word
+of_first_word : (Holds : ℕ → ℕ → Type 0) (text : List ℕ)
+    → (leading_blanks text < length text → Holds (leading_blanks text) (leading_blanks text + bytes_before_blank (drop (leading_blanks text) text)))
+    → (from to : ℕ) → Some (from, to) ≡ first_word text → Holds from to
 unfolding first_word
-first_word_is text from to e = ⊎_elim
+of_first_word Holds text holds from to e = ⊎_elim
     (λ inside.
     let found : Some (leading_blanks text, leading_blanks text + bytes_before_blank (drop (leading_blanks text) text)) ≡ Some (from, to) = sym (cond-true _ _ _ (lt-ltb _ _ inside)) ∙ sym e in
     let same : (leading_blanks text, leading_blanks text + bytes_before_blank (drop (leading_blanks text) text)) ≡ (from, to) = cc in
-    subst (λ (w : ℕ × ℕ). IsPlace text w.0 w.1) same (place text inside))
+    subst (λ (w : ℕ × ℕ). Holds w.0 w.1) same (holds inside))
     (λ past. let none : None ≡ Some (from, to) = sym (cond-false _ _ _ (le-ltb _ _ past)) ∙ sym e in cc)
     (cases_lt (leading_blanks text) (length text))
+
+pub first_word_is : (text : List ℕ) (from to : ℕ) → Some (from, to) ≡ first_word text → IsPlace text from to
+first_word_is text = of_first_word (IsPlace text) text (place text)
 
 pub no_first_word : (text : List ℕ) → None ≡ first_word text → words_of text ≡ []
 unfolding first_word
@@ -148,7 +153,7 @@ ink_ends text = ⊎_elim
     (λ past. inl (drop_all (bytes_before_blank text) text past))
     (cases_lt (bytes_before_blank text) (length text))
 
--- the first word is where it is read
+-- the first word is at the place read
 pub record IsFirstAt (text : List ℕ) (from to : ℕ) : Type 0 where
   pub first : IsFirstWord text (slice_range text from to) (drop to text)
   pub from_is : from ≡ length first.blanks
@@ -179,16 +184,9 @@ first_at_blanks text inside =
     }
 
 pub first_at : (text : List ℕ) (from to : ℕ) → Some (from, to) ≡ first_word text → IsFirstAt text from to
-unfolding first_word
-first_at text from to e = ⊎_elim
-    (λ inside.
-    let found : Some (leading_blanks text, leading_blanks text + bytes_before_blank (drop (leading_blanks text) text)) ≡ Some (from, to) = sym (cond-true _ _ _ (lt-ltb _ _ inside)) ∙ sym e in
-    let same : (leading_blanks text, leading_blanks text + bytes_before_blank (drop (leading_blanks text) text)) ≡ (from, to) = cc in
-    subst (λ (w : ℕ × ℕ). IsFirstAt text w.0 w.1) same (first_at_blanks text inside))
-    (λ past. let none : None ≡ Some (from, to) = sym (cond-false _ _ _ (le-ltb _ _ past)) ∙ sym e in cc)
-    (cases_lt (leading_blanks text) (length text))
+first_at text = of_first_word (IsFirstAt text) text (first_at_blanks text)
 
--- the same where what follows is cut out of the text
+-- the same, with the rest cut out of the text
 pub first_cut : (text : List ℕ) (from to : ℕ) → Some (from, to) ≡ first_word text → IsFirstWord text (slice_range text from to) (slice_range text to (length text))
 first_cut text from to e =
     let all : take (length text - to) (drop to text) ≡ drop to text = take_all (length text - to) (drop to text) (omega (arith, length-drop to text)) in
@@ -213,7 +211,7 @@ front_ink (b ∷ bs) behind are ends =
     let more = front_ink bs behind (All-tail IsInk b bs are) ends in
     cond-true (not (is_blank b)) (1 + bytes_before_blank (bs ++ behind)) 0 (not_from_false _ (All-head IsInk b bs are)) ∙ omega (arith, more)
 
--- and nowhere else
+-- and at no other place
 pub record FirstKnown (text word behind : List ℕ) (from : ℕ) : Type 0 where
   pub known : Some (from, from + length word) ≡ first_word text
   pub word_is : slice_range text from (from + length word) ≡ word

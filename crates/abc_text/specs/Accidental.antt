@@ -4,7 +4,7 @@ use Rattle.std.specs.Str.{bytes_eq}
 use Rattle.abc_text.specs.declared.accidental.Accidental.{Accidental}
 use Rattle.abc_text.specs.declared.accidental.Accidental.TheVariants.{DoubleFlat, Flat, Natural, Sharp, DoubleSharp}
 
--- How an accidental is written.
+-- The spelling of an accidental.
 abbrev pub spelling : Accidental → List ℕ
 spelling DoubleFlat = codes "__"
 spelling Flat = codes "_"
@@ -12,7 +12,7 @@ spelling Natural = codes "="
 spelling Sharp = codes "^"
 spelling DoubleSharp = codes "^^"
 
--- By how many semitones an accidental alters a note.
+-- The alteration of a note in semitones.
 abbrev pub alteration : Accidental → ℤ
 alteration DoubleFlat = negsuc 1
 alteration Flat = negsuc 0
@@ -20,7 +20,7 @@ alteration Natural = pos 0
 alteration Sharp = pos 1
 alteration DoubleSharp = pos 2
 
--- The accidental that a text is.
+-- The accidental that a whole text spells.
 unfoldable pub accidental_of : List ℕ → Option Accidental
 accidental_of text =
     if bytes_eq text (spelling DoubleFlat) then Some DoubleFlat

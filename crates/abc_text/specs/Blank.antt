@@ -3,7 +3,7 @@ use Rattle.std.specs.Prelude.{ℕ, ◌-◌, Bool, ◌||◌, ◌==◌, List, leng
 use Rattle.std.specs.List.{prefix_len, suffix_len, AllPass}
 use Rattle.abc_text.specs.Byte.{space, tab}
 
--- A space or a tab, and nothing else, is a blank.
+-- A blank is a space or a tab.
 abbrev pub is_blank : ℕ → Bool
 is_blank b = (b == space) || (b == tab)
 
@@ -11,11 +11,11 @@ is_blank b = (b == space) || (b == tab)
 abbrev pub AreBlanks : List ℕ → Type 0
 AreBlanks text = AllPass is_blank text
 
--- A text without the blanks that it begins with.
+-- A text without its leading blanks.
 unfoldable pub trim_start : List ℕ → List ℕ
 trim_start text = drop (prefix_len is_blank text) text
 
--- A text without the blanks that it ends with.
+-- A text without its trailing blanks.
 unfoldable pub trim_end : List ℕ → List ℕ
 trim_end text = take (length text - suffix_len is_blank text) text
 

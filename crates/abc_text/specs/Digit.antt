@@ -1,4 +1,4 @@
--- Decimal digits, and the numbers that they write.
+-- Decimal digits and their values.
 use Rattle.std.specs.Prelude.{ℕ, ◌+◌, ◌-◌, ◌*◌, Bool, List, fold}
 use Rattle.std.specs.Char.{is_ascii_digit}
 use Rattle.abc_text.specs.Byte.{digit_zero}
@@ -7,6 +7,6 @@ use Rattle.abc_text.specs.Byte.{digit_zero}
 abbrev pub is_digit : ℕ → Bool
 is_digit b = is_ascii_digit b
 
--- The number that digits write, the highest first.
+-- The value of digits, the highest first.
 abbrev pub decimal : List ℕ → ℕ
 decimal digits = fold (λ n digit. n * 10 + (digit - digit_zero)) 0 digits

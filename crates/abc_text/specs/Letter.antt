@@ -23,7 +23,7 @@ small E = 101
 small F = 102
 small G = 103
 
--- How many semitones a letter lies above the C below it.
+-- The number of semitones from the C below to the letter.
 abbrev pub semitones : Letter → ℕ
 semitones C = 0
 semitones D = 2
@@ -37,7 +37,7 @@ semitones B = 11
 abbrev pub IsLetter : ℕ → Letter → Type 0
 IsLetter byte letter = (byte ≡ capital letter) ⊎ (byte ≡ small letter)
 
--- The letter that a byte is, capital or small.
+-- The letter that a byte spells, capital or small.
 unfoldable pub letter_of : ℕ → Option Letter
 letter_of b =
     if (b == capital C) || (b == small C) then Some C

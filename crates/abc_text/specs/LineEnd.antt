@@ -9,7 +9,7 @@ IsWithoutReturn line rest =
     (line ≡ rest ++ carriage_return ∷ [])
     ⊎ ((line ≡ rest) × ((front : List ℕ) → line ≢ front ++ carriage_return ∷ []))
 
--- The line without the carriage return at its end. Of two only the last is dropped.
+-- The line without one carriage return at its end.
 abbrev pub without_return : List ℕ → List ℕ
 without_return line = if ends_with nat_eq line (carriage_return ∷ []) then take (length line - 1) line else line
 

@@ -4,15 +4,15 @@ use Rattle.std.specs.Prelude.{drop, if◌then◌else◌}
 use Rattle.std.specs.List.{All, AllPass, filter, position_or_len, prefix_len, slice_split}
 use Rattle.abc_text.specs.Blank.{is_blank}
 
--- A word has a byte at least.
+-- A word has at least one byte.
 abbrev pub is_word : List ℕ → Bool
 is_word part = nat_lt 0 (length part)
 
--- The words of a text: the parts between its blanks, but the empty ones.
+-- The words of a text: the nonempty parts between its blanks.
 unfoldable pub words_of : List ℕ → List (List ℕ)
 words_of text = filter is_word (slice_split is_blank text)
 
--- The first word of a text: after its blanks, bytes of which none is a blank, as far as they go.
+-- The first word of a text: the longest run of nonblank bytes after the leading blanks.
 pub record IsFirstWord (text word behind : List ℕ) : Type 0 where
   pub blanks : List ℕ
   pub spelling : text ≡ blanks ++ (word ++ behind)
@@ -21,20 +21,20 @@ pub record IsFirstWord (text word behind : List ℕ) : Type 0 where
   pub no_blank : All (λ b. is_blank b ≡ false) word
   pub ends : (behind ≡ []) ⊎ ((b : ℕ) × (rest : List ℕ) × (behind ≡ b ∷ rest) × (is_blank b ≡ true))
 
--- The words of a text, one after the other; a text of nothing but blanks has none.
+-- The words of a text, in order. A text of only blanks has none.
 abbrev pub AreWords : List ℕ → List (List ℕ) → Type 0
 AreWords text [] = AllPass is_blank text
 AreWords text (word ∷ words) = (behind : List ℕ) × IsFirstWord text word behind × AreWords behind words
 
--- How many blanks a text begins with.
+-- The number of blanks at the front of a text.
 abbrev pub leading_blanks : List ℕ → ℕ
 leading_blanks text = prefix_len is_blank text
 
--- How many bytes precede the first blank of a text.
+-- The number of bytes before the first blank of a text.
 abbrev pub bytes_before_blank : List ℕ → ℕ
 bytes_before_blank text = position_or_len is_blank text
 
--- Where the first word of a text begins and ends.
+-- The beginning and the end of the first word of a text.
 unfoldable pub first_word : List ℕ → Option (ℕ × ℕ)
 first_word text =
     if nat_lt (leading_blanks text) (length text)

@@ -15,7 +15,7 @@ pub enum Accidental {
 }
 
 impl Accidental {
-    /// By how many semitones it alters a note, from -2 to 2.
+    /// Returns the alteration of a note in semitones, from -2 to 2.
     pub fn alteration(self) -> i8
         ensures { result ≡ alteration self }
     {
@@ -29,7 +29,7 @@ impl Accidental {
     }
 }
 
-/// The accidental that a text is, and nothing else.
+/// Returns the accidental that a whole text spells.
 #[tactic(auto, unfolding(crate::specs::Accidental::accidental_of))]
 pub fn accidental_of(text: &[u8]) -> Option<Accidental>
     ensures value { result ≡ accidental_of text.now }

@@ -4,7 +4,7 @@ ghost use Rattle.std.specs.Prelude.{◌≡◌, ◌<◌, ◌==◌, IfSome, MatchO
 ghost use Rattle.std.specs.List.{position};
 ghost use Rattle.abc_text.specs.Cut.{HasNoByte, IsCut, cut_at};
 
-/// The index of the first such byte of a text.
+/// Returns the index of the first byte of this value in a text.
 fn find_byte(text: &[u8], byte: u8) -> Option<usize>
     ensures value { result ≡ position (λ b. b == byte) text.now }
     ensures inside { IfSome result (λ at. at < length text.now) }
@@ -12,8 +12,7 @@ fn find_byte(text: &[u8], byte: u8) -> Option<usize>
     text.iter().position(|b| *b == byte)
 }
 
-/// The part before the first such byte of a text, and what follows it; none if the text
-/// has no such byte.
+/// Returns the parts of a text before and after the first byte of this value, or none if the text has no such byte.
 #[tactic(auto, unfolding(crate::specs::Cut::cut_at))]
 pub fn cut_at(text: &[u8], byte: u8) -> Option<(&[u8], &[u8])>
     ensures value { option_map (λ parts. (parts.0.now, parts.1.now)) result ≡ cut_at byte text.now }

@@ -1,27 +1,27 @@
-//! Decimal digits, and the numbers that they write.
+//! Decimal digits and their values.
 
 ghost use Rattle.std.specs.Prelude.{◌≡◌, ◌≤◌, length, take};
 ghost use Rattle.std.specs.List.{prefix_len, AllPass};
 ghost use Rattle.abc_text.specs.Digit.{is_digit, decimal};
 
-/// How many digits a number has at most. Not in ABC 2.1.
+/// The greatest number of digits of a number. Not in ABC 2.1.
 pub const LONGEST_NUMBER: usize = 9;
 
-/// The largest number that `LONGEST_NUMBER` digits write.
+/// The largest number of `LONGEST_NUMBER` digits.
 pub const LARGEST_NUMBER: u32 = 999_999_999;
 
 const _: () = prove!(LONGEST_NUMBER == 9);
 
 const _: () = prove!(LARGEST_NUMBER + 1 == 1_000_000_000);
 
-/// Whether a byte is a decimal digit.
+/// Returns whether a byte is a decimal digit.
 pub fn is_digit(byte: u8) -> bool
     ensures { result ≡ is_digit byte }
 {
     byte.is_ascii_digit()
 }
 
-/// How many digits a text begins with.
+/// Returns the number of digits at the front of a text.
 pub fn digits(text: &[u8]) -> usize
     ensures value { result ≡ prefix_len is_digit text.now }
     ensures inside { result ≤ length text.now }
@@ -30,7 +30,7 @@ pub fn digits(text: &[u8]) -> usize
     text.iter().take_while(|byte| is_digit(**byte)).count()
 }
 
-/// The number that digits write, at most nine of them; none write 0.
+/// Returns the value of at most nine digits, 0 if there are none.
 pub fn decimal(digits: &[u8]) -> u32
     requires digits { AllPass is_digit digits.now }
     requires short { length digits.now ≤ LONGEST_NUMBER }

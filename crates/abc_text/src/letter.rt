@@ -32,7 +32,7 @@ impl Letter {
         }
     }
 
-    /// How many semitones the letter lies above the C below it.
+    /// Returns the number of semitones from the C below to the letter.
     pub fn semitones(self) -> u8
         ensures { result ≡ semitones self }
     {
@@ -48,7 +48,7 @@ impl Letter {
     }
 }
 
-/// The letter that a byte is, capital or small.
+/// Returns the letter that a byte spells, capital or small.
 #[tactic(auto, unfolding(crate::specs::Letter::letter_of))]
 pub fn letter_of(byte: u8) -> Option<Letter>
     ensures value { result ≡ letter_of byte }

@@ -1,6 +1,5 @@
-//! What the crates above share about bytes, words and lists: blanks, digits and numbers, the letters
-//! and accidentals of notes, a list that contracts see as its elements, and a snapshot of a value that
-//! contracts alone see.
+//! Bytes, words and lists for all crates above: blanks, digits and numbers, and the letters and accidentals of notes.
+//! Also two lists that contracts see as their elements, and a snapshot of a value for contracts.
 #![tactic(auto)]
 
 mod accidental;

@@ -3,7 +3,7 @@
 ghost use Rattle.std.specs.Prelude.{◌≡◌, ◌≤◌, length};
 ghost use Rattle.abc_text.specs.LineEnd.{without_return, IsWithoutReturn};
 
-/// The line without the carriage return at its end, of which one is dropped.
+/// Returns the line without one carriage return at its end.
 pub fn without_return(line: &[u8]) -> &[u8]
     ensures value { result.now ≡ without_return line.now }
     ensures one { IsWithoutReturn line.now result.now }

@@ -7,14 +7,14 @@ ghost use Rattle.abc_text.specs.Number.{number_of, IsNumber};
 
 use crate::digit::{LARGEST_NUMBER, LONGEST_NUMBER, decimal, is_digit};
 
-/// Whether a text has no other bytes than digits.
+/// Returns whether all bytes of a text are digits.
 fn are_digits(text: &[u8]) -> bool
     ensures { result ≡ list_all is_digit text.now }
 {
     text.iter().all(|byte| is_digit(*byte))
 }
 
-/// The number that one to nine decimal digits spell; zeros may come first.
+/// Returns the value of one to nine decimal digits, leading zeros included.
 pub fn number_of(text: &[u8]) -> Option<u32>
     ensures value { result ≡ number_of text.now }
     ensures spelled { (n : ℕ) → (result ≡ Some n) ↔ IsNumber text.now n }

@@ -3,7 +3,7 @@
 ghost use Rattle.std.specs.Prelude.{◌≡◌, ◌↔◌, ◌<◌, ◌≤◌, ◌^◌, IsTrue};
 ghost use Rattle.abc_text.specs.Power.{IsPowerUpTo, is_power_up_to};
 
-/// Whether a number is two to a power of at most this.
+/// Returns whether a number is a power of two with an exponent up to `most`.
 pub fn is_power_up_to(most: u32, number: u32) -> bool
     requires { most < 32 }
     ensures value { result ≡ is_power_up_to most number }

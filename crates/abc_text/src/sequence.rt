@@ -1,4 +1,4 @@
-//! A list that contracts see as nothing but its elements.
+//! A list. Contracts see only its elements.
 ghost use Rattle.std.specs.Prelude.{◌≡◌, ◌==◌, [], ◌∷◌, ◌++◌, length, IfOk, OnOk, OnErr};
 ghost use Rattle.std.specs.List.{AllZip};
 ghost use Rattle.std.specs.Cmp.{on_per, on_equiv};
@@ -8,7 +8,7 @@ use std::alloc::{AllocError, Global};
 use std::fmt;
 use std::marker::Model;
 
-/// The elements of a list in order, whatever room and place in memory it has.
+/// A list of elements. Contracts see neither its capacity nor its address.
 #[derive(Drop)]
 pub struct Sequence<T> {
     elements: Vec<T>,
@@ -26,7 +26,7 @@ impl<T> Model for Sequence<T> {
 }
 
 impl<T> Sequence<T> {
-    /// No elements yet.
+    /// Returns an empty list.
     pub fn new(alloc: Global) -> Self
         ensures { result ≡ [] }
     {
@@ -46,7 +46,7 @@ impl<T> Sequence<T> {
         })
     }
 
-    /// Puts one more element at the end.
+    /// Appends an element.
     pub fn push(&mut self, element: T) -> Result<(), AllocError>
     where
         T: Drop,
@@ -57,14 +57,14 @@ impl<T> Sequence<T> {
         Ok(())
     }
 
-    /// How many elements there are.
+    /// Returns the number of elements.
     pub fn len(&self) -> usize
         ensures { result ≡ length self.now }
     {
         self.elements.len()
     }
 
-    /// Whether there are none.
+    /// Returns whether there are no elements.
     pub fn is_empty(&self) -> bool
         ensures { result ≡ (length self.now == 0) }
     {

@@ -1,4 +1,4 @@
-//! A list of few elements that contracts see as nothing but its elements.
+//! A short list. Contracts see only its elements.
 
 ghost use Rattle.std.specs.Prelude.{◌≡◌, [], ◌∷◌, ◌++◌, OnOk, OnErr};
 ghost use Rattle.std.specs.Cmp.{on_per, on_equiv};
@@ -9,12 +9,10 @@ use smallvec::SmallVec;
 use std::alloc::{AllocError, Global};
 use std::marker::Model;
 
-/// How many elements need no memory of their own. Most lists have one element or none, and each value with a
-/// list pays for this room.
+/// The number of elements that need no allocation. Most lists have at most one element, and each list takes this room.
 const ROOM_IN_PLACE: usize = 1;
 
-/// The elements of a list in order, whatever place in memory they have: up to `ROOM_IN_PLACE` need none of
-/// their own.
+/// A list of elements. Up to `ROOM_IN_PLACE` of them need no allocation.
 #[derive(Drop)]
 pub struct ShortSequence<T: Default + Drop> {
     elements: SmallVec<T, ROOM_IN_PLACE>,
@@ -41,7 +39,7 @@ impl<T: Default + Drop> ShortSequence<T> {
         }
     }
 
-    /// Puts one more element at the end.
+    /// Appends an element.
     pub fn push(&mut self, element: T) -> Result<(), AllocError>
         ensures ok { OnOk result (self.new ≡ self.old ++ element ∷ []) }
         ensures unchanged { OnErr result (self.new ≡ self.old) }

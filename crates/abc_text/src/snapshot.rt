@@ -5,8 +5,8 @@ ghost use Rattle.std.specs.Borrow.{ftrue};
 
 use std::marker::{Model, PhantomData};
 
-/// The value that something had when the snapshot was taken. It has no bytes and no loan: a patch that is prepared on a
-/// value says by it, in contracts, which value that was.
+/// The value at the time of the snapshot. It takes no bytes and borrows nothing. A prepared patch names the old value
+/// by it in its contracts.
 #[derive(Drop)]
 pub struct Snapshot<T> {
     of: PhantomData<T>,
@@ -18,7 +18,7 @@ impl<T> Model for Snapshot<T> {
 }
 
 impl<T> Snapshot<T> {
-    /// A snapshot of the present value.
+    /// Returns a snapshot of the current value.
     pub fn of(seen: &T) -> Snapshot<T>
         ensures { result.value ≡ seen.now }
     {

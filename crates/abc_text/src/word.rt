@@ -6,7 +6,7 @@ ghost use Rattle.abc_text.specs.Word.{leading_blanks, bytes_before_blank, first_
 
 use crate::blank::is_blank;
 
-/// How many blanks a text begins with.
+/// Returns the number of blanks at the front of a text.
 pub fn leading_blanks(text: &[u8]) -> usize
     ensures value { result ≡ leading_blanks text.now }
     ensures inside { result ≤ length text.now }
@@ -14,7 +14,7 @@ pub fn leading_blanks(text: &[u8]) -> usize
     text.iter().take_while(|byte| is_blank(**byte)).count()
 }
 
-/// How many bytes precede the first blank of a text.
+/// Returns the number of bytes before the first blank of a text.
 pub fn bytes_before_blank(text: &[u8]) -> usize
     ensures value { result ≡ bytes_before_blank text.now }
     ensures inside { result ≤ length text.now }
@@ -22,7 +22,7 @@ pub fn bytes_before_blank(text: &[u8]) -> usize
     text.iter().take_while(|byte| !is_blank(**byte)).count()
 }
 
-/// Where the first word of a text begins and ends.
+/// Returns the beginning and the end of the first word of a text.
 #[tactic(auto, unfolding(crate::specs::Word::first_word))]
 pub fn first_word(text: &[u8]) -> Option<(usize, usize)>
     ensures value { result ≡ first_word text.now }
@@ -38,8 +38,7 @@ pub fn first_word(text: &[u8]) -> Option<(usize, usize)>
     Some((from, from + bytes_before_blank(&text[from..])))
 }
 
-/// The first word of a text, and what follows it, from the blank that ends the word on; none if
-/// the text has nothing but blanks.
+/// Returns the first word of a text, and the rest from the blank that ends it; none if the text has only blanks.
 #[tactic(auto, using(crate::proofs::Words::all_blank, crate::proofs::Words::first_cut, crate::proofs::Words::words_exact))]
 pub fn next_word(text: &[u8]) -> Option<(&[u8], &[u8])>
     ensures first { MatchOption result (AreBlanks text.now) (λ p. IsFirstWord text.now p.0.now p.1.now) }

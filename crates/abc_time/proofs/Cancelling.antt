@@ -36,14 +36,14 @@ divides_right a b g h = divided g b (subst (λ n. g ∣ n) (mul-one b) ((h.divis
 pub common_positive : (a b g : ℕ) → IsGcdOfMultiples a b g → 1 ≤ b → 1 ≤ g
 common_positive a b g h some = ((divides_right a b g h).positive some).0
 
--- where b divides a * k, what is left of b divides k
+-- if b divides a * k, the rest of b divides k
 pub divides_rest : (a b g k : ℕ) → IsGcdOfMultiples a b g → 1 ≤ g → b ∣ a * k → b / g ∣ k
 divides_rest a b g k h some whole =
     dvd_of_mul-dvd-mul_left (b / g) some
     (subst (λ n. n ∣ g * k) (sym (divides_right a b g h).times ∙ mul_comm (b / g) g)
     ((h.divisors b k).0 (whole, dvd-mul_right b k)))
 
--- where a loop that divides the numerators and the divisor by what they share has come to numerator i
+-- the state at numerator i of the loop that divides the numerators and the divisor by their common divisors
 pub record Cancels (before : List ℕ) (divisor : ℕ) (now : List ℕ) (i rest : ℕ) : Type 0 where
   pub balance : product_of now * divisor ≡ product_of before * rest
   pub whole : divisor ∣ product_of before → rest ∣ product_of (drop i now)
@@ -69,11 +69,11 @@ Cancels-step before now divisor i rest g h inside common =
       balanced : (p q d b r s g : ℕ) → p * g ≡ q → q * d ≡ b * r → s * g ≡ r → p * d * g ≡ b * s * g
       balanced p q d b r s g e f k = omega (arith, ap (λ n. n * d) e, f, ap (λ n. b * n) k)
 
--- where b divides a, b is the greatest common divisor
+-- if b divides a, b is the greatest common divisor
 divides_itself : (a b : ℕ) → b ∣ a → IsGcdOfMultiples a b b
 divides_itself a b h = record { divisors = λ c k. (λ both. both.1, λ d. (dvd_trans c d (mul-dvd-mul_right b h k), d)) }
 
--- the step at a numerator that what is left of the divisor divides
+-- the step at a numerator that the rest of the divisor divides
 pub Cancels-whole_step : (before now : List ℕ) (divisor i rest : ℕ) → Cancels before divisor now i rest → i < length now
     → get_or now i 0 % rest ≡ 0 → Cancels before divisor (set now i (get_or now i 0 / rest)) (i + 1) 1
 Cancels-whole_step before now divisor i rest h inside e =

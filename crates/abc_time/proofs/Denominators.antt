@@ -42,11 +42,11 @@ IsDivided-step before unit factors now next i d h inside e p = record {
   regrouped : (n u t e m b : ℕ) → n * e ≡ m → m * (u * t) ≡ b → n * (u * (t * e)) ≡ b
   regrouped n u t e m b p q = omega (arith, ap (λ x. x * (u * t)) p, q)
 
--- where the unit's denominator does not divide the product, neither do all of them
+-- if the unit's denominator does not divide the product, all of them together do not either
 pub not_divided_first : (before : ℕ) (unit : Ratio) (factors : List Ratio) → ¬ (unit.den ∣ before) → ¬ (denominator_of unit factors ∣ before)
 not_divided_first before unit factors h all = h (dvd_trans unit.den (dvd-mul_right unit.den _) all)
 
--- where the denominator of factor i does not divide what is left, all of them do not divide the product
+-- if the denominator of factor i does not divide the rest, all of them together do not divide the product
 pub not_divided_next : (before : ℕ) (unit : Ratio) (factors : List Ratio) (now : List ℕ) (i : ℕ) (d : Ratio)
     → IsDivided before unit factors now i → i < length factors → IsRatio unit → All IsRatio factors
     → ¬ ((get_or factors i d).den ∣ product_of now) → ¬ (denominator_of unit factors ∣ before)

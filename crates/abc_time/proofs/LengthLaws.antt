@@ -1,4 +1,4 @@
--- What a result says of the length.
+-- The meaning of a result.
 use Rattle.std.proofs.Common.{◌∙◌, ◌≡◌, ℕ, ◌*◌, ◌<◌, ◌≤◌, ◌↔◌, List, Result, Ok, Err, sym, subst}
 use Rattle.std.specs.Int.{◌∣◌}
 use Rattle.std.specs.List.{All}
@@ -12,7 +12,7 @@ use Rattle.abc_time.specs.Ratio.{IsRatio}
 use Rattle.abc_time.proofs.Denominators.{denominator_positive}
 use Rattle.abc_time.proofs.Quotients.{quotient_of-Ok, quotient_of-NotWhole, quotient_of-TooLong, quotient_of-whole, quotient_of-long, quotient_of-broken}
 
--- what the result of `length` says of the equation that a length fulfils
+-- the result of `length`, by the equation that a length fulfils
 pub record Judges (unit : Ratio) (factors : List Ratio) (r : Result Grains LengthFault) : Type 0 where
   pub ok : (g : ℕ) → (r ≡ Ok (record { 0 = g })) ↔ (IsLength unit factors g × (g ≤ grains_of_the_longest_length))
   pub not_whole : (r ≡ Err NotWhole) ↔ ((g : ℕ) → ¬ IsLength unit factors g)

@@ -10,7 +10,7 @@ pub product_of-append : (xs ys : List ℕ) → product_of (xs ++ ys) ≡ product
 product_of-append [] ys = sym (one-mul (product_of ys))
 product_of-append (x ∷ xs) ys = ap (λ n. x * n) (product_of-append xs ys) ∙ sym (mul_assoc x (product_of xs) (product_of ys))
 
--- an item that is replaced by v, where it was v times g
+-- an item v * g that is replaced by v
 pub product_of-set : (xs : List ℕ) (i v g : ℕ) → i < length xs → v * g ≡ get_or xs i 0 → product_of (set xs i v) * g ≡ product_of xs
 product_of-set [] i v g inside e = absurd (omega arith)
 product_of-set (x ∷ xs) zero v g inside e = omega (arith, ap (λ n. n * product_of xs) e)
@@ -37,7 +37,7 @@ product_of-take-le xs i h =
     ap product_of (sym (take-append-drop i xs)) ∙ product_of-append (take i xs) (drop i xs) in
     rw e (le-mul_of_pos_right _ (product_of-positive _ (All-drop (λ n. 1 ≤ n) i xs h)))
 
--- the product of what f gives for the first i + 1 items
+-- the product of the values of f for the first i + 1 items
 pub product_of-map-take : {X : Type 0} (f : X → ℕ) (xs : List X) (i : ℕ) (d : X) → i < length xs
     → product_of (map f (take (i + 1) xs)) ≡ product_of (map f (take i xs)) * f (get_or xs i d)
 product_of-map-take f xs i d inside =
@@ -46,13 +46,13 @@ product_of-map-take f xs i d inside =
     ∙ ap (λ n. product_of (take i (map f xs)) * n) (get_or-map f xs i d 0 inside)
     ∙ ap (λ l. product_of l * f (get_or xs i d)) (take-map f i xs)
 
--- one more factor of a product that a loop has come to
+-- one more factor of a product in a loop
 pub product_of-next : (xs : List ℕ) (i product next : ℕ) → i < length xs → product ≡ product_of (take i xs)
     → next ≡ product * get_or xs i 0 → next ≡ product_of (take (i + 1) xs)
 product_of-next xs i product next inside so_far e =
     e ∙ ap (λ n. n * get_or xs i 0) so_far ∙ sym (product_of-take xs i inside)
 
--- where one more factor passes every u64, so does the whole product
+-- if one more factor exceeds every u64, so does the whole product
 pub product_of-above : (xs : List ℕ) (i product limit : ℕ) → All (λ n. 1 ≤ n) xs → i < length xs → product ≡ product_of (take i xs)
     → ¬ (product * get_or xs i 0 < 2 ^ 64) → limit < 2 ^ 64 → ¬ (product_of xs ≤ limit)
 product_of-above xs i product limit positive inside so_far over fits small =

@@ -29,7 +29,7 @@ quotient_of-broken n d h =
     let m : n % d ≡ 0 → ⊥ = λ e. h (dvd_of_mod-eq-zero d e) in
     grind (arith, nat_tests)
 
--- what a quotient is: a length, too long, or no whole number
+-- the cases of a quotient: a length, too long, or no whole number
 pub data Outcome (n d : ℕ) : Type 0 where
   whole : (g : ℕ) → g * d ≡ n → g ≤ grains_of_the_longest_length → quotient_of n d ≡ Ok (record { 0 = g }) → Outcome n d
   long : (g : ℕ) → g * d ≡ n → grains_of_the_longest_length < g → quotient_of n d ≡ Err TooLong → Outcome n d

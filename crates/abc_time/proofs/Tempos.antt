@@ -21,7 +21,7 @@ quotient_to q d m some low high =
     let most : (m + 1 ≤ q / d) → ⊥ = λ h. let more : (m + 1) * d ≤ q = (le-div_iff_mul-le {k = d} {x = m + 1} {y = q} some').0 h in omega arith in
     omega (arith, most)
 
--- what a tempo event can say, by its test
+-- the range of a tempo event, by its test
 pub record Said (micros : ℕ) (r : Option ℕ) : Type 0 where
   pub iff : SomeIff r (FitsInTempoEvent micros) micros
   pub some : (m : ℕ) → r ≡ Some m → FitsInTempoEvent m × (m ≡ micros)

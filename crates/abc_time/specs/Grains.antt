@@ -20,7 +20,7 @@ grains_of_the_longest_length = 1024 * grains_of_a_whole_note
 unfoldable pub grains_of_the_latest_end : ℕ
 grains_of_the_latest_end = 131072 * grains_of_a_whole_note
 
--- The tick of a moment: the whole ticks that are over by then. Not in ABC 2.1.
+-- The tick of a moment: the number of whole ticks before it. Not in ABC 2.1.
 abbrev pub tick_at : ℕ → ℕ
 tick_at moment = moment / grains_of_a_tick
 

@@ -27,6 +27,6 @@ quotient_of n d =
     (if nat_le (n / d) grains_of_the_longest_length then Ok (record { 0 = n / d }) else Err TooLong)
     else Err NotWhole
 
--- The length that a unit and its factors make, or why there is none. Not in ABC 2.1.
+-- The length that a unit and its factors make, or the reason why there is none. Not in ABC 2.1.
 unfoldable pub length_of : Ratio → List Ratio → Result Grains LengthFault
 length_of unit factors = quotient_of (grains_of_a_whole_note * numerator_of unit factors) (denominator_of unit factors)

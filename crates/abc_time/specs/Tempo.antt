@@ -2,8 +2,8 @@
 use Rattle.std.specs.Prelude.{ℕ, ◌+◌, ◌*◌, ◌/◌, ◌<◌, ◌≤◌, ◌&&◌, nat_le, if◌then◌else◌, Option, Some, None}
 use Rattle.abc_time.specs.declared.ratio.Ratio.{Ratio}
 
--- The microseconds of a quarter note, if a minute has `per_minute` beats, each of 4 * num / den quarter
--- notes (ABC 2.1 section 3.1.8). That they are rounded down is not in ABC 2.1.
+-- The microseconds of a quarter note, if a minute has `per_minute` beats, each of 4 * num / den quarter notes (ABC 2.1
+-- section 3.1.8). The rounding is not in ABC 2.1.
 unfoldable pub quarter_of : Ratio → ℕ → ℕ
 quarter_of beat per_minute = 60000000 * beat.den / (4 * beat.num * per_minute)
 

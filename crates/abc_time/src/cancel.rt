@@ -1,4 +1,4 @@
-//! What factors and a divisor have in common.
+//! The common divisors of factors and a divisor.
 
 ghost use Rattle.std.specs.Prelude.{◌≡◌, ◌*◌, ◌≤◌, All};
 ghost use Rattle.std.specs.Int.{◌∣◌};
@@ -6,8 +6,8 @@ ghost use Rattle.abc_time.specs.Product.{product_of};
 
 use crate::gcd::gcd;
 
-/// Divides the numerators and the divisor by what they have in common, one numerator after
-/// another, and returns what is left of the divisor: 1 exactly if it divides their product.
+/// Divides the numerators, one after another, and the divisor by their common divisors. Returns the rest of the
+/// divisor: 1 exactly if the divisor divides their product.
 pub fn cancel(numerators: &mut [u64], divisor: u64) -> u64
     requires numerators { All (λ n. 1 ≤ n) numerators.old }
     requires divisor { 1 ≤ divisor }

@@ -1,11 +1,10 @@
-//! Grains, ticks, and how long a note and a tune may be.
+//! Grains, ticks, and the greatest lengths of a note and a tune.
 
 ghost use Rattle.std.specs.Prelude.{◌≡◌, ◌≤◌};
 ghost use Rattle.abc_time.specs.Grains.{grains_of_the_latest_end, tick_at};
 
-/// A length, or a moment counted from the start of the tune, in grains. A whole note has
-/// 929,901,772,800 of them (2^16 * 3^4 * 5^2 * 7^2 * 11 * 13), so that the usual lengths and
-/// tuplets are whole numbers.
+/// A length, or a moment counted from the start of the tune, in grains. A whole note has 929,901,772,800 grains (2^16 *
+/// 3^4 * 5^2 * 7^2 * 11 * 13), so the usual lengths and tuplets are whole numbers.
 #[derive(Clone, Copy, Debug, PartialEq, Eq, PartialOrd, Ord)]
 pub struct Grains(pub u64);
 

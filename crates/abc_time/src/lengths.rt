@@ -14,7 +14,7 @@ use crate::ratio::Ratio;
 use crate::ratio_product::times_ratios;
 use thiserror::Error;
 
-/// Why there is no length.
+/// The reason why there is no length.
 #[derive(Clone, Copy, Debug, PartialEq, Eq, Error)]
 pub enum LengthFault {
     #[error("the length is not a whole number of grains")]
@@ -24,8 +24,8 @@ pub enum LengthFault {
 }
 
 /// The unit of length times at most five factors (written, outer, tuplet, and broken rhythm twice), exactly, in grains
-/// (ABC 2.1 sections 4.3, 4.4 and 4.13). The products of the parts may have 220 bits, so common divisors are cancelled and
-/// nothing is multiplied out. A product that is not whole is `NotWhole`, however long; a whole one above 1,024 whole notes is
+/// (ABC 2.1 sections 4.3, 4.4 and 4.13). The products of the parts may have 220 bits, so the function cancels common
+/// divisors first. A product that is not whole is `NotWhole`, however long; a whole one above 1,024 whole notes is
 /// `TooLong`.
 pub fn length(unit: Ratio, factors: &[Ratio]) -> Result<Grains, LengthFault>
     requires unit { IsRatio unit }
@@ -46,7 +46,7 @@ pub fn length(unit: Ratio, factors: &[Ratio]) -> Result<Grains, LengthFault>
     }
 }
 
-/// The length, if it is found by a division and a product for each ratio, as nearly all are.
+/// Returns the length, if a division and a product for each ratio find it, as for nearly all lengths.
 fn length_in_steps(unit: Ratio, factors: &[Ratio]) -> Option<Grains>
     requires unit { IsRatio unit }
     requires factors { All IsRatio factors.now }
@@ -60,7 +60,7 @@ fn length_in_steps(unit: Ratio, factors: &[Ratio]) -> Option<Grains>
     }
 }
 
-/// The length, by cancelling the common divisors of all numerators and denominators.
+/// Returns the length, by cancelling the common divisors of all numerators and denominators.
 fn length_by_cancelling(unit: Ratio, factors: &[Ratio]) -> Result<Grains, LengthFault>
     requires unit { IsRatio unit }
     requires factors { All IsRatio factors.now }
@@ -75,7 +75,7 @@ fn length_by_cancelling(unit: Ratio, factors: &[Ratio]) -> Result<Grains, Length
     }
 }
 
-/// The grains of a whole note, the numerators, and ones in the places that are left.
+/// Returns the grains of a whole note, the numerators, and ones in the remaining places.
 fn numerators_of(unit: Ratio, factors: &[Ratio]) -> [u64; 7]
     requires unit { IsRatio unit }
     requires factors { All IsRatio factors.now }

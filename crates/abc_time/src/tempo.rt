@@ -10,12 +10,11 @@ use crate::ratio::Ratio;
 /// A minute in microseconds.
 const MINUTE: u64 = 60_000_000;
 
-/// The most microseconds of a quarter note that a MIDI file can say.
+/// The most microseconds of a quarter note that a MIDI file can hold.
 const LONGEST_QUARTER: u64 = 16_777_215;
 
-/// How many microseconds a quarter note lasts if a minute has `per_minute` of the beats (ABC 2.1
-/// section 3.1.8), rounded down. A MIDI file can say 1 to 16,777,215 of them, so there is no answer
-/// if the beat is faster or slower.
+/// Returns the microseconds of a quarter note, rounded down, if a minute has `per_minute` beats (ABC 2.1 section
+/// 3.1.8). A MIDI file can hold 1 to 16,777,215; for a faster or slower beat the result is none.
 pub fn quarter_micros(beat: Ratio, per_minute: u32) -> Option<u32>
     requires beat { IsRatio beat }
     requires some { 1 ≤ per_minute }

@@ -66,7 +66,7 @@ use Rattle.abc_tune_compiler.specs.Tune.{first_of}
 use Rattle.abc_voices.specs.Arrange.{is_too_long, items_in}
 use Rattle.abc_voices.specs.Opening.{after_all}
 
--- what the cells of a tune give is what looking back gives
+-- the results of a tune's cells are those of looking back
 abbrev to : Entry → CellTokens → Entry
 to entry cell = (entry_step entry cell).0
 
@@ -80,7 +80,7 @@ along entry (cell ∷ cells) = ap (λ (rest : List Items). giving entry cell ∷
 looked_back_at : (opening : Defaults) (cells : List CellTokens) → items_of_tune opening cells ≡ results_along (InHeader opening []) cells
 looked_back_at opening cells = along (entries.Opening opening) cells ∙ (from_view (InHeader opening [])).given cells
 
--- items among which none says that a header gives it
+-- items of which none comes from a header
 split_by : {A : Type 0} (b : Bool) (x : A) (xs : List A) → cond b (x ∷ xs) xs ≡ [] → (b ≡ false) × (xs ≡ [])
 split_by true x xs is = absurd cc
 split_by false x xs is = (refl, is)

@@ -12,7 +12,7 @@ use Rattle.abc_tune.specs.Lines.{HasFewVoices}
 use Rattle.abc_voices_sections.specs.Section.{opening_voice}
 use Rattle.abc_voices.specs.Track.{voice_names, names_from, has_unnamed_track, plays_first, tracks, with_name}
 
--- where one is the current one, only fields mention voices
+-- if one is the current one, only fields mention voices
 placed_from : (names : List (List ℕ)) (tune : List Item) → (behind_items (names, true) tune).0 ≡ names_from names tune
 placed_from names [] = refl
 placed_from names (items.Voice opening name ∷ tune) = placed_from (with_name names name) tune
@@ -34,7 +34,7 @@ behind_nameless names (items.Voice opening name ∷ tune) named =
     ap (λ known. names_from known tune) (with_named names name named.0) ∙ behind_nameless (with_name names name) tune named.1
 behind_nameless names (_ ∷ tune) named = behind_nameless names tune named.1
 
--- where the voice without a name has a track, it is mentioned
+-- if the voice without a name has a track, it is mentioned
 heard : (tune : List Item) → AreNamed tune → bytes_eq (opening_voice tune) [] ≡ true → plays_first tune ≡ true
     → (behind_items ([], false) tune).0 ≡ names_from ([] ∷ []) tune
 heard [] named opens plays = absurd (cc)

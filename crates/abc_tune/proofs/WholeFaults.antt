@@ -1,4 +1,4 @@
--- What holds of the items of a tune, by what holds of those of each cell.
+-- A property of the items of a tune, by the items of each cell.
 use Rattle.std.proofs.Common.{◌≡◌, ℕ, ◌+◌, ◌<◌, ◌≤◌, Bool, true, false, not, List, [], ◌∷◌, ◌++◌, length, drop, get_or, refl, sym, ap, ◌∙◌, arith, append_assoc}
 use Rattle.std.proofs.lemmas.List.{drop_more}
 use Rattle.std.proofs.lemmas.List.Folds.{list_any-append}
@@ -22,7 +22,7 @@ any_in_cells test (cell ∷ cells) =
 pub lacks_key_in_cells : (cells : List Items) → lacks_key (items_in cells) ≡ not (list_any (λ cell. list_any is_opening_key cell.items) cells)
 lacks_key_in_cells cells = ap not (any_in_cells is_opening_key cells)
 
--- what holds after items and more of them
+-- the state after items and more of them
 pub past_append : (out : Bool) (items more : List Item) → after_all out_after out (items ++ more) ≡ after_all out_after (after_all out_after out items) more
 past_append out [] more = refl
 past_append out (item ∷ items) more = past_append (out_after out item) items more

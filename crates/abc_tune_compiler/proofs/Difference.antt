@@ -79,7 +79,7 @@ pub rising_removed : (before after : Files) → IsStrictlyIncreasing (keys_of be
 unfolding removed_numbers
 rising_removed before after rising = IsStrictlyIncreasing-filter _ (keys_of before) rising
 
--- what the two lists say of two books
+-- the meaning of the two lists of two books
 pub reports : (before after : Files) (report : Report) → IsStrictlyIncreasing (keys_of before)
     → IsStrictlyIncreasing (keys_of after) → report.written.items ≡ written_numbers before after → report.removed.items ≡ removed_numbers before after → Reports before after report
 reports before after report early late writes removes = record {

@@ -4,7 +4,7 @@ use Rattle.abc_fold.specs.Steps.{Steps, IsAlike}
 use Rattle.abc_scan.specs.declared.class.LineClass.TheVariants.{Blank, Comment}
 use Rattle.abc_tune_compiler.specs.Rules.{Rules}
 
--- States that are alike have equal defaults. Tunes with equal defaults begin in states that are alike. A tune without a
+-- Equivalent states have equal defaults. Tunes with equal defaults begin in equivalent states. A tune without a
 -- file header begins as one after a file header without cells. The lines without cells are blank lines and comments.
 pub record AreLawful {State Cell Items Defaults : Type 0} (steps : Steps State Cell Items)
     (rules : Rules State Cell Items Defaults) : Type 0 where

@@ -65,6 +65,11 @@ kept_behind test key known built old asked now found never is cases =
     (λ put. inr (put ∙ ap (λ entries. put_entries (is_same test) (lru_cache entries 64) key built) (is ∙ not_promoted (is_same test key) old none)))
     cases
 
+-- A memo keeps its entries if the one that was asked for goes first.
+pub after_asking : {State Cell Items Defaults : Type 0} (steps : Steps State Cell Items) (rules : Rules State Cell Items Defaults) (same : TuneKey Defaults → Bool)
+    (entries now : List (TuneKey Defaults × Built)) → now ≡ promoted same entries → Remembers steps rules entries → Remembers steps rules now
+after_asking steps rules same entries now is remembers entry in_now = remembers entry (Contains-promoted same entries entry (subst (λ l. Contains l entry) is in_now))
+
 module _ {State Cell Items Defaults : Type 0} (steps : Steps State Cell Items) (rules : Rules State Cell Items Defaults)
     (laws : IsResumable steps) (lawful : AreLawful steps rules) (test : Defaults → Defaults → Bool) (told : (a b : Defaults) → IsTrue (test a b) → a ≡ b) where
   -- A key has one list of items.
@@ -86,15 +91,12 @@ module _ {State Cell Items Defaults : Type 0} (steps : Steps State Cell Items) (
         subst (λ k. IsBuiltOf steps rules k built) (sym (same_key test told key at.0 at.2)) own
 
     -- And so it is what is built of any list of items of the key.
-    pub found_bytes : (items : List Items) (built : Built) → AreItemsOf steps rules key items → lookup (is_same test key) entries ≡ Some built → built.bytes ≡ rules.bytes items
-    found_bytes items built own is = let of = found built is in of.bytes ∙ ap rules.bytes (same_items key of.items items of.of_key own)
-
-    pub found_faults : (items : List Items) (built : Built) → AreItemsOf steps rules key items → lookup (is_same test key) entries ≡ Some built → built.faults ≡ rules.build_faults items
-    found_faults items built own is = let of = found built is in of.faults ∙ ap rules.build_faults (same_items key of.items items of.of_key own)
-
-    -- The order in which keys were asked for is not what is remembered.
-    pub after_asking : (now : List (TuneKey Defaults × Built)) → now ≡ promoted (is_same test key) entries → Remembers steps rules now
-    after_asking now is entry in_now = remembers entry (Contains-promoted (is_same test key) entries entry (subst (λ l. Contains l entry) is in_now))
+    pub found_values : (items : List Items) (built : Built) → AreItemsOf steps rules key items → lookup (is_same test key) entries ≡ Some built
+        → (built.bytes ≡ rules.bytes items) × (built.faults ≡ rules.build_faults items)
+    found_values items built own is =
+        let of = found built is in
+        let same = same_items key of.items items of.of_key own in
+        (of.bytes ∙ ap rules.bytes same, of.faults ∙ ap rules.build_faults same)
 
     -- What was built of a key may be remembered under it.
     pub after_keeping : (now : List (TuneKey Defaults × Built)) (built : Built) → IsBuiltOf steps rules key built

@@ -41,7 +41,7 @@ unbroken line is =
     AllPass-from_list_all (λ b. not (b == line_feed)) line
     (none_found line_feed line (and_parts (nat_le (length line) LONGEST_LINE) (not (list_any (λ byte. byte == line_feed) line)) is).1)
 
--- Lines without line feeds are told by what they are joined to.
+-- Lines without line feeds are determined by their joined bytes.
 same_lines : (xs ys : Text) → list_all is_line xs ≡ true → list_all is_line ys ≡ true → joined xs ≡ joined ys → xs ≡ ys
 same_lines [] [] some other is = refl
 same_lines [] (y ∷ ys) some other is = absurd (no_front y (joined ys) is)

@@ -24,7 +24,7 @@ key_of_is key tone is = by tone.key refl is
 is_of_key : (key : ℕ) (tone : Tone) → tone.key ≡ Some key → has_key key tone.key ≡ true
 is_of_key key tone same = ap (has_key key) same ∙ eq-eqb key key refl
 
--- where a tone of a key stands
+-- the place of a tone of a key
 record Found (key number : ℕ) (past tones : List Tone) (found : Tone × ℕ) : Type 0 where
   place : ℕ
   stands : slice_get tones place ≡ Some found.0
@@ -167,7 +167,7 @@ chain_goes token (next ∷ tokens) place key tone number stands own_key same =
         let rest = again follows.other key found.0 found.1 follows.stands follows.own_key follows.tied in
         record { others = follows.other ∷ rest.others; chain = (follows.joined, rest.chain); ends = rest.ends }
 
--- the tied tone of a key that so many are before
+-- the tied tone of a key at an index among those of the key
 record Tied (key number : ℕ) (tones : List Tone) : Type 0 where
   place : ℕ
   tone : Tone
@@ -346,7 +346,7 @@ one_more : (b : Bool) (m : ℕ) → b ≡ true → 0 ≡ cond b (suc m) m → �
 one_more true m is none = omega (arith, none)
 one_more false m is none = cc
 
--- two tones of a key that as many of it are before are one
+-- two tones of a key at one index among those of the key are one
 same_place : (key : ℕ) (tones : List Tone) (a b : ℕ) (x y : Tone) → slice_get tones a ≡ Some x → slice_get tones b ≡ Some y
     → has_key key x.key ≡ true → has_key key y.key ≡ true → tones_with key (take a tones) ≡ tones_with key (take b tones) → a ≡ b
 same_place key [] a b x y first second own other same = absurd (cc)

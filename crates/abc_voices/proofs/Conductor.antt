@@ -1,4 +1,4 @@
--- The changes that stand are on each tick, of each kind, the last that is set there.
+-- The changes in force are, on each tick and of each kind, the last ones that are set there.
 use Rattle.std.proofs.Common.{◌≡◌, ℕ, ℤ, pos, ◌+◌, Bool, true, false, cond, List, [], ◌∷◌, ◌++◌, map, take, Option, Some, None, refl, ap, ◌∙◌, append-nil}
 use Rattle.std.proofs.lemmas.List.Elements.{filter-append}
 use Rattle.std.specs.Prelude.{◌==◌, filter, filter_map, option_map, option_and_then, unwrap_or}

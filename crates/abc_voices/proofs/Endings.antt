@@ -103,7 +103,7 @@ in_last opened m ms plain closes stops =
     ∙ ap (λ s. in_run false s ++ outside (opens_next m) ms) (with_plain m (without_endings []) plain)
     ∙ ap (λ b. (b && false) ∷ outside (opens_next m) ms) closes
 
--- the strain goes on where single bars lead to a sign
+-- the strain goes on if single bars lead to a sign
 abbrev first_has : List Strain → Bool
 first_has [] = false
 first_has (strain ∷ strains) = has_ending strain.endings
@@ -151,7 +151,7 @@ follows opened m ms plain = ⊎_elim
     (λ unclosed. record { behind = opened; is = out_more opened m ms plain unclosed })
     (cases_Bool (closes_common opened m))
 
--- the order that is said of the rest where nothing waits
+-- the order of the rest if nothing waits
 abbrev says : Bool → List Bool → List Item → List Item
 says between others rest = behind_signs [] (with_waits between others rest)
 

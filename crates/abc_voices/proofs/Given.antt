@@ -1,4 +1,4 @@
--- What a tune opens with, its parts and its voices are said by its fields alone: music changes none of them.
+-- The opening, the parts and the voices of a tune depend on its fields alone: music changes none of them.
 use Rattle.std.proofs.Common.{◌≡◌, ℕ, ◌-◌, Bool, true, false, cond, List, [], ◌∷◌, Option, None, refl, sym, subst, ap, ◌∙◌}
 use Rattle.std.proofs.lemmas.List.Elements.{All-filter}
 use Rattle.std.specs.Prelude.{not, ℤ, pos, All}
@@ -20,7 +20,7 @@ use Rattle.abc_voices_sections.specs.Section.{letter_of, letters, declared_or, o
 use Rattle.abc_voices_sections.specs.declared.stage.Stage.{Stage}
 use Rattle.abc_voices.specs.Track.{names_after, names_from, voice_names}
 
--- what is alike at a note or chord, a rest, a bar line and the beginning of an ending is alike at all music
+-- a value that is the same at a note or chord, a rest, a bar line and the beginning of an ending is the same at all music
 pub of_music : {V : Type 0} (f : Item → V) (v : V) → ((tones : List Tone) (length : Grains) → f (items.Tone tones length) ≡ v)
     → ((length : Grains) (bar : Bool) → f (items.Rest length bar) ≡ v) → ((line : _) → f (items.Bar line) ≡ v)
     → ((numbers : ℕ) → f (items.Ending numbers) ≡ v) → (item : Item) → is_music item ≡ true → f item ≡ v
@@ -30,7 +30,7 @@ of_music f v tone rest bar ending (items.Bar line) h = bar line
 of_music f v tone rest bar ending (items.Ending numbers) h = ending numbers
 of_music f v tone rest bar ending _ h = cc
 
--- what is taken on from step to step, and stays where it is at music
+-- a value that goes from step to step, and that music does not change
 left_step : {V W : Type 0} (f : V → List Item → W) (past : V → Item → V)
     → ((v : V) (step : Item) (tune : List Item) → f v (step ∷ tune) ≡ f (past v step) tune)
     → ((item : Item) → is_music item ≡ true → (v : V) → past v item ≡ v)
@@ -50,7 +50,7 @@ from_left f past goes kept v [] = refl
 from_left f past goes kept v (step ∷ tune) =
     left_step f past goes kept v step tune (λ w. from_left f past goes kept w tune) (is_music step) refl
 
--- what is made from the last step to the first, and stays what it is at music
+-- a value that comes from the last step to the first, and that music does not change
 right_step : {V : Type 0} (f : List Item → V) (before : V → Item → V)
     → ((step : Item) (tune : List Item) → f (step ∷ tune) ≡ before (f tune) step)
     → ((item : Item) → is_music item ≡ true → (v : V) → before v item ≡ v)
@@ -69,7 +69,7 @@ from_right f before goes kept [] = refl
 from_right f before goes kept (step ∷ tune) =
     right_step f before goes kept step tune (from_right f before goes kept tune) (is_music step) refl
 
--- what fields say one after another
+-- the last value of several fields
 after_given : {V : Type 0} (past : Option V → Item → Option V) → ((item : Item) → is_music item ≡ true → (v : Option V) → past v item ≡ v)
     → (tune : List Item) → after_all past None (without_music tune) ≡ after_all past None tune
 after_given past kept tune = from_left (after_all past) past (λ _ _ _. refl) kept None tune

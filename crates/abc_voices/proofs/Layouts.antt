@@ -68,7 +68,7 @@ notes_here voices k voice at [] e = refl
 notes_here voices k voice at (section ∷ played) e =
     λ i. notes_from at (steps_here section voices k voice e i) (notes_here voices k voice (at + longest voices section) played e i)
 
--- what there is for the voices from a place on, where it is known for each by what is left of them there
+-- the values of the voices from a place on, if the value of each is known from the voices that are left there
 voices_here : {X : Type 0} (one : ℕ → X) (own : List ℕ → X) (voices : List (List ℕ))
     → ((k : ℕ) (voice : List ℕ) (rest : List (List ℕ)) → drop k voices ≡ voice ∷ rest → one k ≡ own voice)
     → (k : ℕ) (rest : List (List ℕ)) → drop k voices ≡ rest → for_voices one k (length rest) ≡ map own rest

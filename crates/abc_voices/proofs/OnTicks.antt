@@ -1,4 +1,4 @@
--- The programs that stand are on each tick the last that is set there.
+-- The programs in force are, on each tick, the last ones that are set there.
 use Rattle.std.proofs.Common.{◌≡◌, ℕ, ◌+◌, Bool, true, false, cond, List, [], ◌∷◌, ◌++◌, map, Option, Some, None, refl, sym, ap, ◌∙◌, append-nil, eqb-true}
 use Rattle.std.proofs.lemmas.List.Elements.{filter-append}
 use Rattle.std.specs.Prelude.{◌==◌, ◌||◌, filter, is_some, option_map}
@@ -20,7 +20,7 @@ use Rattle.abc_voices.specs.Ticks.{has_tick, last_of_each_tick}
 use Rattle.abc_voices.specs.Track.{voice_names, tracks}
 use Rattle.abc_voices.specs.Voices.{or_said}
 
--- what is said by the first of these that says something
+-- the value of the first of these that has one
 pub or_none : {V : Type 0} (value : Option V) → value ≡ or_said value None
 or_none None = refl
 or_none (Some value) = refl
@@ -70,7 +70,7 @@ one_stands tick standing set (Some value) false true e those same = let h : fals
 one_stands tick standing set (Some value) false false e those same =
     filter-append (is_on tick) standing (set ∷ []) ∙ (λ i. those i ++ cond (e i) (set ∷ []) [])
 
--- of changes that stand the last one on a tick is there
+-- the last change on a tick is in force
 pub last_stands : {V : Type 0} (tick : ℕ) (sets : List (Grains × V)) → filter (is_on tick) (last_of_each_tick sets) ≡ option_to_list (last_said (set_if_on tick) sets)
 last_stands tick [] = refl
 last_stands tick (set ∷ later) =

@@ -84,7 +84,7 @@ fits tune each short = fits_a_file tune each short.places short.time short.voice
 voices_of : (tune : List Item) (score : Score) → score ≡ score_of tune → length score.voices ≡ length (tracks tune)
 voices_of tune score is = ap (λ (s : Score). length s.voices) is ∙ length-map (tracks tune) _
 
--- what the test of voices and title tells of a tune
+-- what the test of voices and title decides of a tune
 pub record AreFew (tune : List Item) : Type 0 where
   pub voices : length (tracks tune) ≤ MOST_VOICES
   pub title : length (title_of tune) ≤ LONGEST_TITLE

@@ -1,4 +1,4 @@
--- A tune is told for its uneven voices exactly if it has some.
+-- A tune has the fault of uneven voices exactly if it has some.
 use Rattle.std.proofs.Common.{◌≡◌, ℕ, ◌&&◌, Bool, true, false, List, refl, ap}
 use Rattle.std.specs.Prelude.{◌==◌, not, Any}
 use Rattle.std.specs.List.{list_any}

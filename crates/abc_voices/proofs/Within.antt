@@ -1,4 +1,4 @@
--- What stages set stands within their time; an order of a tune is accepted.
+-- What stages set is within their time; an order of a tune is accepted.
 use Rattle.std.proofs.Common.{◌≡◌, ℕ, ◌+◌, ◌<◌, ◌≤◌, List, [], ◌∷◌, length, Option, Some, None, Ok, sym, subst, ap, ◌∙◌, arith}
 use Rattle.abc_repeat.specs.Order.{sections_of, has_unknown}
 use Rattle.std.proofs.lemmas.List.Elements.{All-nil, All-cons, All-head, All-tail, All-append}

@@ -18,8 +18,8 @@ use Rattle.abc_voices.specs.OnTicks.{at_moments, last_said, set_by, set_on}
 use Rattle.abc_voices.specs.Track.{voice_names, tracks}
 use Rattle.abc_voices.specs.Voices.{or_said}
 
--- What a field of the header says of the tempo, the meter and the key with which a tune opens, if it is one: a value, or
--- that there is none.
+-- The tempo, the meter and the key that a field of the header sets for the opening of the tune, if it is such a field: a
+-- value, or none.
 abbrev pub opening_tempo_of : Item → Option (Option ℕ)
 opening_tempo_of (items.Tempo true micros out) = Some micros
 opening_tempo_of _ = None
@@ -32,8 +32,8 @@ abbrev pub opening_key_of : Item → Option (Option (ℤ × Bool))
 opening_key_of (items.Key true key) = Some key
 opening_key_of _ = None
 
--- With which value a tune opens: what the last field of its header says, or a usual value where that, or none, says
--- one.
+-- The value with which a tune opens: that of the last such field of its header, or the usual one if this sets none or there
+-- is no such field.
 abbrev pub opening_by : {V : Type 0} → (Item → Option (Option V)) → V → List Item → V
 opening_by says usual tune = unwrap_or (unwrap_or (last_said says tune) None) usual
 
@@ -74,7 +74,7 @@ at_120 = 60 * 10 ^ 6 / 120
 abbrev pub as_tempo : Grains × ℕ → Change
 as_tempo set = record { at = set.0; what = kinds.Tempo set.1 }
 
--- The tempo on a tick: all voices set it. Where the header says none, it is 120 quarter notes a minute.
+-- The tempo on a tick: all voices set it. If the header sets none, it is 120 quarter notes a minute.
 abbrev pub tempo_on : List Item → ℕ → Option Change
 tempo_on tune tick =
     option_map as_tempo (set_or_opening tempo_of (voice_names tune) (opening_by opening_tempo_of at_120 tune) tune tick)
@@ -84,7 +84,7 @@ abbrev pub as_meter : Grains → Meter → Option Change
 as_meter at meters.Free = None
 as_meter at (meters.Of num den) = Some (record { at = at; what = kinds.Meter num den })
 
--- The meter on a tick: the first voice with a track sets it. Where the header says none, it is free.
+-- The meter on a tick: the first voice with a track sets it. If the header sets none, it is free.
 abbrev pub meter_on : List Item → ℕ → Option Change
 meter_on tune tick =
     option_and_then (λ set. as_meter set.0 set.1) (set_or_opening meter_of (leader tune)
@@ -94,7 +94,7 @@ meter_on tune tick =
 abbrev pub as_key : Grains × (ℤ × Bool) → Change
 as_key set = record { at = set.0; what = kinds.Key set.1.0 set.1.1 }
 
--- The key on a tick: the first voice with a track sets it. Where the header says none, it is that of C major.
+-- The key on a tick: the first voice with a track sets it. If the header sets none, it is that of C major.
 abbrev pub key_on : List Item → ℕ → Option Change
 key_on tune tick =
     option_map as_key (set_or_opening key_of (leader tune) (opening_by opening_key_of (pos 0, false) tune) tune tick)

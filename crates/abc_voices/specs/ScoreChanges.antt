@@ -12,7 +12,7 @@ use Rattle.abc_voices.specs.Ticks.{last_of_each_tick}
 abbrev pub tempo_change : Grains × ℕ → Change
 tempo_change (at, micros) = record { at = at; what = kinds.Tempo micros }
 
--- A meter at a moment. Free meter is no change: a file cannot say it.
+-- A meter at a moment. Free meter is no change: a file has no event for it.
 abbrev pub meter_at : Grains → Meter → Option Change
 meter_at at meters.Free = None
 meter_at at (meters.Of num den) = Some (record { at = at; what = kinds.Meter num den })

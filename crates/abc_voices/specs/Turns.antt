@@ -22,13 +22,13 @@ use Rattle.abc_voices_sections.specs.Play.{duration}
 use Rattle.abc_voices_sections.specs.Step.{is_field}
 use Rattle.abc_voices.specs.Track.{has_unnamed_track}
 
--- A part of items that can be, which says how long it is, and is not longer than its stage.
+-- A part of valid items, with its own length, which is at most that of its stage.
 pub record IsPart (longest : Grains) (part : Part) : Type 0 where
   pub items : All IsItem part.steps
   pub length : part.length.0 ≡ duration part.steps
   pub short : part.length.0 ≤ longest.0
 
--- A stage whose parts are such.
+-- A stage of such parts.
 pub record IsStage (stage : Stage) : Type 0 where
   pub parts : All (IsPart stage.longest) stage.parts
 

@@ -24,13 +24,13 @@ played_runs part steps runs moved are =
     ∙ one_by_one steps
     ∙ ap (λ items. filter_map (slice_get items) (places_of items)) moved
 
--- where nothing in its runs waits for an ending's sign, a part stays as it stands
+-- if nothing in its runs waits for an ending's sign, a part is unchanged
 stays : (part : List Item) (runs : List (Run Item)) (waiting : Bool) → AreRuns part runs → not waiting ≡ nothing_waits Common (items_in runs) → waiting ≡ false
     → part ≡ with_fields_in_endings part
 stays part runs waiting are is none =
     sym (nothing_moves Common part (ap (nothing_waits Common) (sym are.whole) ∙ sym is ∙ ap not none))
 
--- what stretches play, where nothing is moved
+-- what stretches play if nothing is moved
 pub in_place : (part seen : List (Bor Item)) (found told lent : List Stretch) (waiting : Bool) → seen ≡ part → told ≡ found → lent ≡ found
     → AreRuns (items_of seen) (runs_of found) → not waiting ≡ nothing_waits Common (items_in (runs_of told)) → waiting ≡ false
     → items_played (runs_of lent) ≡ played_items (items_of part)
@@ -48,7 +48,7 @@ in_order part seen steps taken found lent same moved first second are =
     ∙ played_runs (items_of seen) (items_of taken) (runs_of found) (ap items_of first ∙ moved) are
     ∙ ap (λ one. played_items (items_of one)) same
 
--- so many places
+-- the number of places
 pub places_alike : (part items : List Item) → items ≡ played_items part → length items ≡ length (places_of (with_fields_in_endings part))
 places_alike part items is = ap length is ∙ as_many (with_fields_in_endings part)
 
@@ -61,7 +61,7 @@ sized (Err why) part items is own = own
 turns_stay : (part : List Item) → AllTakeTurns part → with_fields_in_endings part ≡ part
 turns_stay part turns = nothing_moves Common part (ap (nothing_waits Common) (sym (append-nil part)) ∙ rest_goes Common part [] turns)
 
--- what all takes its turn is played as it stands
+-- items that all take their turn are played in order
 pub played_turns : (part : List Item) → AllTakeTurns part → played_items part ≡ part
 played_turns part turns =
     ap (λ items. filter_map (slice_get items) (places_of items)) (turns_stay part turns)

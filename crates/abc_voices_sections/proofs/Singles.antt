@@ -79,7 +79,7 @@ second : (a b : Bool) → b ≡ true → (a || b) ≡ true
 second true b h = refl
 second false b h = h
 
--- what is set down with what has waited, but for single bars
+-- an item and those that have waited, without single bars
 set_alike : (held : List Item) (step : Item) → is_single (mark_of step) ≡ false → without_single_bars (put_with_waiting held step) ≡ put_with_waiting (without_single_bars held) step
 set_alike held step h = by_sign (is_ending (mark_of step))
   where
@@ -87,7 +87,7 @@ set_alike held step h = by_sign (is_ending (mark_of step))
     by_sign true = kept step held h
     by_sign false = filter-append matters held (step ∷ []) ∙ ap (λ l. without_single_bars held ++ l) (kept step [] h)
 
--- what stays, where what matters is set down
+-- what stays after an item that matters
 goes_alike : (region : Region) (held steps : List Item) (step : Item) → is_single (mark_of step) ≡ false
     → without_single_bars (order (region_after region (mark_of step)) [] steps) ≡ order (region_after region (mark_of step)) [] (without_single_bars steps)
     → without_single_bars (put_with_waiting held step ++ order (region_after region (mark_of step)) [] steps)
@@ -122,7 +122,7 @@ behind_other held steps step h waiting going =
     ]
     ∙ ap (order AfterBar (without_single_bars held)) (sym (kept step steps h))
 
--- where nothing waits
+-- if nothing waits
 alone : (region : Region) (steps : List Item) (step : Item) → is_single (mark_of step) ≡ true → region_after region (mark_of step) ≡ region → MovedAlike region [] steps
     → without_single_bars (put_with_waiting [] step ++ order (region_after region (mark_of step)) [] steps) ≡ order region [] (without_single_bars (step ∷ steps))
 alone region steps step h same rest =

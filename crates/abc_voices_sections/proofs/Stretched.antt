@@ -66,7 +66,7 @@ mark_more part found middle next mark begin at x inside within is before put mor
     ∙ ap (λ l. items_in (runs_of found) ++ l) all
     ∙ before
 
--- the mark stands by itself
+-- the mark is a stretch by itself
 pub mark_alone : (part : List (Bor Item)) (at : ℕ) (x : Bor Item) → at < length part → x ≡ get_or part at x → items_of (take (at + 1 - at) (drop at part)) ≡ x.now ∷ []
 mark_alone part at x within is =
     let one : at + 1 - at ≡ 1 = omega arith in
@@ -154,7 +154,7 @@ waits_from stretches i s x region own all within is told =
     ∙ run_goes region (run_of s) (get_or s.items.now 0 x).now rest (is_run_at stretches i s all within is) (first_alike s.items.now x)
     ∙ ap (λ b. not b && nothing_waits (region_after region s.mark) rest) (sym told)
 
--- it does where the first of the stretch does
+-- it does if the first item of the stretch does
 pub waits_here : (stretches : List Stretch) (i : ℕ) (s : Stretch) (x : Bor Item) (region : Region) (own : Bool)
     → All IsRun (runs_of stretches) → i < length stretches → s ≡ get_or stretches i s → own ≡ waits region (get_or s.items.now 0 x).now → own ≡ true
     → nothing_waits region (items_in (runs_of (drop i stretches))) ≡ false
@@ -162,7 +162,7 @@ waits_here stretches i s x region own all within is told here =
     waits_from stretches i s x region own all within is told
     ∙ ap (λ b. not b && nothing_waits (region_after region s.mark) (items_in (runs_of (drop (i + 1) stretches)))) here
 
--- else the others tell
+-- else the others decide
 pub waits_behind : (stretches : List Stretch) (i : ℕ) (s : Stretch) (x : Bor Item) (region : Region) (own : Bool)
     → All IsRun (runs_of stretches) → i < length stretches → s ≡ get_or stretches i s → own ≡ waits region (get_or s.items.now 0 x).now → own ≡ false
     → nothing_waits region (items_in (runs_of (drop i stretches))) ≡ nothing_waits (region_after region s.mark) (items_in (runs_of (drop (i + 1) stretches)))

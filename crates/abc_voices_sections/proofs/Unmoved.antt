@@ -1,4 +1,4 @@
--- Where nothing waits for an ending's sign, nothing is moved.
+-- If nothing waits for an ending's sign, nothing is moved.
 use Rattle.std.proofs.Common.{◌≡◌, true, false, not, cond, List, [], ◌∷◌, ◌++◌, refl, ap, ◌∙◌}
 use Rattle.std.proofs.lemmas.Bool.{and_parts, not-true}
 use Rattle.abc_bars_items.specs.declared.item.Item.{Item}
@@ -7,7 +7,7 @@ use Rattle.abc_voices_sections.specs.declared.ending_fields.Region.{Region}
 use Rattle.abc_voices_sections.specs.EndingFields.{waits, region_after, nothing_waits, put_with_waiting, with_fields_in_endings_from}
 use Rattle.abc_voices_sections.specs.Step.{mark_of}
 
--- what nothing waits before is set down as it stands
+-- an item that does not wait, after none that waits, is unchanged
 single_run : (step : Item) → put_with_waiting [] step ≡ step ∷ []
 single_run step = elim (is_ending (mark_of step)) as (λ b. cond b (step ∷ []) (step ∷ []) ≡ step ∷ []) [
   | true ↦ refl
@@ -24,4 +24,4 @@ nothing_moves region (step ∷ steps) h =
     ap (λ b. cond b (with_fields_in_endings_from region (step ∷ []) steps) (put_with_waiting [] step ++ with_fields_in_endings_from behind [] steps)) stays
     ∙ (λ i. single_run step i ++ nothing_moves behind steps both.1 i)
 
--- steps where nothing waits are those that repeats and endings play
+-- if nothing waits, the steps are those that repeats and endings play

@@ -45,7 +45,7 @@ turn_past AfterBar = refl
 turn_past Inside = refl
 turn_past Common = refl
 
--- whether something waits from a run on: its first item tells of it, and its mark of the rest
+-- whether something waits from a run on: its first item decides, and its mark decides for the rest
 pub run_goes : (region : Region) (run : Run Item) (first : Item) (rest : List Item) → IsRun run → first ≡ get_or run.items 0 first
     → nothing_waits region (run.items ++ rest) ≡ (not (waits region first) && nothing_waits (region_after region run.mark) rest)
 run_goes region _ first rest (together item items turns) is =

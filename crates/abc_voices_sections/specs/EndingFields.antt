@@ -12,16 +12,16 @@ abbrev pub waits : Region → Item → Bool
 waits AfterBar item = is_field item || is_single (mark_of item)
 waits _ item = false
 
--- Where the rest is after a bar that ends an ending: a colon after it opens another strain.
+-- The region after a bar that ends an ending: a colon after it opens another strain.
 abbrev pub after_bar : Mark → Region
 after_bar bar = if opens_next bar then Common else AfterBar
 
--- Where the rest is after a mark that is no ending's sign and waits for none.
+-- The region after a mark that is no ending's sign and waits for none.
 abbrev pub after_mark : Region → Mark → Region
 after_mark Inside mark = if closes_ending mark then after_bar mark else Inside
 after_mark _ mark = Common
 
--- Where the rest is after a mark that waits for none.
+-- The region after a mark that waits for none.
 abbrev pub region_after : Region → Mark → Region
 region_after region mark = if is_ending mark then Inside else after_mark region mark
 

@@ -11,7 +11,7 @@ use Rattle.abc_voices_sections.specs.declared.stage.StageFault.TheVariants as fa
 use Rattle.abc_voices_sections.specs.Items.{items_of}
 use Rattle.abc_voices_sections.specs.PlayedSection.{play_in, length_in, longest}
 
--- A section as the definitions see it: the current voice where it begins, and what is in it.
+-- A section as the definitions see it: the current voice at its beginning, and its items.
 abbrev pub content : Section → List ℕ × List Item
 content section = (section.voice.now, items_of section.items.now)
 

@@ -63,7 +63,7 @@ refused_first_short count line more lines e without short =
     ∙ ap (λ b. limit_fault (b && list_all is_line more) (count + length (line ∷ more))) (short_line line without short)
     ∙ ap (limit_fault (list_all is_line more)) counts
 
--- lines that are not there
+-- lines that are not in the text
 pub outside : (text : Text) (s : Splice) → length text < s.at + s.removed → replaced text s ≡ Err BadRange
 unfolding replaced
 outside text s beyond =
@@ -87,7 +87,7 @@ length_spliced text s inside =
     let sum : length (take s.at text ++ s.lines) + length (drop (s.at + s.removed) text) ≡ length text - s.removed + length s.lines = omega (arith, rest, front, after, inside) in
     whole ∙ sum
 
--- the reason of lines that are there
+-- the reason of lines that are in the text
 pub refuses_lines : (text : Text) (s : Splice) → s.at + s.removed ≤ length text
     → Refuses (unwrap_or (limit_fault (list_all is_line s.lines) (length text - s.removed + length s.lines)) OutOfMemory) (replaced text s)
 unfolding limit_fault replaced

@@ -14,7 +14,7 @@ abbrev error_in : EditError → Result Text EditError → EditError
 error_in other (Ok text) = other
 error_in other (Err error) = error
 
--- An edit that is refused is answered its code, and the session stays.
+-- The answer to a refused edit is its code, and the session is unchanged.
 pub refused_edits : (answer : Result Text EditError) (held : OpenSession) (e : EditError) → Refuses e answer → EditsBy answer held (code_of e) held
 refused_edits (Ok text) held e (inl is) = cc
 refused_edits (Ok text) held e (inr (none, ok)) = inr (ap code_of none, refl)

@@ -1,4 +1,4 @@
--- What calls answer about a session.
+-- The answers of calls about a session.
 use Rattle.std.specs.Prelude.{ℕ, List, length, Option, None, Some, option_map, slice_get}
 use Rattle.std.specs.Option.{unwrap_or}
 use Rattle.std.specs.Map.{keys_of}

@@ -1,4 +1,4 @@
--- The lines of a text that is handed in as a whole.
+-- The lines of a text that the caller passes as a whole.
 use Rattle.std.specs.Prelude.{ℕ, ◌==◌, if◌then◌else◌, List, [], ◌∷◌, length, nat_le}
 use Rattle.std.specs.List.{slice_split}
 use Rattle.abc_text.specs.Byte.{line_feed}

@@ -1,4 +1,4 @@
--- What calls say of sessions of ABC.
+-- The effects of calls on sessions of ABC.
 use Rattle.std.specs.Prelude.{◌≡◌, ◌⊎◌, ℕ, [], Option, None, Some, Result, Ok, Err, IsSomeAnd}
 use Rattle.abc_lines.specs.Edits.{edited}
 use Rattle.abc_lines.specs.declared.edit_error.EditError.{EditError}
@@ -33,7 +33,7 @@ abbrev pub IsClosed : Option OpenSession → ℕ → Option OpenSession → Type
 IsClosed None code after = (code ≡ CODE_MISUSED) × (after ≡ None)
 IsClosed (Some before) code after = (code ≡ CODE_OK) × (after ≡ None)
 
--- The text of a session is now this one, and its report tells which files differ.
+-- The text of a session is now this one, and its report lists the files that differ.
 pub record HasText (before : OpenSession) (wanted : Text) (after : OpenSession) : Type 0 where
   pub text : after.session.text ≡ wanted
   pub report : Reports (book_of before).files (book_of after).files after.report

@@ -5,7 +5,7 @@ ghost use Rattle.c_handle.specs.Copies.{copy_answer, lookup_answer};
 
 use crate::codes::{CODE_MISUSED, CODE_NOT_FOUND, CODE_OK, CODE_SHORT_BUFFER};
 
-/// What a call answers that copies items: a code, and how many items there are.
+/// The answer of a call that copies items: a code, and the number of items.
 #[derive(Drop)]
 pub struct CopyAnswer {
     pub code: u32,
@@ -30,7 +30,7 @@ pub fn copy<T: Copy>(items: &[T], buffer: &mut [T]) -> CopyAnswer
     }
 }
 
-/// Copies items if there are such.
+/// Copies items, if there are any.
 pub fn copy_found<T: Copy>(items: Option<&[T]>, buffer: &mut [T]) -> CopyAnswer
     ensures value { (result.code, result.count, buffer.new) ≡ lookup_answer (option_copied items.entry) buffer.old }
 {

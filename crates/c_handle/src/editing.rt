@@ -47,7 +47,7 @@ fn edit_slot(alloc: Global, slot: &mut SessionSlot, edit: &Edit, work: &mut Work
     }
 }
 
-/// Puts the lines of a text before a line.
+/// Inserts the lines of a text before a line.
 #[tactic(auto, using(crate::proofs::Sessions::unworked_slot))]
 pub fn insert_lines(
     alloc: Global,
@@ -65,7 +65,7 @@ pub fn insert_lines(
     }
 }
 
-/// Puts the lines of a text in the place of the lines from one to another.
+/// Replaces the lines from one to another by the lines of a text.
 #[tactic(auto, using(crate::proofs::Sessions::unworked_slot))]
 pub fn replace_lines(
     alloc: Global,
@@ -84,7 +84,7 @@ pub fn replace_lines(
     }
 }
 
-/// Takes out the lines from one to another.
+/// Deletes the lines from one to another.
 pub fn delete_lines(
     alloc: Global,
     slot: &mut SessionSlot,

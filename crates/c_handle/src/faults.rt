@@ -6,9 +6,9 @@ ghost use Rattle.c_handle.specs.Copies.{copy_answer, slot_answer};
 ghost use Rattle.c_handle.specs.Faults.{faults_in, record_of};
 
 use crate::codes::{CODE_OK, CODE_SHORT_BUFFER};
-use crate::copying::{CopyAnswer, misuse};
+use crate::copying::CopyAnswer;
 use crate::fault_record::FaultRecord;
-use crate::slot::SessionSlot;
+use crate::slot::{SessionSlot, read_session};
 use abc_live::Fault;
 use std::alloc::Global;
 
@@ -22,7 +22,7 @@ fn put_records(faults: &[Fault], records: &mut [FaultRecord])
     }
 }
 
-/// Copies faults if they fit, and tells how many they are.
+/// Copies faults if they fit, and returns their number.
 fn copy_records(faults: &[Fault], records: &mut [FaultRecord]) -> CopyAnswer
     ensures value { (result.code, result.count, records.new) ≡ copy_answer (map record_of faults.now) records.old }
 {
@@ -43,14 +43,8 @@ fn copy_records(faults: &[Fault], records: &mut [FaultRecord]) -> CopyAnswer
 /// Copies the faults of the text, in order.
 pub fn copy_faults(alloc: Global, slot: &mut SessionSlot, records: &mut [FaultRecord]) -> CopyAnswer
     ensures unchanged { session_in slot.new ≡ session_in slot.old }
-    ensures value { (result.code, result.count, records.new) ≡ slot_answer (option_map faults_in (session_in slot.old)) records.old }
+    ensures value { (result.code, result.count, records.new)
+        ≡ slot_answer (option_map faults_in (session_in slot.old)) records.old }
 {
-    match slot.take(alloc) {
-        Some(session) => {
-            let answer = copy_records(session.session.faults(), records);
-            slot.fill(session);
-            answer
-        }
-        None => misuse(),
-    }
+    read_session!(slot, alloc, session => copy_records(session.session.faults(), records))
 }

@@ -1,4 +1,4 @@
-//! A text that is handed in as a whole, cut into lines.
+//! A text that the caller passes as a whole, cut into lines.
 
 ghost use Rattle.std.specs.Prelude.{◌≡◌, [], ◌∷◌, ◌++◌, IfOk};
 ghost use Rattle.abc_lines.specs.Text.{text_of};

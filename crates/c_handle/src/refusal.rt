@@ -17,7 +17,7 @@ use abc_live::Session;
 use abc_text::cut_at;
 use std::alloc::Global;
 
-/// Why a text of this many lines is refused, if it is.
+/// Returns why a text of this many lines is refused, if it is.
 #[tactic(auto, unfolding(crate::specs::Refusal::limit_fault))]
 fn fault_of_count(count: usize) -> Option<EditError>
     ensures value { result ≡ limit_fault true count }
@@ -29,11 +29,12 @@ fn fault_of_count(count: usize) -> Option<EditError>
     }
 }
 
-/// Why a last line without a line feed is refused after these lines, if it is.
+/// Returns why a last line without a line feed is refused after these lines, if it is.
 fn fault_of_last(count: usize, last: &[u8]) -> Option<EditError>
     requires clean { HasNoByte 10 last.now }
     requires room { count + 1 < 2 ^ 64 }
-    ensures value { let lines = whole_lines (last.now ∷ []) in result ≡ limit_fault (list_all is_line lines) (count + length lines) }
+    ensures value { let lines = whole_lines (last.now ∷ []) in
+        result ≡ limit_fault (list_all is_line lines) (count + length lines) }
 {
     if last.is_empty() {
         return fault_of_count(count);
@@ -44,7 +45,7 @@ fn fault_of_last(count: usize, last: &[u8]) -> Option<EditError>
     fault_of_count(count + 1)
 }
 
-/// Why the lines of a text are refused beside this many other lines, if they are.
+/// Returns why the lines of a text are refused beside this many other lines, if they are.
 fn fault_of_lines(others: usize, text: &[u8]) -> Option<EditError>
     requires few { others ≤ MOST_LINES }
     ensures value { let lines = lines_in text.now in result ≡ limit_fault (list_all is_line lines) (others + length lines) }
@@ -78,7 +79,7 @@ fn reason(session: &Session, at: u32, removed: u32, text: &[u8]) -> EditError
     fault_of_lines(others as usize, text).unwrap_or(EditError::OutOfMemory)
 }
 
-/// Why an insertion is refused, the first reason first.
+/// Returns the first reason why an insertion is refused.
 fn insertion_reason(session: &Session, at: u32, text: &[u8]) -> EditError
     ensures value { Refuses result (edited session.now.text (insertion at (lines_in text.now))) }
 {
@@ -88,7 +89,7 @@ fn insertion_reason(session: &Session, at: u32, text: &[u8]) -> EditError
     reason(session, at - 1, 0, text)
 }
 
-/// Why a replacement is refused, the first reason first.
+/// Returns the first reason why a replacement is refused.
 fn replacement_reason(session: &Session, from: u32, to: u32, text: &[u8]) -> EditError
     ensures value { Refuses result (edited session.now.text (replacement from to (lines_in text.now))) }
 {

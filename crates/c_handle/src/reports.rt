@@ -5,36 +5,24 @@ ghost use Rattle.c_handle.specs.Slot.{session_in};
 ghost use Rattle.c_handle.specs.Answers.{removed_in, written_in};
 ghost use Rattle.c_handle.specs.Copies.{slot_answer};
 
-use crate::copying::{CopyAnswer, copy, misuse};
-use crate::slot::SessionSlot;
+use crate::copying::{CopyAnswer, copy};
+use crate::slot::{SessionSlot, read_session};
 use std::alloc::Global;
 
 /// Copies the numbers whose files the last edit wrote, rising.
 pub fn copy_written(alloc: Global, slot: &mut SessionSlot, numbers: &mut [u32]) -> CopyAnswer
     ensures unchanged { session_in slot.new ≡ session_in slot.old }
-    ensures value { (result.code, result.count, numbers.new) ≡ slot_answer (option_map written_in (session_in slot.old)) numbers.old }
+    ensures value { (result.code, result.count, numbers.new)
+        ≡ slot_answer (option_map written_in (session_in slot.old)) numbers.old }
 {
-    match slot.take(alloc) {
-        Some(session) => {
-            let answer = copy(&session.report.written, numbers);
-            slot.fill(session);
-            answer
-        }
-        None => misuse(),
-    }
+    read_session!(slot, alloc, session => copy(&session.report.written, numbers))
 }
 
 /// Copies the numbers whose files the last edit removed, rising.
 pub fn copy_removed(alloc: Global, slot: &mut SessionSlot, numbers: &mut [u32]) -> CopyAnswer
     ensures unchanged { session_in slot.new ≡ session_in slot.old }
-    ensures value { (result.code, result.count, numbers.new) ≡ slot_answer (option_map removed_in (session_in slot.old)) numbers.old }
+    ensures value { (result.code, result.count, numbers.new)
+        ≡ slot_answer (option_map removed_in (session_in slot.old)) numbers.old }
 {
-    match slot.take(alloc) {
-        Some(session) => {
-            let answer = copy(&session.report.removed, numbers);
-            slot.fill(session);
-            answer
-        }
-        None => misuse(),
-    }
+    read_session!(slot, alloc, session => copy(&session.report.removed, numbers))
 }

@@ -22,7 +22,7 @@ pub struct SessionSlot {
 impl SessionSlot {
     ghost use Rattle.c_handle.specs.Slot.{session_in};
 
-    /// Takes the session out, if there is one.
+    /// Takes the session out of the slot, if there is one.
     pub fn take(&mut self, alloc: Global) -> Option<Box<OpenSession>>
         ensures value { option_map (λ session. session.value) result ≡ session_in self.old }
         ensures empty { session_in self.new ≡ None }
@@ -44,3 +44,37 @@ impl SessionSlot {
         self.state = OPEN;
     }
 }
+
+/// Copies from the session of a slot, and puts the session back. A slot without a session is misused.
+macro_rules! read_session {
+    ($slot:expr, $alloc:expr, $session:ident => $copy:expr) => {
+        match $slot.take($alloc) {
+            Some($session) => {
+                let answer = $copy;
+                $slot.fill($session);
+                answer
+            }
+            None => $crate::copying::misuse(),
+        }
+    };
+}
+
+/// Counts in the session of a slot, and puts the session back. A slot without a session is misused, and the count is 0.
+macro_rules! count_in_session {
+    ($slot:expr, $alloc:expr, $count:expr, $session:ident => $number:expr) => {
+        match $slot.take($alloc) {
+            Some($session) => {
+                *$count = $number;
+                $slot.fill($session);
+                $crate::codes::CODE_OK
+            }
+            None => {
+                *$count = 0;
+                $crate::codes::CODE_MISUSED
+            }
+        }
+    };
+}
+
+pub(crate) use count_in_session;
+pub(crate) use read_session;

@@ -6,28 +6,18 @@ ghost use Rattle.c_handle.specs.Slot.{session_in};
 ghost use Rattle.c_handle.specs.Answers.{count_answer, title_number, title_text, titles_count};
 ghost use Rattle.c_handle.specs.Copies.{lookup_answer, slot_answer};
 
-use crate::codes::{CODE_MISUSED, CODE_NOT_FOUND, CODE_OK};
+use crate::codes::CODE_NOT_FOUND;
 use crate::copying::{CopyAnswer, copy, misuse};
-use crate::slot::SessionSlot;
+use crate::slot::{SessionSlot, count_in_session};
 use abc_live::Title;
 use std::alloc::Global;
 
-/// Tells how many titles there are: one a tune.
+/// Returns the number of titles: one a tune.
 pub fn count_titles(alloc: Global, slot: &mut SessionSlot, count: &mut usize) -> u32
     ensures unchanged { session_in slot.new ≡ session_in slot.old }
     ensures value { (result, count.new) ≡ count_answer (option_map titles_count (session_in slot.old)) }
 {
-    match slot.take(alloc) {
-        Some(session) => {
-            *count = session.session.titles().len();
-            slot.fill(session);
-            CODE_OK
-        }
-        None => {
-            *count = 0;
-            CODE_MISUSED
-        }
-    }
+    count_in_session!(slot, alloc, count, session => session.session.titles().len())
 }
 
 /// Copies the number and the bytes of a title, if there is one at the index.
@@ -60,7 +50,8 @@ pub fn copy_title(
     bytes: &mut [u8],
 ) -> CopyAnswer
     ensures unchanged { session_in slot.new ≡ session_in slot.old }
-    ensures value { (result.code, result.count, bytes.new) ≡ slot_answer (option_map (title_text index) (session_in slot.old)) bytes.old }
+    ensures value { (result.code, result.count, bytes.new)
+        ≡ slot_answer (option_map (title_text index) (session_in slot.old)) bytes.old }
     ensures number { number.new ≡ title_number index (session_in slot.old) }
 {
     match slot.take(alloc) {

@@ -1,8 +1,8 @@
 //! Calls that read a session, and the call that names the codes of faults.
 
 ghost use Rattle.std.specs.Prelude.{◌≡◌, option_map};
-ghost use Rattle.c_handle.specs.Answers.{count_answer, line_in, lines_count, numbers_in, output_in, removed_in, title_number, title_text};
-ghost use Rattle.c_handle.specs.Answers.{titles_count, written_in};
+ghost use Rattle.c_handle.specs.Answers.{count_answer, line_in, lines_count, numbers_in, output_in, removed_in, title_number};
+ghost use Rattle.c_handle.specs.Answers.{title_text, titles_count, written_in};
 ghost use Rattle.c_handle.specs.Copies.{lookup_answer, slot_answer};
 ghost use Rattle.c_handle.specs.FaultNames.{IsEachNumbered, name_numbered};
 ghost use Rattle.c_handle.specs.Faults.{faults_in};

@@ -88,15 +88,15 @@ pub fn the_order_at_a_tick()
         ∷ end_event 240 ∷ [] }
 {}
 
-/// At tick 0 the title comes before the tempo, and the tempo before the meter and the key, in whatever order they are
-/// given. Not in ABC 2.1.
+/// At tick 0 the title comes before the tempo, and the tempo before the meter and the key, in whatever order they
+/// come. Not in ABC 2.1.
 pub fn the_order_of_an_opening()
     ensures { encode_upper (track_body 0 (conductor_events (codes "A") opening_changes))
         ≡ codes "00FF03014100FF510307A12000FF58040302180800FF5902000000FF2F00" }
 {}
 
-/// Two notes of 240 ticks, one after the other: the first ends before the second begins. SMF 1.0; the order is our
-/// own.
+/// Two notes of 240 ticks, one after the other: the first ends before the second begins. SMF 1.0; the order is
+/// not in ABC 2.1.
 pub fn notes_in_turn()
     ensures { encode_upper (track_body 480 (voice_events 0 [] (sounding 60 0 240 ∷ sounding 62 240 480 ∷ [])))
         ≡ codes "00903C508170803C4000903E508170803E4000FF2F00" }

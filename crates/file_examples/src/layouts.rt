@@ -138,7 +138,7 @@ pub fn velocities_of_notes()
         ≡ sounding_with 45 60 1 2 ∷ sounding_with 105 60 0 1 ∷ [] }
 {}
 
-/// A voice has the last program of its header, or the last one that it plays on the first tick in its place; one that is
+/// A voice has the last program of its header, or the last one that it plays on the first tick instead; one that is
 /// refused sets none. Not in ABC 2.1.
 pub fn programs_at_the_beginning()
     ensures none { programs_of (note 60 ∷ []) ≡ [] ∷ [] }

@@ -23,7 +23,7 @@ own p q k bytes is = ap (λ (r : Publishing). r.jobs k) is ∙ ap (λ b. cond b 
 free : (job : Option (Option (List ℕ))) (bytes : Option (List ℕ)) → job ≡ Some bytes → is_none job ≡ false
 free job bytes is = ap is_none is
 
--- a number that is wanted is none of those under way
+-- a number without a job under way is none of those under way
 pub new : (p : Publishing) (files : Files) (from n k : ℕ) (bytes : Option (List ℕ)) → IsNext p files from k → p.jobs n ≡ Some bytes → n ≢ k
 new p files from n k bytes next job same =
     false≢true (sym (free (p.jobs k) bytes (ap p.jobs (sym same) ∙ job)) ∙ (and_parts (is_pending p.directory files k) (is_none (p.jobs k)) next.wanted).1)
@@ -31,6 +31,6 @@ new p files from n k bytes next job same =
 pub stays : (p q : Publishing) (n k : ℕ) (bytes file : Option (List ℕ)) → q ≡ with_job p k file → n ≢ k → p.jobs n ≡ Some bytes → q.jobs n ≡ Some bytes
 stays p q n k bytes file is other job = ap (λ (r : Publishing). r.jobs n) is ∙ ap (λ b. cond b (Some file) (p.jobs n)) (apart n k other) ∙ job
 
--- what is said of a job that was given
+-- the clause of a job that was taken
 pub given : {A E : Type 0} (P : Type 0) (Q : A → Type 0) (r : Result (Option A) E) (o : Option A) (job : A) → r ≡ Ok o → o ≡ Some job → IfOk r (λ o. MatchOption o P Q) → Q job
 given P Q r o job ok some said = subst (λ o. MatchOption o P Q) some (subst (λ r. IfOk r (λ o. MatchOption o P Q)) ok said)

@@ -26,7 +26,7 @@ unfolding edited replaced spliced judged
 not_too_many lines proper count =
     ap₂ (λ p n. judged p n (lines ++ codes "a" ∷ [])) proper (one_more lines 1048575 count)
 
--- what is no line is refused first, however many there are
+-- bytes that are no line are refused first, however many lines there are
 pub too_many_and_bad : (lines : Text) → list_all is_line lines ≡ false → edited (codes "a" ∷ []) (insertion 1 lines) ≡ Err BadLine
 unfolding edited replaced spliced judged
 too_many_and_bad lines improper =

@@ -1,10 +1,10 @@
--- Jobs that are held, and that they are under way. Not in ABC 2.1.
+-- Jobs that a caller holds. Not in ABC 2.1.
 use Rattle.std.specs.Prelude.{◌≡◌, ◌≢◌, ⊤, Some}
 use Rattle.abc_publish.specs.Publisher.{Publishing}
 use Rattle.live_examples.specs.declared.held_jobs.HeldJobs.{HeldJobs}
 use Rattle.live_examples.specs.declared.held_jobs.HeldJobs.TheVariants.{Nothing, One, Two}
 
--- The jobs held are under way, for different numbers.
+-- The caller's jobs are under way, for different numbers.
 abbrev pub IsUnderWay : Publishing → HeldJobs → Type 0
 IsUnderWay p Nothing = ⊤
 IsUnderWay p (One job) = p.jobs job.number ≡ Some job.bytes

@@ -16,11 +16,11 @@ use Rattle.live_examples.specs.ToyLaws.{toy_without_cells}
 abbrev pub marked_next : Marked → List ℕ → Marked
 marked_next state line = record { byte = next_byte state.byte line; mark = min (state.mark + 1) (2 ^ 64 - 1) }
 
--- What a line gives does not depend on the mark.
+-- The result of a line does not depend on the mark.
 abbrev pub marked_gives : Marked → List ℕ → Played
 marked_gives state line = played_line state.byte line
 
--- States are the same where their bytes are, whatever their marks.
+-- States are equivalent if their bytes are equal, whatever their marks.
 abbrev pub same_byte : Marked → Marked → Bool
 same_byte a b = a.byte == b.byte
 

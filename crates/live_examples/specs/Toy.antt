@@ -20,11 +20,11 @@ abbrev pub begins_with : ℕ → List ℕ → Bool
 begins_with byte [] = false
 begins_with byte (first ∷ rest) = first == byte
 
--- What a line has after its first two bytes.
+-- The bytes of a line after its first two.
 abbrev pub value_of : List ℕ → List ℕ
 value_of line = drop 2 line
 
--- The first byte of that, 0 if there is none.
+-- The first of these bytes, 0 if there is none.
 abbrev pub first_of_value : List ℕ → ℕ
 first_of_value line = slice_index line 2
 
@@ -44,19 +44,19 @@ cells_of line = cells_of_class (class_of line) line
 abbrev pub next_byte : ℕ → List ℕ → ℕ
 next_byte byte line = if begins_with 68 line then first_of_value line else byte
 
--- A line, and the byte that is put before music lines there.
+-- A line, and the byte that is put before music lines at its place.
 abbrev pub played_line : ℕ → List ℕ → Played
 played_line byte line = record { byte = byte; line = line }
 
--- The byte where nothing sets it: `0`.
+-- The byte if nothing sets it: `0`.
 abbrev pub no_byte : ℕ
 no_byte = 48
 
--- The reference number that an X: line gives: its first digit.
+-- The reference number of an X: line: its first digit.
 abbrev pub number_of : Played → Option ℕ
 number_of one = if begins_with 88 one.line then Some (first_of_value one.line - 48) else None
 
--- The title that a T: line gives.
+-- The title of a T: line.
 abbrev pub title_of : Played → Option (List ℕ)
 title_of one = if begins_with 84 one.line then Some (value_of one.line) else None
 
@@ -64,7 +64,7 @@ title_of one = if begins_with 84 one.line then Some (value_of one.line) else Non
 abbrev pub faults_of : Played → List (ℕ × FaultCode)
 faults_of one = if begins_with 33 one.line then (1, BadByte) ∷ [] else []
 
--- What a line of this class puts into the file.
+-- The bytes of a line of this class in the file.
 abbrev pub bytes_of_class : LineClass → Played → List ℕ
 bytes_of_class Blank one = []
 bytes_of_class Comment one = []
@@ -99,7 +99,7 @@ toy_rules = record {
   build_faults = tune_faults_of;
 }
 
--- The toy's fold, whose states are alike where they are equal.
+-- The toy's fold, whose states are equivalent if they are equal.
 abbrev pub toy_steps : Steps ℕ (List ℕ) Played
 toy_steps = record { next = next_byte; gives = played_line; alike = λ a b. a == b }
 

@@ -1,4 +1,4 @@
--- What a session relies on of the toy. Not in ABC 2.1.
+-- The toy is lawful, as a session requires. Not in ABC 2.1.
 use Rattle.std.specs.Prelude.{◌≡◌, ◌↔◌, ◌⊎◌, ℕ, ◌==◌, IsTrue, List, [], refl}
 use Rattle.std.proofs.Common.{inl, inr}
 use Rattle.std.proofs.lemmas.Bool.{eqb-true, eq-eqb}
@@ -12,7 +12,7 @@ use Rattle.live_examples.specs.Toy.{cells_of, cells_of_class, next_byte, no_byte
 pub toy_resumable : IsResumable toy_steps
 toy_resumable = resumable_where_equal toy_steps (λ a b alike. eqb-true a b alike) (λ a. eq-eqb a a refl)
 
--- The lines of a class have no cells exactly where it is blank lines or comments.
+-- The lines of a class have no cells exactly if they are blank or comments.
 silent_class : (class : LineClass) (line : List ℕ) → (cells_of_class class line ≡ []) ↔ ((class ≡ Blank) ⊎ (class ≡ Comment))
 silent_class Blank line = (λ none. inl refl, λ silent. refl)
 silent_class Comment line = (λ none. inr refl, λ silent. refl)

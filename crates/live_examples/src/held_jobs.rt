@@ -32,7 +32,7 @@ impl HeldJobs {
         }
     }
 
-    /// How many there are.
+    /// Returns the number of jobs.
     pub fn count(&self) -> usize {
         match self {
             HeldJobs::Nothing => 0,

@@ -13,7 +13,7 @@ use abc_tune::{Built, TuneKey, TuneMemo, put_line};
 use std::alloc::{AllocError, Global};
 use std::marker::Model;
 
-/// What the toy built of tunes of one line each.
+/// The tunes of one line each that the toy built.
 #[derive(Drop)]
 pub struct ToyMemo {
     memo: TuneMemo<Toy>,
@@ -33,7 +33,7 @@ impl Model for ToyMemo {
     ghost invariant = { λ own. Remembers toy_steps toy_rules own.memo };
 }
 
-/// What the cells of a line give after a byte.
+/// Returns the results of the cells of a line after a byte.
 fn items_of(
     alloc: Global,
     byte: u8,
@@ -61,7 +61,7 @@ impl ToyMemo {
         Ok(ToyMemo { memo })
     }
 
-    /// What is built of a tune of one line after a file header that sets this byte.
+    /// Returns the built tune of one line after a file header that sets this byte.
     pub fn ask(
         &mut self,
         alloc: Global,

@@ -20,7 +20,7 @@ use std::alloc::{AllocError, Global};
 #[derive(Drop)]
 pub struct Toy;
 
-/// A line, and the byte that is put before music lines there.
+/// A line, and the byte that is put before music lines at its place.
 #[derive(Drop)]
 pub struct Played {
     byte: u8,
@@ -143,7 +143,7 @@ fn is_long(all: &[Played]) -> bool
     all.len() >= 5
 }
 
-/// Puts what a line gives after what a file has.
+/// Appends the bytes of a line to a file.
 fn put_line(file: &mut Sequence<u8>, one: &Played) -> Result<(), AllocError>
     ensures { OnOk result (file.new ≡ file.old ++ bytes_of_class (class_of one.now.line) one.now) }
 {
@@ -158,7 +158,7 @@ fn put_line(file: &mut Sequence<u8>, one: &Played) -> Result<(), AllocError>
     }
 }
 
-/// Puts bytes after others.
+/// Appends bytes to others.
 fn put_bytes(file: &mut Sequence<u8>, bytes: &[u8]) -> Result<(), AllocError>
     ensures { OnOk result (file.new ≡ file.old ++ bytes.now) }
 {

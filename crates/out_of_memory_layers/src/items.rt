@@ -96,7 +96,7 @@ fn tone_count(tones: &Tones) -> usize {
     }
 }
 
-/// Two tones, given away.
+/// Two tones, moved out.
 pub fn tones(rt: &impl Runtime, alloc: Global) -> Result<bool, AllocError> {
     let tones = two_tones(alloc)?;
     call(rt, "Tones::of");

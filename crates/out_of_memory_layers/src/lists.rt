@@ -84,7 +84,7 @@ pub fn roomy_list(rt: &impl Runtime, alloc: Global) -> Result<bool, AllocError> 
     Ok(byte == b'a' && list.len() == 0 && list.room() == 1)
 }
 
-/// Three bytes for a list without room, and four more that are given up.
+/// Three bytes for a list without room, and four more whose patch is dropped.
 pub fn spliced_list(rt: &impl Runtime, alloc: Global) -> Result<bool, AllocError> {
     let bytes = Vec::from_slice(alloc, b"abc")?;
     let mut list = GapList::with_room(alloc, 0)?;
@@ -133,7 +133,7 @@ pub fn spliced_lines(rt: &impl Runtime, alloc: Global) -> Result<bool, AllocErro
     }
 }
 
-/// The same lines, which are given up.
+/// The same lines, whose patch is dropped.
 pub fn dropped_lines(rt: &impl Runtime, alloc: Global) -> Result<bool, AllocError> {
     let lines = lines_of(alloc, &[b"X:1", b"K:C"])?;
     let buffer = LineBuffer::new(alloc)?;

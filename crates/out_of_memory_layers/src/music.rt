@@ -15,7 +15,7 @@ pub fn cell(alloc: Global, line: &[u8], work: &mut Work) -> Result<Cell, AllocEr
     Cell::new(alloc, tokens)
 }
 
-/// What a line gives, and the state after it.
+/// Returns the items of a line, and the state after it.
 fn step(
     alloc: Global,
     entry: &Entry,
@@ -48,36 +48,32 @@ fn body(alloc: Global, work: &mut Work) -> Result<Entry, AllocError> {
     entry_after(alloc, &lines, work)
 }
 
-/// What a cell gives there.
-fn step_items(
+/// Returns the items of a line there, by a call of this name that is refused memory.
+fn items_of<R: Runtime>(
+    rt: &R,
     alloc: Global,
-    entry: &Entry,
-    cell: &Cell,
-    work: &mut Work,
+    name: &str,
+    line: &[u8],
 ) -> Result<Items, AllocError> {
-    let (_, items) = BarFold.step(alloc, entry, cell, work)?;
+    let mut work = Work::mint(rt);
+    let entry = body(alloc, &mut work)?;
+    let cell = cell(alloc, line, &mut work)?;
+    call(rt, name);
+    let (_, items) = BarFold.step(alloc, &entry, &cell, &mut work)?;
+    done(rt);
     Ok(items)
 }
 
 /// A rest, a note, a chord, three notes of a tuplet, two of a broken rhythm and a bar rest; the rest's length, a byte in
 /// the chord, the bar rest and the quotation mark are faults.
 pub fn bar_of_music<R: Runtime>(rt: &R, alloc: Global) -> Result<bool, AllocError> {
-    let mut work = Work::mint(rt);
-    let entry = body(alloc, &mut work)?;
-    let cell = cell(alloc, b"z0^C-[Cc-e17z]2(3def A>>B !f!Z\"", &mut work)?;
-    call(rt, "BarFold::step, all sorts of music");
-    let items = step_items(alloc, &entry, &cell, &mut work)?;
-    done(rt);
+    let line = b"z0^C-[Cc-e17z]2(3def A>>B !f!Z\"";
+    let items = items_of(rt, alloc, "BarFold::step, all sorts of music", line)?;
     Ok(items.items().len() == 9 && items.faults().len() == 4)
 }
 
 /// A third voice.
 pub fn third_voice<R: Runtime>(rt: &R, alloc: Global) -> Result<bool, AllocError> {
-    let mut work = Work::mint(rt);
-    let entry = body(alloc, &mut work)?;
-    let cell = cell(alloc, b"V:3", &mut work)?;
-    call(rt, "BarFold::step, another voice");
-    let items = step_items(alloc, &entry, &cell, &mut work)?;
-    done(rt);
+    let items = items_of(rt, alloc, "BarFold::step, another voice", b"V:3")?;
     Ok(items.items().len() == 1 && items.faults().is_empty())
 }

@@ -114,14 +114,6 @@ fn is_before(state: &VoiceState) -> bool {
         && in_octave(&state.accidentals, HIGH).is_none()
 }
 
-/// Whether the tuplet is over, `tied` notes are tied, and the high octave has this accidental.
-fn is_after(state: &VoiceState, tied: usize, high: Option<i8>) -> bool {
-    state.tuplet.is_none()
-        && state.tied.as_slice().len() == tied
-        && in_octave(&state.accidentals, WRITTEN) == Some(1)
-        && in_octave(&state.accidentals, HIGH) == high
-}
-
 /// That, once more.
 pub fn copy_voice_state(rt: &impl Runtime, alloc: Global) -> Result<bool, AllocError> {
     let state = voice_state(alloc)?;
@@ -129,21 +121,6 @@ pub fn copy_voice_state(rt: &impl Runtime, alloc: Global) -> Result<bool, AllocE
     let copy = state.clone()?;
     done(rt);
     Ok(is_before(&copy))
-}
-
-/// The high note: its length and its key are faults.
-pub fn note(rt: &impl Runtime, alloc: Global) -> Result<bool, AllocError> {
-    let mut state = voice_state(alloc)?;
-    let mut items = ItemsBuilder::with_room(alloc, 0)?;
-    let broken = BrokenFactors::of(Preceding::Nothing, &[]);
-    let note = sharp(HIGH);
-    call(rt, "play_note");
-    retry!(
-        rt,
-        play_note(alloc, &mut state, &mut items, note, &broken, PLACE),
-        is_before(&state) && counts(&items) == (0, 0),
-        is_after(&state, 1, Some(1)) && counts(&items) == (1, 2)
-    )
 }
 
 /// A chord of such parts, whose places are all the same.
@@ -162,11 +139,80 @@ pub fn chord_of(alloc: Global, kinds: &[ChordPartKind]) -> Result<Chord, AllocEr
     })
 }
 
+/// A voice in that state, and the items that it has played since.
+#[derive(Drop)]
+struct Player {
+    state: VoiceState,
+    items: ItemsBuilder,
+}
+
+impl Player {
+    fn new(alloc: Global) -> Result<Player, AllocError> {
+        let state = voice_state(alloc)?;
+        let items = ItemsBuilder::with_room(alloc, 0)?;
+        Ok(Player { state, items })
+    }
+
+    fn play_note(&mut self, alloc: Global, note: Note) -> Result<(), AllocError> {
+        let broken = BrokenFactors::of(Preceding::Nothing, &[]);
+        play_note(
+            alloc,
+            &mut self.state,
+            &mut self.items,
+            note,
+            &broken,
+            PLACE,
+        )
+    }
+
+    fn play_chord(&mut self, alloc: Global, chord: &Chord) -> Result<(), AllocError> {
+        let broken = BrokenFactors::of(Preceding::Nothing, &[]);
+        play_chord(
+            alloc,
+            &mut self.state,
+            &mut self.items,
+            chord,
+            &broken,
+            PLACE,
+        )
+    }
+
+    fn play_rest(&mut self, alloc: Global) -> Result<(), AllocError> {
+        let broken = BrokenFactors::of(Preceding::Nothing, &[]);
+        let written = WrittenLength::Refused;
+        play_rest(alloc, &mut self.state, &mut self.items, written, &broken, 0)
+    }
+
+    /// Whether the voice is still in that state, with these counts of items and faults.
+    fn is_before(&self, given: (usize, usize)) -> bool {
+        is_before(&self.state) && counts(&self.items) == given
+    }
+
+    /// Whether the tuplet is over, `tied` notes are tied, and the high octave has this accidental.
+    fn is_after(&self, tied: usize, high: Option<i8>, given: (usize, usize)) -> bool {
+        self.state.tuplet.is_none()
+            && self.state.tied.as_slice().len() == tied
+            && in_octave(&self.state.accidentals, WRITTEN) == Some(1)
+            && in_octave(&self.state.accidentals, HIGH) == high
+            && counts(&self.items) == given
+    }
+}
+
+/// The high note: its length and its key are faults.
+pub fn note(rt: &impl Runtime, alloc: Global) -> Result<bool, AllocError> {
+    let mut player = Player::new(alloc)?;
+    call(rt, "play_note");
+    retry!(
+        rt,
+        player.play_note(alloc, sharp(HIGH)),
+        player.is_before((0, 0)),
+        player.is_after(1, Some(1), (1, 2))
+    )
+}
+
 /// Two notes after a loose tie: the tie, the length of each and the key of the second are faults.
 pub fn chord(rt: &impl Runtime, alloc: Global) -> Result<bool, AllocError> {
-    let mut state = voice_state(alloc)?;
-    let mut items = ItemsBuilder::with_room(alloc, 0)?;
-    let broken = BrokenFactors::of(Preceding::Nothing, &[]);
+    let mut player = Player::new(alloc)?;
     let kinds = [
         ChordPartKind::Tie,
         ChordPartKind::Note(sharp(NEXT)),
@@ -176,38 +222,33 @@ pub fn chord(rt: &impl Runtime, alloc: Global) -> Result<bool, AllocError> {
     call(rt, "play_chord");
     retry!(
         rt,
-        play_chord(alloc, &mut state, &mut items, &chord, &broken, PLACE),
-        is_before(&state) && counts(&items) == (0, 0),
-        is_after(&state, 2, Some(1)) && counts(&items) == (1, 4)
+        player.play_chord(alloc, &chord),
+        player.is_before((0, 0)),
+        player.is_after(2, Some(1), (1, 4))
     )
 }
 
 /// A loose tie and no note: both are faults, and it takes no time.
 pub fn silent_chord(rt: &impl Runtime, alloc: Global) -> Result<bool, AllocError> {
-    let mut state = voice_state(alloc)?;
-    let mut items = ItemsBuilder::with_room(alloc, 0)?;
-    let broken = BrokenFactors::of(Preceding::Nothing, &[]);
+    let mut player = Player::new(alloc)?;
     let chord = chord_of(alloc, &[ChordPartKind::Tie])?;
     call(rt, "play_chord, no notes");
     retry!(
         rt,
-        play_chord(alloc, &mut state, &mut items, &chord, &broken, PLACE),
-        is_before(&state) && counts(&items) == (0, 0),
-        is_before(&state) && counts(&items) == (0, 2)
+        player.play_chord(alloc, &chord),
+        player.is_before((0, 0)),
+        player.is_before((0, 2))
     )
 }
 
 /// A rest, whose length is a fault.
 pub fn rest(rt: &impl Runtime, alloc: Global) -> Result<bool, AllocError> {
-    let mut state = voice_state(alloc)?;
-    let mut items = ItemsBuilder::with_room(alloc, 0)?;
-    let broken = BrokenFactors::of(Preceding::Nothing, &[]);
-    let written = WrittenLength::Refused;
+    let mut player = Player::new(alloc)?;
     call(rt, "play_rest");
     retry!(
         rt,
-        play_rest(alloc, &mut state, &mut items, written, &broken, 0),
-        is_before(&state) && counts(&items) == (0, 0),
-        is_after(&state, 0, None) && counts(&items) == (1, 1)
+        player.play_rest(alloc),
+        player.is_before((0, 0)),
+        player.is_after(0, None, (1, 1))
     )
 }

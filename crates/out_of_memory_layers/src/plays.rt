@@ -14,7 +14,7 @@ const MARKS: [Mark; 5] = [
     Mark::Play,
 ];
 
-/// Whether a play is that of these marks; an error where memory was refused.
+/// Whether a play is that of these marks; an error if an allocation was refused.
 fn is_right(play: Result<Vec<usize>, RepeatFault>) -> Result<bool, AllocError> {
     match play {
         Ok(places) => Ok(places.as_slice() == [0, 2, 0, 4].as_slice()),

@@ -85,7 +85,7 @@ pub fn blocks_of_text(rt: &impl Runtime, alloc: Global) -> Result<bool, AllocErr
     Ok(blocks.len() == 3)
 }
 
-/// Their blocks where five lines are before them.
+/// Their blocks after five other lines.
 pub fn blocks_of_stretch(rt: &impl Runtime, alloc: Global) -> Result<bool, AllocError> {
     let classes = classes();
     call(rt, "stretch_blocks");

@@ -8,7 +8,7 @@ use Rattle.live_examples.specs.Toy.{no_byte, toy_steps}
 abbrev pub titled_lines : List (List ℕ)
 titled_lines = (84 ∷ 58 ∷ 65 ∷ []) ∷ (33 ∷ 99 ∷ []) ∷ []
 
--- One chain, which is the toy's fold over these lines where no file header is before them.
+-- One chain: the toy's fold over these lines, without a file header before them.
 abbrev pub AreOfTitled : List (Chained ℕ (List ℕ) Played) → Type 0
 AreOfTitled [] = ⊥
 AreOfTitled (chain ∷ []) = (chain.cells ≡ titled_lines) × Folds toy_steps no_byte chain

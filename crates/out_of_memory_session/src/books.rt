@@ -4,7 +4,7 @@ ghost use Rattle.std.specs.Prelude.{◌≡◌, IfOk};
 
 use abc_fields::FaultCode;
 use abc_fold::{Shared, Work};
-use abc_lines::EditError;
+use abc_lines::{EditError, ItemRange, Replacement};
 use abc_live_index::{KeptBook, NewTunes, Output};
 use abc_live_text::{KeptText, read_rows};
 use abc_text::Sequence;
@@ -53,7 +53,7 @@ pub fn edited_text<R: Runtime>(rt: &R, alloc: Global) -> Result<bool, AllocError
     }
 }
 
-/// The same tune, which is given up.
+/// The same tune, whose patch is dropped.
 pub fn dropped_text<R: Runtime>(rt: &R, alloc: Global) -> Result<bool, AllocError> {
     let mut work = Work::mint(rt);
     let lines = lines_of(alloc, &[b"X:1", b"D:5", b"c"])?;
@@ -70,7 +70,7 @@ pub fn dropped_text<R: Runtime>(rt: &R, alloc: Global) -> Result<bool, AllocErro
     }
 }
 
-/// What a tune of the number 1 gives, with a file of one byte.
+/// Returns the output of a tune of the number 1, with a file of one byte.
 fn output(alloc: Global) -> Result<Shared<Output>, AllocError> {
     let built = Built {
         bytes: Some(Shared::new(alloc, Sequence::from_slice(alloc, b"M")?)?),
@@ -94,19 +94,20 @@ const FAULT: Fault = Fault {
 
 /// That tune instead of none.
 fn new_tune(alloc: Global) -> Result<NewTunes, AllocError>
-    ensures front { IfOk result (λ tunes. tunes.front ≡ 0) }
-    ensures behind { IfOk result (λ tunes. tunes.behind ≡ 0) }
+    ensures front { IfOk result (λ tunes. tunes.range.from ≡ 0) }
+    ensures behind { IfOk result (λ tunes. tunes.range.to ≡ 0) }
 {
     let mut outputs = Vec::new(alloc);
     outputs.push(output(alloc)?)?;
     Ok(NewTunes {
-        front: 0,
-        behind: 0,
+        range: ItemRange { from: 0, to: 0 },
         outputs,
+        lines: Replacement {
+            from: 0,
+            to: 0,
+            came: 1,
+        },
         faults: Vec::from_slice(alloc, &[FAULT])?,
-        from: 0,
-        gone: 0,
-        came: 1,
     })
 }
 
@@ -123,7 +124,7 @@ pub fn edited_book(rt: &impl Runtime, alloc: Global) -> Result<bool, AllocError>
     Ok(report.written.as_slice() == [1].as_slice() && book.faults().len() == 1)
 }
 
-/// The same tune, which is given up.
+/// The same tune, whose patch is dropped.
 pub fn dropped_book(rt: &impl Runtime, alloc: Global) -> Result<bool, AllocError> {
     let tune = new_tune(alloc)?;
     let book = KeptBook::new(alloc)?;

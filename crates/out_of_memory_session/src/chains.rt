@@ -69,7 +69,7 @@ pub fn piece(rt: &impl Runtime, alloc: Global) -> Result<bool, AllocError> {
     )
 }
 
-/// The same of a kept piece, whose copy allocates nothing.
+/// The same of a piece of a chain, whose copy allocates nothing.
 pub fn following_piece<R: Runtime>(rt: &R, alloc: Global) -> Result<bool, AllocError> {
     let chain = chain_of(alloc, b"", b"", &mut Work::mint(rt))?;
     let mut pieces = Pieces::new(alloc);
@@ -82,7 +82,7 @@ pub fn following_piece<R: Runtime>(rt: &R, alloc: Global) -> Result<bool, AllocE
     )
 }
 
-/// Whether a piece is the second line, as it was kept.
+/// Whether a piece is the second line of the chain.
 fn is_second_line(piece: &Piece<Toy>) -> bool {
     match piece {
         Piece::New(_) => false,
@@ -95,7 +95,7 @@ fn is_second_line(piece: &Piece<Toy>) -> bool {
     }
 }
 
-/// The second line of a chain, as it was kept.
+/// Returns the second line of a chain.
 pub fn kept_piece<R: Runtime>(rt: &R, alloc: Global) -> Result<bool, AllocError> {
     let chain = chain(alloc, &mut Work::mint(rt))?;
     call(rt, "Chain::kept");
@@ -104,7 +104,7 @@ pub fn kept_piece<R: Runtime>(rt: &R, alloc: Global) -> Result<bool, AllocError>
     Ok(is_second_line(&piece))
 }
 
-/// The first line of a chain, as it was kept.
+/// Returns the first line of a chain.
 fn first_kept_piece(chain: &Chain<Toy>) -> Result<Piece<Toy>, AllocError>
     requires some { 0 < length chain.now.cells }
     requires folds { Folds toy_steps 48 chain.now }
@@ -113,7 +113,7 @@ fn first_kept_piece(chain: &Chain<Toy>) -> Result<Piece<Toy>, AllocError>
     chain.kept(0)
 }
 
-/// The first line of a chain as it was kept, and another line after it.
+/// Returns the first line of a chain, and another line after it.
 fn pieces_of(alloc: Global, chain: &Chain<Toy>) -> Result<Pieces<Toy>, AllocError>
     requires some { 0 < length chain.now.cells }
     requires folds { Folds toy_steps 48 chain.now }

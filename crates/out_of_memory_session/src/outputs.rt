@@ -1,4 +1,4 @@
-//! What the tunes of a stretch give, and their faults: a tune of two lines of the toy language, of which the second is a
+//! The outputs of a range of tunes, and their faults: a tune of two lines of the toy language, of which the second is a
 //! fault.
 
 ghost use Rattle.std.specs.Prelude.{◌≡◌, IfOk, map};
@@ -23,7 +23,7 @@ use out_of_memory_layers::retry;
 use std::alloc::{AllocError, Global};
 use std::rt::Runtime;
 
-/// Where the two lines lie.
+/// Returns the place of the two lines.
 const PLACE: Block = Block {
     kind: BlockKind::Tune,
     from: 0,
@@ -45,7 +45,7 @@ fn chains(alloc: Global, work: &mut Work) -> Result<[Shared<Chain<Toy>>; 1], All
     Ok([Shared::new(alloc, chain)?])
 }
 
-/// What the tune gives, which reuses no output.
+/// Returns the output of the tune, which reuses no output.
 fn outputs_of_tune(
     alloc: Global,
     chains: &[Shared<Chain<Toy>>],
@@ -73,7 +73,7 @@ fn outputs_of_tune(
     outputs_of(&Toy, alloc, &stretch, &old, memo, work)
 }
 
-/// Whether that is what the tune gives.
+/// Whether that is the output of the tune.
 fn is_output_of_tune(outputs: &[Shared<Output>]) -> bool {
     match outputs {
         [output] => {
@@ -92,7 +92,7 @@ fn is_fault(faults: &[Fault]) -> bool {
     }
 }
 
-/// What the tune gives, called again after a refused request.
+/// The output of the tune, called again after a refused request.
 pub fn outputs<R: Runtime>(rt: &R, alloc: Global) -> Result<bool, AllocError> {
     let mut work = Work::mint(rt);
     let chains = chains(alloc, &mut work)?;

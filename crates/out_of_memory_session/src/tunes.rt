@@ -22,7 +22,7 @@ pub fn abc_cells<R: Runtime>(rt: &R, alloc: Global) -> Result<bool, AllocError> 
     Ok(cells.len() == 2)
 }
 
-/// What a cell gives, and what holds after it.
+/// Returns the items of a cell, and the state after it.
 fn step(
     alloc: Global,
     entry: &Entry,
@@ -43,7 +43,7 @@ pub fn numbered_cell<R: Runtime>(rt: &R, alloc: Global) -> Result<bool, AllocErr
     Ok(Abc.number(&items) == Some(1))
 }
 
-/// What the cells of a tune of one note give.
+/// Returns the items of the cells of a tune of one note.
 fn items(alloc: Global, work: &mut Work) -> Result<Vec<Items>, AllocError> {
     let mut entry = Entry::tune(alloc, None);
     let mut given = Vec::new(alloc);
@@ -83,7 +83,7 @@ pub fn file<R: Runtime>(rt: &R, alloc: Global) -> Result<bool, AllocError> {
     Ok(file.as_slice() == FILE_OF_C)
 }
 
-/// Whether what was built has the file of that tune.
+/// Whether a built tune has the file of that tune.
 fn has_file(built: &Built) -> bool {
     match &built.bytes {
         Some(bytes) => bytes.get().as_slice() == FILE_OF_C,
@@ -91,7 +91,7 @@ fn has_file(built: &Built) -> bool {
     }
 }
 
-/// What is built of the tune.
+/// Builds the tune.
 pub fn tune<R: Runtime>(rt: &R, alloc: Global) -> Result<bool, AllocError> {
     let mut work = Work::mint(rt);
     let items = items(alloc, &mut work)?;
@@ -131,7 +131,7 @@ pub fn empty_memo(rt: &impl Runtime, alloc: Global) -> Result<bool, AllocError> 
     Ok(true)
 }
 
-/// Whether what was built has the file of the line `c` after the byte 0.
+/// Whether a built tune has the file of the line `c` after the byte 0.
 fn is_toy_file(built: &Built) -> bool {
     match &built.bytes {
         Some(bytes) => bytes.get().as_slice() == b"0c".as_slice(),

@@ -2,29 +2,12 @@
 
 ghost use Rattle.std.specs.Prelude.{◌≡◌, ◌≤◌, ◌∷◌, [], All, List, false, filter, length};
 ghost use Rattle.std.specs.Map.{keys_of};
-ghost use Rattle.abc_bars.specs.Body.{here};
-ghost use Rattle.abc_bars.specs.BodyOpening.{body_from};
-ghost use Rattle.abc_bars.specs.Broken.{is_time_token};
-ghost use Rattle.abc_bars.specs.Cell.{with_token};
-ghost use Rattle.abc_bars.specs.FileHeader.{file_header_result};
-ghost use Rattle.abc_bars.specs.Header.{header_result, opening_header};
-ghost use Rattle.abc_bars.specs.HeaderLine.{HeaderLine};
-ghost use Rattle.abc_bars.specs.Limits.{MOST_VOICES};
-ghost use Rattle.abc_bars.specs.LookBack.AfterBody.{body_after};
-ghost use Rattle.abc_bars.specs.LookBack.Along.{CellTokens};
-ghost use Rattle.abc_bars.specs.LookBack.ByName.{naming_at, voice_state_named};
-ghost use Rattle.abc_bars.specs.LookBack.CellPlace.{VoicePlace};
-ghost use Rattle.abc_bars.specs.LookBack.Cells.{element_of};
-ghost use Rattle.abc_bars.specs.LookBack.Defaults.{defaults_at};
-ghost use Rattle.abc_bars.specs.LookBack.Element.{Element};
-ghost use Rattle.abc_bars.specs.LookBack.Header.{declared_names, header_at};
-ghost use Rattle.abc_bars.specs.LookBack.Keys.{IsAlteredAt};
-ghost use Rattle.abc_bars.specs.LookBack.Place.{AtEachPlace, Place, result_at, result_in_body, place_behind, view};
-ghost use Rattle.abc_bars.specs.LookBack.Ties.{loose_ties};
-ghost use Rattle.abc_bars.specs.LookBack.Voice.{voice_state_at};
-ghost use Rattle.abc_bars.specs.LooseTies.{is_loose_tie};
-ghost use Rattle.abc_bars.specs.Mentioned.{MentionsFew, NamesVoices};
-ghost use Rattle.abc_bars.specs.Step.{entry_step};
+ghost use Rattle.public_surface.specs.Bars.{here, body_from, is_time_token, with_token, file_header_result, header_result};
+ghost use Rattle.public_surface.specs.Bars.{opening_header, HeaderLine, MOST_VOICES, body_after, CellTokens, naming_at};
+ghost use Rattle.public_surface.specs.Bars.{voice_state_named, VoicePlace, element_of, defaults_at, Element, declared_names};
+ghost use Rattle.public_surface.specs.Bars.{header_at, IsAlteredAt, AtEachPlace, Place, result_at, result_in_body, place_behind};
+ghost use Rattle.public_surface.specs.Bars.{view, loose_ties, voice_state_at, is_loose_tie, MentionsFew, NamesVoices};
+ghost use Rattle.public_surface.specs.Bars.{entry_step};
 
 use abc_bars::{
     Body, CellResult, Defaults, Header, Key, Note, Spanned, TokenKind, VoiceState, laws,
@@ -46,7 +29,7 @@ pub fn tokens_are_elements()
     laws::left_by_tokens();
 }
 
-/// Each line of a header gives the value of its definition.
+/// Each line of a header has the value of its definition.
 pub fn headers_are_views()
     ensures values { (opening : Defaults) (before : List HeaderLine) (line : HeaderLine) →
         defaults_at opening (line ∷ before) ≡ (file_header_result (defaults_at opening before) line).defaults }
@@ -67,7 +50,8 @@ pub fn bodies_begin()
 
 /// The current voice is found by its name.
 pub fn voices_have_names()
-    ensures current { AtEachPlace (λ body start before. here body ≡ voice_state_named start (naming_at start before).current before) }
+    ensures current { AtEachPlace (λ body start before. here body
+        ≡ voice_state_named start (naming_at start before).current before) }
 {
     laws::named_voices();
 }

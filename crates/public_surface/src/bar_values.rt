@@ -1,16 +1,9 @@
 //! The values of headers, by `abc_bars`.
 
 ghost use Rattle.std.specs.Prelude.{◌≡◌, ◌≤◌, [], IfSome};
-ghost use Rattle.abc_bars.specs.Grains.{grains_of_the_longest_length};
-ghost use Rattle.abc_bars.specs.Length.{IsLength};
-ghost use Rattle.abc_bars.specs.Limits.{HIGHEST_PROGRAM, MOST_VOICES};
-ghost use Rattle.abc_bars.specs.Meter.{IsMeterInRange, meter_of};
-ghost use Rattle.abc_bars.specs.QuarterNote.{FitsInTempoEvent};
-ghost use Rattle.abc_bars.specs.Ratio.{IsRatio};
-ghost use Rattle.abc_bars.specs.Tempo.{tempo_of};
-ghost use Rattle.abc_bars.specs.TuneTempo.{micros_by};
-ghost use Rattle.abc_bars.specs.Unit.{unit_of};
-ghost use Rattle.abc_bars.specs.UnitLength.{IsUnitPart, unit_by};
+ghost use Rattle.public_surface.specs.Bars.{grains_of_the_longest_length, IsLength, HIGHEST_PROGRAM, MOST_VOICES};
+ghost use Rattle.public_surface.specs.Bars.{IsMeterInRange, meter_of, FitsInTempoEvent, IsRatio, tempo_of, micros_by, unit_of};
+ghost use Rattle.public_surface.specs.Bars.{IsUnitPart, unit_by};
 
 use abc_bars::{
     FaultCode, Grains, HIGHEST_PROGRAM, MOST_VOICES, Meter, Ratio, Tempo, TuneMeter, TuneProgram,

@@ -3,16 +3,8 @@
 ghost use Rattle.std.specs.Prelude.{◌≡◌, All, IfOk};
 ghost use Rattle.std.specs.Borrow.{sem};
 ghost use Rattle.std.specs.Option.{option_copied, option_copied_mut};
-ghost use Rattle.abc_bars.specs.Defaults.{no_defaults};
-ghost use Rattle.abc_bars.specs.Entry.{defaults_of, opening_after};
-ghost use Rattle.abc_bars.specs.Item.{IsItem};
-ghost use Rattle.abc_bars.specs.TonesView.{viewed_tones};
-ghost use Rattle.abc_bars.specs.SameDefaults.{same_defaults};
-ghost use Rattle.abc_bars.specs.SameEntry.{bar_steps};
-ghost use Rattle.abc_bars.specs.VoiceState.{without_accidentals};
-ghost use Rattle.abc_bars.specs.Step.{entry_step};
-ghost use Rattle.abc_bars.specs.Voices.{voice_at};
-ghost use Rattle.abc_bars.specs.VoicesLent.{lends_voice};
+ghost use Rattle.public_surface.specs.Bars.{no_defaults, defaults_of, opening_after, IsItem, viewed_tones, same_defaults};
+ghost use Rattle.public_surface.specs.Bars.{bar_steps, without_accidentals, entry_step, voice_at, lends_voice};
 
 use abc_bars::{
     BarFold, BarLine, Body, Cell, Defaults, Entry, FaultCode, Fold, Grains, Header, Item, ItemText,

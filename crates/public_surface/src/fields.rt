@@ -1,15 +1,8 @@
 //! The values of fields, by `abc_fields`.
 
 ghost use Rattle.std.specs.Prelude.{◌≡◌, ◌↔◌, ◌∷◌, IfOk, List, drop, slice_range};
-ghost use Rattle.abc_fields.specs.Fault.{name_of};
-ghost use Rattle.abc_fields.specs.Key.{key_of};
-ghost use Rattle.abc_fields.specs.Letter.{capital};
-ghost use Rattle.abc_fields.specs.Meter.{meter_of};
-ghost use Rattle.abc_fields.specs.Parts.{parts_of};
-ghost use Rattle.abc_fields.specs.Ratio.{IsRatio};
-ghost use Rattle.abc_fields.specs.Signature.{alteration};
-ghost use Rattle.abc_fields.specs.Tempo.{tempo_of};
-ghost use Rattle.abc_fields.specs.Word.{words_of};
+ghost use Rattle.public_surface.specs.Fields.{name_of, key_of, capital, meter_of, parts_of, IsRatio, alteration, tempo_of};
+ghost use Rattle.public_surface.specs.Fields.{words_of};
 
 use abc_fields::{
     FaultCode, Key, Letter, Meter, Ratio, Signature, Tempo, Voice, alteration, read_key,

@@ -49,7 +49,7 @@ pub fn are_alike<F: Fold>(a: &F::State, b: &F::State) -> bool {
     F::same(a, b)
 }
 
-/// Whether a piece is a cell that no chain has kept.
+/// Whether a piece is a cell that is in no chain.
 pub fn is_new<F: Fold>(piece: &Piece<F>) -> bool {
     match piece {
         Piece::New(_) => true,
@@ -91,14 +91,14 @@ pub fn commit_chain<F: Fold>(chain: &mut Chain<F>, patch: ChainPatch<F>) -> usiz
     chain.len()
 }
 
-/// Gives a patch up, and returns how many cells the chain would have.
+/// Drops a patch, and returns how many cells the chain would have.
 pub fn drop_chain<F: Fold>(patch: ChainPatch<F>) -> usize {
     let count = patch.len();
     patch.drop_patch();
     count
 }
 
-/// Returns the state in which a cell is entered, and what the cell gives.
+/// Returns the state in which a cell is entered, and the cell's result.
 pub fn entry_and_items_at<F: Fold>(
     chain: &Chain<F>,
     i: usize,

@@ -51,7 +51,7 @@ pub fn commit_splice(buffer: &mut LineBuffer, patch: LinePatch)
     buffer.commit(patch);
 }
 
-/// Gives a patch up.
+/// Drops a patch.
 pub fn drop_splice(patch: LinePatch) {
     patch.drop_patch();
 }

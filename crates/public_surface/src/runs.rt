@@ -2,11 +2,7 @@
 
 ghost use Rattle.std.specs.Prelude.{◌≡◌, [], option_copied};
 ghost use Rattle.std.specs.Result.{result_err};
-ghost use Rattle.abc2midi_live.specs.Edits.{edited, insertion};
-ghost use Rattle.abc2midi_live.specs.Piped.{piped};
-ghost use Rattle.abc2midi_live.specs.Streams.{faults};
-ghost use Rattle.abc2midi_live.specs.Transcript.{book_lines};
-ghost use Rattle.abc2midi_live.specs.Work.{raised};
+ghost use Rattle.public_surface.specs.Runs.{edited, insertion, piped, faults, book_lines, raised};
 
 use abc2midi_live::{
     EditError, Piped, RunFault, Sink, Source, Store, StoreFault, StreamFault, Work, fault_of_book,

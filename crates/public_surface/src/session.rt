@@ -2,15 +2,8 @@
 
 ghost use Rattle.std.specs.Prelude.{◌≡◌, ◌≤◌, IfErr, IfOk, Ok, length, option_copied};
 ghost use Rattle.std.specs.List.Sorted.{IsStrictlySortedBy};
-ghost use Rattle.abc_live.specs.Book.{book_of};
-ghost use Rattle.abc_live.specs.Edit.{line_at, splice_of};
-ghost use Rattle.abc_live.specs.EditError.{name_of};
-ghost use Rattle.abc_live.specs.Edits.{Refuses, edited};
-ghost use Rattle.abc_live.specs.Fault.{fault_cmp};
-ghost use Rattle.abc_live.specs.Files.{file_at};
-ghost use Rattle.abc_live.specs.Limits.{MOST_LINES};
-ghost use Rattle.abc_live.specs.Report.{Reports};
-ghost use Rattle.abc_live.specs.Session.{book_in};
+ghost use Rattle.public_surface.specs.Session.{book_of, line_at, splice_of, name_of, Refuses, edited, fault_cmp, file_at};
+ghost use Rattle.public_surface.specs.Session.{MOST_LINES, Reports, book_in};
 
 use abc_live::{
     Abc, Compiler, Edit, EditError, Fault, FaultCode, LiveSession, MOST_LINES, Report, Sequence,

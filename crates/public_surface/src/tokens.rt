@@ -1,13 +1,8 @@
 //! Lines, tokens and cells, by `abc_scan`.
 
 ghost use Rattle.std.specs.Prelude.{◌≡◌, ◌↔◌, IfOk, Some};
-ghost use Rattle.abc_scan.specs.Accidental.{alteration};
-ghost use Rattle.abc_scan.specs.Blank.{AreBlanks};
-ghost use Rattle.abc_scan.specs.Cell.{cells_of};
-ghost use Rattle.abc_scan.specs.Letter.{capital};
-ghost use Rattle.abc_scan.specs.Line.{tokens_of};
-ghost use Rattle.abc_scan.specs.LineEnd.{DropsOneReturn, without_return};
-ghost use Rattle.abc_scan.specs.Work.{raised};
+ghost use Rattle.public_surface.specs.Tokens.{alteration, AreBlanks, cells_of, capital, tokens_of, DropsOneReturn, without_return};
+ghost use Rattle.public_surface.specs.Tokens.{raised};
 
 use abc_scan::{
     Accidental, Cell, Field, Letter, LineClass, Sequence, Shared, Token, TokenKind, Work, cells,

@@ -1,13 +1,8 @@
 //! Tunes, compilers and the memo, by `abc_tune`.
 
 ghost use Rattle.std.specs.Prelude.{◌≡◌, ◌++◌, IfOk, OnErr, OnOk, option_copied};
-ghost use Rattle.abc_tune.specs.Built.{build_faults_of, bytes_of};
-ghost use Rattle.abc_tune.specs.Bytes.{line_bytes};
-ghost use Rattle.abc_tune.specs.CompilerLaws.{AreLawful};
-ghost use Rattle.abc_tune.specs.LruCache.{promoted};
-ghost use Rattle.abc_tune.specs.Memo.{AreItemsOf, Remembers};
-ghost use Rattle.abc_tune.specs.Rules.{Rules};
-ghost use Rattle.abc_tune.specs.Work.{raised};
+ghost use Rattle.public_surface.specs.Tunes.{build_faults_of, bytes_of, line_bytes, AreLawful, promoted, AreItemsOf, Remembers};
+ghost use Rattle.public_surface.specs.Tunes.{Rules, raised};
 
 use abc_tune::{
     Abc, BarFold, Built, Cell, Compiler, Defaults, Entry, FaultCode, Fold, Items, LineClass,
@@ -120,7 +115,7 @@ pub fn tune_opening<C: Compiler>(alloc: Global, compiler: &C, after: Option<&C::
     compiler.tune(alloc, after)
 }
 
-/// Returns what a cell gives to the book: its number, its title and its faults.
+/// Returns what a cell adds to the book: its number, its title and its faults.
 pub fn parts_for_book<'a, C: Compiler>(
     compiler: &C,
     items: &'a C::Items,

@@ -1,4 +1,5 @@
 pub mod Files
+pub mod Grouped
 pub mod Lengths
 pub mod NumberTexts
 pub mod Ordered

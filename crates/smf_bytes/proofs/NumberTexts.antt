@@ -79,7 +79,7 @@ read_back m n xs ys g h e =
 pub not_a_front : (m n : ℕ) (rest : List ℕ) → m < 2 ^ 28 → n < 2 ^ 28 → number_text m ++ rest ≡ number_text n → m ≡ n
 not_a_front m n rest g h e = same_number m n rest [] g h (e ∙ sym (append-nil (number_text n)))
 
--- what each answer of reading says of the bytes
+-- what each result of reading means for the bytes
 abbrev pub Means : List ℕ → Result (ℕ × ℕ) NumberFault → Type 0
 Means bytes (Ok v) = StartsWithNumber bytes v.0 v.1
 Means bytes (Err Padded) = IsPadded bytes
@@ -203,7 +203,7 @@ sound_1 a rest h ne =
       | inr high ↦ sound_2 a rest h (omega arith)
     ]
 
--- what reading answers is so, for bytes
+-- the result of reading is right, for bytes
 sound : (bytes : List ℕ) → ((i : ℕ) → get_or bytes i 0 < 256) → Means bytes (read_result bytes)
 unfolding read_result
 sound [] h =
@@ -214,7 +214,7 @@ sound (a ∷ rest) h =
       | inr ne ↦ sound_1 a rest h ne
     ]
 
--- the answers that the text, or a fault of the bytes, settles
+-- the results that follow from the text, or from a fault of the bytes
 complete : (bytes : List ℕ) (n used : ℕ) → StartsWithNumber bytes n used → read_result bytes ≡ Ok (n, used)
 complete bytes n used h =
     ap read_result h.spelled ∙ reading-text n h.rest h.in_range ∙ ap (λ k. Ok (n, k)) (sym h.counted)
@@ -245,7 +245,7 @@ is_truncated (a ∷ b ∷ c ∷ d ∷ rest) h = absurd (omega (arith, h.short))
 meant : (bytes : List ℕ) (r : Result (ℕ × ℕ) NumberFault) → ((i : ℕ) → get_or bytes i 0 < 256) → r ≡ read_result bytes → Means bytes r
 meant bytes r h e = subst (Means bytes) (sym e) (sound bytes h)
 
--- each answer is given exactly where the bytes say so
+-- reading has each result exactly if the bytes are so
 pub record Answers (bytes : List ℕ) (r : Result (ℕ × ℕ) NumberFault) : Type 0 where
   pub ok : (n used : ℕ) → (r ≡ Ok (n, used)) ↔ StartsWithNumber bytes n used
   pub padded : (r ≡ Err Padded) ↔ IsPadded bytes

@@ -210,7 +210,7 @@ inserted_rises a (x ∷ xs) h =
       | inr after ↦ subst Rises (sym (here a x xs after)) (after, h)
     ]
 
-rises : (xs : List Event) → Rises (in_order xs)
+pub rises : (xs : List Event) → Rises (in_order xs)
 rises [] = tt
 rises (x ∷ xs) = inserted_rises x (in_order xs) (rises xs)
 
@@ -221,7 +221,7 @@ inserted_first : (x : Event) (xs : List Event) → Rises (x ∷ xs) → insert_e
 inserted_first x [] h = refl
 inserted_first x (y ∷ xs) h = here x y xs h.0
 
-stays : (xs : List Event) → Rises xs → in_order xs ≡ xs
+pub stays : (xs : List Event) → Rises xs → in_order xs ≡ xs
 stays [] h = refl
 stays (x ∷ xs) h = ap (insert_event x) (stays xs (tail_rises x xs h)) ∙ inserted_first x xs h
 

@@ -1,8 +1,7 @@
 -- A voice's events in another order: its notes taken from the last to the first.
 use Rattle.std.proofs.Common.{◌≡◌, ℕ, ◌==◌, true, false, cond, List, [], ◌∷◌, ◌++◌, length, flat_map, map, refl, sym, ap, subst, ◌∙◌}
-use Rattle.std.specs.Prelude.{All, IsPermutation, codes, take}
+use Rattle.std.specs.Prelude.{All, IsPermutation, take}
 use Rattle.std.proofs.Math.Seq.{take-append_seam}
-use Rattle.byteorder.specs.Endian.{big_bytes}
 use Rattle.std.proofs.lemmas.Grind.{flat_map-append}
 use Rattle.std.proofs.lemmas.List.{append-nil, append_assoc, map-append}
 use Rattle.std.proofs.lemmas.List.Elements.{All-head, All-tail}
@@ -16,8 +15,9 @@ use Rattle.smf_bytes.specs.declared.event.Event.{Event}
 use Rattle.smf_bytes.specs.declared.voice_event.VoiceEvent.{VoiceEvent}
 use Rattle.smf_bytes.specs.declared.voice_event.VoiceEventKind.TheVariants.{NoteOff, NoteOn}
 use Rattle.smf_bytes.specs.Voice.{all_ends, all_of, change_of, ends_of, event_at}
-use Rattle.smf_bytes.specs.Event.{end_event, note_events, note_off, note_on, program_event}
-use Rattle.smf_bytes.specs.Track.{timed_events, track, track_body, voice_events}
+use Rattle.smf_bytes.specs.Event.{note_events, note_off, note_on, program_event}
+use Rattle.smf_bytes.specs.Order.{in_order}
+use Rattle.smf_bytes.specs.Track.{voice_events}
 use Rattle.smf_bytes.proofs.Ordered.{in_order_permutation}
 
 ends_push : (notes : List Sounding) (note : Sounding) → all_ends (notes ++ note ∷ []) ≡ all_ends notes ++ ends_of note
@@ -69,20 +69,17 @@ own_all channel programs notes =
     ∙ ap (λ l. l ++ map (event_at channel) (all_ends notes)) (own_programs channel programs)
     ∙ ap (λ l. map (program_event channel) programs ++ l) (own_notes channel notes)
 
-pub in_events : (channel : ℕ) (programs programs' : List ProgramChange) (notes notes' : List Sounding) (events : List VoiceEvent) → programs' ≡ programs → notes' ≡ notes
-    → IsPermutation (all_of programs' notes') events → IsPermutation (voice_events channel programs notes) (map (event_at channel) events)
-in_events channel programs programs' notes notes' events e f p =
-    subst (λ (l : List Event). IsPermutation l (map (event_at channel) events))
-    (own_all channel programs' notes' ∙ (λ i. voice_events channel (e i) (f i))) (IsPermutation-map (event_at channel) (all_of programs' notes') events p)
+in_events : (channel : ℕ) (programs : List ProgramChange) (notes : List Sounding) (events : List VoiceEvent)
+    → IsPermutation (all_of programs notes) events → IsPermutation (voice_events channel programs notes) (map (event_at channel) events)
+in_events channel programs notes events p =
+    subst (λ (l : List Event). IsPermutation l (map (event_at channel) events)) (own_all channel programs notes)
+    (IsPermutation-map (event_at channel) (all_of programs notes) events p)
 
--- events in another order make the same track
-pub same_body : (end : ℕ) (xs ys : List Event) → IsPermutation xs ys → track_body end xs ≡ track_body end ys
-unfolding track_body
-same_body end xs ys p = ap (λ l. timed_events 0 (l ++ end_event end ∷ [])) (sym (in_order_permutation xs ys p))
-
-pub same_track : (end : ℕ) (xs ys : List Event) → IsPermutation xs ys → track end xs ≡ track end ys
-unfolding track
-same_track end xs ys p = ap (λ body. codes "MTrk" ++ big_bytes 4 (length body) ++ body) (same_body end xs ys p)
+-- the events that code has of a voice are in order those of the voice
+pub same_order : (channel : ℕ) (programs : List ProgramChange) (notes : List Sounding) (events : List VoiceEvent)
+    → IsPermutation (all_of programs notes) events → in_order (map (event_at channel) events) ≡ in_order (voice_events channel programs notes)
+same_order channel programs notes events p =
+    in_order_permutation (voice_events channel programs notes) (map (event_at channel) events) (in_events channel programs notes events p)
 
 -- what holds of notes holds of the last of them, and of the others
 pub last_within : (end : Grains) (left left' : List Sounding) (note : Sounding) → left ≡ left' ++ note ∷ []

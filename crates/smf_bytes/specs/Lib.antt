@@ -1,5 +1,6 @@
 pub mod Event
 pub mod File
+pub mod Groups
 pub mod Number
 pub mod Order
 pub mod Track

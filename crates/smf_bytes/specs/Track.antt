@@ -1,5 +1,5 @@
 -- Tracks as chunks (SMF 1.0).
-use Rattle.std.specs.Prelude.{ℕ, ◌+◌, ◌-◌, nat_lt, if◌then◌else◌, List, [], ◌∷◌, ◌++◌, length, flat_map, map, codes}
+use Rattle.std.specs.Prelude.{ℕ, ◌+◌, ◌-◌, ◌≤◌, nat_lt, if◌then◌else◌, List, [], ◌∷◌, ◌++◌, length, flat_map, map, codes}
 use Rattle.byteorder.specs.Endian.{big_bytes}
 use Rattle.smf_bytes.specs.declared.event.Event.{Event}
 use Rattle.abc_voices_score.specs.declared.score.Change.{Change}
@@ -17,6 +17,16 @@ chunk type body = type ++ big_bytes 4 (length body) ++ body
 abbrev pub timed_events : ℕ → List Event → List ℕ
 timed_events before [] = []
 timed_events before (event ∷ events) = number_text (event.tick - before) ++ event.bytes ++ timed_events event.tick events
+
+-- From a tick on, no event is earlier than the one before it, and none is later than `end`.
+abbrev pub Follows : ℕ → ℕ → List Event → Type 0
+Follows end before [] = before ≤ end
+Follows end before (event ∷ events) = (before ≤ event.tick) × (event.tick ≤ end) × Follows end event.tick events
+
+-- The tick of the last event, or `before` if there is none.
+abbrev pub tick_after : ℕ → List Event → ℕ
+tick_after before [] = before
+tick_after before (event ∷ events) = tick_after event.tick events
 
 -- The events in their order, and at last the end of the track.
 unfoldable pub track_body : ℕ → List Event → List ℕ

@@ -1,16 +1,30 @@
--- The events of a track as they are kept before they are written.
-use Rattle.std.specs.Prelude.{◌<◌, List, map}
+-- The events of a track before they are written.
+use Rattle.std.specs.Prelude.{◌≡◌, ℕ, ◌≤◌, ◌<◌, List, All}
+use Rattle.abc_time.specs.Grains.{grains_of_the_latest_end, tick_at}
+use Rattle.abc_voices_score.specs.Limits.{AreProgramsWithin, IsVoiceWithin}
 use Rattle.smf_bytes.specs.declared.event.Event.{Event}
 use Rattle.smf_bytes.specs.declared.track.TrackEvents.{TrackEvents}
 use Rattle.smf_bytes.specs.declared.track.TrackEvents.TheVariants.{Conductor, Voice}
-use Rattle.smf_bytes.specs.Voice.{event_at}
+use Rattle.smf_bytes.specs.declared.voice_track.VoiceMusic.{VoiceMusic}
+use Rattle.smf_bytes.specs.Track.{voice_events}
 
--- The events, in any order.
+-- The events of the music of a voice, in any order.
+abbrev pub music_events : VoiceMusic → List Event
+music_events music = voice_events music.channel music.programs.now music.notes.now
+
+-- The events of a track, in any order.
 abbrev pub events_in : TrackEvents → List Event
 events_in (Conductor events) = events.items
-events_in (Voice channel events) = map (event_at channel) events.items
+events_in (Voice music) = music_events music
 
--- A voice is on one of the sixteen channels.
-abbrev pub HasChannel : TrackEvents → Type 0
-HasChannel (Conductor events) = Unit {0}
-HasChannel (Voice channel events) = channel < 16
+-- Music on one of the sixteen channels, within the limits of its tune.
+pub record IsMusicWithin (music : VoiceMusic) : Type 0 where
+  pub end : music.end.0 ≤ grains_of_the_latest_end
+  pub channel : music.channel < 16
+  pub programs : AreProgramsWithin music.end music.programs.now
+  pub notes : IsVoiceWithin music.end music.notes.now
+
+-- The events of a track that ends at the tick `end`.
+abbrev pub AreEventsWithin : ℕ → TrackEvents → Type 0
+AreEventsWithin end (Conductor events) = All (λ event. event.tick ≤ end) events.items
+AreEventsWithin end (Voice music) = IsMusicWithin music × (end ≡ tick_at music.end.0)

@@ -9,7 +9,8 @@ ghost use Rattle.smf_bytes.specs.Track.{track, voice_events, channel_of};
 use crate::chunk::{put_u16, put_u32};
 use crate::conductor::conductor_events;
 use crate::track::{TrackEvents, put_track};
-use crate::voice::{channel, events_of_voice};
+use crate::voice::channel;
+use crate::voice_track::VoiceMusic;
 use abc_text::Sequence;
 use abc_time::{Grains, tick_of};
 use abc_voices_score::{ProgramChange, Score, Sounding};
@@ -72,6 +73,14 @@ fn put_voice(
         ≡ out.old.items ++ track (tick_at end.0) (voice_events (channel_of place) programs.now notes.now)) }
 {
     let channel = channel(place);
-    let events = events_of_voice(alloc, end, programs.as_slice(), notes.as_slice())?;
-    put_track(out, tick_of(end), TrackEvents::Voice { channel, events })
+    let programs = programs.as_slice();
+    let notes = notes.as_slice();
+    let music = VoiceMusic {
+        alloc,
+        end,
+        channel,
+        programs,
+        notes,
+    };
+    put_track(out, tick_of(end), TrackEvents::Voice(music))
 }

@@ -7,12 +7,15 @@ mod conductor;
 mod event;
 mod event_bytes;
 mod file;
+mod groups;
 pub mod laws;
 mod number;
 mod order;
 mod track;
 mod voice;
+mod voice_bytes;
 mod voice_event;
+mod voice_track;
 
 pub use abc_text::Sequence;
 pub use abc_time::Grains;

@@ -27,7 +27,7 @@ pub(crate) fn channel(place: usize) -> u8
 }
 
 /// The velocity with which each note ends. Not in ABC 2.1.
-const RELEASE_VELOCITY: u8 = 64;
+pub(crate) const RELEASE_VELOCITY: u8 = 64;
 
 /// Returns the events of a voice, of a tune that ends at `end`, in some order. Notes come from the last to the first:
 /// reversed, they give their events sorted except for notes that overlap far. Programs go before the notes, since most

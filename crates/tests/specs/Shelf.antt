@@ -8,7 +8,7 @@ abbrev pub changed : Contents → List ℕ → Option (List ℕ) → Contents
 changed contents name None = remove contents name
 changed contents name (Some bytes) = insert contents name bytes
 
--- what is contained after changes, the newest first
+-- the contents after changes, the newest first
 abbrev pub contents_of : List (List ℕ × Option (List ℕ)) → Contents
 contents_of [] = empty
 contents_of (change ∷ older) = changed (contents_of older) change.0 change.1

@@ -1,4 +1,4 @@
-//! A plain account of what is to be seen of a publisher on two tunes, by their versions.
+//! A plain account of the visible state of a publisher on two tunes, by their versions.
 
 /// A version of a tune: none, with `C`, with `D`; and of a file that is unknown.
 #[derive(Clone, Copy, PartialEq)]

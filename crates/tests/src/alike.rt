@@ -1,4 +1,4 @@
-//! Whether two sessions answer alike.
+//! Whether two sessions have the same answers.
 
 use abc_live::{Session, Title};
 
@@ -42,7 +42,7 @@ fn have_lines(session: &Session, other: &Session) -> bool {
     true
 }
 
-/// Whether they answer alike.
+/// Whether all their answers are the same.
 pub fn are_alike(session: &Session, other: &Session) -> bool {
     have_lines(session, other)
         && have_files(session, other)

@@ -1,4 +1,4 @@
-//! A chain over a tune of a hundred lines is made, and its pieces are reused and copied.
+//! Builds a chain over a tune of a hundred lines, and reuses and copies its pieces.
 
 ghost use Rattle.std.specs.Prelude.{◌<◌, All, length};
 ghost use Rattle.abc_bars_body.specs.SameEntry.{bar_steps};
@@ -16,7 +16,7 @@ use std::alloc::Global;
 use std::process::Abort;
 use std::rt::HostRuntime;
 
-/// How many lines of music the tune has.
+/// The number of music lines of the tune.
 const LINES: usize = 100;
 
 /// The only cell of a line, to be folded.
@@ -57,7 +57,7 @@ fn chain_of_tune(rt: &impl Abort, alloc: Global, opening: &Entry, work: &mut Wor
     chain
 }
 
-/// The pieces of a chain, of which one has this line in place of its own.
+/// The pieces of a chain, one of them with this line instead of its own.
 fn with_line(
     rt: &impl Abort,
     alloc: Global,
@@ -94,8 +94,8 @@ fn step_of_copies(
     made.expect(rt, "there is memory")
 }
 
-/// Whether a step from copies of what a chain keeps at a place gives as many items as it keeps, and the same state.
-fn is_given_again(
+/// Whether a step from copies of a chain's state and cell at a place has as many items as the chain, and the same state.
+fn repeats_step(
     rt: &impl Abort,
     alloc: Global,
     chain: &Chain<BarFold>,
@@ -121,7 +121,7 @@ fn is_given_again(
 }
 
 #[test]
-fn lines_of_a_tune_are_kept(rt: HostRuntime) {
+fn lines_of_a_tune_are_copied(rt: HostRuntime) {
     let alloc = rt.alloc();
     let mut work = Work::mint(&rt);
     let opening = Entry::tune(alloc, None);
@@ -129,12 +129,12 @@ fn lines_of_a_tune_are_kept(rt: HostRuntime) {
     assert!(rt; chain.len() == LINES + 2);
     assert!(rt; work.folded() == 102);
     for i in 0..chain.len() {
-        assert!(rt; is_given_again(&rt, alloc, &chain, i, &mut work));
+        assert!(rt; repeats_step(&rt, alloc, &chain, i, &mut work));
     }
 }
 
 #[test]
-fn lines_behind_an_edit_are_taken_up(rt: HostRuntime) {
+fn lines_after_an_edit_are_reused(rt: HostRuntime) {
     let alloc = rt.alloc();
     let mut work = Work::mint(&rt);
     let opening = Entry::tune(alloc, None);

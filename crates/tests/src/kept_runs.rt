@@ -1,4 +1,4 @@
-//! The pieces that a chain keeps from one place to another, to be reused.
+//! The pieces of a chain from one place to another, to be reused.
 
 ghost use Rattle.std.specs.Prelude.{◌≤◌, All, length};
 ghost use Rattle.abc_fold.specs.Chain.{Folds};
@@ -8,7 +8,7 @@ ghost use Rattle.abc_fold.specs.Steps.{Steps, IsResumable};
 use abc_fold::{Chain, Fold, Piece};
 use std::alloc::AllocError;
 
-/// Appends the cells from one place to another, with all that is kept of them.
+/// Appends the cells from one place to another, with their states and results.
 pub(crate) fn append_kept<F: Fold>(
     chain: &Chain<F>,
     pieces: &mut Vec<Piece<F>>,

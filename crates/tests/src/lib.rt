@@ -3,8 +3,8 @@
 //! `counted_chains` and `bar_chains` chains of a fold, `plays` a play that is written out, `sessions` a session, and
 //! one over a compiler of its own, `publishing` and `orders` a publisher on a session that is edited, `runs` streams
 //! and stores that fail, `readers` a reader that fails once, `memos` a memo of tunes in the toy language. The modules
-//! `refused_..` tell what `scripts/refused_calls` is to refuse memory, call by call; calls below edits, runs and jobs
-//! are made in the crates `out_of_memory_layers` and `out_of_memory_session`. What commands can show is in
+//! `refused_..` print for `scripts/refused_calls` which calls to refuse memory; calls below edits, runs and jobs are in
+//! the crates `out_of_memory_layers` and `out_of_memory_session`. What commands can show is in
 //! `tests/transcripts`. Expected values are worked by hand from the rules in `docs/protocol.md`.
 #![tactic(auto)]
 

@@ -1,4 +1,4 @@
-//! The memo of built tunes: what is built once, and what is built again.
+//! The memo of built tunes: which tunes are built once, and which again.
 
 ghost use Rattle.std.specs.Prelude.{◌≡◌, true};
 ghost use Rattle.abc_lines.specs.Text.{is_line};
@@ -7,6 +7,7 @@ use abc_fold::Work;
 use live_examples::memo::ToyMemo;
 use std::alloc::Global;
 use std::process::Abort;
+use std::rt::Runtime;
 
 /// The line of a number below 100.
 fn line_of(number: u8) -> [u8; 3]
@@ -15,8 +16,8 @@ fn line_of(number: u8) -> [u8; 3]
     [b'c', b'0' + number / 10 % 10, b'0' + number % 10]
 }
 
-/// Whether a memo gives the file of a tune of this line after a file header that sets this byte; nothing where it finds
-/// no memory.
+/// Whether a memo returns the file of a tune of this line after a file header that sets this byte; None if an allocation
+/// fails.
 fn answered(
     alloc: Global,
     memo: &mut ToyMemo,
@@ -45,25 +46,45 @@ fn gives(
     answered(alloc, memo, byte, number, work).expect(rt, "there is memory")
 }
 
+/// Checks the files of tunes by their header byte and number, and after each how many tunes were built.
+fn check_asks(
+    rt: &impl Abort,
+    alloc: Global,
+    memo: &mut ToyMemo,
+    work: &mut Work,
+    asks: &[(u8, u8, u64)],
+) {
+    for (byte, number, built) in asks {
+        assert!(rt; gives(rt, alloc, memo, *byte, *number, work));
+        assert!(rt; work.built() == *built);
+    }
+}
+
+/// Checks the same from a memo of no tunes.
+fn check_first_asks<R: Runtime + Abort>(rt: &R, alloc: Global, asks: &[(u8, u8, u64)]) {
+    let mut memo = ToyMemo::new(alloc).expect(rt, "there is memory");
+    let mut work = Work::mint(rt);
+    check_asks(rt, alloc, &mut memo, &mut work, asks);
+}
+
 #[test]
 fn a_tune_is_built_once(rt: HostRuntime) {
-    let alloc = rt.alloc();
-    let mut memo = ToyMemo::new(alloc).expect(&rt, "there is memory");
-    let mut work = Work::mint(&rt);
-    assert!(rt; gives(&rt, alloc, &mut memo, b'0', 1, &mut work) && work.built() == 1);
-    assert!(rt; gives(&rt, alloc, &mut memo, b'0', 2, &mut work) && work.built() == 2);
-    assert!(rt; gives(&rt, alloc, &mut memo, b'0', 1, &mut work) && work.built() == 2);
+    check_first_asks(&rt, rt.alloc(), &[(b'0', 1, 1), (b'0', 2, 2), (b'0', 1, 2)]);
 }
 
 #[test]
 fn the_same_bytes_under_other_defaults_are_built_too(rt: HostRuntime) {
-    let alloc = rt.alloc();
-    let mut memo = ToyMemo::new(alloc).expect(&rt, "there is memory");
-    let mut work = Work::mint(&rt);
-    assert!(rt; gives(&rt, alloc, &mut memo, b'0', 1, &mut work) && work.built() == 1);
-    assert!(rt; gives(&rt, alloc, &mut memo, b'1', 1, &mut work) && work.built() == 2);
-    assert!(rt; gives(&rt, alloc, &mut memo, b'0', 1, &mut work) && work.built() == 2);
+    check_first_asks(&rt, rt.alloc(), &[(b'0', 1, 1), (b'1', 1, 2), (b'0', 1, 2)]);
 }
+
+/// The tunes that are asked for after the first 64.
+const LATER_ASKS: [(u8, u8, u64); 5] = [
+    (b'0', 1, 64),
+    (b'0', 65, 65),
+    (b'0', 1, 65),
+    (b'0', 3, 65),
+    (b'0', 2, 66),
+];
 
 // Of 65 tunes the one that was asked for longest ago goes.
 #[test]
@@ -74,11 +95,7 @@ fn the_tune_last_asked_for_stays(rt: HostRuntime) {
     for number in 1..65 {
         assert!(rt; gives(&rt, alloc, &mut memo, b'0', number, &mut work));
     }
-    assert!(rt; gives(&rt, alloc, &mut memo, b'0', 1, &mut work) && work.built() == 64);
-    assert!(rt; gives(&rt, alloc, &mut memo, b'0', 65, &mut work) && work.built() == 65);
-    assert!(rt; gives(&rt, alloc, &mut memo, b'0', 1, &mut work) && work.built() == 65);
-    assert!(rt; gives(&rt, alloc, &mut memo, b'0', 3, &mut work) && work.built() == 65);
-    assert!(rt; gives(&rt, alloc, &mut memo, b'0', 2, &mut work) && work.built() == 66);
+    check_asks(&rt, alloc, &mut memo, &mut work, &LATER_ASKS);
 }
 
 // One request for memory is refused by `rt try --test --fail-alloc N`: then no answer is a wrong one, of any two calls one

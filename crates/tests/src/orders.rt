@@ -17,7 +17,7 @@ use std::process::Abort;
 /// How many events follow one another.
 const EVENTS: usize = 8;
 
-/// What happens.
+/// An event.
 #[derive(Clone, Copy)]
 enum Event {
     Edited(u32),
@@ -65,7 +65,7 @@ fn sessions(rt: &impl Abort, alloc: Global, work: &mut Work) -> Vec<Session> {
     sessions
 }
 
-/// The note of each version, if there is a tune.
+/// Returns the note of each version, if there is a tune.
 const NOTES: [Option<&[u8]>; 3] = [None, Some(b"C"), Some(b"D")];
 
 /// A session over tunes with these notes.
@@ -145,8 +145,8 @@ fn check_taken(
     (held, account)
 }
 
-/// What is held and the account after an event.
-fn behind(
+/// Carries out an event, and returns the jobs and the account after it.
+fn after_event(
     rt: &impl Abort,
     publisher: &mut Publisher,
     held: HeldJobs,
@@ -173,7 +173,7 @@ fn behind(
     }
 }
 
-/// Tries events one after another, and checks what is seen after each from a place on. How many could happen.
+/// Tries events one after another, and checks the publisher after each from a place on. Returns how many could happen.
 fn tried(
     rt: &impl Abort,
     alloc: Global,
@@ -190,7 +190,7 @@ fn tried(
             break;
         }
         let session = session_of(rt, sessions, account);
-        (held, account) = behind(rt, &mut publisher, held, session, account, *event);
+        (held, account) = after_event(rt, &mut publisher, held, session, account, *event);
         if count >= new {
             check(rt, &publisher, session_of(rt, sessions, account), account);
         }

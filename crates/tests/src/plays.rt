@@ -27,5 +27,5 @@ fn a_play_is_written_out(rt: HostRuntime) {
         bar(1, 0),
     ];
     let places = expand(rt.alloc(), &marks).expect(&rt, "there is memory");
-    assert_eq!(rt; places.as_slice(), &[1, 4, 1, 7][..]);
+    assert!(rt; places.as_slice() == &[1, 4, 1, 7][..]);
 }

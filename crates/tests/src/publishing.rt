@@ -9,7 +9,7 @@ use live_examples::held_jobs::{HeldJobs, end_older, finish};
 use std::alloc::Global;
 use std::process::Abort;
 
-/// Takes a job for a number, checks what it carries, and ends it as done.
+/// Takes a job for a number, checks its bytes, and ends it as done.
 fn store_next(
     rt: &impl Abort,
     publisher: &mut Publisher,
@@ -23,7 +23,7 @@ fn store_next(
     finish(publisher, held);
 }
 
-/// A tune is edited while its file is written, and taken out once it is written again; a caller who goes on after its
+/// A tune is edited while its file is written, and removed once it is written again; a caller who goes on after its
 /// number finds nothing to do.
 fn edit_and_remove(
     rt: &impl Abort,
@@ -43,8 +43,8 @@ fn edit_and_remove(
     finish(publisher, held);
     store_next(rt, publisher, session, 1, Some(FILE_OF_D));
     apply(rt, session, Edit::Delete { from: 1, to: 4 }, work);
-    let behind = publisher.take_from(session, 2);
-    if let Some(job) = behind.expect(rt, "there is memory") {
+    let later = publisher.take_from(session, 2);
+    if let Some(job) = later.expect(rt, "there is memory") {
         panic!(rt; "a job for {}", job.number());
     }
     store_next(rt, publisher, session, 1, None);

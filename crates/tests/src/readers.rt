@@ -1,9 +1,9 @@
-//! A stream over a reader of std: what it does if a read fails.
+//! A stream over a reader of std whose reads fail.
 
 use abc2midi_live::{Piped, Source, StreamFault};
 use std::io::{self, Error, ErrorKind, Read};
 
-/// A reader that gives a byte at a time, and fails at its second read.
+/// A reader that returns a byte at a time, and fails at its second read.
 #[derive(Drop)]
 struct FailsOnce<'a> {
     rest: &'a [u8],
@@ -33,14 +33,14 @@ fn over_reader<'a>(rest: &'a [u8], error: ErrorKind) -> Piped<FailsOnce<'a>> {
     })
 }
 
-/// The next byte, if there is one.
+/// Returns the next byte, if there is one.
 fn next_byte(stream: &mut Piped<FailsOnce<'_>>) -> Result<Option<u8>, StreamFault> {
     let mut buffer = [0];
     let count = stream.read(&mut buffer)?;
     Ok(if count == 1 { Some(buffer[0]) } else { None })
 }
 
-// A read that a signal interrupted is made again: no byte is lost, and no fault is reported.
+// A read that a signal interrupted is repeated: no byte is lost, and no fault is reported.
 #[test]
 fn an_interrupted_read_is_made_again(rt: HostRuntime) {
     let mut stream = over_reader(b"ab", ErrorKind::Interrupted);

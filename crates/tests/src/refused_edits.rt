@@ -9,7 +9,7 @@ use std::alloc::Global;
 use std::process::Abort;
 use std::rt::Runtime;
 
-/// A session, and another one that is asked for the same, and is never refused memory while the first one is asked.
+/// A session, and another one with the same edits, which is never refused memory during the first one's calls.
 #[derive(Drop)]
 struct Twins {
     session: Session,
@@ -40,7 +40,7 @@ impl Twins {
         }
     }
 
-    /// The report of the same edit of the other one, in two steps. Neither giving it up nor committing it asks for memory.
+    /// The report of the same edit of the other one, in two steps. Neither dropping it nor committing it allocates.
     fn committed<R: Runtime + Abort>(&mut self, rt: &R, edit: &Edit) -> Report {
         let patch = self.other.prepare(edit, &mut self.work);
         let patch = patch.expect(rt, "there is memory");

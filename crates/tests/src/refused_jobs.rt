@@ -37,8 +37,7 @@ fn tried_from(publisher: &mut Publisher, session: &Session, from: u32) -> Option
     }
 }
 
-/// The next job, if there is one. If a request for memory is refused, what is pending still is, and the job is then
-/// taken.
+/// Takes the next job, if there is one. After a refusal the number is still pending, and the job is then taken.
 fn taken<R: Runtime + Abort>(rt: &R, publisher: &mut Publisher, session: &Session) -> HeldJobs
     ensures { IsUnderWay (maps_of publisher.new) result }
 {
@@ -61,7 +60,7 @@ fn ending(ends_well: bool) -> &'static str {
     }
 }
 
-/// Ends a job, which asks for no memory.
+/// Ends a job, which allocates nothing.
 fn end<R: Runtime>(rt: &R, publisher: &mut Publisher, held: HeldJobs, ends_well: bool)
     requires { IsUnderWay (maps_of publisher.old) held }
 {
@@ -125,7 +124,7 @@ fn take_all<R: Runtime + Abort>(
         true,
     );
     apply(rt, session, Edit::Delete { from: 1, to: 4 }, &mut work);
-    // no memory is asked for a file that goes
+    // a file that goes needs no allocation
     let held = taken(rt, publisher, session);
     check_newest(rt, &held, 1, None);
     end(rt, publisher, held, true);
@@ -139,7 +138,7 @@ fn jobs_of_a_tune(rt: HostRuntime) {
     assert!(rt; publisher.settled(&session));
 }
 
-/// The job of the second of two tunes. Where memory is refused, what is pending still is, and the job is then taken.
+/// The job of the second of two tunes. After a refusal the number is still pending, and the job is then taken.
 fn second_taken<R: Runtime + Abort>(
     rt: &R,
     publisher: &mut Publisher,

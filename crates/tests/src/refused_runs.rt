@@ -10,7 +10,7 @@ use std::alloc::Global;
 use std::process::Abort;
 use std::rt::Runtime;
 
-/// The first tune of the transcripts, and what it answers.
+/// The first tune of the transcripts, and its answer.
 const FIRST_TUNE: &[u8] = b"insert 1 4\nX:1\nT:A\nK:C\nC\nhex 1\nquit\n";
 
 const EDIT_ANSWER: &[u8] = b"ok written 1 removed\n";
@@ -18,18 +18,23 @@ const EDIT_ANSWER: &[u8] = b"ok written 1 removed\n";
 const ANSWERS: &[u8] =
     b"ok written 1 removed\n4D546864000000060001000201E04D54726B0000001700FF03014100FF510307A12000FF590200008170FF2F004D54726B0000000D00903C508170803C4000FF2F00\n";
 
-/// The same tune is built, and what that answers.
+/// The same tune is built, and the answer.
 const BUILD: &[u8] = b"insert 1 4\nX:1\nT:A\nK:C\nC\nbuild\nquit\n";
 
 const BUILD_ANSWERS: &[u8] = b"ok written 1 removed\nwritten 1.mid\nend\n";
 
-/// The same if the store has no memory for the file.
+/// The same if the store fails to allocate the file.
 const FAILED_ANSWERS: &[u8] = b"ok written 1 removed\nfailed 1.mid\nend\n";
 
-/// A sink that takes the answers without asking for memory.
+/// A sink that takes the answers without an allocation.
 fn roomy(rt: &impl Abort, alloc: Global) -> Kept {
     let bytes = Vec::with_capacity(alloc, 1_000).expect(rt, "there is memory");
     Kept::new(bytes, Failing::Never)
+}
+
+/// Two such sinks.
+fn two_roomy(rt: &impl Abort, alloc: Global) -> (Kept, Kept) {
+    (roomy(rt, alloc), roomy(rt, alloc))
 }
 
 /// Runs commands.
@@ -48,8 +53,7 @@ fn is_beginning(answered: &[u8], answers: &[u8]) -> bool {
 #[test]
 fn a_run_of_the_first_tune(rt: HostRuntime) {
     let alloc = rt.alloc();
-    let mut first = roomy(&rt, alloc);
-    let mut second = roomy(&rt, alloc);
+    let (mut first, mut second) = two_roomy(&rt, alloc);
     call(&rt, "run, the first tune");
     match ran(&rt, alloc, FIRST_TUNE, &mut first) {
         Ok(()) => assert!(rt; first.written() == ANSWERS),
@@ -63,7 +67,7 @@ fn a_run_of_the_first_tune(rt: HostRuntime) {
     done(&rt);
 }
 
-/// Whether a run that builds, and was refused memory, ended for want of it, or named its file as failed and went on.
+/// Whether a run that builds, and was refused memory, ended with that fault, or named its file as failed and went on.
 fn is_refused(ended: Option<RunFault>, answered: &[u8]) -> bool {
     match ended {
         Some(fault) => fault == RunFault::Memory && is_beginning(answered, BUILD_ANSWERS),
@@ -74,8 +78,7 @@ fn is_refused(ended: Option<RunFault>, answered: &[u8]) -> bool {
 #[test]
 fn a_run_that_builds(rt: HostRuntime) {
     let alloc = rt.alloc();
-    let mut first = roomy(&rt, alloc);
-    let mut second = roomy(&rt, alloc);
+    let (mut first, mut second) = two_roomy(&rt, alloc);
     call(&rt, "run, a build");
     let ended = ran(&rt, alloc, BUILD, &mut first).err();
     if ended.is_some() || first.written() != BUILD_ANSWERS {

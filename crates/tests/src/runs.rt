@@ -1,4 +1,4 @@
-//! A run of commands: its answers, however the input comes in pieces, and what a failing stream or store leaves.
+//! A run of commands: its answers, however the input comes in pieces, and its result if a stream or store fails.
 
 use crate::failing::Failing;
 use crate::shelf::Shelf;
@@ -10,7 +10,7 @@ use std::alloc::Global;
 use std::process::Abort;
 use std::rt::Runtime;
 
-/// A command with its lines, and what it answers.
+/// A command with its lines, and its answer.
 type Step = (&'static [u8], &'static [u8]);
 
 /// The first tune of the transcripts.
@@ -37,7 +37,7 @@ const BUILDS: [Step; 10] = [
     (b"quit\n", b""),
 ];
 
-/// Puts bytes after others.
+/// Appends bytes to others.
 fn put(rt: &impl Abort, bytes: &mut Vec<u8>, more: &[u8]) {
     bytes.extend_from_slice(more).expect(rt, "there is memory");
 }
@@ -52,7 +52,7 @@ fn input_of(rt: &impl Abort, alloc: Global, steps: &[Step]) -> Vec<u8> {
     input
 }
 
-/// How many bytes the commands have.
+/// Returns the number of bytes of the commands.
 fn size_of(steps: &[Step]) -> usize {
     let mut size: usize = 0;
     for (command, _) in steps {
@@ -74,7 +74,7 @@ fn answers_within(rt: &impl Abort, alloc: Global, steps: &[Step], bytes: usize) 
     answers
 }
 
-/// What a run wrote, and how it ended.
+/// The output of a run, and its end.
 #[derive(Drop)]
 struct Outcome {
     answers: Vec<u8>,
@@ -105,7 +105,7 @@ impl Outcome {
     }
 }
 
-/// Whether a run whose input comes in pieces of this many bytes gives all answers.
+/// Whether a run whose input comes in pieces of this many bytes writes all answers.
 fn is_whole<R: Runtime + Abort>(rt: &R, alloc: Global, steps: &[Step], most: usize) -> bool {
     let input = input_of(rt, alloc, steps);
     let answered = answers_within(rt, alloc, steps, input.len());
@@ -145,7 +145,7 @@ fn stops_reading<R: Runtime + Abort>(
     Outcome::of(rt, alloc, reader, Failing::Never, &mut store).gives(answered.as_slice(), fault)
 }
 
-/// Checks each read of a run, and one more that is not made: it fails, and those after it do or do not.
+/// Checks each read of a run, and one more that does not happen: it fails, and those after it do or do not.
 fn check_reads<R: Runtime + Abort>(rt: &R, alloc: Global, steps: &[Step]) {
     for read in 0..=size_of(steps) {
         let call = (read as u64).saturating_add(1);
@@ -160,8 +160,8 @@ fn check_reads<R: Runtime + Abort>(rt: &R, alloc: Global, steps: &[Step]) {
     }
 }
 
-// Each read fails in turn: the commands that were read whole before it are answered. After the end of the input, which
-// the second read tells, a third one would fail: it is not made.
+// Each read fails in turn: the commands that were read whole before it are answered. The second read finds the
+// end of the input; a third one would fail, and does not happen.
 #[test]
 fn reads_that_fail(rt: HostRuntime) {
     let alloc = rt.alloc();
@@ -173,7 +173,7 @@ fn reads_that_fail(rt: HostRuntime) {
 }
 
 /// The file `1.mid` after these commands, the first of the transcript of a tune that comes, changes and goes.
-fn file_behind(steps: &[Step]) -> Option<&'static [u8]> {
+fn file_after(steps: &[Step]) -> Option<&'static [u8]> {
     let mut file = None;
     let mut stored = None;
     for (command, _) in steps {
@@ -190,7 +190,7 @@ fn file_behind(steps: &[Step]) -> Option<&'static [u8]> {
     stored
 }
 
-/// Whether a run whose writes fail so gives the answers to these commands alone, and carries out the next one, which has
+/// Whether a run whose writes fail so writes the answers to these commands alone, and carries out the next one, which has
 /// no answer: the store then has this file.
 fn stops_writing<R: Runtime + Abort>(
     rt: &R,
@@ -214,7 +214,7 @@ fn check_writes<R: Runtime + Abort>(rt: &R, alloc: Global, steps: &[Step]) {
     for (at, _) in asked.iter().enumerate() {
         let call = (at as u64).saturating_add(1);
         let answered = &asked[..at];
-        let file = file_behind(&asked[..=at]);
+        let file = file_after(&asked[..=at]);
         assert!(rt;
             stops_writing(rt, alloc, steps, answered, file, Failing::Once(call)),
             "write {call}"
@@ -226,7 +226,7 @@ fn check_writes<R: Runtime + Abort>(rt: &R, alloc: Global, steps: &[Step]) {
     }
 }
 
-// Each write fails in turn: the answers before it were given, and no command after it is answered or carried out.
+// Each write fails in turn: the answers before it were written, and no command after it is answered or carried out.
 #[test]
 fn writes_that_fail(rt: HostRuntime) {
     check_writes(&rt, rt.alloc(), &FIRST_TUNE);
@@ -242,12 +242,12 @@ struct Stored {
     file: Option<&'static [u8]>,
 }
 
-/// After an edit come two builds, of which the second does what the first could not.
+/// After an edit come two builds, of which the second stores the files that the first could not.
 fn build_twice(
     rt: &impl Abort,
     stored: &mut Stored,
     failing: Failing,
-    told: &[u8],
+    line: &[u8],
     file: Option<&'static [u8]>,
 ) {
     let mut is_pending = true;
@@ -258,7 +258,7 @@ fn build_twice(
             if is_pending {
                 put(rt, &mut stored.answers, b"failed 1.mid\n");
             } else {
-                put(rt, &mut stored.answers, told);
+                put(rt, &mut stored.answers, line);
                 stored.file = file;
             }
         }
@@ -266,7 +266,7 @@ fn build_twice(
     }
 }
 
-/// What the builds come to.
+/// Returns the result of the builds.
 fn stored_by(rt: &impl Abort, alloc: Global, failing: Failing) -> Stored {
     let answers = Vec::new(alloc);
     let mut stored = Stored {
@@ -274,28 +274,16 @@ fn stored_by(rt: &impl Abort, alloc: Global, failing: Failing) -> Stored {
         answers,
         file: None,
     };
-    put(rt, &mut stored.answers, b"ok written 1 removed\n");
-    build_twice(
-        rt,
-        &mut stored,
-        failing,
-        b"written 1.mid\n",
-        Some(FILE_OF_C),
-    );
-    put(rt, &mut stored.answers, b"ok written 1 removed\n");
-    build_twice(
-        rt,
-        &mut stored,
-        failing,
-        b"written 1.mid\n",
-        Some(FILE_OF_D),
-    );
+    for file in [Some(FILE_OF_C), Some(FILE_OF_D)] {
+        put(rt, &mut stored.answers, b"ok written 1 removed\n");
+        build_twice(rt, &mut stored, failing, b"written 1.mid\n", file);
+    }
     put(rt, &mut stored.answers, b"ok written removed 1\n");
     build_twice(rt, &mut stored, failing, b"removed 1.mid\n", None);
     stored
 }
 
-/// Checks what a run writes about a store that fails so, and what the store then has.
+/// Checks the output of a run whose store fails so, and the contents of the store.
 fn check_store<R: Runtime + Abort>(rt: &R, alloc: Global, failing: Failing) {
     let input = input_of(rt, alloc, &BUILDS);
     let stored = stored_by(rt, alloc, failing);

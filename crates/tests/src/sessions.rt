@@ -23,7 +23,7 @@ fn reports(
 }
 
 /// A tune comes in, a line of it is changed, an edit of lines that are not there is refused and changes nothing, and
-/// the tune is taken out again.
+/// the tune is removed again.
 fn edit(rt: &impl Abort, alloc: Global, session: &mut Session, work: &mut Work) {
     let tune = insertion(rt, alloc, &[b"X:1", b"K:C", b"C"]);
     assert!(rt; reports(session, &tune, work, &[1], &[]));
@@ -51,10 +51,10 @@ fn shows_nothing(session: &Session) -> bool {
     session.numbers().is_empty() && session.titles().is_empty()
 }
 
-// An edit that is prepared changes nothing that is to be seen, and one that is given up leaves nothing after. Put in
-// place, it is reported as it was prepared.
+// A prepared edit changes nothing visible, and a dropped one leaves nothing. Once committed, its report is that of the
+// prepared edit.
 #[test]
-fn an_edit_is_prepared_given_up_and_prepared_again(rt: HostRuntime) {
+fn an_edit_is_prepared_dropped_and_prepared_again(rt: HostRuntime) {
     let alloc = rt.alloc();
     let mut session = empty_session(&rt, alloc);
     let mut work = Work::mint(&rt);
@@ -73,8 +73,8 @@ fn an_edit_is_prepared_given_up_and_prepared_again(rt: HostRuntime) {
     assert!(rt; session.output(1) == Some(FILE_OF_C));
 }
 
-// A session over a compiler of its own: of two tunes of one number the first is too long, so the second gives the
-// file, with the byte of the file header.
+// A session over a compiler of its own: of two tunes of one number the first is too long, so the file
+// is that of the second, with the byte of the file header.
 #[test]
 fn a_toy_file_has_the_default_of_the_file_header(rt: HostRuntime) {
     let alloc = rt.alloc();

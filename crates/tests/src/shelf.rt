@@ -1,4 +1,4 @@
-//! A store in memory that gives its contents, and fails at some of its calls.
+//! A store in memory that shows its contents, and fails at some of its calls.
 
 ghost use Rattle.std.specs.Prelude.{◌≡◌, ◌∷◌, Some, IsErr, OnErr, OnOk};
 ghost use Rattle.abc2midi_live.specs.Storing.{store_seen};
@@ -11,7 +11,7 @@ use abc2midi_live::{Store, StoreFault};
 use std::alloc::{AllocError, Global};
 use std::collections::VecDeque;
 
-/// What was put and removed, newest first: each name, and the bytes if it was put.
+/// The changes, newest first: each name, and the bytes if it was put.
 #[derive(Drop)]
 pub struct Shelf {
     alloc: Global,
@@ -33,7 +33,7 @@ impl Shelf {
         }
     }
 
-    /// The bytes under a name.
+    /// Returns the bytes under a name.
     pub fn get(&self, name: &str) -> Option<&[u8]> {
         for (known, bytes) in &self.changes {
             if known.as_slice() == name.as_bytes() {

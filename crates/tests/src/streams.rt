@@ -1,11 +1,11 @@
-//! Streams in memory that give their contents, and fail at some of their calls.
+//! Streams in memory that show their contents, and fail at some of their calls.
 
 ghost use Rattle.std.specs.Prelude.{ℕ, Some};
 
 use crate::failing::Failing;
 use abc2midi_live::{Sink, Source, StreamFault};
 
-/// A source that gives at most `most` bytes at a time, and fails at some of its calls.
+/// A source that returns at most `most` bytes at a time, and fails at some of its calls.
 #[derive(Drop)]
 pub struct Pieces<'a> {
     rest: &'a [u8],
@@ -49,7 +49,7 @@ impl Source for Pieces<'_> {
     }
 }
 
-/// A sink that keeps the bytes that it gets, and fails at some of its calls.
+/// A sink that stores the bytes that it gets, and fails at some of its calls.
 #[derive(Drop)]
 pub struct Kept {
     bytes: Vec<u8>,
@@ -69,12 +69,12 @@ impl Kept {
         }
     }
 
-    /// What was written, given away.
+    /// Returns the bytes written, and ends the sink.
     pub fn into_bytes(self) -> Vec<u8> {
         self.bytes
     }
 
-    /// What was written.
+    /// Returns the bytes written.
     pub fn written(&self) -> &[u8] {
         self.bytes.as_slice()
     }

@@ -1,4 +1,4 @@
-//! Sessions and edits, which are to succeed. Want of memory ends the test, so that nothing is let go of on the way.
+//! Sessions and edits that have to succeed. A failed allocation ends the test, so that nothing is dropped on the way.
 
 use abc_fold::Work;
 use abc_live::{Edit, Session};

@@ -31,7 +31,7 @@ use Rattle.text_examples.specs.Values.{at_tick, ratio}
 abbrev pub voice_shift : ℤ → ℤ → ℤ → VoiceShift
 voice_shift clef octave transpose = record { clef = clef; octave = octave; transpose = transpose }
 
--- The state of a voice in this meter, with this unit and this reach of accidentals, and nothing else.
+-- The state of a voice in this meter, with this unit and this reach of accidentals, and no other settings.
 abbrev pub voice_state_in : Meter → Ratio → Reach → VoiceState
 voice_state_in meter unit reach = record {
   meter = meter;
@@ -80,7 +80,7 @@ abbrev pub along_lines : Entry × Items → List (List ℕ) → Entry × Items
 along_lines given [] = given
 along_lines given (line ∷ lines) = along_lines (along given (cells_of (tokens_of line))) lines
 
--- The state after lines of a tune, of which the first is entered there.
+-- The state after lines of a tune, entered at the first.
 abbrev pub entry_after : Entry → List (List ℕ) → Entry
 entry_after entry lines = (along_lines (entry, no_items) lines).0
 
@@ -88,7 +88,7 @@ entry_after entry lines = (along_lines (entry, no_items) lines).0
 abbrev pub entry_after_header : List (List ℕ) → Entry
 entry_after_header lines = entry_after (Opening no_defaults) lines
 
--- What holds after the lines of a file header.
+-- The defaults after the lines of a file header.
 abbrev pub entry_after_file_header : List (List ℕ) → Entry
 entry_after_file_header lines = entry_after (FileHeader no_defaults) lines
 

@@ -1,4 +1,4 @@
--- Blocks by their first and last line, and classes of lines, of which examples speak.
+-- Blocks by their first and last line, and classes of lines, for the examples.
 use Rattle.std.specs.Prelude.{ℕ}
 use Rattle.abc_scan.specs.declared.class.LineClass.{LineClass}
 use Rattle.abc_scan.specs.declared.class.LineClass.TheVariants.{Field}

@@ -1,11 +1,11 @@
--- A fold whose states are seldom equal, and often alike. Not in ABC 2.1.
+-- A fold with rarely equal but often equivalent states. Not in ABC 2.1.
 use Rattle.std.specs.Prelude.{ℕ, ◌+◌, ◌-◌, ◌^◌, Bool, ◌==◌, if◌then◌else◌, min, refl}
 use Rattle.std.proofs.Common.{sym, ◌∙◌}
 use Rattle.std.proofs.lemmas.Bool.{eqb-true, eq-eqb}
 use Rattle.abc_fold.specs.Steps.{Steps, IsResumable}
 use Rattle.text_examples.specs.declared.chains.Counted.{Counted}
 
--- The count after a cell: 0 begins anew, another number is added, up to 255. The mark counts the cells.
+-- The count after a cell: 0 starts again, another number is added, up to 255. The mark counts the cells.
 abbrev pub next_count : Counted → ℕ → Counted
 next_count state cell = record {
   count = if cell == 0 then 0 else min (state.count + cell) 255;
@@ -16,7 +16,7 @@ next_count state cell = record {
 abbrev pub count_before : Counted → ℕ → ℕ
 count_before state cell = state.count
 
--- States are alike if their counts are equal, whatever their marks are.
+-- States are equivalent if their counts are equal. Their marks may differ.
 abbrev pub same_count : Counted → Counted → Bool
 same_count a b = a.count == b.count
 

@@ -1,4 +1,4 @@
--- Values in headers of the worked examples, and states where their bodies begin. Not in ABC 2.1.
+-- Values in headers of the worked examples, and states at the beginning of their bodies. Not in ABC 2.1.
 use Rattle.std.specs.Prelude.{ℕ, pos, negsuc, List, [], ◌∷◌, codes, Option}
 use Rattle.abc_bars_body.specs.declared.body.Current.TheVariants.{At}
 use Rattle.abc_bars_body.specs.declared.entry.Entry.{Entry}
@@ -46,7 +46,7 @@ two_voices first second another =
       another = opening_state another;
     })
 
--- A header that says parts of the shifts of the voices `1` and `2`, and whose key says other parts.
+-- A header that sets parts of the shifts of the voices `1` and `2`; its key sets other parts.
 abbrev pub shifted_voices : List (List ℕ)
 shifted_voices =
     codes "X:1" ∷ codes "V:1 treble-8" ∷ codes "V:2 octave=1" ∷ codes "V:1 octave=2" ∷ codes "K:C treble+8 transpose=3" ∷ []

@@ -1,5 +1,5 @@
 -- Marks in examples of plays.
-use Rattle.std.specs.Prelude.{ℕ, true, false}
+use Rattle.std.specs.Prelude.{ℕ, ◌+◌, ◌-◌, ◌^◌, true, false}
 use Rattle.abc_repeat.specs.declared.mark.Mark.{Mark}
 use Rattle.abc_repeat.specs.declared.mark.Mark.TheVariants as marks
 
@@ -27,21 +27,12 @@ closing colons = marks.Bar colons 0 false
 abbrev pub between : ℕ → Mark
 between colons = marks.Bar colons colons true
 
--- The first, second and third ending, and two that are for two passes each.
-abbrev pub first : Mark
-first = marks.Ending 1
+-- An ending for a pass, counted from 1, and one for two passes.
+abbrev pub ending : ℕ → Mark
+ending pass = marks.Ending (2 ^ (pass - 1))
 
-abbrev pub second : Mark
-second = marks.Ending 2
-
-abbrev pub third : Mark
-third = marks.Ending 4
-
-abbrev pub first_and_second : Mark
-first_and_second = marks.Ending 3
-
-abbrev pub first_and_third : Mark
-first_and_third = marks.Ending 5
+abbrev pub ending_for : ℕ → ℕ → Mark
+ending_for first second = marks.Ending (2 ^ (first - 1) + 2 ^ (second - 1))
 
 -- An ending that is for no pass.
 abbrev pub no_pass : Mark

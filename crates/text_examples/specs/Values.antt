@@ -28,7 +28,7 @@ at_tick tick = record { 0 = tick * 484323840 }
 abbrev pub note : Letter → ℤ → WrittenLength → TokenKind
 note letter octave length = kinds.Note (record { accidental = None; letter = letter; octave = octave; length = length })
 
--- No length is written, which is one unit.
+-- No written length: one unit.
 abbrev pub plain : WrittenLength
 plain = Factor 1 1
 

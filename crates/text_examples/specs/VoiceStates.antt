@@ -7,11 +7,11 @@ use Rattle.abc_scan.specs.declared.broken.Direction.{Direction}
 use Rattle.abc_scan.specs.declared.tuplet.Tuplet.{Tuplet}
 use Rattle.abc_bars_voice.specs.Tuplet.{OpenTuplet}
 
--- A tuplet mark of these numbers, of which the last two may be left out.
+-- A tuplet mark of these numbers. The last two are optional.
 abbrev pub mark : ℕ → Option ℕ → Option ℕ → Tuplet
 mark p q r = record { p = p; q = q; r = r }
 
--- An open tuplet of p notes in the time of q, of which `left` are left.
+-- An open tuplet of p notes in the time of q, with `left` notes to come.
 abbrev pub open_tuplet : ℕ → ℕ → ℕ → OpenTuplet
 open_tuplet p q left = record { p = p; q = q; left = left }
 

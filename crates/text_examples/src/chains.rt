@@ -1,18 +1,18 @@
-//! A fold whose states are seldom equal, and often alike: its chains are resumed where the counts are equal.
+//! A fold with rarely equal but often equivalent states: a chain resumes at a state with an equal count.
 
 ghost use Rattle.text_examples.specs.Counting.{counting, counting_resumable};
 
 use abc_fold::{Fold, Work};
 use std::alloc::{AllocError, Global};
 
-/// The count, and the number of cells, which no item shows.
+/// The count, and the number of cells, which no item contains.
 #[derive(Drop)]
 pub struct Counted {
     pub count: u8,
     pub mark: u64,
 }
 
-/// Adds numbers up, and begins anew at 0. The item of each is the count before it.
+/// Adds numbers up, and starts again at 0. The item of each is the count before it.
 #[derive(Drop)]
 pub struct Counting;
 

@@ -1,5 +1,5 @@
-//! Worked examples by the definitions themselves: what each definition gives for an input whose answer was worked by
-//! hand. A body here does nothing; its contract is the example. Each module lists the definitions that it unfolds.
+//! Worked examples by the definitions themselves: the value of each definition for an input, worked out by hand. A body
+//! here does nothing; its contract is the example. Each module opens the sets of `Opened` that it needs.
 
 pub mod bars;
 pub mod blocks;

@@ -1,71 +1,11 @@
-//! A fold that is not of ABC, and steps of any fold through its bounds alone.
+//! Steps of any fold, through its bounds alone.
 
-ghost use Rattle.std.specs.Prelude.{◌≡◌, ℕ, ◌≤◌, [], ◌∷◌, IfOk, OnOk};
+ghost use Rattle.std.specs.Prelude.{◌≡◌, ◌≤◌, IfOk, OnOk};
 ghost use Rattle.abc_fold.specs.Work.{after_steps, raised};
-ghost use Rattle.text_examples.specs.Adding.{adding, adding_resumable};
 
+use crate::chains::{Counted, Counting};
 use abc_fold::{Counts, Fold, Work};
-use abc_text::Sequence;
 use std::alloc::{AllocError, Global};
-use std::marker::Model;
-
-/// Adds numbers up. A number gives the total before it, and itself.
-pub struct Adding;
-
-/// The sum of the numbers so far, at most the greatest `u64`.
-#[derive(Drop)]
-pub struct Total {
-    sum: u64,
-}
-
-impl Model for Total {
-    ghost Value = { ℕ };
-
-    ghost view = { λ total. total.sum };
-}
-
-impl Fold for Adding {
-    type State = Total;
-
-    type Cell = u64;
-
-    type Items = Sequence<u64>;
-
-    type Work = Work;
-
-    ghost steps = { λ _. adding };
-
-    ghost resumable = { λ _. adding_resumable };
-
-    fn step(
-        &self,
-        alloc: Global,
-        total: &Total,
-        number: &u64,
-        work: &mut Work,
-    ) -> Result<(Total, Sequence<u64>), AllocError> {
-        work.count_folded();
-        let items = Sequence::from_slice(alloc, &[total.sum, *number])?;
-        let sum = total.sum.saturating_add(*number);
-        Ok((Total { sum }, items))
-    }
-
-    fn same(a: &Total, b: &Total) -> bool {
-        a.sum == b.sum
-    }
-
-    fn copy_state(_alloc: Global, total: &Total) -> Result<Total, AllocError> {
-        Ok(Total { sum: total.sum })
-    }
-
-    fn copy_cell(_alloc: Global, number: &u64) -> Result<u64, AllocError> {
-        Ok(*number)
-    }
-
-    fn copy_items(alloc: Global, items: &Sequence<u64>) -> Result<Sequence<u64>, AllocError> {
-        Sequence::from_slice(alloc, items.as_slice())
-    }
-}
 
 /// Takes two steps of any fold, one after the other: the results are those of its definition, and two steps are counted.
 /// If an allocation fails, at most two are counted.
@@ -107,11 +47,19 @@ pub fn numbers_of<W: Counts>(work: &W) -> (u64, u64, u64)
 pub fn two_numbers_are_added(
     alloc: Global,
     work: &mut Work,
-) -> Result<(Total, Sequence<u64>, Sequence<u64>), AllocError>
-    ensures total { IfOk result (λ made. made.0 ≡ 12) }
-    ensures items_of_first { IfOk result (λ made. made.1 ≡ 3 ∷ 4 ∷ []) }
-    ensures items_of_second { IfOk result (λ made. made.2 ≡ 7 ∷ 5 ∷ []) }
+) -> Result<(Counted, u8, u8), AllocError>
+    ensures total { IfOk result (λ made. made.0.count ≡ 12) }
+    ensures cells { IfOk result (λ made. made.0.mark ≡ 2) }
+    ensures items_of_first { IfOk result (λ made. made.1 ≡ 3) }
+    ensures items_of_second { IfOk result (λ made. made.2 ≡ 7) }
     ensures counted { OnOk result (work.new ≡ after_steps work.old 2) }
 {
-    two_steps(&Adding, alloc, &Total { sum: 3 }, &4, &5, work)
+    two_steps(
+        &Counting,
+        alloc,
+        &Counted { count: 3, mark: 0 },
+        &4,
+        &5,
+        work,
+    )
 }

@@ -96,7 +96,7 @@ octave-set octaves k q letter by =
     ap (λ (o : Option LetterAccidentals). unwrap_or o no_letters) (found-set q k (with_letter (letters_in octaves k) letter by) octaves)
     ∙ default-by (int_eq q k) (with_letter (letters_in octaves k) letter by) (Found q octaves)
 
--- Octaves that compare alike have the same accidentals.
+-- Octaves that compare as equal have the same accidentals.
 same-octave : (octaves : List (ℤ × LetterAccidentals)) (k q : ℤ) → int_eq q k ≡ true → letters_in octaves q ≡ letters_in octaves k
 same-octave octaves k q is = ap (letters_in octaves) ((Decides-int_eq q k).0 is)
 
@@ -116,7 +116,7 @@ in-octaves octaves other note by true is =
     ∙ (λ i. option_or (cond (sym (all-true (capital other.letter == capital note.letter)) i) (Some by) None) (on_letter (sym (same-octave octaves other.octave note.octave is) i) note.letter))
 in-octaves octaves other note by false is = none-apart (capital other.letter == capital note.letter) by (on_letter (letters_in octaves note.octave) note.letter)
 
--- An accidental is heard where it reaches, and what was heard before elsewhere.
+-- An accidental alters the notes that it reaches; for other notes nothing changes.
 none-own : (b : Bool) (old : Option ℤ) → old ≡ option_or (cond b None None) old
 none-own true old = refl
 none-own false old = refl

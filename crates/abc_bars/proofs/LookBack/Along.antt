@@ -46,7 +46,7 @@ behind-cells place (cell ∷ cells) =
 pub from_view : (place : Place) → IsLookBack bar_steps (view place) place
 from_view place = record { entered = entered-along place; given = items-given place; behind = behind-cells place }
 
--- The same cells give the same where the views are the same, and the same holds after them.
+-- From the same views the same cells give the same, and the views after them are the same.
 pub same_given : (here there : Place) (cells : List CellTokens) → view here ≡ view there → results_along here cells ≡ results_along there cells
 same_given here there cells same =
     sym (items-given here cells) ∙ ap (λ (entry : Entry). items_along to giving entry cells) same ∙ items-given there cells
@@ -66,7 +66,7 @@ lines-along before (cell ∷ cells) =
     ap (λ (place : Place). place_after place cells) (line-behind before (line_in cell))
     ∙ lines-along (with_line (line_in cell) before) cells
 
--- What opens a tune is the view of the place where it begins.
+-- The opening of a tune is the view at its beginning.
 opened : (header : Option (List CellTokens))
     → opening_after (option_map (state_after to (entries.FileHeader no_defaults)) header) ≡ view (tune_beginning header)
 opened None = refl

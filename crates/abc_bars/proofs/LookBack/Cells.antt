@@ -27,7 +27,7 @@ module _ (values : Defaults) (fields : List HeaderLine) (key : Key) where
       body_behind_element values fields key before (record { kind = token.kind; tied = tie_ahead ahead })
       ∙ sym (token_leaves given (body_at opening before) token ahead)
 
-  -- The cell gives what it gives where what looking back finds holds at each of its tokens.
+  -- The items of a cell, if looking back finds the state at each of its tokens.
   cells-behind : (before : List Element) (given : CellResult) (cell : List (Spanned TokenKind))
       → cell_result_from (record given { body = body_at opening before }) cell ≡ look_back opening before given cell
   cells-behind before given [] = refl
@@ -48,7 +48,7 @@ module _ (values : Defaults) (fields : List HeaderLine) (key : Key) where
   behind_cell before cell =
       ap (λ (given : CellResult). given.body) (cells-behind before (empty_cell_result opening) cell) ∙ body-behind before (empty_cell_result opening) cell
 
-  -- A cell gives what its tokens give where looking back finds the state at each.
+  -- A cell gives what its tokens give, if looking back finds the state at each.
   pub given_by_cell : (before : List Element) (cell : List (Spanned TokenKind))
       → (cell_result (body_at opening before) cell).items ≡ (look_back opening before (empty_cell_result opening) cell).items
   given_by_cell before cell = ap (λ (given : CellResult). given.items) (cells-behind before (empty_cell_result opening) cell)

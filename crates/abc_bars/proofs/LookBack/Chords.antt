@@ -174,7 +174,7 @@ module _ (opening : VoiceState) (before : List Element) (broken : List Ratio) (o
   adds-all [] (suc room) inside earlier size h = (refl, sym (append-nil inside.tied), sym (append-nil (map heard_of inside.tones)), sym (append-nil _))
   adds-all (part ∷ rest) room inside earlier size h = step part.kind part.from part.to rest (adds-all rest) room inside earlier size h
 
--- What is before a place of a chord, where none of its notes does.
+-- Before the first note of a chord the accidentals are those at its place.
 pub behind-none : (opening : VoiceState) (before : List Element) → AreBehind opening before (accidentals_at (reach_of opening.accidentals) before) []
 unfolding accidentals_at
 behind-none opening before = refl

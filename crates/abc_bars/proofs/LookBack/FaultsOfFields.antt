@@ -1,4 +1,4 @@
--- The faults of fields are where the rules say.
+-- The faults of fields are at the places of the rules.
 use Rattle.std.proofs.Common.{◌≡◌, ◌∙◌, ℕ, ◌+◌, ◌*◌, ◌/◌, ◌<◌, ◌≤◌, Bool, true, false, cond, ◌⊎◌, inl, inr, ⊎_elim, Option, Some, None, Result, Ok, Err, List, [], ◌∷◌, length}
 use Rattle.std.proofs.Common.{bytes_eq, position, refl, sym, ap, subst, arith}
 use Rattle.std.specs.Prelude.{◌↔◌, is_none, slice_range}

@@ -1,4 +1,4 @@
--- BadLength and BigChord are where the rules say.
+-- BadLength and BigChord are at the places of the rules.
 use Rattle.std.proofs.Common.{◌≡◌, ◌∙◌, ℕ, ◌<◌, Bool, true, false, cond, Option, Some, None, List, [], ◌∷◌, ◌++◌, length, take, refl, sym, ap, subst, arith}
 use Rattle.std.specs.Prelude.{filter, is_none, slice_index_or}
 use Rattle.std.specs.List.{AllByRecursion, Contains}

@@ -1,4 +1,4 @@
--- BadByte, Unclosed, BadEnding and BadProgram are where the rules say.
+-- BadByte, Unclosed, BadEnding and BadProgram are at the places of the rules.
 use Rattle.std.proofs.Common.{◌≡◌, ◌∙◌, ℕ, ◌+◌, Bool, true, false, cond, leb, Some, None, List, [], ◌∷◌, ◌++◌, inl, inr, ⊎_elim, refl, ap, arith}
 use Rattle.std.specs.Prelude.{is_none}
 use Rattle.std.proofs.lemmas.Bool.{cases_lt}

@@ -351,7 +351,7 @@ module _ (naming : Naming) (by : List ℕ → VoiceState) (another : VoiceState)
         absent-by change owner sounds fit name some gone room (is.absent name some before less) before;
   }
 
--- The state of a voice where a body begins is what looking back finds there, and no accidentals hold for it.
+-- The state of a voice at the beginning of a body is what looking back finds there, and it has no accidentals.
 fresh-state : (defaults : Defaults) (key : Key) (said : Shift) → voice_state_at (opening_voice_state defaults key said) [] ≡ opening_voice_state defaults key said
 unfolding voice_state_at meter_at unit_at signature_at shift_at accidentals_at tuplet_at dynamic_at
 fresh-state defaults key said =
@@ -367,7 +367,7 @@ first-current : (names : List (List ℕ)) → IsCurrent (record { names = names;
 first-current [] = of_none refl
 first-current (first ∷ rest) = of_place 0 (place_here (bytes_eq first) first rest (nat_list_eq_equiv.refl first))
 
--- Where a body begins the first of its voices is the current one.
+-- At the beginning of a body the first of its voices is the current one.
 begins-current : (names : List (List ℕ)) (said : List ℕ → Shift) (state another : VoiceState) → (names ≡ [] → state ≡ another)
     → current_by (position (bytes_eq (first_name names)) names) state ≡ current_in (each_with said names) another
 begins-current [] said state another same = ap Unnamed (same refl)

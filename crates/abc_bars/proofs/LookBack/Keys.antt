@@ -54,7 +54,7 @@ none-among reach note (first ∷ notes) none =
     ap (λ o. option_or o (newest_written reach note notes)) (All-head (λ silent. written_by reach note silent ≡ None) first notes none)
     ∙ none-among reach note notes (All-tail (λ silent. written_by reach note silent ≡ None) first notes none)
 
--- A tied note is not alike.
+-- A tied note differs.
 abbrev Apart : Note → TiedNote → Type 0
 Apart note tied = ¬ IsSame note tied
 

@@ -165,7 +165,7 @@ one-counted token since passed =
 abbrev Unmarked : Element → Type 0
 Unmarked token = ¬ IsAcceptedMark token.kind
 
--- What looking back finds if so many time tokens have passed.
+-- What looking back finds after a number of time tokens.
 data From (opening : Meter) (passed : ℕ) (before : List Element) (found : Option OpenTuplet) : Type 0 where
   from_mark : (mark : Tuplet) (q r : ℕ) (since : List Element) → IsLastMark opening before mark q r since → IsTupletNumber q → IsTupletNumber r
       → found ≡ left_after (time_count since + passed) (record { p = mark.p; q = q; left = r }) → From opening passed before found

@@ -1,4 +1,4 @@
--- The places that cells lead to, one after another from where a file header or a tune begins, and what the
+-- The places that cells lead to, one after another from the beginning of a file header or a tune, and what the
 -- cells give there; and what the steps of a fold make of the same cells.
 use Rattle.std.specs.Prelude.{◌≡◌, List, [], ◌∷◌, map, Option, Some, None}
 use Rattle.abc_scan.specs.declared.spanned.Spanned.{Spanned}
@@ -30,7 +30,7 @@ abbrev pub lines_behind : List CellTokens → List HeaderLine → List HeaderLin
 lines_behind [] before = before
 lines_behind (cell ∷ cells) before = lines_behind cells (with_line (line_in cell) before)
 
--- Where a file header begins: nothing is before it.
+-- The beginning of a file header: nothing is before it.
 abbrev pub file_header_beginning : Place
 file_header_beginning = InFileHeader []
 
@@ -39,7 +39,7 @@ abbrev pub values_of_header : Option (List CellTokens) → Defaults
 values_of_header None = no_defaults
 values_of_header (Some cells) = defaults_at no_defaults (lines_behind cells [])
 
--- Where a tune begins, by the cells of the file header, if there is one.
+-- The beginning of a tune, by the cells of the file header, if there is one.
 abbrev pub tune_beginning : Option (List CellTokens) → Place
 tune_beginning header = InHeader (values_of_header header) []
 

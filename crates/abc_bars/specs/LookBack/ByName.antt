@@ -83,7 +83,7 @@ abbrev pub first_name : List (List ℕ) → List ℕ
 first_name [] = []
 first_name (name ∷ names) = name
 
--- The names where a body begins.
+-- The names at the beginning of a body.
 abbrev pub opening_naming : Body → Naming
 opening_naming opening = record { names = keys_of opening.voices; current = first_name (keys_of opening.voices) }
 
@@ -105,7 +105,7 @@ tokens_of opening name (element ∷ before) =
     if is_owned_by name (naming_at opening before).current (owner_of element.kind) then element ∷ tokens_of opening name before
     else tokens_of opening name before
 
--- The state of the voice of this name where the body begins.
+-- The state of the voice of this name at the beginning of the body.
 abbrev pub opening_of : Body → List ℕ → VoiceState
 opening_of opening name = unwrap_or (option_and_then (voice_at opening.voices) (place_of name opening.voices)) opening.another
 

@@ -60,7 +60,7 @@ use Rattle.abc_bars.specs.LookBack.Voice.{meter_at, unit_at}
 abbrev pub Faults : Type 0
 Faults = List (ℕ × FaultCode)
 
--- Where a cell is: the values, the lines and the key with which its body begins, and what precedes it there, newest first.
+-- The place of a cell: the values, the lines and the key with which its body begins, and what precedes it there, newest first.
 pub record CellStart : Type 0 where
   pub values : Defaults
   pub fields : List HeaderLine

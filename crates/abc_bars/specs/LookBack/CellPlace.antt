@@ -42,7 +42,7 @@ pub record CellPlace : Type 0 where
 abbrev pub before_place : CellPlace → List Element
 before_place place = behind_tokens place.front place.before
 
--- Where a token of the current voice is at a place.
+-- A token of the current voice is at a place.
 abbrev pub voice_place_at : CellPlace → VoicePlace
 voice_place_at place = voice_place_of place.values place.fields place.key (before_place place)
 

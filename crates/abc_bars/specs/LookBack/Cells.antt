@@ -17,7 +17,7 @@ abbrev pub behind_tokens : List (Spanned TokenKind) → List Element → List El
 behind_tokens [] before = before
 behind_tokens (token ∷ ahead) before = behind_tokens ahead (element_of token ahead ∷ before)
 
--- What the tokens of a cell give, each where what looking back finds at its own place holds.
+-- The items of a cell's tokens, each from the state that looking back finds at its own place.
 abbrev pub look_back : Body → List Element → CellResult → List (Spanned TokenKind) → CellResult
 look_back opening before given [] = record given { body = body_at opening before }
 look_back opening before given (token ∷ ahead) =

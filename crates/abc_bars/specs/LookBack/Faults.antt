@@ -95,7 +95,7 @@ told_from values fields key before (token ∷ ahead) =
     told_in (voice_place_of values fields key before) token.from token.kind
     ++ told_from values fields key (record { kind = token.kind; tied = tie_ahead ahead } ∷ before) ahead
 
--- KeyRange, EmptyChord, FreeBarRest, BadTuplet and NestedTuplet are in a cell where looking back says so, and nowhere else.
+-- KeyRange, EmptyChord, FreeBarRest, BadTuplet and NestedTuplet are in a cell exactly at the tokens that looking back finds.
 abbrev pub FaultsLookedBack : Type 0
 FaultsLookedBack =
     (values : Defaults) (fields : List HeaderLine) (key : Key) (before : List Element) (cell : List (Spanned TokenKind))

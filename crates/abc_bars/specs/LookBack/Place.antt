@@ -34,11 +34,11 @@ pub data Place : Type 0 where
   InHeader : Defaults → List HeaderLine → Place
   InBody : Defaults → List HeaderLine → Key → List Element → Place
 
--- The state where a body begins whose header has these lines.
+-- The state at the beginning of a body whose header has these lines.
 abbrev pub opening_at : Defaults → List HeaderLine → Key → Body
 opening_at opening before key = body_from (header_at opening before) key
 
--- A law of each place of a tune's body, by the state at the place, the state where the body begins, and what is
+-- A law of each place of a tune's body, by the state at the place, the state at the beginning of the body, and what is
 -- between the two.
 abbrev pub AtEachPlace : (Body → Body → List Element → Type 0) → Type 0
 AtEachPlace Holds =
@@ -59,7 +59,7 @@ kind_of_place (InHeader opening []) = 1
 kind_of_place (InHeader opening (line ∷ before)) = 2
 kind_of_place (InBody opening before key elements) = 3
 
--- Where the views at two places are the same, both are of one kind. Not in ABC 2.1.
+-- If the views at two places are the same, both are of one kind. Not in ABC 2.1.
 abbrev pub KindsApart : Type 0
 KindsApart = (here there : Place) → view here ≡ view there → kind_of_place here ≡ kind_of_place there
 

@@ -138,7 +138,7 @@ ends_accidentals fields.Key value = true
 ends_accidentals fields.Parts value = is_some (part_of value)
 ends_accidentals _ value = false
 
--- These notes, or none where accidentals end.
+-- These notes, or none at an end of accidentals.
 abbrev pub unless_ended : Bool → List Note → List Note
 unless_ended true notes = []
 unless_ended false notes = notes
@@ -209,7 +209,7 @@ tuplet_at opening before = tuplet_from opening 0 before
 
 -- By how many semitones a note is altered, with these notes of its chord before it, newest first: by
 -- its own accidental, else by the last one that reaches it, else as the note that is tied to it, else by the
--- signature. How far accidentals reach is fixed where the body begins. ABC 2.1 section 4.2; the tied note's is not in ABC 2.1.
+-- signature. The body cannot change the reach of accidentals. ABC 2.1 section 4.2; the tied note's is not in ABC 2.1.
 abbrev pub alteration_at : VoiceState → List TiedNote → List Element → List Note → Note → ℤ
 alteration_at opening tied before earlier note =
     unwrap_or (own_alteration note)

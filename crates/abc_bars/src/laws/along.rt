@@ -37,7 +37,7 @@ pub fn views_decide()
         view (place_after here cells) ≡ view (place_after there cells) }
 {}
 
-/// The fold compares exactly: it takes two places for alike exactly if the states there are equal,
+/// The fold compares exactly: it takes two places as equivalent exactly if the states there are equal,
 /// part by part and voice by voice, in the order in which the voices were mentioned.
 #[tactic(auto, using(crate::proofs::EntryLaws::alike_where_equal))]
 pub fn alike_views()

@@ -10,7 +10,7 @@ pub fn faults_at_places()
     ensures { FaultsLookedBack }
 {}
 
-/// A chord without a note gives no item, wherever it is, and leaves what holds for each voice as it was.
+/// A chord without a note gives no item, wherever it is, and does not change the state of any voice.
 pub fn empty_chords()
     ensures none { EmptyChordsGiveNone }
     ensures all { EmptyChordsLeaveAll }

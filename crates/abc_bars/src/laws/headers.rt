@@ -19,7 +19,7 @@ ghost use Rattle.abc_bars.specs.LookBack.Place.{KindsApart};
 
 /// The state at a place of a file header or of a tune's header is what looking back over the lines before
 /// it finds: before the first line the values with which it opens, and after one more line, a field or a
-/// directive, what it gives from what held before it. The view there is that and no more; a tune begins with the
+/// directive, what it gives from the state before it. The view there is that and no more; a tune begins with the
 /// file header's values alone, which are a header's without voices, and is in its header after its first line.
 #[tactic(auto, using(crate::proofs::HeaderViews::defaults_behind, crate::proofs::HeaderLaws::header_behind))]
 pub fn header_views()

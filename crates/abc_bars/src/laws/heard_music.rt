@@ -9,7 +9,7 @@ ghost use Rattle.abc_bars.specs.LookBack.Place.{AtEachPlace, opening_at};
 ghost use Rattle.abc_bars_header.specs.declared.defaults.Defaults.{Defaults};
 ghost use Rattle.abc_fields.specs.declared.key.Key.{Key};
 
-/// The state at a place of a body, for all voices, is what looking back finds: where the body begins what it
+/// The state at a place of a body, for all voices, is what looking back finds: at the beginning of the body what it
 /// begins with, and after one element more what that element leaves of what was found before.
 #[tactic(auto, using(crate::proofs::LookBack::Held::begins, crate::proofs::LookBack::Held::body_behind_element))]
 pub fn body_views()

@@ -4,7 +4,7 @@ ghost use Rattle.abc_bars_body.specs.Mentioned.{MentionsFew, NamesVoices};
 ghost use Rattle.abc_bars.specs.LookBack.Flags.{BodiesSaySo, HeadersSaySo};
 ghost use Rattle.abc_bars.specs.Titles.{SaysTitlesOfHeader};
 
-/// What the cells of a tune give mentions at most fifteen voices, the one without a name among them where a note,
+/// The items of a tune's cells mention at most fifteen voices, the one without a name among them where a note,
 /// chord or rest comes before the first V:, and each V: among it says a name.
 #[tactic(auto, using(abc_bars_body::proofs::Mentions::mentions_few, abc_bars_body::proofs::Mentions::names_voices))]
 pub fn voices_of_items()

@@ -1,4 +1,4 @@
--- How clefs are written. ABC 2.1 section 4.6.
+-- The grammar of clefs. ABC 2.1 section 4.6.
 use Rattle.std.specs.Prelude.{ℕ, ℤ, pos, negsuc, ◌+◌, ◌≤◌, ◌⊎◌, ◌≡◌, List, [], ◌∷◌, ◌++◌, codes}
 use Rattle.std.specs.List.{Contains}
 use Rattle.abc_text.specs.Byte.{digit_zero}
@@ -7,7 +7,7 @@ use Rattle.abc_text.specs.Byte.{digit_zero}
 abbrev pub EndsIn : List ℕ → List ℕ → Type 0
 EndsIn text end = (front : List ℕ) × (text ≡ front ++ end)
 
--- The mark of a clef: `+8` raises what is written by an octave, `-8` lowers it. ABC 2.1 section 4.6.
+-- The mark of a clef: `+8` raises the written notes by an octave, `-8` lowers them. ABC 2.1 section 4.6.
 abbrev pub HasMark : List ℕ → ℤ → Type 0
 HasMark text n = (EndsIn text (codes "+8") × (n ≡ pos 12)) ⊎ (EndsIn text (codes "-8") × (n ≡ negsuc 11))
 

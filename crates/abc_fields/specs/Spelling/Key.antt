@@ -1,4 +1,4 @@
--- How a key is written: the value of a field K:. ABC 2.1 section 3.1.14.
+-- The grammar of a key, the value of a field K:. ABC 2.1 section 3.1.14.
 use Rattle.std.specs.Prelude.{ℕ, ◌⊎◌, ◌≡◌, ℤ, ◌+ℤ◌, List, [], ◌∷◌, codes, Option, Some, None}
 use Rattle.std.specs.List.{Contains}
 use Rattle.abc_fields.specs.declared.key.Key.{Key}
@@ -16,8 +16,8 @@ use Rattle.abc_text.specs.Word.{AreWords, IsFirstWord}
 use Rattle.abc_fields.specs.Key.{empty_key, unchanged_key}
 use Rattle.abc_text.specs.Byte.{equals_sign, caret, underscore}
 
--- The key of a basis on the tonic whose major key has these sharps. That tonic and mode have at most
--- seven sharps or flats together is not in ABC 2.1.
+-- The key of a basis on the tonic whose major key has these sharps. The bound of seven sharps or flats is not in ABC
+-- 2.1.
 abbrev pub IsKeyOn : ℤ → Basis → Key → Type 0
 IsKeyOn major Explicit key = key ≡ empty_key
 IsKeyOn major (Named mode) key =
@@ -38,9 +38,9 @@ BeginsAccidental word = (b : ℕ) × (rest : List ℕ) × (word ≡ b ∷ rest) 
 abbrev pub SetsProperties : List ℕ → Type 0
 SetsProperties word = Contains word equals_sign ⊎ (((n : ℤ) × HasMark word n) ⊎ IsClefName word)
 
--- What a value begins with, and the text whose words complete it: a tonic and what it is the basis of;
--- without a tonic, an empty signature if accidentals are listed, and none if properties are
--- alone, both of which are not in ABC 2.1.
+-- The beginning of a value, and the text with its other words. It is a tonic and the key on it. Without a tonic it is
+-- an empty signature if accidentals are listed, and no signature if there are only properties. The last two are not in
+-- ABC 2.1.
 pub data IsStart (value : List ℕ) (start : Key) (text : List ℕ) : Type 0 where
   tonal : (major : ℤ) (behind : List ℕ) (basis : Basis) → IsTonic value major behind → IsBasis behind basis text
       → IsKeyOn major basis start → IsStart value start text
@@ -55,7 +55,7 @@ IsCompleted None words completed = completed ≡ None
 IsCompleted (Some signature) words completed =
     (changed : Signature) × AreListed signature words changed × (completed ≡ Some changed)
 
--- What begins a value, completed by words.
+-- The beginning of a value, completed by words.
 pub record IsSpelled (value : List ℕ) (key : Key) : Type 0 where
   pub start : Key
   pub text : List ℕ

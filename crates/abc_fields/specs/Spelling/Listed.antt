@@ -1,11 +1,11 @@
--- What listed accidentals change in a signature. ABC 2.1 section 3.1.14.
+-- The changes of a signature by listed accidentals. ABC 2.1 section 3.1.14.
 use Rattle.std.specs.Prelude.{ℕ, ◌≡◌, ◌⊎◌, List, [], ◌∷◌}
 use Rattle.abc_fields.specs.declared.accidental.Change.{Change}
 use Rattle.abc_fields.specs.declared.signature.Signature.{Signature}
 use Rattle.abc_fields.specs.Listed.{with_changes}
 use Rattle.abc_fields.specs.Spelling.Accidental.{AreChanges}
 
--- A word changes a signature, if it is accidentals; else it leaves it as it is.
+-- A word of accidentals changes a signature. Any other word changes nothing.
 abbrev pub IsChanged : Signature → List ℕ → Signature → Type 0
 IsChanged signature word changed =
     ((changes : List Change) × AreChanges word changes × (changed ≡ with_changes signature changes))

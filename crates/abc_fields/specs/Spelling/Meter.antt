@@ -1,4 +1,4 @@
--- How a meter is written: the value of a field M:. ABC 2.1 section 3.1.6.
+-- The grammar of a meter, the value of a field M:. ABC 2.1 section 3.1.6.
 use Rattle.std.specs.Prelude.{ℕ, ◌≡◌, ◌≤◌, ◌⊎◌, List, [], ◌∷◌, ◌++◌, length, sum, codes}
 use Rattle.abc_fields.specs.declared.meter.Meter.{Meter}
 use Rattle.abc_fields.specs.declared.meter.Meter.TheVariants.{Free, Of}
@@ -6,7 +6,7 @@ use Rattle.abc_text.specs.Number.{IsNumber}
 use Rattle.abc_text.specs.Power.{IsPowerUpTo}
 use Rattle.abc_text.specs.Byte.{open_parenthesis, close_parenthesis, plus_sign, slash}
 
--- Numbers with a plus between each two.
+-- Numbers separated by plus signs.
 abbrev pub IsSum : List ℕ → List ℕ → Type 0
 IsSum text [] = ⊥
 IsSum text (n ∷ []) = IsNumber text n
@@ -43,7 +43,7 @@ pub record IsFraction (text : List ℕ) (num den : ℕ) : Type 0 where
 abbrev pub IsSymbol : List ℕ → ℕ → ℕ → Type 0
 IsSymbol text num den = ((text ≡ codes "C") × (num ≡ 4) × (den ≡ 4)) ⊎ ((text ≡ codes "C|") × (num ≡ 2) × (den ≡ 2))
 
--- The meter that a text says. It is free if the text is `none`, or empty, which is not in ABC 2.1.
+-- The meter of a text. It is free if the text is `none` or empty. The empty text is not in ABC 2.1.
 abbrev pub IsMeter : List ℕ → Meter → Type 0
 IsMeter text Free = (text ≡ []) ⊎ (text ≡ codes "none")
 IsMeter text (Of num den) = IsSymbol text num den ⊎ IsFraction text num den

@@ -1,4 +1,4 @@
--- How modes are named. ABC 2.1 section 3.1.14.
+-- The names of modes. ABC 2.1 section 3.1.14.
 use Rattle.std.specs.Prelude.{ℕ, ◌≡◌, ◌⊎◌, List, [], ◌∷◌, codes}
 use Rattle.std.specs.List.{Contains}
 use Rattle.abc_fields.specs.declared.mode.Mode.{Mode}

@@ -1,4 +1,4 @@
--- How an order of parts is written: the value of a field P: in a header. ABC 2.1 section 3.1.9.
+-- The grammar of an order of parts, the value of a field P: in a header. ABC 2.1 section 3.1.9.
 use Rattle.std.specs.Prelude.{ℕ, ◌≡◌, ◌+◌, ◌<◌, true, List, [], ◌∷◌, ◌++◌, replicate}
 use Rattle.std.specs.List.{concat}
 use Rattle.std.specs.Char.{is_ascii_uppercase}
@@ -6,14 +6,13 @@ use Rattle.abc_text.specs.Number.{IsNumber}
 use Rattle.abc_fields.specs.Parts.{order_bytes}
 use Rattle.abc_text.specs.Byte.{open_parenthesis, close_parenthesis}
 
--- How often an item is played: the number after it, or once if there is none.
+-- The count of an item: the number after it, or 1 if there is none.
 pub data IsCount : List ℕ → ℕ → Type 0 where
   once : IsCount [] 1
   times : {text : List ℕ} {n : ℕ} → IsNumber text n → 0 < n → IsCount text n
 
--- An order inside this many groups, at most 32, and the letters of the parts that it plays: a letter
--- and its count, a group, which is an order in parentheses, and its count, or one order and another
--- after it.
+-- An order inside this number of groups, at most 32, and the letters of the parts that it plays. It is a letter and its
+-- count; a group, which is an order in parentheses, and its count; or two orders, one after the other.
 pub data IsOrder : ℕ → List ℕ → List ℕ → Type 0 where
   part : {depth letter n : ℕ} {count : List ℕ} → is_ascii_uppercase letter ≡ true → IsCount count n
       → IsOrder depth (letter ∷ count) (replicate n letter)
@@ -22,6 +21,6 @@ pub data IsOrder : ℕ → List ℕ → List ℕ → Type 0 where
   behind : {depth : ℕ} {front back first second : List ℕ} → IsOrder depth front first → IsOrder depth back second
       → IsOrder depth (front ++ back) (first ++ second)
 
--- What a P: in a header says: the letters of the parts, in the order in which they are played.
+-- The letters of the parts that a P: in a header plays, in order.
 abbrev pub IsParts : List ℕ → List ℕ → Type 0
 IsParts value letters = IsOrder 0 (order_bytes value) letters

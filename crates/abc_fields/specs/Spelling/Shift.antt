@@ -1,4 +1,4 @@
--- The shift that properties say. ABC 2.1 sections 4.6 and 7.1.
+-- The shift that properties set. ABC 2.1 sections 4.6 and 7.1.
 use Rattle.std.specs.Prelude.{◌≡◌, ℕ, ℤ, Option, Some, None, List, [], ◌∷◌}
 use Rattle.std.specs.List.{AllZip}
 use Rattle.std.specs.Option.{option_or}
@@ -7,27 +7,27 @@ use Rattle.abc_fields.specs.declared.property.Property.TheVariants.{Clef, Octave
 use Rattle.abc_fields.specs.declared.shift.Shift.{Shift}
 use Rattle.abc_fields.specs.Spelling.Property.{IsProperty}
 
--- What a property says of the clef.
+-- The clef that a property sets.
 abbrev pub clef_in : Property → Option ℤ
 clef_in (Clef n) = Some n
 clef_in _ = None
 
--- What it says of the octave.
+-- The octave that it sets.
 abbrev pub octave_in : Property → Option ℤ
 octave_in (Octave n) = Some n
 octave_in _ = None
 
--- What it says of the transposition.
+-- The transposition that it sets.
 abbrev pub transpose_in : Property → Option ℤ
 transpose_in (Transpose n) = Some n
 transpose_in _ = None
 
--- The last thing that is said of a part. Not in ABC 2.1.
+-- The last value that is set for a part. Not in ABC 2.1.
 abbrev pub last_said : (Property → Option ℤ) → List Property → Option ℤ
 last_said said [] = None
 last_said said (p ∷ ps) = option_or (last_said said ps) (said p)
 
--- The shift that words say: each says a property, and of each part the last one counts.
+-- The shift that words set. Each word sets a property, and of each part the last one counts.
 pub record IsShift (words : List (List ℕ)) (shift : Shift) : Type 0 where
   pub properties : List Property
   pub said : AllZip IsProperty words properties

@@ -1,4 +1,4 @@
--- How a tempo is written: the value of a field Q:. ABC 2.1 section 3.1.8.
+-- The grammar of a tempo, the value of a field Q:. ABC 2.1 section 3.1.8.
 use Rattle.std.specs.Prelude.{◌≡◌, ◌≤◌, ◌⊎◌, ℕ, zero, suc, ◌+◌, ◌*◌, ◌^◌, ◌==◌, not, List, [], ◌∷◌, ◌++◌, length}
 use Rattle.std.specs.List.{AllPass}
 use Rattle.std.specs.Int.{◌∣◌}
@@ -31,7 +31,7 @@ pub record IsLastFraction (text : List ℕ) (sum : ℕ) : Type 0 where
   pub word_is : IsFraction word sum
   pub gap_is : AreBlanks gap
 
--- A fraction, one or more blanks, and fractions of which the rest says what they add up to.
+-- A fraction, one or more blanks, and the other fractions, whose sum `rest` gives.
 pub record IsFirstFraction (IsRest : List ℕ → ℕ → Type 0) (text : List ℕ) (sum : ℕ) : Type 0 where
   pub word : List ℕ
   pub gap : List ℕ
@@ -54,8 +54,8 @@ IsSum (suc most) text sum = IsLastFraction text sum ⊎ IsFirstFraction (IsSum m
 abbrev pub IsLowest : Ratio → Type 0
 IsLowest r = (c : ℕ) → c ∣ r.num → c ∣ r.den → c ≡ 1
 
--- The beat, `=` between blanks or none, and how many beats there are per minute. That a beat is at
--- most 16 fractions is not in ABC 2.1.
+-- The beat, `=` with optional blanks around it, and the number of beats per minute. The bound of 16 fractions is not in
+-- ABC 2.1.
 pub record IsBeats (text : List ℕ) (beat : Ratio) (n : ℕ) : Type 0 where
   pub front : List ℕ
   pub gap : List ℕ
@@ -69,7 +69,7 @@ pub record IsBeats (text : List ℕ) (beat : Ratio) (n : ℕ) : Type 0 where
   pub value : beat.num * 512 ≡ sum * beat.den
   pub lowest_is : IsLowest beat
 
--- A tempo without a text: beats, or how many unit notes there are per minute. The latter is not in ABC 2.1.
+-- A tempo without a text: beats, or the number of unit notes per minute. The latter is not in ABC 2.1.
 abbrev pub IsBareTempo : List ℕ → Tempo → Type 0
 IsBareTempo text Unset = ⊥
 IsBareTempo text (Units n) = IsNumber text n × (1 ≤ n)
@@ -81,7 +81,7 @@ pub record IsQuoted (text : List ℕ) : Type 0 where
   pub spelling : text ≡ quote ∷ (inside ++ quote ∷ [])
   pub no_quote : AllPass (λ b. not (b == quote)) inside
 
--- A quoted text, then a tempo, with blanks between or none.
+-- A quoted text, optional blanks, and a tempo.
 pub record IsBehindText (text : List ℕ) (m : Tempo) : Type 0 where
   pub quoted : List ℕ
   pub gap : List ℕ
@@ -91,7 +91,7 @@ pub record IsBehindText (text : List ℕ) (m : Tempo) : Type 0 where
   pub gap_is : AreBlanks gap
   pub tempo_is : IsBareTempo tempo m
 
--- A tempo, then a quoted text, with blanks between or none.
+-- A tempo, optional blanks, and a quoted text.
 pub record IsBeforeText (text : List ℕ) (m : Tempo) : Type 0 where
   pub tempo : List ℕ
   pub gap : List ℕ
@@ -101,8 +101,8 @@ pub record IsBeforeText (text : List ℕ) (m : Tempo) : Type 0 where
   pub gap_is : AreBlanks gap
   pub quoted_is : IsQuoted quoted
 
--- What a tempo field says: nothing if it is empty or a text alone, else a tempo, before or after
--- which a text may come. That an empty field is accepted is not in ABC 2.1.
+-- The value of a tempo field: nothing if it is empty or only a text; else a tempo, with a text before or after it or
+-- none. The empty field is not in ABC 2.1.
 pub data IsTempo (text : List ℕ) (m : Tempo) : Type 0 where
   empty : text ≡ [] → m ≡ Unset → IsTempo text m
   text_alone : IsQuoted text → m ≡ Unset → IsTempo text m

@@ -1,4 +1,4 @@
--- How the front of a key is written: its tonic, and its mode. ABC 2.1 section 3.1.14.
+-- The grammar of the front of a key: its tonic, and its mode. ABC 2.1 section 3.1.14.
 use Rattle.std.specs.Prelude.{ℕ, ◌<◌, ◌≡◌, ◌≢◌, ◌⊎◌, Bool, false, ℤ, pos, negsuc, ◌+ℤ◌, List, [], ◌∷◌, ◌++◌, length, codes}
 use Rattle.std.specs.List.{AllPass}
 use Rattle.std.specs.Char.{is_ascii_alphabetic}
@@ -16,14 +16,14 @@ use Rattle.abc_fields.specs.Spelling.Mode.{IsMode}
 abbrev pub HasNoSign : List ℕ → Type 0
 HasNoSign text = ((rest : List ℕ) → text ≢ sharp_sign ∷ rest) × ((rest : List ℕ) → text ≢ flat_sign ∷ rest)
 
--- A text begins with a sign that adds sharps, or with none, and goes on with the rest.
+-- A text begins with a sign that adds sharps, or with none, and continues with the rest.
 pub data IsSign (text : List ℕ) (added : ℤ) (rest : List ℕ) : Type 0 where
   sharp : text ≡ sharp_sign ∷ rest → added ≡ pos 7 → IsSign text added rest
   flat : text ≡ flat_sign ∷ rest → added ≡ negsuc 6 → IsSign text added rest
   none : HasNoSign text → text ≡ rest → added ≡ pos 0 → IsSign text added rest
 
--- A text begins with a tonic, a capital letter and perhaps a sign, whose major key has these sharps,
--- and goes on with the rest.
+-- A text begins with a tonic, a capital letter and perhaps a sign, whose major key has these sharps, and continues with
+-- the rest.
 pub record IsTonic (text : List ℕ) (sharps : ℤ) (rest : List ℕ) : Type 0 where
   pub letter : Letter
   pub behind : List ℕ
@@ -36,7 +36,7 @@ pub record IsTonic (text : List ℕ) (sharps : ℤ) (rest : List ℕ) : Type 0 w
 abbrev pub StopsAt : (ℕ → Bool) → List ℕ → Type 0
 StopsAt test text = (b : ℕ) (rest : List ℕ) → text ≡ b ∷ rest → test b ≡ false
 
--- A text begins with blanks and a run of letters, both as long as they can be, and goes on with the rest.
+-- A text begins with blanks and a run of letters, both as long as they can be, and continues with the rest.
 pub record IsRun (text blanks run rest : List ℕ) : Type 0 where
   pub spelling : text ≡ blanks ++ (run ++ rest)
   pub are_blanks : AllPass is_blank blanks
@@ -44,9 +44,8 @@ pub record IsRun (text blanks run rest : List ℕ) : Type 0 where
   pub are_letters : AllPass is_ascii_alphabetic run
   pub no_more_letters : StopsAt is_ascii_alphabetic rest
 
--- The basis of a signature, by the text after the tonic, and the text that follows: a run of
--- letters names a mode, or is `exp` after blanks. Without either, major; then a run of letters comes
--- after blanks, and belongs to what follows.
+-- The basis of a signature, by the text after the tonic, and the rest. A run of letters names a mode, or is `exp` after
+-- blanks. Without either, the mode is major. Then a run of letters comes after blanks, and belongs to the rest.
 pub data IsBasis (text : List ℕ) (basis : Basis) (rest : List ℕ) : Type 0 where
   named : (blanks run : List ℕ) (mode : Mode) → IsRun text blanks run rest → IsMode run mode → basis ≡ Named mode
       → IsBasis text basis rest

@@ -1,4 +1,4 @@
--- How a unit note length is written: the value of a field L:. ABC 2.1 section 3.1.7.
+-- The grammar of a unit note length, the value of a field L:. ABC 2.1 section 3.1.7.
 use Rattle.std.specs.Prelude.{ℕ, ◌≡◌, ◌⊎◌, List, ◌++◌, codes}
 use Rattle.abc_time.specs.declared.ratio.Ratio.{Ratio}
 use Rattle.abc_text.specs.Number.{IsNumber}

@@ -23,7 +23,7 @@ pub record IsSetBy {V : Type 0} (end : ℕ) (Q : V → Type 0) (set : Grains × 
   pub before : set.0.0 ≤ end
   pub value : Q set.1
 
--- what stands of changes is among them
+-- the changes in force are among all changes
 pub settled_kept : {V : Type 0} (P : Grains × V → Type 0) (changes : List (Grains × V)) → All P changes → All P (last_of_each_tick changes)
 settled_kept P [] all = All-nil P
 settled_kept P (change ∷ later) all =

@@ -1,4 +1,4 @@
--- What is played of a tune is in it: what holds of all its items holds of what is played.
+-- A tune plays only its own items: what holds of all items holds of the played ones.
 use Rattle.std.proofs.Common.{ℕ, Bool, true, false, zero, suc, cond, List, [], ◌∷◌, ◌++◌, Option, Some, None}
 use Rattle.std.specs.Prelude.{All, IfSome, slice_get, filter_map, bytes_eq, ◌&&◌}
 use Rattle.std.specs.List.{cons_option}

@@ -1,4 +1,4 @@
--- A step sets a tempo, a meter or a key, and at most one of them: so many changes there are at most.
+-- A step sets at most one of a tempo, a meter and a key, so there are at most as many changes as steps.
 use Rattle.std.proofs.Common.{ℕ, ℤ, ◌+◌, ◌≤◌, Bool, List, [], ◌∷◌, length, Option, Some, None, arith, length-append}
 use Rattle.std.specs.Prelude.{All, sum_by}
 use Rattle.std.specs.List.{cons_option, flat_map}

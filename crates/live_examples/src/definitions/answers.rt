@@ -12,7 +12,7 @@ ghost use Rattle.abc_fields.specs.declared.fault.FaultCode.TheVariants.{BadBroke
 pub fn lines_of_books()
     ensures marked { book_lines (239 ∷ 187 ∷ 191 ∷ codes "a\nb\n") ≡ codes "a" ∷ codes "b" ∷ [] }
     ensures twice_marked { book_lines (239 ∷ 187 ∷ 191 ∷ 239 ∷ 187 ∷ 191 ∷ codes "a\n") ≡ (239 ∷ 187 ∷ 191 ∷ codes "a") ∷ [] }
-    ensures marked_behind { book_lines (codes "a\n" ++ 239 ∷ 187 ∷ 191 ∷ []) ≡ codes "a" ∷ (239 ∷ 187 ∷ 191 ∷ []) ∷ [] }
+    ensures marked_after { book_lines (codes "a\n" ++ 239 ∷ 187 ∷ 191 ∷ []) ≡ codes "a" ∷ (239 ∷ 187 ∷ 191 ∷ []) ∷ [] }
     ensures part_of_a_mark { book_lines (239 ∷ 187 ∷ []) ≡ (239 ∷ 187 ∷ []) ∷ [] }
     ensures unended { book_lines (codes "a\nb") ≡ codes "a" ∷ codes "b" ∷ [] }
     ensures blank { book_lines (codes "\n\na\n\n") ≡ [] ∷ [] ∷ codes "a" ∷ [] ∷ [] }

@@ -10,13 +10,13 @@ ghost use Rattle.abc_tune_compiler.specs.Tune.{fault_in};
 ghost use Rattle.live_examples.specs.Toy.{toy_book};
 ghost use Rattle.live_examples.specs.Values.{faulty_blocks, faults_in_no_order};
 
-/// Two tunes of a number: the first gives the number's file, with the byte that the file header sets.
+/// Two tunes of a number: the number's file is that of the first, with the byte that the file header sets.
 pub fn first_owner()
     ensures { (toy_book (codes "D:5" ∷ codes "X:1" ∷ codes "a" ∷ codes "X:1" ∷ codes "b" ∷ [])).files ≡ (1, codes "5a") ∷ [] }
 {}
 
-/// The first tune of a number has no file if it is too long, so the second gives the number's file. A default that a
-/// tune sets ends with it.
+/// The first tune of a number has no file if it is too long, so the number's file is that of the second. A default that
+/// a tune sets ends with it.
 pub fn a_tune_without_a_file()
     ensures files { (toy_book (codes "X:1" ∷ codes "D:7" ∷ codes "a" ∷ codes "b" ∷ codes "c" ∷ codes "X:1" ∷ codes "d"
         ∷ [])).files ≡ (1, codes "0d") ∷ [] }
@@ -38,7 +38,7 @@ pub fn faults_of_all_blocks()
         ∷ [] }
 {}
 
-/// Text outside tunes gives nothing.
+/// Text outside tunes adds nothing to the book.
 pub fn free_text()
     ensures { toy_book (codes "a" ∷ codes "!" ∷ [] ∷ codes "T:A" ∷ []) ≡ empty_book }
 {}

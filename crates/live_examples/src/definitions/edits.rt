@@ -17,16 +17,16 @@ pub fn line_numbers()
     ensures none { line_at four_lines 0 ≡ None }
     ensures first { line_at four_lines 1 ≡ Some (codes "a") }
     ensures last { line_at four_lines 4 ≡ Some (codes "d") }
-    ensures behind_the_last { line_at four_lines 5 ≡ None }
+    ensures after_the_last { line_at four_lines 5 ≡ None }
 {}
 
-/// What accepted changes make of four lines. An insertion may be after the last line, and each list of lines may be
+/// The results of accepted changes of four lines. An insertion may be after the last line, and each list of lines may be
 /// empty.
 pub fn accepted_changes()
     ensures at_first { edited four_lines (insertion 1 (codes "x" ∷ [])) ≡ Ok (codes "x" ∷ four_lines) }
     ensures before_the_third { edited four_lines (insertion 3 (codes "x" ∷ codes "y" ∷ []))
         ≡ Ok (codes "a" ∷ codes "b" ∷ codes "x" ∷ codes "y" ∷ codes "c" ∷ codes "d" ∷ []) }
-    ensures behind_the_last { edited four_lines (insertion 5 (codes "x" ∷ []))
+    ensures after_the_last { edited four_lines (insertion 5 (codes "x" ∷ []))
         ≡ Ok (codes "a" ∷ codes "b" ∷ codes "c" ∷ codes "d" ∷ codes "x" ∷ []) }
     ensures no_lines { edited four_lines (insertion 1 []) ≡ Ok four_lines }
     ensures one_for_two { edited four_lines (replacement 2 3 (codes "x" ∷ [])) ≡ Ok (codes "a" ∷ codes "x" ∷ codes "d" ∷ []) }
@@ -61,7 +61,7 @@ pub fn bad_ranges_of_edits()
 pub fn bad_lines()
     ensures inserted { edited four_lines (insertion 1 (codes "x" ∷ codes "a\nb" ∷ [])) ≡ Err BadLine }
     ensures replaced { edited four_lines (replacement 1 4 (codes "\n" ∷ [])) ≡ Err BadLine }
-    ensures behind_a_bad_range { edited four_lines (insertion 9 (codes "\n" ∷ [])) ≡ Err BadRange }
+    ensures after_a_bad_range { edited four_lines (insertion 9 (codes "\n" ∷ [])) ≡ Err BadRange }
 {}
 
 /// The numbers that two books differ in, rising: those with a file that is new or has other bytes, and those that
@@ -74,7 +74,8 @@ pub fn differences()
     ensures kept { removed_numbers ((1, codes "a") ∷ []) ((1, codes "b") ∷ []) ≡ [] }
     ensures rising { written_numbers ((2, codes "a") ∷ (5, codes "a") ∷ [])
         ((0, codes "x") ∷ (2, codes "a") ∷ (3, codes "x") ∷ (5, codes "b") ∷ []) ≡ 0 ∷ 3 ∷ 5 ∷ [] }
-    ensures lost_rising { removed_numbers ((0, codes "x") ∷ (2, codes "a") ∷ (3, codes "x") ∷ []) ((2, codes "b") ∷ []) ≡ 0 ∷ 3 ∷ [] }
+    ensures lost_rising { removed_numbers ((0, codes "x") ∷ (2, codes "a") ∷ (3, codes "x") ∷ []) ((2, codes "b") ∷ [])
+        ≡ 0 ∷ 3 ∷ [] }
 {}
 
 /// The file of a number: none if the book has none of that number.
@@ -89,7 +90,7 @@ pub fn files_of_numbers()
 pub fn long_lines()
     ensures longest { edited [] (insertion 1 (replicate 65535 120 ∷ [])) ≡ Ok (replicate 65535 120 ∷ []) }
     ensures longer { edited four_lines (insertion 1 (replicate 65536 120 ∷ [])) ≡ Err BadLine }
-    ensures behind_a_bad_range { edited four_lines (insertion 9 (replicate 65536 120 ∷ [])) ≡ Err BadRange }
+    ensures after_a_bad_range { edited four_lines (insertion 9 (replicate 65536 120 ∷ [])) ≡ Err BadRange }
 {}
 
 /// A text has at most 1,048,576 lines: of a text of one line, whatever lines are put before it. What is no line comes

@@ -1,7 +1,7 @@
 //! Lines of music, by the definition of the fold over cells: `entry_step` of `abc_bars_body`, and the definitions that it
 //! uses in `abc_scan`, `abc_fields`, `abc_bars_voice` and `abc_bars_notes`. Lengths are in ticks: a whole note has 1,920, an
 //! eighth 240.
-#![tactic(auto, unfolding(abc_bars_body::specs::Step::entry_step, abc_fields::specs::Accidental::changes_of, abc_fields::specs::Clef::mark_of, abc_fields::specs::Clef::names_clef, abc_fields::specs::Clef::without_line, abc_fields::specs::Key::complete_key, abc_fields::specs::Key::key_in, abc_fields::specs::Key::key_with, abc_fields::specs::Key::start_of, abc_fields::specs::Listed::with_accidentals, abc_fields::specs::Meter::fraction_of, abc_fields::specs::Meter::sum_of, abc_fields::specs::Meter::symbol_or_fraction, abc_fields::specs::Mode::mode_named, abc_fields::specs::Mode::mode_of, abc_fields::specs::Property::property_of, abc_fields::specs::Property::signed_number, abc_fields::specs::Property::unquote, abc_fields::specs::Shift::shift_of, abc_fields::specs::Signature::signature_of, abc_fields::specs::Tempo::bare_tempo, abc_fields::specs::Tempo::behind_word, abc_fields::specs::Tempo::word_in_front, abc_fields::specs::Tempo::fraction_of, abc_fields::specs::Tempo::halve, abc_fields::specs::Tempo::part_of, abc_fields::specs::Tempo::positive_number, abc_fields::specs::Tempo::sum_of, abc_fields::specs::Tempo::tempo_around, abc_fields::specs::Tempo::tempo_in, abc_fields::specs::Tempo::tempo_of, abc_fields::specs::Tonic::basis_at, abc_fields::specs::Voice::voice_in, abc_fields::specs::Voice::voice_of, abc_bars_notes::specs::BarRest::bar_grains, abc_scan::specs::Bar::bar_at, abc_scan::specs::BarRest::bar_rest_at, abc_scan::specs::Broken::broken_at, abc_scan::specs::Chord::chord_at, abc_scan::specs::Chord::part_reading_at, abc_scan::specs::Chord::parts_of, abc_scan::specs::Delimited::delimited_at, abc_scan::specs::Directive::directive_of, abc_scan::specs::Dynamic::dynamic_of, abc_scan::specs::Ending::ending_at, abc_scan::specs::Ending::passes_at, abc_scan::specs::Ending::range_at, abc_scan::specs::Ending::ranges_at, abc_scan::specs::Frame::frame_at, abc_scan::specs::InlineField::inline_field_at, abc_scan::specs::Length::length_at, abc_scan::specs::Length::length_size, abc_scan::specs::Line::tokens_of, abc_scan::specs::NoEffect::extra_space_at, abc_scan::specs::Note::accidental_at, abc_scan::specs::Note::note_at, abc_scan::specs::Note::rest_at, abc_scan::specs::Number::number_at, abc_scan::specs::Start::bracket_start, abc_scan::specs::Start::byte_start, abc_scan::specs::Token::reading_at, abc_scan::specs::Tuplet::tuplet_at, abc_bars_voice::specs::Accidentals::letters_in, abc_bars_voice::specs::Accidentals::with_octave, abc_bars_voice::specs::Unit::unit_grains, abc_text::specs::Accidental::accidental_of, abc_text::specs::Blank::trim_end, abc_text::specs::Blank::trim_start, abc_text::specs::Blank::trim_blanks, abc_text::specs::Cut::cut_at, abc_text::specs::Letter::letter_of, abc_text::specs::Number::number_of, abc_text::specs::Power::is_power_up_to, abc_text::specs::Word::first_word, abc_text::specs::Word::words_of, abc_time::specs::Grains::grains_of_a_whole_note, abc_time::specs::Grains::grains_of_the_longest_length, abc_time::specs::Length::length_of, abc_time::specs::Length::quotient_of, abc_time::specs::Tempo::quarter_of))]
+#![tactic(auto, unfolding(crate::specs::Opened::bars))]
 
 ghost use Rattle.std.specs.Prelude.{◌≡◌, pos, negsuc, true, false, [], ◌∷◌, codes, Some, None};
 ghost use Rattle.abc_fields.specs.declared.fault.FaultCode.TheVariants.{BadBroken, BadByte, BadEnding, BadKey, BadLength, BadMeter};
@@ -14,8 +14,8 @@ ghost use Rattle.abc_scan.specs.declared.directive.Reach.TheVariants.{Not, Octav
 ghost use Rattle.text_examples.specs.Bars.{bar_rest, faults_by, in_common, in_compound, in_free, in_reach, items_by, keys, keys_by};
 ghost use Rattle.text_examples.specs.Bars.{lengths_by, sound, ticks, tone_lengths_by, velocities_by};
 
-/// Keys of notes: letters, octaves, the accidentals of a bar. ABC 2.1 sections 4.1 and 4.2; that MIDI has the keys from 0
-/// to 127 SMF 1.0.
+/// Keys of notes: letters, octaves, the accidentals of a bar. ABC 2.1 sections 4.1 and 4.2; the MIDI keys 0 to 127 are
+/// in SMF 1.0.
 pub fn keys_of_notes()
     ensures letters { keys_by in_common (codes "CDEFGABc") ≡ keys (60 ∷ 62 ∷ 64 ∷ 65 ∷ 67 ∷ 69 ∷ 71 ∷ 72 ∷ []) }
     ensures octaves { keys_by in_common (codes "C,c'C'") ≡ keys (48 ∷ 84 ∷ 72 ∷ []) }
@@ -24,7 +24,7 @@ pub fn keys_of_notes()
     ensures highest { keys_by in_common (codes "g''''^g''''") ≡ Some 127 ∷ None ∷ [] }
 {}
 
-/// How far accidentals reach. ABC 2.1 sections 4.2 and 11.3; what the words mean is not in ABC 2.1.
+/// The reach of accidentals. ABC 2.1 sections 4.2 and 11.3; the meaning of the words is not in ABC 2.1.
 pub fn reaches()
     ensures pitch { keys_by (in_reach Pitch) (codes "^FfF,|F") ≡ keys (66 ∷ 78 ∷ 54 ∷ 65 ∷ []) }
     ensures octave { keys_by (in_reach Octave) (codes "^FfF|F") ≡ keys (66 ∷ 77 ∷ 66 ∷ 65 ∷ []) }
@@ -33,7 +33,7 @@ pub fn reaches()
     ensures last { keys_by (in_reach Octave) (codes "^c_c=Cc") ≡ keys (73 ∷ 71 ∷ 60 ∷ 71 ∷ []) }
 {}
 
-/// What ends accidentals, and what does not. ABC 2.1 section 4.2; of keys and parts not in ABC 2.1.
+/// The tokens that end accidentals, and those that do not. ABC 2.1 section 4.2; keys and parts are not in ABC 2.1.
 pub fn ends_of_accidentals()
     ensures key { keys_by in_common (codes "^F[K:C]F") ≡ keys (66 ∷ 65 ∷ []) }
     ensures part { keys_by in_common (codes "^F[P:A]F") ≡ keys (66 ∷ 65 ∷ []) }
@@ -44,8 +44,8 @@ pub fn ends_of_accidentals()
     ensures another_voice { keys_by in_common (codes "[V:1]^F[V:2]F[V:1]F") ≡ keys (66 ∷ 65 ∷ 66 ∷ []) }
 {}
 
-/// What a tied note leaves to the next one: the alteration, on its letter in its octave, over bars, rests of bars and chords
-/// without notes. ABC 2.1 section 4.11; the octave and what is passed over is not in ABC 2.1.
+/// A tied note passes its alteration to the next note of its letter and octave, over bars, rests of bars and chords
+/// without notes. ABC 2.1 section 4.11; the octave and the tokens between are not in ABC 2.1.
 pub fn tied_notes()
     ensures over_a_bar { keys_by in_common (codes "^F-|F|F") ≡ keys (66 ∷ 66 ∷ 65 ∷ []) }
     ensures octave { keys_by in_common (codes "^F-|f") ≡ keys (66 ∷ 77 ∷ []) }
@@ -66,7 +66,7 @@ pub fn lengths()
     ensures rests_of_bars { items_by in_compound (codes "ZX2") ≡ bar_rest 1440 ∷ bar_rest 2880 ∷ [] }
 {}
 
-/// Lengths in tuplets. ABC 2.1 section 4.13; that only notes, chords and rests count is not in ABC 2.1.
+/// Lengths in tuplets. ABC 2.1 section 4.13; the tokens that count are not in ABC 2.1.
 pub fn lengths_in_tuplets()
     ensures three { lengths_by in_common (codes "(3CDEF") ≡ ticks (160 ∷ 160 ∷ 160 ∷ 240 ∷ []) }
     ensures over_a_bar { lengths_by in_common (codes "(3C[]D|zE") ≡ ticks (160 ∷ 160 ∷ 160 ∷ 240 ∷ []) }
@@ -78,7 +78,7 @@ pub fn lengths_in_tuplets()
     ensures another_voice { lengths_by in_common (codes "[V:1](3C[V:2]C[V:1]DEF") ≡ ticks (160 ∷ 240 ∷ 160 ∷ 160 ∷ 240 ∷ []) }
 {}
 
-/// Lengths in broken rhythm. ABC 2.1 section 4.4; over what a mark acts is not in ABC 2.1.
+/// Lengths in broken rhythm. ABC 2.1 section 4.4; the tokens between are not in ABC 2.1.
 pub fn lengths_in_broken_rhythm()
     ensures one { lengths_by in_common (codes "C>DE") ≡ ticks (360 ∷ 120 ∷ 240 ∷ []) }
     ensures two { lengths_by in_common (codes "C>>D") ≡ ticks (420 ∷ 60 ∷ []) }
@@ -108,7 +108,7 @@ pub fn loudness()
     ensures voices { velocities_by in_common (codes "[V:1]!f!C[V:2]C[V:1]C") ≡ 105 ∷ 80 ∷ 105 ∷ [] }
 {}
 
-/// The items of bars, endings, parts and voices, and of fields that change what is played. Not in ABC 2.1.
+/// The items of bars, endings, parts and voices, and of fields that change the music. Not in ABC 2.1.
 pub fn items_of_fields()
     ensures bars { items_by in_common (codes "|:C:|") ≡ items.Bar (record { closes = 0; opens = 1; double = false })
         ∷ sound (Some 60) 240
@@ -125,7 +125,7 @@ pub fn items_of_fields()
     ensures no_effect { items_by in_common (codes "T:a") ≡ [] }
 {}
 
-/// What refused fields and directives give: a fault, and an item where the field is played. Not in ABC 2.1.
+/// The results of refused fields and directives: a fault, and an item if the field is played. Not in ABC 2.1.
 pub fn items_of_refused_fields()
     ensures meter { items_by in_common (codes "M:3") ≡ items.Meter false None ∷ [] }
     ensures key { items_by in_common (codes "K:H") ≡ items.Key false (Some (pos 0, false)) ∷ [] }

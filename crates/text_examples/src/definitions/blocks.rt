@@ -6,7 +6,7 @@ ghost use Rattle.abc_scan.specs.declared.class.LineClass.TheVariants.{Blank, Com
 ghost use Rattle.abc_book.specs.Block.{blocks_of};
 ghost use Rattle.text_examples.specs.Blocks.{continued, free, header, key, reference, tune};
 
-/// What is before the first tune. ABC 2.1 section 2.2.2; that its first line decides is not in ABC 2.1.
+/// The block before the first tune. ABC 2.1 section 2.2.2; the choice by its first line is not in ABC 2.1.
 pub fn file_headers()
     ensures nothing { blocks_of [] ≡ [] }
     ensures comments_alone { blocks_of (Comment ∷ Blank ∷ Comment ∷ []) ≡ [] }
@@ -28,7 +28,7 @@ pub fn tunes()
     ensures no_letter { blocks_of (reference ∷ reference ∷ []) ≡ tune 0 1 ∷ tune 1 2 ∷ [] }
 {}
 
-/// A comment in a tune, a blank line in its place, and neither. ABC 2.1 section 2.2.
+/// A comment in a tune, a blank line instead, and neither. ABC 2.1 section 2.2.
 pub fn comments_and_blank_lines()
     ensures comment { blocks_of (reference ∷ key ∷ Music ∷ Comment ∷ Music ∷ []) ≡ tune 0 5 ∷ [] }
     ensures blank { blocks_of (reference ∷ key ∷ Music ∷ Blank ∷ Music ∷ []) ≡ tune 0 3 ∷ free 4 5 ∷ [] }

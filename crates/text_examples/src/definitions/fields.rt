@@ -1,5 +1,5 @@
-//! Values of fields, by the definitions of what each says (ABC 2.1 section 3.1; bounds and refusals are not in ABC 2.1).
-#![tactic(auto, unfolding(abc_text::specs::Accidental::accidental_of, abc_text::specs::Letter::letter_of, abc_fields::specs::Accidental::changes_of, abc_text::specs::Cut::cut_at, abc_text::specs::Blank::trim_start, abc_text::specs::Blank::trim_end, abc_fields::specs::Key::key_with, abc_fields::specs::Clef::names_clef, abc_fields::specs::Clef::without_line, abc_fields::specs::Key::start_of, abc_fields::specs::Key::complete_key, abc_fields::specs::Key::key_in, abc_fields::specs::Letters::play_on, abc_fields::specs::Listed::with_accidentals, abc_fields::specs::Meter::sum_of, abc_fields::specs::Meter::fraction_of, abc_fields::specs::Meter::symbol_or_fraction, abc_fields::specs::Mode::mode_named, abc_fields::specs::Mode::mode_of, abc_text::specs::Number::number_of, abc_fields::specs::Parts::next, abc_fields::specs::Property::unquote, abc_fields::specs::Property::signed_number, abc_fields::specs::Clef::mark_of, abc_fields::specs::Property::property_of, abc_fields::specs::Shift::shift_of, abc_fields::specs::Signature::signature_of, abc_fields::specs::Tempo::positive_number, abc_fields::specs::Tempo::part_of, abc_fields::specs::Tempo::fraction_of, abc_fields::specs::Tempo::word_in_front, abc_fields::specs::Tempo::behind_word, abc_fields::specs::Tempo::sum_of, abc_fields::specs::Tempo::halve, abc_fields::specs::Tempo::bare_tempo, abc_fields::specs::Tempo::tempo_around, abc_fields::specs::Tempo::tempo_in, abc_fields::specs::Tempo::tempo_of, abc_fields::specs::Tonic::basis_at, abc_fields::specs::Voice::voice_in, abc_fields::specs::Voice::voice_of, abc_text::specs::Word::words_of, abc_text::specs::Word::first_word, abc_time::specs::Tempo::quarter_of, abc_text::specs::Power::is_power_up_to))]
+//! Values of fields, by their definitions (ABC 2.1 section 3.1; bounds and refusals are not in ABC 2.1).
+#![tactic(auto, unfolding(crate::specs::Opened::fields, crate::specs::Opened::orders))]
 
 ghost use Rattle.std.specs.Prelude.{◌≡◌, pos, negsuc, false, [], ◌∷◌, codes, map, replicate, Some, None, Ok, Err};
 ghost use Rattle.abc_fields.specs.Key.{key_of};
@@ -25,10 +25,7 @@ pub fn meters()
     ensures sum { meter_of (codes "2+3+2/8") ≡ Ok (Of 7 8) }
     ensures in_parentheses { meter_of (codes "(2+3)/8") ≡ Ok (Of 5 8) }
     ensures summand_of_zero { meter_of (codes "0+3/4") ≡ Ok (Of 3 4) }
-    ensures no_sum { meter_of (codes "(4)/4") ≡ Err BadMeter }
-    ensures third { meter_of (codes "2/3") ≡ Err BadMeter }
-    ensures too_many { meter_of (codes "256/64") ≡ Err BadMeter }
-    ensures small { meter_of (codes "c") ≡ Err BadMeter }
+    ensures refused { map meter_of (codes "(4)/4" ∷ codes "2/3" ∷ codes "256/64" ∷ codes "c" ∷ []) ≡ replicate 4 (Err BadMeter) }
 {}
 
 /// The unit note length.
@@ -37,9 +34,7 @@ pub fn units()
     ensures eighth { unit_of (codes "1/8") ≡ Ok (ratio 1 8) }
     ensures smallest { unit_of (codes "1/512") ≡ Ok (ratio 1 512) }
     ensures leading_zero { unit_of (codes "1/08") ≡ Ok (ratio 1 8) }
-    ensures zero_before_one { unit_of (codes "01/8") ≡ Err BadUnit }
-    ensures third { unit_of (codes "1/3") ≡ Err BadUnit }
-    ensures empty { unit_of [] ≡ Err BadUnit }
+    ensures refused { map unit_of (codes "01/8" ∷ codes "1/3" ∷ [] ∷ []) ≡ replicate 3 (Err BadUnit) }
 {}
 
 /// The tempo: beats that are added, unit notes, texts.
@@ -56,7 +51,7 @@ pub fn tempos()
     ensures inner_blank { tempo_of (codes "1 /4=60") ≡ Err BadTempo }
 {}
 
-/// Microseconds of a quarter note: what a file can say has three bytes, and is not 0.
+/// Microseconds of a quarter note: a file can hold three bytes, and not 0.
 pub fn quarter_notes()
     ensures sum { quarter_micros_of (ratio 5 4) 40 ≡ Some 300000 }
     ensures eighths { quarter_micros_of (ratio 1 8) 120 ≡ Some 1000000 }
@@ -66,7 +61,7 @@ pub fn quarter_notes()
     ensures too_fast { quarter_micros_of (ratio 1 4) 60000001 ≡ None }
 {}
 
-/// The order of parts, and what it plays.
+/// The order of parts, and its play.
 pub fn orders()
     ensures nested { letters_of (codes "((AB)3.(CD)3)2") ≡ codes "ABABABCDCDCDABABABCDCDCD" }
     ensures blank_in_a_count { letters_of (codes "A1 2B") ≡ codes "AAAAAAAAAAAAB" }
@@ -116,7 +111,7 @@ pub fn keys()
         (record { signature = None; sharps = pos 0; minor = false; shift = shift None None None }) }
 {}
 
-/// Voices: the first word is the identifier, whatever its bytes are, and words without effect may follow.
+/// Voices: the first word is the identifier, with any bytes, and words without effect may follow.
 pub fn voices()
     ensures number { voice_of (codes "1 2 3 4") ≡ Ok (voice 0 1 None None None) }
     ensures blanks { voice_of (codes "  Solo  transpose=0 ") ≡ Ok (voice 2 6 None None (Some (pos 0))) }
@@ -143,7 +138,7 @@ pub fn properties_of_voices()
     ensures taken_back { voice_of (codes "Solo treble-8 clef=bass") ≡ Ok (voice 0 4 (Some (pos 0)) None None) }
 {}
 
-/// No identifier, or a number that is none.
+/// No identifier, or a malformed number.
 pub fn refused_voices()
     ensures no_identifier { map voice_of ([] ∷ codes " " ∷ []) ≡ replicate 2 (Err BadVoice) }
     ensures no_number { map voice_of (codes "Solo octave=" ∷ codes "Solo octave=x" ∷ codes "Solo octave=1.5"

@@ -1,6 +1,6 @@
-//! The state where a tune's body begins, and the results of header lines, by the definition of the fold over cells:
-//! `entry_step` of `abc_bars_body`, and the definitions that it uses in `abc_bars_header`.
-#![tactic(auto, unfolding(abc_bars_body::specs::Step::entry_step, abc_fields::specs::Accidental::changes_of, abc_fields::specs::Clef::mark_of, abc_fields::specs::Clef::names_clef, abc_fields::specs::Clef::without_line, abc_fields::specs::Key::complete_key, abc_fields::specs::Key::key_in, abc_fields::specs::Key::key_with, abc_fields::specs::Key::start_of, abc_fields::specs::Listed::with_accidentals, abc_fields::specs::Meter::fraction_of, abc_fields::specs::Meter::sum_of, abc_fields::specs::Meter::symbol_or_fraction, abc_fields::specs::Mode::mode_named, abc_fields::specs::Mode::mode_of, abc_fields::specs::Parts::next, abc_fields::specs::Property::property_of, abc_fields::specs::Property::signed_number, abc_fields::specs::Property::unquote, abc_fields::specs::Shift::shift_of, abc_fields::specs::Signature::signature_of, abc_fields::specs::Tempo::bare_tempo, abc_fields::specs::Tempo::behind_word, abc_fields::specs::Tempo::word_in_front, abc_fields::specs::Tempo::fraction_of, abc_fields::specs::Tempo::halve, abc_fields::specs::Tempo::part_of, abc_fields::specs::Tempo::positive_number, abc_fields::specs::Tempo::sum_of, abc_fields::specs::Tempo::tempo_around, abc_fields::specs::Tempo::tempo_in, abc_fields::specs::Tempo::tempo_of, abc_fields::specs::Tonic::basis_at, abc_fields::specs::Voice::voice_in, abc_fields::specs::Voice::voice_of, abc_scan::specs::Directive::directive_of, abc_scan::specs::Length::length_at, abc_scan::specs::Length::length_size, abc_scan::specs::Line::tokens_of, abc_scan::specs::Note::accidental_at, abc_scan::specs::Note::note_at, abc_scan::specs::Number::number_at, abc_scan::specs::Start::byte_start, abc_scan::specs::Token::reading_at, abc_text::specs::Accidental::accidental_of, abc_text::specs::Blank::trim_end, abc_text::specs::Blank::trim_start, abc_text::specs::Blank::trim_blanks, abc_text::specs::Cut::cut_at, abc_text::specs::Letter::letter_of, abc_text::specs::Number::number_of, abc_text::specs::Power::is_power_up_to, abc_text::specs::Word::first_word, abc_text::specs::Word::words_of, abc_time::specs::Grains::grains_of_a_whole_note, abc_time::specs::Grains::grains_of_the_longest_length, abc_time::specs::Length::length_of, abc_time::specs::Length::quotient_of, abc_time::specs::Tempo::quarter_of))]
+//! The state at the beginning of a tune's body, and the results of header lines, by the definition of the fold over
+//! cells: `entry_step` of `abc_bars_body`, and the definitions that it uses in `abc_bars_header`.
+#![tactic(auto, unfolding(crate::specs::Opened::headers))]
 
 ghost use Rattle.std.specs.Prelude.{◌≡◌, pos, negsuc, true, false, [], ◌∷◌, codes, Some, None};
 ghost use Rattle.abc_bars_body.specs.declared.entry.Entry.TheVariants.{FileHeader, Opening};
@@ -29,7 +29,7 @@ pub fn meters_and_units()
         ≡ in_body (voice_state_in (Of 3 4) (ratio 1 2) Not) }
 {}
 
-/// How far accidentals reach in a body. ABC 2.1 section 11.3; that it is every octave without a directive is not in ABC 2.1.
+/// The reach of accidentals in a body. ABC 2.1 section 11.3; the default, every octave, is not in ABC 2.1.
 pub fn reaches()
     ensures not { entry_after_header (codes "X:1" ∷ codes "%%propagate-accidentals not" ∷ codes "K:C" ∷ [])
         ≡ in_body (voice_state_in Free (ratio 1 8) Not) }
@@ -40,8 +40,8 @@ pub fn reaches()
         ≡ in_body (voice_state_in Free (ratio 1 8) Pitch) }
 {}
 
-/// The signature and the shift with which a body begins. ABC 2.1 sections 3.1.14 and 4.6; that a refused key and one of
-/// properties alone have no signature is not in ABC 2.1.
+/// The signature and the shift at the beginning of a body. ABC 2.1 sections 3.1.14 and 4.6. A refused key and one of
+/// properties alone have no signature: not in ABC 2.1.
 pub fn keys_of_headers()
     ensures sharps { entry_after_header (codes "X:1" ∷ codes "K:G" ∷ [])
         ≡ in_body (state_with_key in_g (voice_shift (pos 0) (pos 0) (pos 0))) }
@@ -56,16 +56,16 @@ pub fn keys_of_headers()
         (voice_shift (pos 0) (pos 0) (pos 0))) }
 {}
 
-/// The voices that a header declares, of which the first is the current one: what a `V:` says of a voice's shift goes before
-/// what the key says. ABC 2.1 section 7.1; which goes first is not in ABC 2.1.
+/// The voices that a header declares; the first is the current one. The shift of a `V:` overrides the shift of the key.
+/// ABC 2.1 section 7.1; this order is not in ABC 2.1.
 pub fn declared_voices()
     ensures own_parts { entry_after_header shifted_voices
         ≡ two_voices (voice_shift (negsuc 11) (pos 2) (pos 3)) (voice_shift (pos 12) (pos 1) (pos 3)) (voice_shift (pos 12) (pos 0)
         (pos 3)) }
 {}
 
-/// What the lines of a header give beside the tempo and the meter that a tune has if its header ends there. ABC 2.1 section
-/// 3.1; what refused lines give is not in ABC 2.1.
+/// The results of header lines, apart from the tempo and the meter of a tune whose header ends there. ABC 2.1 section
+/// 3.1; the results of refused lines are not in ABC 2.1.
 pub fn items_of_headers()
     ensures reference { items_by (Opening no_defaults) (codes "X:12") ≡ items.Number 12 ∷ items.Tempo true None false
         ∷ items.Meter true (Some Free) ∷ [] }
@@ -91,8 +91,8 @@ pub fn items_of_headers()
         ≡ items.Program true (Some 7) ∷ items.Tempo true None false ∷ items.Meter true (Some Free) ∷ [] }
 {}
 
-/// The tempo that a tune has if its header ends after a line: a number alone counts the unit that holds there. ABC 2.1
-/// section 3.1.8; the number alone is not in ABC 2.1.
+/// The tempo of a tune whose header ends after a line: a number alone counts the unit there. ABC 2.1 section 3.1.8; the
+/// number alone is not in ABC 2.1.
 pub fn tempos_of_headers()
     ensures units { items_by (Opening no_defaults) (codes "Q:120") ≡ items.Tempo true (Some 1000000) false
         ∷ items.Meter true (Some Free) ∷ [] }
@@ -118,8 +118,8 @@ pub fn faults_of_headers()
     ensures other { faults_by (Opening no_defaults) (codes "R:x") ≡ [] }
 {}
 
-/// File headers: what they set, and their faults; they give no items. ABC 2.1 section 2.2.2; that other lines do nothing is our
-/// own.
+/// File headers: their settings and their faults; they give no items. ABC 2.1 section 2.2.2; the other lines are not in
+/// ABC 2.1.
 pub fn file_headers()
     ensures values { entry_after_file_header (codes "M:2/4" ∷ codes "L:1/4" ∷ codes "%%MIDI program 5"
         ∷ codes "%%propagate-accidentals not" ∷ [])

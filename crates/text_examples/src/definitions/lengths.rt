@@ -1,5 +1,5 @@
 //! Lengths and ticks, by the definitions of `abc_time`.
-#![tactic(auto, unfolding(abc_time::specs::Grains::grains_of_a_tick, abc_time::specs::Grains::grains_of_a_whole_note, abc_time::specs::Grains::grains_of_the_latest_end, abc_time::specs::Grains::grains_of_the_longest_length, abc_time::specs::Length::length_of, abc_time::specs::Length::quotient_of))]
+#![tactic(auto, unfolding(crate::specs::Opened::times))]
 
 ghost use Rattle.std.specs.Prelude.{◌≡◌, ◌*◌, ◌^◌, ◌+◌, [], ◌∷◌};
 ghost use Rattle.abc_time.specs.Grains.{grains_of_a_whole_note, grains_of_a_tick, grains_of_the_longest_length};
@@ -46,8 +46,8 @@ pub fn seven_in_the_time_of_four()
     ensures seventh { tick_at (7 * 66421555200) ≡ 960 }
 {}
 
-/// One grain is a length and half of one is not; 1,024 whole notes are one, and a grain or a note more is not. What is not
-/// whole comes first. Not in ABC 2.1.
+/// One grain is a length and half of one is not; 1,024 whole notes are one, and a grain or a note more is not.
+/// `NotWhole` comes first. Not in ABC 2.1.
 pub fn limits_of_lengths()
     ensures one_grain { length_of (ratio 1 132710400) (ratio 1 7007 ∷ []) ≡ Ok (record { 0 = 1 }) }
     ensures half_a_grain { length_of (ratio 1 132710400) (ratio 1 7007 ∷ ratio 1 2 ∷ []) ≡ Err NotWhole }
@@ -57,7 +57,7 @@ pub fn limits_of_lengths()
     ensures longer_and_not_whole { length_of (ratio 999999999 1) (ratio 999999999 17 ∷ []) ≡ Err NotWhole }
 {}
 
-/// Products that go far beyond 128 bits. Not in ABC 2.1.
+/// Products far beyond 128 bits. Not in ABC 2.1.
 pub fn lengths_of_many_factors()
     ensures back_at_one { let greatest = ratio 999999999 1 in let least = ratio 1 999999999 in
         length_of greatest (least ∷ greatest ∷ least ∷ least ∷ greatest ∷ []) ≡ Ok (at_tick 1920) }

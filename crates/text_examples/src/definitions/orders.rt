@@ -1,6 +1,6 @@
-//! Orders of sections, by the definition of `abc_repeat` (ABC 2.1 section 3.1.9; what is played of them is not in ABC 2.1).
-//! Each row is an order and the letters of the sections, which are counted from 1; 0 is the opening section.
-#![tactic(auto, unfolding(abc_fields::specs::Letters::play_on, abc_repeat::specs::Order::sections_of, abc_repeat::specs::Order::has_unknown))]
+//! Orders of sections, by the definition of `abc_repeat` (ABC 2.1 section 3.1.9; the sections played are not in ABC
+//! 2.1). Each row is an order and the letters of the sections, counted from 1; 0 is the opening section.
+#![tactic(auto, unfolding(crate::specs::Opened::sections))]
 
 ghost use Rattle.std.specs.Prelude.{◌≡◌, true, false, [], ◌∷◌, codes, Some, None};
 ghost use Rattle.abc_repeat.specs.Order.{sections_of, has_unknown};

@@ -1,11 +1,11 @@
-//! Plays of sections, by the definition of `abc_repeat` (ABC 2.1 sections 4.8 to 4.10; where strains begin and end is
-//! not in ABC 2.1). Each row is a list of marks, counted from 0, and the places of its notes as they are played.
-#![tactic(auto, unfolding(abc_repeat::specs::Mark::has_number, abc_repeat::specs::Mark::greatest_number_to, abc_repeat::specs::Mark::greatest_number, abc_repeat::specs::Play::strain_play, abc_repeat::specs::Play::play_of))]
+//! Plays of sections, by the definition of `abc_repeat` (ABC 2.1 sections 4.8 to 4.10; the places of strains are not in
+//! ABC 2.1). Each row is a list of marks, counted from 0, and the places of its notes as they are played.
+#![tactic(auto, unfolding(crate::specs::Opened::plays))]
 
 ghost use Rattle.std.specs.Prelude.{◌≡◌, [], ◌∷◌};
 ghost use Rattle.abc_repeat.specs.Play.{play_of};
-ghost use Rattle.text_examples.specs.Repeats.{note, single, double, opening, closing, between, first, second, third};
-ghost use Rattle.text_examples.specs.Repeats.{first_and_second, first_and_third, no_pass};
+ghost use Rattle.text_examples.specs.Repeats.{note, single, double, opening, closing, between};
+ghost use Rattle.text_examples.specs.Repeats.{ending, ending_for, no_pass};
 
 /// Repeat bars and double bars.
 pub fn repeats()
@@ -22,31 +22,31 @@ pub fn repeats()
 
 /// First, second and later endings.
 pub fn endings()
-    ensures three { play_of (opening 1 ∷ note ∷ single ∷ first ∷ note ∷ closing 1 ∷ second ∷ note ∷ closing 1 ∷ third ∷ note
+    ensures three { play_of (opening 1 ∷ note ∷ single ∷ ending 1 ∷ note ∷ closing 1 ∷ ending 2 ∷ note ∷ closing 1 ∷ ending 3 ∷ note
         ∷ double ∷ [])
         ≡ 1 ∷ 4 ∷ 1 ∷ 7 ∷ 1 ∷ 10 ∷ [] }
-    ensures first_and_third { play_of (opening 1 ∷ note ∷ first_and_third ∷ note ∷ closing 1 ∷ second ∷ note ∷ double ∷ [])
+    ensures first_and_third { play_of (opening 1 ∷ note ∷ ending_for 1 3 ∷ note ∷ closing 1 ∷ ending 2 ∷ note ∷ double ∷ [])
         ≡ 1 ∷ 3 ∷ 1 ∷ 6 ∷ 1 ∷ 3 ∷ [] }
-    ensures taken_before { play_of (opening 1 ∷ note ∷ single ∷ first_and_second ∷ note ∷ closing 1 ∷ second ∷ note ∷ closing 1
-        ∷ third ∷ note ∷ double ∷ [])
+    ensures taken_before { play_of (opening 1 ∷ note ∷ single ∷ ending_for 1 2 ∷ note ∷ closing 1 ∷ ending 2 ∷ note ∷ closing 1
+        ∷ ending 3 ∷ note ∷ double ∷ [])
         ≡ 1 ∷ 4 ∷ 1 ∷ 4 ∷ 1 ∷ 10 ∷ [] }
-    ensures behind_a_double_bar { play_of (note ∷ double ∷ first ∷ note ∷ closing 1 ∷ second ∷ note ∷ double ∷ note ∷ []) ≡ 0 ∷ 3
-        ∷ 6 ∷ 8 ∷ [] }
+    ensures behind_a_double_bar { play_of (note ∷ double ∷ ending 1 ∷ note ∷ closing 1 ∷ ending 2 ∷ note ∷ double ∷ note ∷ [])
+        ≡ 0 ∷ 3 ∷ 6 ∷ 8 ∷ [] }
     ensures behind_a_double_bar_opened { play_of
-        (opening 1 ∷ note ∷ double ∷ first ∷ note ∷ closing 1 ∷ second ∷ note ∷ double ∷ note ∷ [])
+        (opening 1 ∷ note ∷ double ∷ ending 1 ∷ note ∷ closing 1 ∷ ending 2 ∷ note ∷ double ∷ note ∷ [])
         ≡ 1 ∷ 4 ∷ 1 ∷ 7 ∷ 9 ∷ [] }
     ensures behind_the_common_parts_own_bar { play_of
-        (note ∷ closing 1 ∷ first ∷ note ∷ closing 1 ∷ second ∷ note ∷ double ∷ note ∷ [])
+        (note ∷ closing 1 ∷ ending 1 ∷ note ∷ closing 1 ∷ ending 2 ∷ note ∷ double ∷ note ∷ [])
         ≡ 0 ∷ 0 ∷ 3 ∷ 6 ∷ 8 ∷ [] }
-    ensures at_the_beginning { play_of (first ∷ note ∷ closing 1 ∷ second ∷ note ∷ double ∷ note ∷ []) ≡ 1 ∷ 4 ∷ 6 ∷ [] }
-    ensures behind_a_bar_that_opens { play_of (opening 1 ∷ note ∷ single ∷ first ∷ note ∷ between 1 ∷ second ∷ note ∷ double ∷ note
-        ∷ closing 1 ∷ [])
+    ensures at_the_beginning { play_of (ending 1 ∷ note ∷ closing 1 ∷ ending 2 ∷ note ∷ double ∷ note ∷ []) ≡ 1 ∷ 4 ∷ 6 ∷ [] }
+    ensures behind_a_bar_that_opens { play_of (opening 1 ∷ note ∷ single ∷ ending 1 ∷ note ∷ between 1 ∷ ending 2 ∷ note ∷ double
+        ∷ note ∷ closing 1 ∷ [])
         ≡ 1 ∷ 4 ∷ 1 ∷ 7 ∷ 9 ∷ 9 ∷ [] }
     ensures no_ending_for_the_third_pass { play_of
-        (opening 1 ∷ note ∷ single ∷ first ∷ note ∷ closing 2 ∷ second ∷ note ∷ double ∷ note ∷ [])
+        (opening 1 ∷ note ∷ single ∷ ending 1 ∷ note ∷ closing 2 ∷ ending 2 ∷ note ∷ double ∷ note ∷ [])
         ≡ 1 ∷ 4 ∷ 1 ∷ 7 ∷ 1 ∷ 9 ∷ [] }
     ensures for_no_pass { play_of (note ∷ single ∷ no_pass ∷ note ∷ closing 1 ∷ []) ≡ 0 ∷ 0 ∷ [] }
-    ensures single_bars_between { play_of (opening 1 ∷ note ∷ single ∷ first ∷ note ∷ closing 1 ∷ single ∷ second ∷ note ∷ double
-        ∷ [])
+    ensures single_bars_between { play_of (opening 1 ∷ note ∷ single ∷ ending 1 ∷ note ∷ closing 1 ∷ single ∷ ending 2 ∷ note
+        ∷ double ∷ [])
         ≡ 1 ∷ 4 ∷ 1 ∷ 8 ∷ [] }
 {}

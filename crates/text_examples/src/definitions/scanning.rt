@@ -1,7 +1,7 @@
-//! Line classes, what is read of a line, and its tokens, by the definitions of `abc_scan`.
-#![tactic(auto, unfolding(abc_scan::specs::Line::tokens_of, abc_scan::specs::Directive::directive_of, abc_scan::specs::Dynamic::dynamic_of, abc_scan::specs::Delimited::delimited_at, abc_scan::specs::Number::number_at, abc_scan::specs::Chord::part_reading_at, abc_scan::specs::Chord::parts_of, abc_scan::specs::Chord::chord_at, abc_scan::specs::Frame::frame_at, abc_scan::specs::Token::reading_at, abc_scan::specs::Start::byte_start, abc_scan::specs::Start::bracket_start, abc_scan::specs::Bar::bar_at, abc_scan::specs::Ending::ending_at, abc_text::specs::Blank::trim_blanks, abc_text::specs::Blank::trim_start, abc_text::specs::Blank::trim_end, abc_scan::specs::Length::length_at, abc_scan::specs::Length::length_size, abc_scan::specs::Note::accidental_at, abc_text::specs::Letter::letter_of, abc_scan::specs::Note::note_at, abc_scan::specs::Note::rest_at))]
+//! Line classes, the text read of a line, and its tokens, by the definitions of `abc_scan`.
+#![tactic(auto, unfolding(crate::specs::Opened::tokens))]
 
-ghost use Rattle.std.specs.Prelude.{◌≡◌, false, pos, negsuc, [], ◌∷◌, codes, drop, replicate, take};
+ghost use Rattle.std.specs.Prelude.{◌≡◌, false, pos, negsuc, [], ◌∷◌, codes, drop, map, replicate, take};
 ghost use Rattle.abc_scan.specs.declared.class.LineClass.TheVariants.{Blank, Comment, Directive, Field, Music};
 ghost use Rattle.abc_scan.specs.declared.length.WrittenLength.TheVariants.{Factor, Refused};
 ghost use Rattle.abc_text.specs.declared.accidental.Accidental.TheVariants.{DoubleSharp};
@@ -18,8 +18,8 @@ ghost use Rattle.abc_scan.specs.Note.{octave};
 ghost use Rattle.abc_scan.specs.Text.{content};
 ghost use Rattle.text_examples.specs.Values.{blank, c_part, c_token, chord_token, part, plain, token};
 
-/// Blank lines and comments. ABC 2.1 section 2.2; that only spaces and tabs are blanks, and that one carriage return is
-/// dropped at the end, is not in ABC 2.1.
+/// Blank lines and comments. ABC 2.1 section 2.2. Only spaces and tabs are blanks, and one carriage return is dropped
+/// at the end: not in ABC 2.1.
 pub fn blanks_and_comments()
     ensures empty { class_of [] ≡ Blank }
     ensures blanks { class_of (codes " \t") ≡ Blank }
@@ -34,32 +34,25 @@ pub fn blanks_and_comments()
 /// A program: `%%MIDI`, `program` and a number of one to nine digits, with blanks between them, in the first column, and
 /// after it blanks or a comment alone. It is abc2midi's own directive; the rest is not in ABC 2.1.
 pub fn programs()
-    ensures program { class_of (codes "%%MIDI program 1") ≡ Directive }
-    ensures blanks { class_of (codes "%%MIDI \t program  41 \t") ≡ Directive }
-    ensures comment { class_of (codes "%%MIDI program 41 % flute") ≡ Directive }
-    ensures comment_at_once { class_of (codes "%%MIDI program 5%x") ≡ Directive }
-    ensures one_return { class_of (codes "%%MIDI program 5\r") ≡ Directive }
+    ensures accepted { map class_of (codes "%%MIDI program 1" ∷ codes "%%MIDI \t program  41 \t" ∷ []) ≡ replicate 2 Directive }
+    ensures ends { map class_of (codes "%%MIDI program 41 % flute" ∷ codes "%%MIDI program 5%x" ∷ codes "%%MIDI program 5\r" ∷ [])
+        ≡ replicate 3 Directive }
+    ensures other_ends { map class_of (codes "%%MIDI program 5\\%x" ∷ codes "%%MIDI program 5\r\r" ∷ []) ≡ replicate 2 Comment }
     ensures nine_digits { class_of (codes "%%MIDI program 000000005") ≡ Directive }
     ensures ten_digits { class_of (codes "%%MIDI program 0000000005") ≡ Comment }
-    ensures two_numbers { class_of (codes "%%MIDI program 2 41") ≡ Comment }
-    ensures no_number { class_of (codes "%%MIDI program % 41") ≡ Comment }
-    ensures escaped { class_of (codes "%%MIDI program 5\\%x") ≡ Comment }
-    ensures two_returns { class_of (codes "%%MIDI program 5\r\r") ≡ Comment }
-    ensures capital { class_of (codes "%%MIDI Program 5") ≡ Comment }
-    ensures joined { class_of (codes "%%MIDIprogram 5") ≡ Comment }
-    ensures number_joined { class_of (codes "%%MIDI program5") ≡ Comment }
+    ensures numbers { map class_of (codes "%%MIDI program 2 41" ∷ codes "%%MIDI program % 41" ∷ []) ≡ replicate 2 Comment }
+    ensures words { map class_of (codes "%%MIDI Program 5" ∷ codes "%%MIDIprogram 5" ∷ codes "%%MIDI program5" ∷ [])
+        ≡ replicate 3 Comment }
     ensures behind_a_blank { class_of (codes " %%MIDI program 5") ≡ Comment }
 {}
 
-/// How far accidentals reach. ABC 2.1 section 11.3; that it begins in the first column is not in ABC 2.1.
+/// The reach of accidentals. ABC 2.1 section 11.3; the first column is not in ABC 2.1.
 pub fn reaches()
-    ensures none { class_of (codes "%%propagate-accidentals not") ≡ Directive }
-    ensures octave { class_of (codes "%%propagate-accidentals\toctave % c and C' are one") ≡ Directive }
-    ensures pitch { class_of (codes "%%propagate-accidentals pitch%") ≡ Directive }
-    ensures longer_word { class_of (codes "%%propagate-accidentals pitches") ≡ Comment }
-    ensures other_word { class_of (codes "%%propagate-accidentals on") ≡ Comment }
-    ensures capital { class_of (codes "%%propagate-accidentals Not") ≡ Comment }
-    ensures no_word { class_of (codes "%%propagate-accidentals") ≡ Comment }
+    ensures words { map class_of (codes "%%propagate-accidentals not"
+        ∷ codes "%%propagate-accidentals\toctave % c and C' are one" ∷ codes "%%propagate-accidentals pitch%" ∷ [])
+        ≡ replicate 3 Directive }
+    ensures other_words { map class_of (codes "%%propagate-accidentals pitches" ∷ codes "%%propagate-accidentals on"
+        ∷ codes "%%propagate-accidentals Not" ∷ codes "%%propagate-accidentals" ∷ []) ≡ replicate 4 Comment }
     ensures behind_a_blank { class_of (codes "\t%%propagate-accidentals not") ≡ Comment }
 {}
 
@@ -76,10 +69,8 @@ pub fn fields()
 
 /// A letter of a note or of a rest before a repeat bar is music; the class looks at the comment too. Not in ABC 2.1.
 pub fn notes_before_repeat_bars()
-    ensures note { class_of (codes "C:|") ≡ Music }
-    ensures small_note { class_of (codes "g::") ≡ Music }
-    ensures rest { class_of (codes "z:|") ≡ Music }
-    ensures invisible_rest { class_of (codes "x::") ≡ Music }
+    ensures notes { map class_of (codes "C:|" ∷ codes "g::" ∷ []) ≡ replicate 2 Music }
+    ensures rests { map class_of (codes "z:|" ∷ codes "x::" ∷ []) ≡ replicate 2 Music }
     ensures bar_rest { class_of (codes "Z:|") ≡ Field 90 }
     ensures reference { class_of (codes "X:|") ≡ Field 88 }
     ensures no_note { class_of (codes "H:|") ≡ Field 72 }
@@ -87,8 +78,8 @@ pub fn notes_before_repeat_bars()
     ensures comment { class_of (codes "C:%|") ≡ Field 67 }
 {}
 
-/// What is read of a line: all but one carriage return at its end, and then all before its comment. A `%` after a
-/// backslash begins none, also after two. ABC 2.1 section 2.2; that backslashes do not pair up is not in ABC 2.1.
+/// The text read of a line: without one carriage return at its end, and then the part before its comment. A `%` after
+/// one or two backslashes begins no comment. ABC 2.1 section 2.2; single backslashes are not in ABC 2.1.
 pub fn what_is_read()
     ensures comment { content (codes "C D % E\r") ≡ codes "C D " }
     ensures comment_alone { content (codes "%") ≡ [] }
@@ -99,8 +90,8 @@ pub fn what_is_read()
     ensures two_returns { content (codes "C\r\r") ≡ codes "C\r" }
 {}
 
-/// Lengths as written: 3/2, a half, a quarter. ABC 2.1 section 4.3; that zero and ten digits are refused, in either
-/// place, and thirty slashes is not in ABC 2.1.
+/// Lengths as written: 3/2, a half, a quarter. ABC 2.1 section 4.3. Zero, ten digits and thirty slashes are refused:
+/// not in ABC 2.1.
 pub fn written_lengths()
     ensures plain { length_at [] ≡ Factor 1 1 }
     ensures three_halves { length_at (codes "3/2") ≡ Factor 3 2 }
@@ -141,8 +132,8 @@ pub fn tokens_of_low_notes()
         c_token (negsuc 4) plain 0 6 ∷ blank 6 7 ∷ c_token (negsuc 5) plain 7 14 ∷ blank 14 15 ∷ c_token (pos 0) plain 15 16 ∷ [] }
 {}
 
-/// The longest token is taken: `C//2` is `C//` and a byte that begins no token, and of three signs the first is none.
-/// ABC 2.1 sections 4.2, 4.3 and 4.5; that a byte that begins no token is a token of its own is not in ABC 2.1.
+/// The longest token comes first: `C//2` is `C//` and a byte that begins no token, and of three signs the first is no
+/// token. ABC 2.1 sections 4.2, 4.3 and 4.5; tokens for such bytes are not in ABC 2.1.
 pub fn longest_tokens()
     ensures slashes { tokens_of (codes "C//2") ≡ c_token (pos 0) (Factor 1 4) 0 3 ∷ token kinds.BadByte 3 4 ∷ [] }
     ensures signs { tokens_of (codes "^^^c") ≡ token kinds.BadByte 0 1
@@ -152,8 +143,8 @@ pub fn longest_tokens()
         ∷ token (kinds.Bar (record { closes = 0; opens = 0; double = false })) 1 2 ∷ [] }
 {}
 
-/// A dynamic is a token; another decoration has no effect, and one that nothing closes begins none. In a chord a dynamic
-/// has no effect. ABC 2.1 section 4.14; the last is not in ABC 2.1.
+/// A dynamic is a token. Another decoration has no effect, and a decoration that is not closed is no token. In a chord
+/// a dynamic has no effect. ABC 2.1 section 4.14; the last is not in ABC 2.1.
 pub fn tokens_of_dynamics()
     ensures between_notes { tokens_of (codes "C!f!C!foo!C") ≡
         c_token (pos 0) plain 0 1 ∷ token (kinds.Dynamic F) 1 4

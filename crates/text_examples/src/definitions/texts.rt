@@ -1,6 +1,6 @@
-//! Blanks, words, numbers, letters and accidentals, by the definitions of `abc_text`. What a blank and a number are is our
-//! own.
-#![tactic(auto, unfolding(abc_text::specs::Accidental::accidental_of, abc_text::specs::Blank::trim_end, abc_text::specs::Blank::trim_start, abc_text::specs::Blank::trim_blanks, abc_text::specs::Cut::cut_at, abc_text::specs::Letter::letter_of, abc_text::specs::Number::number_of, abc_text::specs::Power::is_power_up_to, abc_text::specs::Word::words_of))]
+//! Blanks, words, numbers, letters and accidentals, by the definitions of `abc_text`. Blanks and numbers are not
+//! defined in ABC 2.1.
+#![tactic(auto, unfolding(crate::specs::Opened::texts))]
 
 ghost use Rattle.std.specs.Prelude.{◌≡◌, true, false, [], ◌∷◌, codes, Some, None};
 ghost use Rattle.abc_text.specs.Accidental.{accidental_of};
@@ -33,7 +33,7 @@ pub fn numbers()
     ensures sign { number_of (codes "+1") ≡ None }
 {}
 
-/// A cut is made at the first such byte; one carriage return is dropped at an end.
+/// A text is cut at the first byte of a value. One carriage return is dropped at an end.
 pub fn cuts()
     ensures first { cut_at 43 (codes "1+2+3") ≡ Some (codes "1", codes "2+3") }
     ensures at_the_front { cut_at 43 (codes "+") ≡ Some ([], []) }

@@ -1,6 +1,6 @@
-//! The state of a voice, what notes are and what a header begins with, value by value: by the definitions of
-//! `abc_bars_items`, `abc_bars_voice`, `abc_bars_notes`, `abc_bars_header` and `abc_bars_body`.
-#![tactic(auto, unfolding(abc_bars_notes::specs::BarRest::bar_grains, abc_text::specs::Number::number_of, abc_time::specs::Grains::grains_of_a_whole_note, abc_time::specs::Grains::grains_of_the_longest_length, abc_time::specs::Length::length_of, abc_time::specs::Length::quotient_of, abc_time::specs::Tempo::quarter_of))]
+//! The state of a voice, notes, and the beginning of a header, value by value, by the definitions of `abc_bars_items`,
+//! `abc_bars_voice`, `abc_bars_notes`, `abc_bars_header` and `abc_bars_body`.
+#![tactic(auto, unfolding(crate::specs::Opened::texts, crate::specs::Opened::times, abc_bars_notes::specs::BarRest::bar_grains))]
 
 ghost use Rattle.std.specs.Prelude.{◌≡◌, ◌^◌, ◌-◌, pos, negsuc, true, false, [], ◌∷◌, codes, map, replicate, Some, None, Ok, Err};
 ghost use Rattle.abc_bars_body.specs.BodyFields.{part_of};
@@ -32,7 +32,7 @@ ghost use Rattle.text_examples.specs.Bars.{bar_rest, voice_shift};
 ghost use Rattle.text_examples.specs.VoiceStates.{broken, fifteen_voices, mark, open_tuplet, voice_a};
 ghost use Rattle.text_examples.specs.Values.{ratio, shift};
 
-/// The time of how many notes p of them take. ABC 2.1 section 4.13; for p that are not from 2 to 9 not in ABC 2.1.
+/// The number of notes whose time p notes take. ABC 2.1 section 4.13; p below 2 and above 9 are not in ABC 2.1.
 pub fn times_of_tuplets()
     ensures one { default_q Free 1 ≡ 2 }
     ensures two { default_q Free 2 ≡ 3 }
@@ -46,8 +46,8 @@ pub fn times_of_tuplets()
     ensures ten { default_q (Of 4 4) 10 ≡ 2 }
 {}
 
-/// The same in meters whose beat has three parts, which are 6/8, 9/8 and 12/8. ABC 2.1 section 4.13; for p that are not
-/// from 2 to 9 not in ABC 2.1.
+/// The same in meters whose beat has three parts: 6/8, 9/8 and 12/8. ABC 2.1 section 4.13; p below 2 and above 9 are
+/// not in ABC 2.1.
 pub fn times_of_tuplets_in_three_parts()
     ensures two { default_q (Of 6 8) 2 ≡ 3 }
     ensures three { default_q (Of 9 8) 3 ≡ 2 }
@@ -62,8 +62,8 @@ pub fn times_of_tuplets_in_three_parts()
     ensures six_sixteenths { default_q (Of 6 16) 5 ≡ 2 }
 {}
 
-/// What tuplet marks begin: `(3`, `(3::2`, `(5:4`, `(3:2:6`, and marks of numbers that are not from 1 to 64. ABC 2.1 section
-/// 4.13; the bounds are not in ABC 2.1.
+/// The tuplets of `(3`, `(3::2`, `(5:4`, `(3:2:6`, and of marks with numbers below 1 or above 64. ABC 2.1 section 4.13;
+/// the bounds are not in ABC 2.1.
 pub fn tuplet_marks()
     ensures three { tuplet_by (Of 4 4) (mark 3 None None) ≡ Some (open_tuplet 3 2 3) }
     ensures two_of_three { tuplet_by (Of 4 4) (mark 3 None (Some 2)) ≡ Some (open_tuplet 3 2 2) }
@@ -77,8 +77,8 @@ pub fn tuplet_marks()
         ≡ replicate 3 None }
 {}
 
-/// What is open after a tuplet mark, and after a note, chord or rest. That a refused mark leaves the old tuplet, and
-/// that another takes its place, is not in ABC 2.1.
+/// The open tuplet after a tuplet mark, and after a note, chord or rest. A refused mark leaves the old tuplet, and
+/// another mark replaces it: not in ABC 2.1.
 pub fn open_tuplets()
     ensures alone { begin_tuplet Free None (mark 3 None None) ≡ (Some (open_tuplet 3 2 3), None) }
     ensures refused { begin_tuplet Free None (mark 65 None None) ≡ (None, Some BadTuplet) }
@@ -104,8 +104,8 @@ pub fn units_by_meter()
     ensures eleven_sixteenths { unit_by (Of 11 16) ≡ ratio 1 16 }
 {}
 
-/// The microseconds of a quarter note by `Q:120`, `Q:1/4=120` and the like, with units of an eighth and a quarter. A number
-/// alone counts units, not in ABC 2.1.
+/// The microseconds of a quarter note by `Q:120`, `Q:1/4=120` and others, with units of an eighth and a quarter. A
+/// number alone counts units, which is not in ABC 2.1.
 pub fn tempos()
     ensures eighths { micros_by (ratio 1 8) (Units 120) ≡ Some 1000000 }
     ensures quarters { micros_by (ratio 1 4) (Units 120) ≡ Some 500000 }
@@ -117,7 +117,7 @@ pub fn tempos()
     ensures too_slow_units { micros_by (ratio 1 8) (Units 7) ≡ None }
 {}
 
-/// What tempos give to the score. Not in ABC 2.1.
+/// The items of tempos. Not in ABC 2.1.
 pub fn items_of_tempos()
     ensures opening { tempo_item true (ratio 1 8) (Units 120) ≡ items.Tempo true (Some 1000000) false }
     ensures unset { tempo_item false (ratio 1 8) Unset ≡ items.Tempo false None false }
@@ -126,7 +126,7 @@ pub fn items_of_tempos()
     ensures not_by_another { tempo_item false (ratio 1 4) (Units 7) ≡ items.Tempo false (Some 8571428) false }
 {}
 
-/// The number of `X:`. ABC 2.1 section 3.1.1; that nothing is 0, and that 0 is refused, is not in ABC 2.1.
+/// The number of `X:`. ABC 2.1 section 3.1.1; the number 0 of an empty value, and the refusal of 0, are not in ABC 2.1.
 pub fn reference_numbers()
     ensures empty { reference_of [] ≡ Ok 0 }
     ensures one { reference_of (codes "1") ≡ Ok 1 }
@@ -136,7 +136,7 @@ pub fn reference_numbers()
         ≡ replicate 6 (Err BadReference) }
 {}
 
-/// The part of a `P:` in the body. ABC 2.1 section 3.1.9; that the rest is ignored is not in ABC 2.1.
+/// The part of a `P:` in the body. ABC 2.1 section 3.1.9; a rest that is ignored is not in ABC 2.1.
 pub fn parts()
     ensures letters { map part_of (codes "A" ∷ codes "Z" ∷ codes "B2 x" ∷ []) ≡ map (λ letter. Some letter) (codes "AZB") }
     ensures refused { map part_of ([] ∷ codes "a" ∷ codes "@" ∷ codes "[" ∷ codes "1A" ∷ codes "(A)" ∷ []) ≡ replicate 6 None }
@@ -148,8 +148,8 @@ pub fn letters_of_fields()
     ensures others { map kind_of (codes "xkwWI+ABZ") ≡ replicate 9 Other }
 {}
 
-/// Programs and columns: a program is 0 to 127, the first column is 1. SMF 1.0; that columns count from 1, and no
-/// further than 32 bits, is not in ABC 2.1.
+/// Programs and columns: a program is 0 to 127, the first column is 1. SMF 1.0; the first column, and the bound of 32
+/// bits, are not in ABC 2.1.
 pub fn programs_and_columns()
     ensures first { program_of 0 ≡ Some 0 }
     ensures last { program_of 127 ≡ Some 127 }
@@ -159,7 +159,7 @@ pub fn programs_and_columns()
     ensures beyond { column_of (2 ^ 32 - 1) ≡ 2 ^ 32 - 1 }
 {}
 
-/// How loud notes are. Not in ABC 2.1.
+/// The velocities of notes. Not in ABC 2.1.
 pub fn velocities()
     ensures soft { map (λ dynamic. velocity_of (Some dynamic)) (Ppp ∷ Pp ∷ P ∷ Mp ∷ []) ≡ 30 ∷ 45 ∷ 60 ∷ 75 ∷ [] }
     ensures loud { map (λ dynamic. velocity_of (Some dynamic)) (Mf ∷ F ∷ Ff ∷ Fff ∷ []) ≡ 90 ∷ 105 ∷ 120 ∷ 127 ∷ [] }
@@ -178,8 +178,8 @@ pub fn factors_of_broken_rhythm()
         ∷ ratio 15 8 ∷ [] }
 {}
 
-/// Rests of bars: `Z`, `Z2`, none, 1,024 whole notes and more, and in free meter. ABC 2.1 section 4.5; bounds and faults are our
-/// own.
+/// Rests of bars: `Z`, `Z2`, none, 1,024 whole notes and more, and in free meter. ABC 2.1 section 4.5; bounds and
+/// faults are not in ABC 2.1.
 pub fn rests_of_bars()
     ensures one { bar_rest_of (Of 4 4) None ≡ (bar_rest 1920, None) }
     ensures two { bar_rest_of (Of 6 8) (Some 2) ≡ (bar_rest 2880, None) }
@@ -198,7 +198,7 @@ pub fn shifts()
     ensures nothing { with_properties (voice_shift (pos 12) (pos 1) (pos 3)) no_shift ≡ voice_shift (pos 12) (pos 1) (pos 3) }
 {}
 
-/// A header declares fifteen voices and no more, each part of a voice's shift as it was said last. Not in ABC 2.1.
+/// A header declares at most fifteen voices. Each part of a voice's shift is the last one that is set. Not in ABC 2.1.
 pub fn voices_of_headers()
     ensures first { declare [] (codes "A") (shift (Some (pos 12)) None None) ≡ (voice_a (shift (Some (pos 12)) None None), None) }
     ensures again { declare (voice_a (shift (Some (pos 12)) (Some (pos 1)) None)) (codes "A")

@@ -13,7 +13,11 @@ pub returns-in_err-letter-clause-changes : goal.returns-in_err-letter-clause-cha
 returns-in_err-letter-clause-changes c = rw c.from_residual-in_err-letter.ensures (inr (no_letter_at c.args.text.now c.in_ok-at.at c.in_ok-at.ensures.value c.in_err-letter.ensures.value))
 
 pub returns-clause-changes : goal.returns-clause-changes
-returns-clause-changes c = grind (arith, common_steps, change_first c.args.text.now c.in_ok-at.at c.in_ok-accidental.accidental c.in_ok-letter.letter c.in_ok-at.ensures.value c.in_ok-accidental.ensures.value c.in_ok-letter.ensures.value)
+returns-clause-changes c =
+    let at = c.in_ok-at.ensures.value in
+    let accidental = c.in_ok-accidental.ensures.value in
+    let letter = c.in_ok-letter.ensures.value in
+    grind (arith, common_steps, change_first c.args.text.now c.in_ok-at.at c.in_ok-accidental.accidental c.in_ok-letter.letter at accidental letter)
 
 pub returns-in_err-at-clause-grammar : goal.returns-in_err-at-clause-grammar
 returns-in_err-at-clause-grammar c = changes_exact c.args.text.now

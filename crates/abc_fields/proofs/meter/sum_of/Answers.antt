@@ -7,8 +7,10 @@ use Rattle.abc_fields.proofs.meter.sum_of.Goals as goal
 pub loop-word-init : goal.loop-word-init
 loop-word-init c =
     let same = c.into_iter-word-iterator.ensures.into_iter_gives in
+    let rest = ap (λ s. s.rest.now) same ∙ c.split-word-items.ensures.rest in
+    let done = ap (λ s. s.done) same ∙ c.split-word-items.ensures.done in
     IsSummed-start _ c.into_iter-word-iterator.result c.args.text.now
-    (YieldsList-from_slice_split _ (λ b. b == 43) {f = c.split-word-items.result.pred} c.args.text.now (ap (λ s. s.rest.now) same ∙ c.split-word-items.ensures.rest) (ap (λ s. s.done) same ∙ c.split-word-items.ensures.done) (ap (λ s. s.pred) same) (λ x b q k. search (rules, tests)))
+    (YieldsList-from_slice_split _ (λ b. b == 43) {f = c.split-word-items.result.pred} c.args.text.now rest done (ap (λ s. s.pred) same) (λ x b q k. search (rules, tests)))
 
 pub loop-word-preserved : goal.loop-word-preserved
 loop-word-preserved c =

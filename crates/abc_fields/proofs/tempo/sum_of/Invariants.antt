@@ -2,7 +2,7 @@ use Rattle.std.proofs.Common.{◌≡◌, ◌≤◌, ◌-◌, ◌*◌}
 use Rattle.abc_fields.specs.Tempo.{sum_of, added}
 use Rattle.abc_fields.proofs.tempo.sum_of.Given as goal
 
--- what is added up so far and the sum of the rest are the whole
+-- the sum so far and the sum of the rest make the whole sum
 abbrev pub invariant-loop : goal.invariant-loop
 invariant-loop l = record {
   value : added l.sum (sum_of (16 - l.counter) l.rest) ≡ sum_of 16 l.fn.text;

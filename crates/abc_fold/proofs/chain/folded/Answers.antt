@@ -8,7 +8,8 @@ use Rattle.abc_fold.proofs.chain.folded.Goals as goal
 pub is_taken-taken-requires : goal.is_taken-taken-requires
 is_taken-taken-requires g c = λ known.
     let steps = g.F.Fold.steps c.args.fold.now in
-    known_taken steps (g.met.F.Fold.resumable c.args.fold.now) c.args.pieces.now c.args.marks.now c.loop-i.i c.loop-i.state c.index-pieces-i.result c.requires.marked c.index-pieces-i.is c.loop-i-test.true (c.is_known-known.ensures.marked known) (c.loop-i.invariant.left (c.is_known-known.ensures.before known))
+    known_taken steps (g.met.F.Fold.resumable c.args.fold.now) c.args.pieces.now c.args.marks.now c.loop-i.i c.loop-i.state
+    c.index-pieces-i.result c.requires.marked c.index-pieces-i.is c.loop-i-test.true (c.is_known-known.ensures.marked known) (c.loop-i.invariant.left (c.is_known-known.ensures.before known))
 
 pub loop-i-init : goal.loop-i-init
 loop-i-init g c =
@@ -45,8 +46,13 @@ loop-i-preserved g c =
           c.loop-i.states.items c.loop-i.cells.items c.loop-i.items.items c.in_ok-cell.cell c.in_ok-left.given
           c.loop-i.invariant.ahead c.index-pieces-i.is c.loop-i-test.true alike c.in_ok-cell.ensures c.in_ok-left.ensures.items);
       left = λ taken. left_behind c.args.pieces.now c.loop-i.i c.index-pieces-i.result c.in_ok-left.left c.index-pieces-i.is c.loop-i-test.true (c.in_ok-left.ensures.left taken);
-      rooms = (omega (arith, c.loop-i.invariant.rooms.0, c.push.ensures.room, c.loop-i-test.true), omega (arith, c.loop-i.invariant.rooms.1, c.push-in-loop-i.ensures.room, c.loop-i-test.true), omega (arith, c.loop-i.invariant.rooms.2, c.push-in-loop-i-2.ensures.room, c.loop-i-test.true));
-      within = within_next (g.F.Fold.steps c.args.fold.now) c.args.opening.now c.args.pieces.now laws c.loop-i.i c.loop-i.state c.in_ok-left.left c.index-pieces-i.result (g.F.Work.Counts.counts c.args.work.now) (g.F.Work.Counts.counts c.loop-i.work) (g.F.Work.Counts.counts c.passed.new.work) (steps_needed (g.F.Fold.steps c.args.fold.now) c.args.opening.now c.args.pieces.now)
+      rooms = (
+        omega (arith, c.loop-i.invariant.rooms.0, c.push.ensures.room, c.loop-i-test.true),
+        omega (arith, c.loop-i.invariant.rooms.1, c.push-in-loop-i.ensures.room, c.loop-i-test.true),
+        omega (arith, c.loop-i.invariant.rooms.2, c.push-in-loop-i-2.ensures.room, c.loop-i-test.true),
+      );
+      within = within_next (g.F.Fold.steps c.args.fold.now) c.args.opening.now c.args.pieces.now laws c.loop-i.i c.loop-i.state c.in_ok-left.left c.index-pieces-i.result
+          (g.F.Work.Counts.counts c.args.work.now) (g.F.Work.Counts.counts c.loop-i.work) (g.F.Work.Counts.counts c.passed.new.work) (steps_needed (g.F.Fold.steps c.args.fold.now) c.args.opening.now c.args.pieces.now)
           c.loop-i.invariant.within c.index-pieces-i.is c.loop-i-test.true alike c.passed.ensures.counted;
     }
 
@@ -73,11 +79,13 @@ returns-clause-counted g c = within_raised _ _ _ _ c.loop-i.invariant.within
 
 pub returns-clause-cells : goal.returns-clause-cells
 returns-clause-cells g c =
-    cells_done (g.F.Fold.steps c.args.fold.now) c.args.opening.now c.args.pieces.now c.loop-i.i c.loop-i.state c.loop-i.states.items c.loop-i.cells.items c.loop-i.items.items c.loop-i-test.false c.loop-i.invariant.ahead
+    cells_done (g.F.Fold.steps c.args.fold.now) c.args.opening.now c.args.pieces.now c.loop-i.i c.loop-i.state
+    c.loop-i.states.items c.loop-i.cells.items c.loop-i.items.items c.loop-i-test.false c.loop-i.invariant.ahead
 
 pub returns-clause-folds : goal.returns-clause-folds
 returns-clause-folds g c =
-    rw c.push-2.ensures.items (ahead_done (g.F.Fold.steps c.args.fold.now) c.args.opening.now c.args.pieces.now c.loop-i.i c.loop-i.state c.loop-i.states.items c.loop-i.cells.items c.loop-i.items.items c.loop-i-test.false c.loop-i.invariant.ahead)
+    rw c.push-2.ensures.items (ahead_done (g.F.Fold.steps c.args.fold.now) c.args.opening.now c.args.pieces.now c.loop-i.i c.loop-i.state
+    c.loop-i.states.items c.loop-i.cells.items c.loop-i.items.items c.loop-i-test.false c.loop-i.invariant.ahead)
 
 pub returns-in_default-clause-counted : goal.returns-in_default-clause-counted
 returns-in_default-clause-counted g c = raised-none _ _

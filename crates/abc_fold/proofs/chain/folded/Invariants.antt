@@ -11,7 +11,8 @@ HasRooms count i states cells items = (states + i ≡ count + 1) × (cells + i �
 abbrev pub invariant-loop-i : goal.invariant-loop-i
 invariant-loop-i g l = record {
   ahead : IsAhead (g.F.Fold.steps l.fold) l.opening l.pieces l.state (drop l.i l.pieces) l.states.items l.cells.items l.items.items;
-  within : IsWithin (g.F.Work.Counts.counts l.initial.work) (g.F.Work.Counts.counts l.work) (steps_needed (g.F.Fold.steps l.fold) l.state (drop l.i l.pieces)) (steps_needed (g.F.Fold.steps l.fold) l.opening l.pieces);
+  within : IsWithin (g.F.Work.Counts.counts l.initial.work) (g.F.Work.Counts.counts l.work)
+      (steps_needed (g.F.Fold.steps l.fold) l.state (drop l.i l.pieces)) (steps_needed (g.F.Fold.steps l.fold) l.opening l.pieces);
   left : l.taken ≡ true → IsLeftBehind l.pieces l.i l.state;
   rooms : HasRooms (length l.pieces) l.i l.states.room l.cells.room l.items.room;
 }

@@ -89,7 +89,8 @@ allocate_spec 𝓤 𝓛 𝓜 𝓡 wired X A LX LA g d dd met md =
       fits =
           subst (λ (k : ℕ). k < 2 ^ 64) (sym (uncapped n s bytes)) bytes;
     })) (ap (vint w64) (uncapped n s bytes))) refl (tt, record { fits = bytes }) $
-    use2 𝓛 (raw ((Takes Z 𝓛 𝓜.mem 𝓡.returns).pre z)) (Takes-goes Z 𝓛 𝓜.mem 𝓡.returns κ q at from (Incl-trans bounds.0 lives) (n * s) al (block_ty E n) (block_size E n bytes) (block_align E n) bytes (capped_fits (align tau))) $
+    use2 𝓛 (raw ((Takes Z 𝓛 𝓜.mem 𝓡.returns).pre z)) (Takes-goes Z 𝓛 𝓜.mem 𝓡.returns κ q at from (Incl-trans bounds.0 lives)
+    (n * s) al (block_ty E n) (block_size E n bytes) (block_align E n) bytes (capped_fits (align tau))) $
     calls_at ! (framed 𝓤 𝓛.H 𝓜 𝓣) (Takes Z 𝓛 𝓜.mem 𝓡.returns) (met.allocate dd) z (and_then ! (get ! refl) (and_then ! (get ! refl) (and_then ! (align_word !) (no_more !)))) (λ v.
     use1 𝓛 (later (raw (Answered Z 𝓛 𝓜.mem 𝓡.returns from (block_ty E n) v) ⊛ ‵ (flft κ q))) (Takes-gives Z 𝓛 𝓜.mem 𝓡.returns κ q at from (n * s) al (block_ty E n) v) $ await ! tt $ split ! $
     let En = env F.locals l in

@@ -57,7 +57,10 @@ module _ (X A : RattleType) (g : Ghosts A.Denot) (d dd : Dict) where
   Right = C-type.the_row (param 0 X) (param 1 A) g
 
   abbrev stayed : Stays (f.ended X A g d dd).signature.params (f.ended X A g d dd).kept
-  stayed = (stay_dropped (RefOf (0 ∷ []) tt (plain (λ _. param 1 A)) (λ _. tt)) yes, (stay_dropped (plain (λ _. Row)) no, (stay_dropped (plain (λ _. usize)) yes, (stay_dropped (plain (λ _. Right)) no, tt))))
+  stayed = (
+    stay_dropped (RefOf (0 ∷ []) tt (plain (λ _. param 1 A)) (λ _. tt)) yes,
+    (stay_dropped (plain (λ _. Row)) no, (stay_dropped (plain (λ _. usize)) yes, (stay_dropped (plain (λ _. Right)) no, tt))),
+  )
 
 pub deallocate_spec : {M : Type 1} → statement M
 deallocate_spec 𝓤 𝓛 𝓜 𝓡 wired X A LX LA g d dd met md =
@@ -82,7 +85,8 @@ deallocate_spec 𝓤 𝓛 𝓜 𝓡 wired X A LX LA g d dd met md =
     let vss : List Val × (List Val × (List Val × (List Val × Unit {0}))) = (shr_vals a.0, (row_is.lowered places ∷ [], (uint_vals w64 n, (right_is.lowered claim ∷ [], tt)))) in
     let y : W.Ghost = ((κs, qs, bounds, a, vss), u) in
     qed 𝓛 (((‵ (flft κ q) ⊛ (‵ (flft κs.1.0 qs.1.0) ⊛ (‵ (flft κs.1.1.0 qs.1.1.0) ⊛ ‵ ftrue))) ⊛ ‵ (owns (ShrRef (named 0) κ (param 1 A) ∷ 𝓟 ∷ usize ∷ 𝓒 ∷ []) a vss))
-    ∷ (raw (fact 𝓤 (κs.1.0 ⊑ X.lives)) ⊛ (raw (fact 𝓤 (κs.1.1.0 ⊑ A.lives)) ⊛ raw (fact 𝓤 ((places.row ≡ replicate n None) × (claim.start ≡ places.start) × (claim.count ≡ n) × (claim.from ≡ from))))) ∷ []) ∵
+    ∷ (raw (fact 𝓤 (κs.1.0 ⊑ X.lives)) ⊛ (raw (fact 𝓤 (κs.1.1.0 ⊑ A.lives))
+    ⊛ raw (fact 𝓤 ((places.row ≡ replicate n None) × (claim.start ≡ places.start) × (claim.count ≡ n) × (claim.from ≡ from))))) ∷ []) ∵
     move ! (1 ∷ []) $ split ! $ drop ! $ split ! $ heard ! _ (λ lives. heard ! _ (λ asked.
     split ! $ move ! (1 ∷ []) $ fsplit ! $ move ! (1 ∷ []) $ fsplit ! $ fsplit ! $ drop ! $
     in_a_block ! places.start (λ p. row_owned R p places.row) (id⊢ 𝓤 _) (λ b o e. fsplit ! $ move ! (1 ∷ []) $ flt_l ! (λ short.
@@ -105,8 +109,10 @@ deallocate_spec 𝓤 𝓛 𝓜 𝓡 wired X A LX LA g d dd met md =
       fits =
           subst (λ (k : ℕ). k < 2 ^ 64) (sym (uncapped n s bytes)) bytes;
     })) (ap (vint w64) (uncapped n s bytes))) refl (tt, record { fits = bytes }) $
-    group ! 4 $ use1 𝓛 (raw ((Gives Z 𝓛 𝓜.mem 𝓡.returns).pre z)) (Gives-goes Z 𝓛 𝓜.mem 𝓡.returns κ q at from (Incl-trans bounds.0 lives) b o (n * s) al (block_ty E n) (block_size E n bytes) (block_align E n) bytes (capped_fits (align tau))) $
-    calls_at_last ! (framed 𝓤 𝓛.H 𝓜 𝓣) (Gives Z 𝓛 𝓜.mem 𝓡.returns) (met.deallocate dd) z (and_then ! (get ! refl) (and_then ! (get ! refl) (and_then ! (get ! refl) (and_then ! (align_word !) (no_more !))))) (λ v.
+    group ! 4 $ use1 𝓛 (raw ((Gives Z 𝓛 𝓜.mem 𝓡.returns).pre z)) (Gives-goes Z 𝓛 𝓜.mem 𝓡.returns κ q at from (Incl-trans bounds.0 lives) b o
+    (n * s) al (block_ty E n) (block_size E n bytes) (block_align E n) bytes (capped_fits (align tau))) $
+    calls_at_last ! (framed 𝓤 𝓛.H 𝓜 𝓣) (Gives Z 𝓛 𝓜.mem 𝓡.returns) (met.deallocate dd) z
+    (and_then ! (get ! refl) (and_then ! (get ! refl) (and_then ! (get ! refl) (and_then ! (align_word !) (no_more !))))) (λ v.
     use1 𝓛 (later (given (v ≡ vunit) (‵ (flft κ q)))) (Gives-Gives Z 𝓛 𝓜.mem 𝓡.returns κ q at from b o (n * s) al (block_ty E n) v) $ await ! tt $ learn ! (λ nought.
     lands_last ! refl (subst (λ (w : Val). T (has_ty ty_unit w) × WT w) (sym nought) (tt, tt)) $ exec ! 𝓣.C 𝓣.Λ (env F.locals l) (after 2 F.body) (at_ret _ (W.post y)) $
     sets ! (of_opd ! (unit_lit !)) refl (tt, tt) $ returns ! (look_at ! 0 refl) $ free_all ! refl $ keep ! (0 ∷ 1 ∷ []) $

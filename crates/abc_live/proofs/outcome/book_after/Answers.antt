@@ -1,10 +1,9 @@
-use Rattle.std.proofs.Common.{rules, ◌≡◌, ◌≤◌, ◌++◌, ap, ◌∙◌, drop, map, subst, arith}
+use Rattle.std.proofs.Common.{◌≡◌, ◌++◌, ap, ◌∙◌, drop, map, subst, arith}
 use Rattle.abc_lines.specs.GapList.{Gapped}
 use Rattle.abc_lines.specs.Lines.{Lines}
 use Rattle.abc_lines.specs.Text.{IsText, seen_lines}
-use Rattle.abc_lines.specs.declared.limits.TheConstants.{MOST_LINES}
-use Rattle.abc_live.specs.Prepared.{IsBook, header_faults_there, splice_in}
-use Rattle.abc_live.proofs.Outcomes.{behind_inside, book_now, cells_there, faults_now, few_came, few_faults, few_lines}
+use Rattle.abc_live.specs.Prepared.{IsBook, header_faults_there}
+use Rattle.abc_live.proofs.Outcomes.{behind_inside, book_now, cells_there, faults_now, few_faults, few_lines}
 use Rattle.abc_live.proofs.Outcomes.{good_lines, header_there, lines_inside, ok_both, outputs_after, own_lines, taken_over}
 use Rattle.abc_live.proofs.Stretches.{made_tunes, rows_count, stretch_inside}
 use Rattle.abc_live_index.specs.Output.{output_in}
@@ -17,17 +16,15 @@ use Rattle.abc_live.proofs.outcome.book_after.Goals as goal
 
 pub lines_of-requires-clause-inside : goal.lines_of-requires-clause-inside
 lines_of-requires-clause-inside g c =
-    lines_inside (g.C.Fold.steps c.args.text.now.compiler) (g.C.Compiler.rules c.args.text.now.compiler)
-    (splice_in c.args.change.now) c.args.kept.now c.requires.prepared c.args.text.now c.requires.on c.stretch-stretch.result c.stretch-stretch.ensures
-    c.lines-3.result.now c.lines-3.ensures.lines
+    lines_inside _ _ _ _ c.requires.prepared _ c.requires.on _ c.stretch-stretch.ensures c.lines-3.result.now c.lines-3.ensures.lines
 
 pub returns-in_err-lines-clause-counted : goal.returns-in_err-lines-clause-counted
 returns-in_err-lines-clause-counted g c = built_none _ _
 
 pub counts_of-requires-clause-inside : goal.counts_of-requires-clause-inside
 counts_of-requires-clause-inside g c =
-    let inside = stretch_inside (g.C.Fold.steps c.args.text.now.compiler) (g.C.Compiler.rules c.args.text.now.compiler) (splice_in c.args.change.now) c.args.kept.now c.requires.prepared in
-    let many = rows_count (g.C.Fold.steps c.args.text.now.compiler) (g.C.Compiler.rules c.args.text.now.compiler) (splice_in c.args.change.now) c.args.kept.now c.requires.prepared in
+    let inside = stretch_inside _ _ _ _ c.requires.prepared in
+    let many = rows_count _ _ _ _ c.requires.prepared in
     omega (arith, inside, many)
 
 pub returns-in_err-counts-clause-counted : goal.returns-in_err-counts-clause-counted
@@ -35,107 +32,63 @@ returns-in_err-counts-clause-counted g c = built_none _ _
 
 pub outputs_of-requires-clause-limits : goal.outputs_of-requires-clause-limits
 outputs_of-requires-clause-limits g c =
-    good_lines (g.C.Fold.steps c.args.text.now.compiler) (g.C.Compiler.rules c.args.text.now.compiler)
-    (splice_in c.args.change.now) c.args.kept.now c.requires.prepared c.args.text.now c.requires.on c.stretch-stretch.result c.stretch-stretch.ensures
+    good_lines _ _ _ _ c.requires.prepared _ c.requires.on _ c.stretch-stretch.ensures
     c.lines-3.result.now (seen_lines c.deref.result.now) c.lines-3.ensures.lines (ap seen_lines c.deref.ensures.value ∙ c.in_ok-lines.ensures)
 
 pub outputs_of-requires-clause-tunes : goal.outputs_of-requires-clause-tunes
 outputs_of-requires-clause-tunes g c =
-    let seen = own_lines (g.C.Fold.steps c.args.text.now.compiler) (g.C.Compiler.rules c.args.text.now.compiler)
-    (splice_in c.args.change.now) c.args.kept.now c.requires.prepared c.args.text.now c.requires.on c.stretch-stretch.result c.stretch-stretch.ensures
+    let seen = own_lines _ _ _ _ c.requires.prepared _ c.requires.on _ c.stretch-stretch.ensures
     c.lines-3.result.now (seen_lines c.deref.result.now) c.lines-3.ensures.lines (ap seen_lines c.deref.ensures.value ∙ c.in_ok-lines.ensures) in
     rw (c.compiler-compiler.ensures, seen, c.header_state.ensures, c.header.ensures, c.stretch-stretch.ensures, c.new_chains.ensures, c.places.ensures)
-    (made_tunes (g.C.Fold.steps c.args.text.now.compiler) (g.C.Compiler.rules c.args.text.now.compiler)
-    (splice_in c.args.change.now) c.args.kept.now c.requires.prepared c.first_chain-first.result.now c.first_chain-first.ensures
+    (made_tunes _ _ _ _ c.requires.prepared c.first_chain-first.result.now c.first_chain-first.ensures
     (g.met.C.Fold.resumable c.args.text.now.compiler) (g.met.C.Compiler.lawful c.args.text.now.compiler))
 
 pub outputs_of-requires-clause-reused_tunes : goal.outputs_of-requires-clause-reused_tunes
 outputs_of-requires-clause-reused_tunes g c =
     rw (c.compiler-compiler.ensures, c.new_chains.ensures, c.reused_tunes.ensures)
-    (taken_over (g.C.Fold.steps c.args.text.now.compiler) (g.C.Compiler.rules c.args.text.now.compiler)
-    (splice_in c.args.change.now) c.args.kept.now c.requires.prepared c.args.text.now c.requires.on c.stretch-stretch.result c.stretch-stretch.ensures
-    c.outputs.result.now.items (ap (λ (o : Gapped Output). o.items) c.outputs.ensures ∙ c.requires.outputs))
+    (taken_over _ _ _ _ c.requires.prepared _ c.requires.on _ c.stretch-stretch.ensures c.outputs.result.now.items (ap (λ (o : Gapped Output). o.items) c.outputs.ensures ∙ c.requires.outputs))
 
 pub faults_of-requires-clause-few : goal.faults_of-requires-clause-few
 faults_of-requires-clause-few g c =
-    few_lines (g.C.Fold.steps c.args.text.now.compiler) (g.C.Compiler.rules c.args.text.now.compiler)
-    (splice_in c.args.change.now) c.args.kept.now c.requires.prepared c.args.text.now c.requires.on c.stretch-stretch.result c.stretch-stretch.ensures
-    c.deref-2.result.now (c.deref-2.ensures.value ∙ c.in_ok-counts.ensures)
+    few_lines _ _ _ _ c.requires.prepared _ c.requires.on _ c.stretch-stretch.ensures c.deref-2.result.now (c.deref-2.ensures.value ∙ c.in_ok-counts.ensures)
 
 pub faults_of-requires-clause-header : goal.faults_of-requires-clause-header
 faults_of-requires-clause-header g c =
-    header_there (g.C.Fold.steps c.args.text.now.compiler) (g.C.Compiler.rules c.args.text.now.compiler)
-    (splice_in c.args.change.now) c.args.kept.now c.requires.prepared c.args.text.now c.requires.on c.stretch-stretch.result c.stretch-stretch.ensures
-    c.first_chain-first.result.now c.first_chain-first.ensures c.deref-2.result.now c.header-2.result (c.deref-2.ensures.value ∙ c.in_ok-counts.ensures) c.header-2.ensures
+    header_there _ _ _ _ c.requires.prepared _ c.requires.on _ c.stretch-stretch.ensures c.first_chain-first.result.now c.first_chain-first.ensures
+    c.deref-2.result.now c.header-2.result (c.deref-2.ensures.value ∙ c.in_ok-counts.ensures) c.header-2.ensures
 
 pub faults_of-requires-clause-cells : goal.faults_of-requires-clause-cells
 faults_of-requires-clause-cells g c =
     rw (c.new_chains.ensures, c.places.ensures)
-    (cells_there (g.C.Fold.steps c.args.text.now.compiler) (g.C.Compiler.rules c.args.text.now.compiler)
-    (splice_in c.args.change.now) c.args.kept.now c.requires.prepared c.args.text.now c.requires.on c.stretch-stretch.result c.stretch-stretch.ensures
-    c.deref-2.result.now (c.deref-2.ensures.value ∙ c.in_ok-counts.ensures))
-
-pub overflow_cast-tunes-3 : goal.overflow_cast-tunes-3
-overflow_cast-tunes-3 g c =
-    let small : c.stretch-stretch.result.came ≤ MOST_LINES = few_came (g.C.Fold.steps c.args.text.now.compiler)
-    (g.C.Compiler.rules c.args.text.now.compiler)
-    (splice_in c.args.change.now) c.args.kept.now c.requires.prepared c.args.text.now c.requires.on c.stretch-stretch.result c.stretch-stretch.ensures in
-    search rules
+    (cells_there _ _ _ _ c.requires.prepared _ c.requires.on _ c.stretch-stretch.ensures c.deref-2.result.now (c.deref-2.ensures.value ∙ c.in_ok-counts.ensures))
 
 pub prepare-requires-clause-inside : goal.prepare-requires-clause-inside
 prepare-requires-clause-inside g c =
-    behind_inside (g.C.Fold.steps c.args.text.now.compiler) (g.C.Compiler.rules c.args.text.now.compiler)
-    (splice_in c.args.change.now) c.args.kept.now c.requires.prepared c.args.text.now c.requires.on c.stretch-stretch.result c.stretch-stretch.ensures
-    c.args.book.now.outputs.items c.requires.outputs
+    behind_inside _ _ _ _ c.requires.prepared _ c.requires.on _ c.stretch-stretch.ensures c.args.book.now.outputs.items c.requires.outputs
 
 pub prepare-requires-clause-few : goal.prepare-requires-clause-few
 prepare-requires-clause-few g c =
-    let few = few_faults (g.C.Fold.steps c.args.text.now.compiler) (g.C.Compiler.rules c.args.text.now.compiler)
-    (splice_in c.args.change.now) c.args.kept.now c.requires.prepared c.args.text.now c.requires.on c.stretch-stretch.result c.stretch-stretch.ensures
-    c.args.book.now.faults (subst (λ (l : Lines). IsText l.text) c.lines.ensures.lines c.len.ensures.limits) c.requires.faults in
+    let few = few_faults _ _ _ _ c.requires.prepared _ c.requires.on _ c.stretch-stretch.ensures c.args.book.now.faults
+    (subst (λ (l : Lines). IsText l.text) c.lines.ensures.lines c.len.ensures.limits) c.requires.faults in
     λ k d inside behind. let small = few k d inside behind in omega (arith, small)
 
 pub returns-clause-outputs : goal.returns-clause-outputs
 returns-clause-outputs g c =
-    let made = c.in_ok-outputs.ensures.value ∙ ap (λ compiler. map
-    (output_in (g.C.Compiler.rules compiler)) c.new_chains.result.now) c.compiler-compiler.ensures ∙ ap (map (output_in (g.C.Compiler.rules c.args.text.now.compiler))) c.new_chains.ensures in
-    let after = outputs_after (g.C.Fold.steps c.args.text.now.compiler) (g.C.Compiler.rules c.args.text.now.compiler)
-    (splice_in c.args.change.now) c.args.kept.now c.requires.prepared c.args.text.now c.requires.on c.stretch-stretch.result c.stretch-stretch.ensures
-    c.args.book.now.outputs.items c.in_ok-outputs.outputs.items c.requires.outputs made in
+    let made = c.in_ok-outputs.ensures.value ∙ (λ i. map (output_in (g.C.Compiler.rules (c.compiler-compiler.ensures i))) (c.new_chains.ensures i)) in
+    let after = outputs_after _ _ _ _ c.requires.prepared _ c.requires.on _ c.stretch-stretch.ensures c.args.book.now.outputs.items c.in_ok-outputs.outputs.items c.requires.outputs made in
     ok_more c.prepare.result _ (λ patch. patch.outputs ≡ map (output_in (g.C.Compiler.rules c.args.text.now.compiler))
     (drop 1 c.args.kept.now.chains)) (λ patch are. are ∙ after) c.prepare.ensures.outputs
 
 pub returns-clause-book : goal.returns-clause-book
 returns-clause-book g c =
-    let made = c.in_ok-outputs.ensures.value ∙ ap (λ compiler. map
-    (output_in (g.C.Compiler.rules compiler)) c.new_chains.result.now) c.compiler-compiler.ensures ∙ ap (map (output_in (g.C.Compiler.rules c.args.text.now.compiler))) c.new_chains.ensures in
-    let after = outputs_after (g.C.Fold.steps c.args.text.now.compiler) (g.C.Compiler.rules c.args.text.now.compiler)
-    (splice_in c.args.change.now) c.args.kept.now c.requires.prepared c.args.text.now c.requires.on c.stretch-stretch.result c.stretch-stretch.ensures
-    c.args.book.now.outputs.items c.in_ok-outputs.outputs.items c.requires.outputs made in
-    let found =
-    c.in_ok-faults.ensures
-    ∙ ap (λ compiler. header_faults_there
-    (g.C.Compiler.rules
-    compiler) c.stretch-stretch.result.from c.deref-2.result.now c.first_chain-first.result.now c.header-2.result ++ faults_by
-    (g.C.Compiler.rules compiler) c.stretch-stretch.result.from c.deref-2.result.now c.new_chains.result.now c.places.result.now) c.compiler-compiler.ensures
-    ∙ ap (λ chains. header_faults_there
-    (g.C.Compiler.rules
-    c.args.text.now.compiler) c.stretch-stretch.result.from c.deref-2.result.now c.first_chain-first.result.now
-    c.header-2.result ++ faults_by (g.C.Compiler.rules c.args.text.now.compiler) c.stretch-stretch.result.from c.deref-2.result.now chains c.places.result.now) c.new_chains.ensures
-    ∙ ap (λ places. header_faults_there
-    (g.C.Compiler.rules
-    c.args.text.now.compiler) c.stretch-stretch.result.from c.deref-2.result.now c.first_chain-first.result.now
-    c.header-2.result ++ faults_by (g.C.Compiler.rules c.args.text.now.compiler) c.stretch-stretch.result.from c.deref-2.result.now c.args.kept.now.new_chains places) c.places.ensures in
-    let faults = faults_now (g.C.Fold.steps c.args.text.now.compiler) (g.C.Compiler.rules c.args.text.now.compiler)
-    (splice_in c.args.change.now) c.args.kept.now c.requires.prepared c.args.text.now c.requires.on c.stretch-stretch.result c.stretch-stretch.ensures
-    c.first_chain-first.result.now c.first_chain-first.ensures
-    (g.met.C.Fold.resumable
-    c.args.text.now.compiler) c.deref-2.result.now c.header-2.result c.args.book.now.faults c.in_ok-faults.faults.items
+    let made = c.in_ok-outputs.ensures.value ∙ (λ i. map (output_in (g.C.Compiler.rules (c.compiler-compiler.ensures i))) (c.new_chains.ensures i)) in
+    let after = outputs_after _ _ _ _ c.requires.prepared _ c.requires.on _ c.stretch-stretch.ensures c.args.book.now.outputs.items c.in_ok-outputs.outputs.items c.requires.outputs made in
+    let found = c.in_ok-faults.ensures ∙ (λ i. header_faults_there (g.C.Compiler.rules (c.compiler-compiler.ensures i))
+    c.stretch-stretch.result.lines.from c.deref-2.result.now c.first_chain-first.result.now c.header-2.result
+    ++ faults_by (g.C.Compiler.rules (c.compiler-compiler.ensures i)) c.stretch-stretch.result.lines.from c.deref-2.result.now (c.new_chains.ensures i) (c.places.ensures i)) in
+    let faults = faults_now _ _ _ _ c.requires.prepared _ c.requires.on _ c.stretch-stretch.ensures c.first_chain-first.result.now c.first_chain-first.ensures
+    (g.met.C.Fold.resumable c.args.text.now.compiler) c.deref-2.result.now c.header-2.result c.args.book.now.faults c.in_ok-faults.faults.items
     (c.deref-2.ensures.value ∙ c.in_ok-counts.ensures) c.header-2.ensures c.requires.faults found in
     ok_both c.prepare.result _ _ (λ patch. IsBook patch.outputs patch.faults (book_of (g.C.Fold.steps c.args.text.now.compiler) (g.C.Compiler.rules c.args.text.now.compiler) c.args.kept.now.text))
-    (λ patch outputs_are faults_are. book_now (g.C.Fold.steps c.args.text.now.compiler)
-    (g.C.Compiler.rules c.args.text.now.compiler)
-    (splice_in
-    c.args.change.now) c.args.kept.now c.requires.prepared c.args.text.now c.requires.on c.stretch-stretch.result
-    c.stretch-stretch.ensures patch.outputs patch.faults (outputs_are ∙ after) (faults_are ∙ faults))
+    (λ patch outputs_are faults_are. book_now _ _ _ _ c.requires.prepared _ c.requires.on _ c.stretch-stretch.ensures _ _ (outputs_are ∙ after) (faults_are ∙ faults))
     c.prepare.ensures.outputs c.prepare.ensures.faults

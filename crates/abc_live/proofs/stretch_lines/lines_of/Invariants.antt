@@ -5,4 +5,4 @@ use Rattle.abc_live.proofs.stretch_lines.lines_of.Given as goal
 
 -- the lines so far are there
 abbrev pub invariant-loop-nth : goal.invariant-loop-nth
-invariant-loop-nth l = seen_lines l.lines.items ≡ take l.nth (drop l.stretch.from (spliced l.text.text (splice_in l.change)))
+invariant-loop-nth l = seen_lines l.lines.items ≡ take l.nth (drop l.stretch.lines.from (spliced l.text.text (splice_in l.change)))

@@ -5,4 +5,4 @@ use Rattle.abc_live_index.proofs.report.changed_numbers.Given as goal
 
 -- the numbers found so far
 abbrev pub invariant-loop-place : goal.invariant-loop-place
-invariant-loop-place l = AreFound (old_outputs l.change) (new_outputs l.change) (owners_of (old_outputs l.change)) l.change.front l.place l.found.items
+invariant-loop-place l = AreFound (old_outputs l.change) (new_outputs l.change) (owners_of (old_outputs l.change)) l.change.tunes.from l.place l.found.items

@@ -4,5 +4,5 @@ use Rattle.abc_live_text.proofs.new_places.append_after.Given as goal
 
 abbrev pub invariant-loop-i : goal.invariant-loop-i
 invariant-loop-i l = record {
-  made : l.tunes.items ≡ l.initial.tunes.items ++ map (block_after l.stretch) (take (l.i - l.stretch.behind) (drop l.stretch.behind l.old));
+  made : l.tunes.items ≡ l.initial.tunes.items ++ map (block_after l.stretch) (take (l.i - l.stretch.tunes.to) (drop l.stretch.tunes.to l.old));
 }

@@ -9,6 +9,11 @@ pub returns-then-stretch : goal.returns-then-stretch
 returns-then-stretch c =
     none_moves c.args.stretch c.args.tunes.now.items MOST_LINES (omega (arith, c.if-stretch.true)) c.requires.beyond c.requires.within
 
+pub block_after-requires-clause-beyond : goal.block_after-requires-clause-beyond
+block_after-requires-clause-beyond c =
+    let inside : c.loop-i.i < length c.loop-i.tunes.items = omega (arith, c.loop-i-test.true, c.len-i-end.ensures, c.loop-i.invariant.count) in
+    one_behind (LiesAfter c.args.stretch) c.loop-i.tunes.items c.loop-i.i c.index.result.now c.loop-i.invariant.beyond inside c.index.ensures
+
 pub block_after-requires-clause-within : goal.block_after-requires-clause-within
 block_after-requires-clause-within c =
     let inside : c.loop-i.i < length c.loop-i.tunes.items = omega (arith, c.loop-i-test.true, c.len-i-end.ensures, c.loop-i.invariant.count) in

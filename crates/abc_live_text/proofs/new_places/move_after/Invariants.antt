@@ -8,7 +8,7 @@ use Rattle.abc_live_text.proofs.new_places.move_after.Given as goal
 abbrev pub invariant-loop-i : goal.invariant-loop-i
 invariant-loop-i l = record {
   same : take l.i l.tunes.items ++ map (block_after l.stretch) (drop l.i l.tunes.items)
-      ≡ take l.stretch.behind l.initial.tunes.items ++ map (block_after l.stretch) (drop l.stretch.behind l.initial.tunes.items);
+      ≡ take l.stretch.tunes.to l.initial.tunes.items ++ map (block_after l.stretch) (drop l.stretch.tunes.to l.initial.tunes.items);
   beyond : All (LiesAfter l.stretch) (drop l.i l.tunes.items);
   within : All (LiesWithin MOST_LINES) (drop l.i l.tunes.items);
   count : length l.tunes.items ≡ length l.initial.tunes.items;

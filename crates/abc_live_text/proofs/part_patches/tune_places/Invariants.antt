@@ -4,5 +4,5 @@ use Rattle.abc_live_text.proofs.part_patches.tune_places.Given as goal
 
 abbrev pub invariant-loop-i : goal.invariant-loop-i
 invariant-loop-i l = record {
-  made : l.places.items ≡ map (moved l.stretch.from) (take l.i l.tunes);
+  made : l.places.items ≡ map (moved l.stretch.lines.from) (take l.i l.tunes);
 }

@@ -2,7 +2,7 @@ use Rattle.std.proofs.Common.{◌≡◌, ◌<◌, ◌≤◌, ◌-◌, ◌^◌, m
 use Rattle.abc_repeat.specs.Play.{most_passes}
 use Rattle.abc_repeat.proofs.pass.most_passes.Given as goal
 
--- the most of what is passed and of the rest
+-- the greatest number of the marks so far and of the rest
 abbrev pub invariant-loop-mark : goal.invariant-loop-mark
 invariant-loop-mark l = record {
   some : 1 ≤ l.most;

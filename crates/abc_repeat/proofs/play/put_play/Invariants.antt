@@ -3,7 +3,7 @@ use Rattle.abc_repeat.specs.Strain.{strains_from}
 use Rattle.abc_repeat.specs.Play.{plays_from, play_of}
 use Rattle.abc_repeat.proofs.play.put_play.Given as goal
 
--- what is put, and the play of the rest
+-- the places so far, and the play of the rest
 abbrev pub invariant-loop-at : goal.invariant-loop-at
 invariant-loop-at l = record {
   inside : l.at ≤ length l.marks;

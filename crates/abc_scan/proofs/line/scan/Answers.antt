@@ -9,7 +9,7 @@ use Rattle.abc_scan.proofs.Spans.{laid}
 use Rattle.abc_scan.proofs.line.scan.Goals as goal
 use Rattle.abc_scan.proofs.line.scan.Goals.{After-tokens_in}
 
--- what holds of the tokens of the line holds of those that are given
+-- a law of the line's tokens holds of the tokens returned
 told : (P : List (Spanned TokenKind) → Type 0) (c : After-tokens_in) → P (tokens_of c.args.line.now) → IfOk c.tokens_in.result (λ tokens. P tokens.items)
 unfolding tokens_of
 told P c h = IfOk-weaker c.tokens_in.result (λ tokens. tokens.items ≡ tokens_in c.class_of.result c.without_return.result.now) (λ tokens. P tokens.items)

@@ -5,7 +5,7 @@ use Rattle.abc_voices.specs.TiedNotes.{notes_from, notes_in}
 use Rattle.abc_voices_sections.specs.Play.{duration}
 use Rattle.abc_voices.proofs.notes.put_notes.Given as goal
 
--- the notes of what stands from here on
+-- the notes of the items from here on
 abbrev pub invariant-loop-left : goal.invariant-loop-left
 invariant-loop-left l = record {
   inside : l.left ≤ length l.steps;

@@ -4,7 +4,7 @@ use Rattle.abc_time.specs.declared.grains.Grains.{Grains}
 use Rattle.abc_voices.specs.Ticks.{last_of_each_tick}
 use Rattle.abc_voices.proofs.ticks.last_of_each_tick.Goals as goal
 
--- of one change that one stands
+-- a single change is in force
 one_stands : {A : Type 0} (changes : List (Grains × A)) → length changes ≤ 1 → changes ≡ last_of_each_tick changes
 one_stands [] h = refl
 one_stands (change ∷ []) h = refl

@@ -4,7 +4,7 @@ use Rattle.std.specs.HashSet.{contains}
 use Rattle.abc_voices.specs.Ticks.{has_tick, last_of_each_tick}
 use Rattle.abc_voices.proofs.ticks.last_of_many.Given as goal
 
--- what stands from here on, and on which ticks
+-- the changes in force from here on, and their ticks
 abbrev pub invariant-loop-left : goal.invariant-loop-left
 invariant-loop-left g l = record {
   inside : l.left ≤ length l.changes;

@@ -1,4 +1,4 @@
--- The powers of two up to 64 are told by their test.
+-- The test of the powers of two up to 64.
 use Rattle.std.proofs.Common.{refl}
 use Rattle.std.proofs.lemmas.Bool.{false≢true}
 use Rattle.abc_text.specs.Power.{is_power_up_to}

@@ -5,7 +5,7 @@ use Rattle.live_examples.specs.declared.toy.Played.{Played}
 use Rattle.live_examples.specs.Toy.{bytes_of_class}
 use Rattle.live_examples.proofs.toy.whole_file.Given as goal
 
--- what the lines so far give, and what the rest gives
+-- the bytes of the lines so far, and of the rest
 abbrev pub invariant-loop-one : goal.invariant-loop-one
 invariant-loop-one l = l.file ++ flat_map (λ (one : Played). bytes_of_class (class_of one.line) one) (drop l.one-index l.all)
     ≡ flat_map (λ (one : Played). bytes_of_class (class_of one.line) one) l.all

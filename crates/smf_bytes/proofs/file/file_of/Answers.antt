@@ -6,8 +6,8 @@ use Rattle.smf_bytes.proofs.Files.{opened}
 use Rattle.smf_bytes.proofs.Lengths.{EndBy, conductor_length, conductor_ticks}
 use Rattle.smf_bytes.proofs.file.file_of.Goals as goal
 
-pub put_track-requires-clause-before_end : goal.put_track-requires-clause-before_end
-put_track-requires-clause-before_end c =
+pub put_track-requires-clause-within : goal.put_track-requires-clause-within
+put_track-requires-clause-within c =
     let score = c.args.score.now in
     let events = c.in_ok-changes.ensures ∙ (λ i. conductor_events (c.as_slice.ensures i) (c.as_slice-2.ensures i)) in
     subst (λ (t : ℕ). EndBy t c.in_ok-changes.changes.items) (sym c.tick_of-end.ensures.value)

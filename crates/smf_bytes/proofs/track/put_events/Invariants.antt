@@ -1,8 +1,7 @@
 use Rattle.std.proofs.Common.{◌≡◌, [], ◌∷◌, ◌++◌}
 use Rattle.std.specs.Prelude.{drop}
 use Rattle.smf_bytes.specs.Event.{end_event}
-use Rattle.smf_bytes.specs.Track.{timed_events}
-use Rattle.smf_bytes.proofs.Timed.{Follows}
+use Rattle.smf_bytes.specs.Track.{Follows, timed_events}
 use Rattle.smf_bytes.proofs.track.put_events.Given as goal
 
 abbrev pub invariant-loop-event : goal.invariant-loop-event

@@ -24,4 +24,5 @@ pub returns : goal.returns
 returns g c =
     let kept = c.loop-item.invariant in
     let none : length (into_iter_items c.loop-item.item-iterator) ≡ 0 = search rules in
-    gapped_equal _ _ _ _ _ _ _ _ (none_put c.loop-item.self-inside.block.items c.loop-item.self-inside.block.gap _ none ∙ kept.0) (omega (arith, kept.1, none)) (omega (arith, kept.2, none, c.requires)) kept.3
+    gapped_equal _ _ _ _ _ _ _ _ (none_put c.loop-item.self-inside.block.items c.loop-item.self-inside.block.gap _ none ∙ kept.0)
+    (omega (arith, kept.1, none)) (omega (arith, kept.2, none, c.requires)) kept.3

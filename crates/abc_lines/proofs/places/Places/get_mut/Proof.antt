@@ -1,4 +1,4 @@
--- `get_mut` lends an item for writing, and the row follows it. A walk of its code by hand; a context is shown as
+-- `get_mut` borrows an item for writing, and the row follows it. A walk of its code by hand; a context is shown as
 -- [first; second; ..].
 use Rattle.std.proofs.Common.{◌≡◌, ◌++◌, ℕ, ◌*◌, ◌+◌, ◌^◌, ◌<◌, List, [], ◌∷◌, refl, sym, ap, ◌∙◌, w64, length, get_or, set, Some, None}
 use Rattle.std.proofs.raw_atomic.Walks.{proved_at}
@@ -106,7 +106,8 @@ get_mut_spec 𝓤 𝓛 𝓜 𝓡 wired X LX =
     exec ! 𝓣.C 𝓣.Λ (env F.locals l) (after 1 F.body) (at_ret _ (W.post y)) $
     sets ! (of_opd ! (get ! refl)) refl (tt, tt) $
     rewrite ! 3 Cell (sym here) refl $ move ! (1 ∷ 2 ∷ 3 ∷ []) $ fjoin3 ! $ move ! (2 ∷ 3 ∷ 4 ∷ 1 ∷ 0 ∷ []) $ group ! 5 $
-    use1 𝓛 (later (some (λ (δ : GName). ‵ ((MutRef (named 0) κs.0 R).own_val (record { ref_ptr = (b', at); ghost_name = δ; now = x }) (vptr b' at ∷ [])) ⊛ ‵ (flft κs.0 qs.0) ⊛ ‵ (follows 𝓟 R γ δ new))))
+    use1 𝓛 (later (some (λ (δ : GName). ‵ ((MutRef (named 0) κs.0 R).own_val (record { ref_ptr = (b', at); ghost_name = δ; now = x }) (vptr b' at ∷ []))
+    ⊛ ‵ (flft κs.0 qs.0) ⊛ ‵ (follows 𝓟 R γ δ new))))
     (lends_Part 𝓛 𝓟 R new (named 0) κs.0 qs.0 b o b' at γ (sem 𝓛 left) way (𝓟.coded.code p) (𝓟.coded.code p) x) $ await ! tt $ pick ! (λ δ. split3 ! $
     returns ! (look_at ! 0 refl) $ free_all ! refl $ keep ! (0 ∷ 1 ∷ 2 ∷ 5 ∷ []) $
     -- [a `&mut` to the item; its token; what follows; the other token]

@@ -11,16 +11,16 @@ differences-requires-clause-change c =
     let before = c.self.inside.outputs in
     let after = c.in_ok-outputs.outputs.after in
     let same : before ≡ c.args.self.now.outputs = ap (λ (b : KeptBookView). b.outputs) c.self.view_is in
-    let inside : tunes.behind ≤ length before.items = subst (λ (g : Gapped Output). tunes.behind ≤ length g.items) (sym same) c.requires.inside in
+    let inside : tunes.range.to ≤ length before.items = subst (λ (g : Gapped Output). tunes.range.to ≤ length g.items) (sym same) c.requires.inside in
     let many : length tunes.outputs.items ≡ c.len-count.result = omega (arith, c.len-count.ensures, tunes.outputs.ok.0) in
     let is = c.in_ok-outputs.ensures.after in
     record {
       on = c.in_ok-outputs.ensures.on;
       order = c.requires.order;
       inside = inside;
-      count = count before after tunes.front tunes.behind tunes.outputs.items c.requires.order inside is ∙ ap (λ n. tunes.front + n + (length before.items - tunes.behind)) many;
-      front = same_front before after tunes.front tunes.behind tunes.outputs.items c.requires.order inside is;
-      behind = ap (λ n. drop (tunes.front + n) after.items) (sym many) ∙ same_behind before after tunes.front tunes.behind tunes.outputs.items c.requires.order inside is;
+      count = count before after tunes.range.from tunes.range.to tunes.outputs.items c.requires.order inside is ∙ ap (λ n. tunes.range.from + n + (length before.items - tunes.range.to)) many;
+      front = same_front before after tunes.range.from tunes.range.to tunes.outputs.items c.requires.order inside is;
+      behind = ap (λ n. drop (tunes.range.from + n) after.items) (sym many) ∙ same_behind before after tunes.range.from tunes.range.to tunes.outputs.items c.requires.order inside is;
     }
 
 pub returns-in-Ok-clause-outputs : goal.returns-in-Ok-clause-outputs
@@ -28,6 +28,6 @@ returns-in-Ok-clause-outputs c =
     let tunes = c.args.tunes in
     let before = c.self.inside.outputs in
     let same : before ≡ c.args.self.now.outputs = ap (λ (b : KeptBookView). b.outputs) c.self.view_is in
-    let inside : tunes.behind ≤ length before.items = subst (λ (g : Gapped Output). tunes.behind ≤ length g.items) (sym same) c.requires.inside in
-    items before c.in_ok-outputs.outputs.after tunes.front tunes.behind tunes.outputs.items c.requires.order inside c.in_ok-outputs.ensures.after
-    ∙ ap (λ (g : Gapped Output). take tunes.front g.items ++ (tunes.outputs.items ++ drop tunes.behind g.items)) same
+    let inside : tunes.range.to ≤ length before.items = subst (λ (g : Gapped Output). tunes.range.to ≤ length g.items) (sym same) c.requires.inside in
+    items before c.in_ok-outputs.outputs.after tunes.range.from tunes.range.to tunes.outputs.items c.requires.order inside c.in_ok-outputs.ensures.after
+    ∙ ap (λ (g : Gapped Output). take tunes.range.from g.items ++ (tunes.outputs.items ++ drop tunes.range.to g.items)) same

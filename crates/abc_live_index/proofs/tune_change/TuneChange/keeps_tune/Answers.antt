@@ -6,5 +6,5 @@ use Rattle.abc_live_index.proofs.tune_change.TuneChange.keeps_tune.Goals as goal
 pub returns : goal.returns
 returns c = λ e.
     let s = c.args.self.now in
-    let apart : c.args.new - s.front - s.came ≡ c.args.old - s.behind = eqb-true _ _ e in
-    same_behind (old_outputs s) (new_outputs s) s.behind (s.front + s.came) c.args.old c.args.new (omega arith) (omega arith) (omega (arith, apart)) c.requires.behind
+    let apart : c.args.new - s.tunes.from - s.tunes.came ≡ c.args.old - s.tunes.to = eqb-true _ _ e in
+    same_behind (old_outputs s) (new_outputs s) s.tunes.to (s.tunes.from + s.tunes.came) c.args.old c.args.new (omega arith) (omega arith) (omega (arith, apart)) c.requires.behind

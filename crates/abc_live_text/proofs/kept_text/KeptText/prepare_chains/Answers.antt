@@ -7,7 +7,7 @@ use Rattle.abc_live_text.proofs.kept_text.KeptText.prepare_chains.Goals as goal
 pub returns-in_ok-append_shares-in-None-clause-after : goal.returns-in_ok-append_shares-in-None-clause-after
 returns-in_ok-append_shares-in-None-clause-after g c =
     let inside = subst
-    (λ (k : KeptTextView g.row.C.Denot g.row.C-State.Denot g.row.C-Cell.Denot g.row.C-Items.Denot). c.args.stretch.behind + 1 ≤ length k.chains.items) (sym c.self.view_is) c.requires.inside in
+    (λ (k : KeptTextView g.row.C.Denot g.row.C-State.Denot g.row.C-Cell.Denot g.row.C-Items.Denot). c.args.stretch.tunes.to + 1 ≤ length k.chains.items) (sym c.self.view_is) c.requires.inside in
     let new = c.in_ok-append_shares-in-None.ensures ∙ ap (λ l. l ++ c.args.new_chains.now) c.new-new.ensures.items in
     subst (λ (k : KeptTextView g.row.C.Denot g.row.C-State.Denot g.row.C-Cell.Denot g.row.C-Items.Denot). IfOk
     c.splice_prepare.result (λ patch. patch.after.items ≡ chains_after c.args.first.now c.args.stretch k.chains.items c.args.new_chains.now)) c.self.view_is
@@ -17,7 +17,7 @@ returns-in_ok-append_shares-in-None-clause-after g c =
 pub returns-in_ok-append_shares-in-Some-clause-after : goal.returns-in_ok-append_shares-in-Some-clause-after
 returns-in_ok-append_shares-in-Some-clause-after g c =
     let inside = subst
-    (λ (k : KeptTextView g.row.C.Denot g.row.C-State.Denot g.row.C-Cell.Denot g.row.C-Items.Denot). c.args.stretch.behind + 1 ≤ length k.chains.items) (sym c.self.view_is) c.requires.inside in
+    (λ (k : KeptTextView g.row.C.Denot g.row.C-State.Denot g.row.C-Cell.Denot g.row.C-Items.Denot). c.args.stretch.tunes.to + 1 ≤ length k.chains.items) (sym c.self.view_is) c.requires.inside in
     let new : c.append_shares-in-Some.new.chains.items ≡ c.in-Some.first ∷ c.args.new_chains.now = rw
     (c.in_ok-append_shares-in-Some.ensures, c.in_ok-push-in-Some.ensures.items, c.in_ok-share-in-Some.ensures, c.new-new.ensures.items) refl in
     subst (λ (k : KeptTextView g.row.C.Denot g.row.C-State.Denot g.row.C-Cell.Denot g.row.C-Items.Denot). IfOk

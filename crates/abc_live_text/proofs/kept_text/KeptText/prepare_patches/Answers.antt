@@ -10,7 +10,7 @@ pub of-requires-clause-within : goal.of-requires-clause-within
 of-requires-clause-within g c = tunes_within_most g.C.Fold.steps g.C.Compiler.rules c.self.view_is c.self.invariant MOST_LINES c.len.ensures.limits.count _ c.deref-2.ensures.value
 
 pub prepare_chains-requires-clause-inside : goal.prepare_chains-requires-clause-inside
-prepare_chains-requires-clause-inside g c = chains_reach g.C.Fold.steps g.C.Compiler.rules c.self.view_is c.self.invariant c.args.new_parts.now.stretch.behind c.requires.inside
+prepare_chains-requires-clause-inside g c = chains_reach g.C.Fold.steps g.C.Compiler.rules c.self.view_is c.self.invariant c.args.new_parts.now.stretch.tunes.to c.requires.inside
 
 pub returns-in-Ok-clause-rows : goal.returns-in-Ok-clause-rows
 returns-in-Ok-clause-rows g c =

@@ -1,7 +1,7 @@
 use Rattle.std.proofs.Common.{◌+◌, ◌≤◌, length, ap, arith, inl}
 use Rattle.abc_fold.proofs.Raised.{raised-none}
 use Rattle.abc_live_text.specs.NewParts.{splice_at}
-use Rattle.abc_live_text.specs.declared.stretch.Lead.{Lead}
+use Rattle.abc_live_text.specs.declared.stretch.Span.{Span}
 use Rattle.abc_live_text.proofs.EditCost.{kept_of}
 use Rattle.abc_live_text.proofs.LeadRefold.{lead_cost, lead_early, lead_edit, lead_head, lead_opening, whole_is_lead}
 use Rattle.abc_live_text.proofs.kept_text.KeptText.refold_from_start.Goals as goal
@@ -37,7 +37,7 @@ returns-in_err-rows-2-clause-counted g c = λ lines new.
 
 pub returns-clause-new_parts : goal.returns-clause-new_parts
 returns-clause-new_parts g c = λ lines new.
-    let all : length c.args.self.now.tunes ≤ c.whole_lead-whole.result.behind = let e = ap (λ (l : Lead). l.behind) c.whole_lead-whole.ensures in omega (arith, e) in
+    let all : length c.args.self.now.tunes ≤ c.whole_lead-whole.result.tunes.to = let e = ap (λ (l : Span). l.tunes.to) c.whole_lead-whole.ensures in omega (arith, e) in
     let kept = kept_of g.C.Fold.steps g.C.Compiler.rules c.args.self.now c.lines.ensures.stands g.met.C.Fold.resumable g.met.C.Compiler.lawful in
     let first = lead_edit _ c.args.self.now c.lead-lead.result c.args.at c.args.removed lines _ _ _ c.requires c.lead-lead.ensures c.deref.ensures.value c.in_ok-rows.ensures.value new in
     let is_whole = whole_is_lead c.args.self.now c.whole_lead-whole.result (c.args.at + c.args.removed) c.whole_lead-whole.ensures c.requires in

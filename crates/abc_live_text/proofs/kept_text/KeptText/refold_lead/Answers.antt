@@ -1,5 +1,5 @@
-use Rattle.std.proofs.Common.{Some, length, sym, ◌∙◌, subst}
-use Rattle.abc_live_text.specs.NewParts.{AreNewParts, new_parts_view, span_stretch}
+use Rattle.std.proofs.Common.{Some, sym, subst}
+use Rattle.abc_live_text.specs.NewParts.{AreNewParts, new_parts_view}
 use Rattle.abc_live_text.proofs.EditCost.{kept_of}
 use Rattle.abc_live_text.proofs.LeadRefold.{lead_renewed}
 use Rattle.abc_live_text.proofs.kept_text.KeptText.refold_lead.Goals as goal
@@ -10,6 +10,5 @@ returns-clause-new_parts g c = λ s edit begin goes.
     let r = c.in_ok-folded.folded in
     let kept = kept_of g.C.Fold.steps g.C.Compiler.rules c.args.self.now c.lines.ensures.stands g.met.C.Fold.resumable g.met.C.Compiler.lawful in
     subst (AreNewParts (g.C.Fold.steps now.compiler) (g.C.Compiler.rules now.compiler) now s)
-    (λ i. new_parts_view (((λ j. span_stretch (sym c.span.ensures j) (length c.args.rows.now)) ∙ sym c.stretch.ensures) i)
-    c.args.header.header (Some c.args.header.first) r.tunes.items r.new_chains.items r.reused_tunes.items)
+    (λ i. new_parts_view (sym c.stretch.ensures i) c.args.header.header (Some c.args.header.first) r.tunes.items r.new_chains.items r.reused_tunes.items)
     (lead_renewed kept edit begin goes c.in_ok-folded.ensures.value)

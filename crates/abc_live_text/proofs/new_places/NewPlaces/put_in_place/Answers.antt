@@ -10,8 +10,8 @@ returns-in-Among c =
     let old = c.args.tunes.now.items in
     let places = c.args.places.now in
     let fit : FitAmong stretch old places = subst (λ n. MayReplaceTunes n stretch old places) c.in-Among.is c.requires in
-    let put = c.replace_places.ensures ∙ ap (λ n. take stretch.front old ++ (places ++ drop n old)) fit.count in
+    let put = c.replace_places.ensures ∙ ap (λ n. take stretch.tunes.from old ++ (places ++ drop n old)) fit.count in
     c.move_after.ensures
-    ∙ ap (λ l. take stretch.behind l ++ map (block_after stretch) (drop stretch.behind l)) put
-    ∙ put_and_moved (block_after stretch) old places stretch.front stretch.behind fit.count fit.inside
+    ∙ ap (λ l. take stretch.tunes.to l ++ map (block_after stretch) (drop stretch.tunes.to l)) put
+    ∙ put_and_moved (block_after stretch) old places stretch.tunes.from stretch.tunes.to fit.count fit.inside
     ∙ ap (λ n. tune_places_after n stretch old places) (sym c.in-Among.is)

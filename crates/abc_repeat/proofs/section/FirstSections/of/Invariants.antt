@@ -4,7 +4,7 @@ use Rattle.std.specs.Option.{option_or}
 use Rattle.std.specs.Char.{is_ascii_uppercase}
 use Rattle.abc_repeat.proofs.section.FirstSections.of.Given as goal
 
--- what the table says of a letter, or else the rest
+-- the section of a letter in the table, or else in the rest
 abbrev pub invariant-loop-at : goal.invariant-loop-at
 invariant-loop-at l = record {
   wide : length l.by_letter ≡ 26;

@@ -1,4 +1,4 @@
--- `of` makes the empty struct, with the value that its clause names. Assumes `Logic`.
+-- `of` returns the empty struct, with the value that its clause names. Assumes `Logic`.
 use Rattle.std.proofs.Common.{List, [], ◌∷◌, ◌++◌, refl}
 use seplogic.Ra.Ura.{Ura}
 use mir.Syntax.{Fn, Args, a_type}
@@ -44,7 +44,7 @@ none = vstruct vnil
 abbrev one : Val → Val
 one u = vstruct (vcons u vnil)
 
--- a struct by its fields alone: what it owns does not read its name
+-- a struct by its fields alone: its ownership does not depend on its name
 abbrev plainly : RattleType → RattleType
 plainly R = Struct (record { name = []; args = []; types = []; fields = R ∷ [] })
 

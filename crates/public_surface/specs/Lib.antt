@@ -1,0 +1,6 @@
+pub mod Bars
+pub mod Fields
+pub mod Runs
+pub mod Session
+pub mod Tokens
+pub mod Tunes
