@@ -85,3 +85,6 @@ long_among tune unknown uneven long =
     ∙ passed is_too_long_fault unknown codes.UnknownPart _ refl
     ∙ passed is_too_long_fault uneven codes.UnevenVoices _ refl
     ∙ long_alone long)
+
+-- the lemmas that the code of `faults_with` cites
+pub ruleset fault_lemmas = (append_assoc, faults_rise, long_among)

@@ -84,7 +84,7 @@ fn put_if(faults: &mut Sequence<FaultCode>, there: bool, fault: FaultCode) -> Re
 }
 
 /// Returns the faults of a tune, by whether a part is unknown, voices are uneven and the tune is too long.
-#[tactic(auto, using(std::proofs::Common::append_assoc, crate::proofs::WholeFaults::faults_rise, crate::proofs::WholeFaults::long_among))]
+#[tactic(auto, using(crate::proofs::WholeFaults::fault_lemmas))]
 pub(crate) fn faults_with(
     alloc: Global,
     cells: &[Items],

@@ -29,7 +29,6 @@ pub fn tracks_by_mention()
 
 /// The notes of a voice are the longest chains of tied tones. A tied tone is joined with one of its key in the next time
 /// token that is played: the first tied one of the key with the first of the key, and so on.
-#[tactic(auto, using(crate::proofs::Chains::hears_chains, crate::proofs::Chains::hears_no_others, crate::proofs::Ties::plays_chains, crate::proofs::Ties::voices_play_chains))]
 pub fn ties_in_play()
     ensures chains { HearsChains }
     ensures once { HearsNoOthers }

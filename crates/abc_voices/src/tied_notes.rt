@@ -103,7 +103,7 @@ impl ReverseNotes {
     }
 
     /// Begins the note of a tone at a moment, if it has a key.
-    #[tactic(auto, unfolding(abc_time::specs::Grains::grains_of_a_whole_note, abc_time::specs::Grains::grains_of_the_longest_length, abc_time::specs::Grains::grains_of_the_latest_end))]
+    #[tactic(auto, using(abc_time::proofs::GrainNumbers::grain_numbers))]
     fn begin_note(&mut self, at: Grains, tone: &Tone) -> Result<(), AllocError>
         requires at { at.0 ≤ grains_of_the_latest_end }
         requires tone { IsTone tone.now }

@@ -17,7 +17,6 @@ use abc_fold::Fold;
 /// tune from `Entry::tune` on, each cell is entered in the view of its place and gives what looking back gives
 /// there, items and faults. A tune begins with what the lines of the file header set, if there is one. So it is
 /// from the view of any place on.
-#[tactic(auto, using(crate::proofs::LookBack::Along::file_header_looked_back, crate::proofs::LookBack::Along::tune_looked_back, crate::proofs::LookBack::Along::from_view))]
 pub fn views_along()
     ensures file_header { (fold : BarFold) → IsLookBack (⟦<BarFold as Fold>⟧.steps fold) (entries.FileHeader no_defaults)
         file_header_beginning }

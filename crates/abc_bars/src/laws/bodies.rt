@@ -9,7 +9,6 @@ ghost use Rattle.abc_bars.specs.LookBack.Place.{AtEachPlace};
 /// The voices at a place of a body, whatever the fields of its header and whatever is between: no two
 /// have the same name, there are at most fifteen, and the current voice is one of them, or the one without a
 /// name as long as there is none.
-#[tactic(auto, using(crate::proofs::LookBack::Held::distinct_held, crate::proofs::LookBack::Held::few_held, crate::proofs::LookBack::Held::current_held))]
 pub fn mentioned_voices()
     ensures distinct { AtEachPlace (λ body start before. IsDistinct bytes_eq (roll_of body).names) }
     ensures few { AtEachPlace (λ body start before. length (roll_of body).names ≤ MOST_VOICES) }

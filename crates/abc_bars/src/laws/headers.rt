@@ -44,7 +44,6 @@ pub fn places_apart()
 
 /// The voices that a header declares, with which its body begins: no two have the same name, and there are no
 /// more than a tune may have.
-#[tactic(auto, using(crate::proofs::DeclaredVoices::declared_keys, crate::proofs::DeclaredVoices::distinct_names, crate::proofs::DeclaredVoices::few_names, abc_bars_body::proofs::BodyOpenings::opening_names))]
 pub fn declared_voices()
     ensures names { (opening : Defaults) (before : List HeaderLine) → keys_of (header_at opening before).voices
         ≡ declared_names before }

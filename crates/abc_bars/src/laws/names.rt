@@ -11,7 +11,6 @@ ghost use Rattle.abc_bars_header.specs.Voices.{voice_at};
 /// accepted V:, if it is not one voice too many; else that of the first voice of the header, or none. What holds for
 /// a voice is what its tokens leave of what it opened with: those that are if it is the current one, each V:
 /// that names it, and each accepted P:.
-#[tactic(auto, using(crate::proofs::LookBack::Held::names_found, crate::proofs::LookBack::Held::voices_found, crate::proofs::LookBack::Held::here_found))]
 pub fn named_voices()
     ensures names { AtEachPlace (λ body start before. (roll_of body).names ≡ (naming_at start before).names) }
     ensures voices { AtEachPlace (λ body start before. (at : ℕ) (name : List ℕ) →

@@ -52,7 +52,8 @@ loop-i-preserved g c =
         omega (arith, c.loop-i.invariant.rooms.2, c.push-in-loop-i-2.ensures.room, c.loop-i-test.true),
       );
       within = within_next (g.F.Fold.steps c.args.fold.now) c.args.opening.now c.args.pieces.now laws c.loop-i.i c.loop-i.state c.in_ok-left.left c.index-pieces-i.result
-          (g.F.Work.Counts.counts c.args.work.now) (g.F.Work.Counts.counts c.loop-i.work) (g.F.Work.Counts.counts c.passed.new.work) (steps_needed (g.F.Fold.steps c.args.fold.now) c.args.opening.now c.args.pieces.now)
+          (g.F.Work.Counts.counts c.args.work.now) (g.F.Work.Counts.counts c.loop-i.work) (g.F.Work.Counts.counts c.passed.new.work)
+          (steps_needed (g.F.Fold.steps c.args.fold.now) c.args.opening.now c.args.pieces.now)
           c.loop-i.invariant.within c.index-pieces-i.is c.loop-i-test.true alike c.passed.ensures.counted;
     }
 

@@ -1,5 +1,5 @@
-use Rattle.abc_bars.proofs.LookBack.Held.{voices_found}
+use Rattle.abc_bars.proofs.LookBack.Held.{here_found, names_found, voices_found}
 use Rattle.abc_bars.proofs.laws.names.named_voices.Goals as goal
 
-pub returns-clause-voices : goal.returns-clause-voices
-returns-clause-voices c = voices_found
+pub returns : goal.returns
+returns c = record { names = names_found; voices = voices_found; current = here_found }
