@@ -4,6 +4,7 @@
 
 mod accidentals;
 mod alteration;
+mod in_range;
 pub mod laws;
 mod meter;
 mod octave_group;
@@ -19,6 +20,7 @@ mod voice_state;
 
 pub use accidentals::{Accidentals, LetterAccidentals};
 pub use alteration::{alteration_of, write_own};
+pub use in_range::{FieldValue, InRange};
 pub use meter::TuneMeter;
 pub use same::Same;
 pub use tempo::TuneTempo;
