@@ -7,7 +7,7 @@ ghost use Rattle.abc_fold.specs.Piece.{IsKept, cells_of, steps_needed};
 ghost use Rattle.abc_fold.specs.Steps.{Steps, IsResumable};
 ghost use Rattle.abc_fold.specs.Work.{IsRaisedUpTo};
 
-use crate::piece::{cell_in, is_taken, passed};
+use crate::piece::{cell_in, is_taken, pass_piece};
 use crate::{Counts, Fold, Piece, Pieces};
 use abc_lines::GapList;
 use abc_text::Snapshot;
@@ -127,7 +127,7 @@ impl<F: Fold> Chain<F> {
         ensures counted { IsRaisedUpTo (steps_needed (F.steps fold.now) opening.now pieces.now)
             (F.Work.counts work.old) (F.Work.counts work.new) }
     {
-        let next = folded(self.allocator(), fold, opening, pieces, &[], work)?;
+        let next = fold_pieces(self.allocator(), fold, opening, pieces, &[], work)?;
         Ok(ChainPatch {
             on: Snapshot::of(self),
             next,
@@ -151,7 +151,7 @@ impl<F: Fold> Chain<F> {
             (F.Work.counts work.old) (F.Work.counts work.new) }
     {
         let (listed, marks) = (pieces.as_slice(), pieces.marks());
-        let next = folded(self.allocator(), fold, opening, listed, marks, work)?;
+        let next = fold_pieces(self.allocator(), fold, opening, listed, marks, work)?;
         Ok(ChainPatch {
             on: Snapshot::of(self),
             next,
@@ -204,7 +204,7 @@ impl<F: Fold> ChainPatch<F> {
 }
 
 /// The chain of a fold over pieces, some of which are marked as following the one before them.
-fn folded<F: Fold>(
+fn fold_pieces<F: Fold>(
     alloc: Global,
     fold: &F,
     opening: &F::State,
@@ -233,7 +233,7 @@ fn folded<F: Fold>(
         let cell = cell_in(alloc, piece)?;
         let known = is_known(taken, marks, i);
         taken = is_taken(fold, &state, piece, known);
-        let (left, given) = passed(alloc, fold, &state, piece, taken, work)?;
+        let (left, given) = pass_piece(alloc, fold, &state, piece, taken, work)?;
         states.push(state);
         cells.push(cell);
         items.push(given);

@@ -68,7 +68,7 @@ pub(crate) fn is_taken<F: Fold>(fold: &F, state: &F::State, piece: &Piece<F>, kn
 
 /// The state after a piece and its items, if it is entered in a state: the kept ones if they still hold, else those of a
 /// step.
-pub(crate) fn passed<F: Fold>(
+pub(crate) fn pass_piece<F: Fold>(
     alloc: Global,
     fold: &F,
     state: &F::State,

@@ -1,6 +1,6 @@
 use Rattle.abc_fold.proofs.Alike.{not_taken_cost}
 use Rattle.abc_fold.proofs.Raised.{raised-none, raised-once}
-use Rattle.abc_fold.proofs.piece.passed.Goals as goal
+use Rattle.abc_fold.proofs.piece.pass_piece.Goals as goal
 
 pub returns-in-New-clause-state_after : goal.returns-in-New-clause-state_after
 returns-in-New-clause-state_after g c = rw c.in-New.is c.take_step.ensures.state_after

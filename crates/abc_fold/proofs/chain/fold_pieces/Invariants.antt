@@ -2,7 +2,7 @@ use Rattle.std.proofs.Common.{◌≡◌, ℕ, ◌+◌, length, true, drop}
 use Rattle.abc_fold.specs.Piece.{steps_needed}
 use Rattle.abc_fold.proofs.Folding.{IsAhead, IsWithin}
 use Rattle.abc_fold.proofs.Following.{IsLeftBehind}
-use Rattle.abc_fold.proofs.chain.folded.Given as goal
+use Rattle.abc_fold.proofs.chain.fold_pieces.Given as goal
 
 -- There is room for what is still to come.
 abbrev pub HasRooms : (count i states cells items : ℕ) → Type 0

@@ -3,7 +3,7 @@ use Rattle.abc_fold.specs.Piece.{steps_needed}
 use Rattle.abc_fold.proofs.Raised.{raised-none}
 use Rattle.abc_fold.proofs.Folding.{ahead_start, ahead_next, ahead_done, cells_done, within_start, within_next, within_exit, within_raised}
 use Rattle.abc_fold.proofs.Following.{known_taken, left_behind, none_left}
-use Rattle.abc_fold.proofs.chain.folded.Goals as goal
+use Rattle.abc_fold.proofs.chain.fold_pieces.Goals as goal
 
 pub is_taken-taken-requires : goal.is_taken-taken-requires
 is_taken-taken-requires g c = λ known.
@@ -25,7 +25,7 @@ loop-i-init g c =
 pub returns-in_err-left-clause-counted : goal.returns-in_err-left-clause-counted
 returns-in_err-left-clause-counted g c =
     within_exit (g.F.Fold.steps c.args.fold.now) c.args.opening.now c.args.pieces.now c.loop-i.i c.loop-i.state c.index-pieces-i.result _ _ _ _
-    c.loop-i.invariant.within c.index-pieces-i.is c.loop-i-test.true c.passed.ensures.counted
+    c.loop-i.invariant.within c.index-pieces-i.is c.loop-i-test.true c.pass_piece.ensures.counted
 
 pub push-requires : goal.push-requires
 push-requires g c = omega (arith, c.loop-i.invariant.rooms.0, c.loop-i-test.true)
@@ -52,9 +52,9 @@ loop-i-preserved g c =
         omega (arith, c.loop-i.invariant.rooms.2, c.push-in-loop-i-2.ensures.room, c.loop-i-test.true),
       );
       within = within_next (g.F.Fold.steps c.args.fold.now) c.args.opening.now c.args.pieces.now laws c.loop-i.i c.loop-i.state c.in_ok-left.left c.index-pieces-i.result
-          (g.F.Work.Counts.counts c.args.work.now) (g.F.Work.Counts.counts c.loop-i.work) (g.F.Work.Counts.counts c.passed.new.work)
+          (g.F.Work.Counts.counts c.args.work.now) (g.F.Work.Counts.counts c.loop-i.work) (g.F.Work.Counts.counts c.pass_piece.new.work)
           (steps_needed (g.F.Fold.steps c.args.fold.now) c.args.opening.now c.args.pieces.now)
-          c.loop-i.invariant.within c.index-pieces-i.is c.loop-i-test.true alike c.passed.ensures.counted;
+          c.loop-i.invariant.within c.index-pieces-i.is c.loop-i-test.true alike c.pass_piece.ensures.counted;
     }
 
 pub returns-in_err-states-clause-counted : goal.returns-in_err-states-clause-counted
