@@ -1,5 +1,6 @@
 -- Which keys of a keyboard notes are.
-use Rattle.std.specs.Prelude.{ℕ, ℤ, pos, negsuc, ◌+ℤ◌, ◌*ℤ◌, ◌+◌, if◌then◌else◌, nat_le, Option, Some, None}
+use Rattle.std.specs.Prelude.{ℕ, ℤ, pos, negsuc, ◌+ℤ◌, ◌*ℤ◌, ◌+◌, Bool, ◌&&◌, if◌then◌else◌, nat_le, Option, Some, None}
+use Rattle.std.specs.Ordering.{int_eq}
 use Rattle.abc_text.specs.Letter.{semitones}
 use Rattle.abc_scan.specs.declared.note.Note.{Note}
 use Rattle.abc_bars_items.specs.declared.item.TheConstants.{HIGHEST_KEY}
@@ -10,6 +11,10 @@ use Rattle.abc_bars_voice.specs.declared.voice_shift.VoiceShift.{VoiceShift}
 -- section 4.6).
 abbrev pub total_shift : VoiceShift → ℤ
 total_shift shift = shift.clef +ℤ (OCTAVE *ℤ shift.octave) +ℤ shift.transpose
+
+-- Whether each part of a shift is 0.
+abbrev pub is_unshifted : VoiceShift → Bool
+is_unshifted shift = int_eq shift.clef (pos 0) && int_eq shift.octave (pos 0) && int_eq shift.transpose (pos 0)
 
 -- The pitch of a note with this alteration as it is written, in semitones. A capital C is the middle C, and an octave has
 -- twelve semitones (ABC 2.1 section 4.1).

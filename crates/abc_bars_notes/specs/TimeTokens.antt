@@ -1,5 +1,5 @@
 -- Notes, chords and rests: what each gives and what it leaves for its voice.
-use Rattle.std.specs.Prelude.{ℕ, Bool, true, false, if◌then◌else◌, None, is_none, List, [], ◌∷◌, ◌++◌}
+use Rattle.std.specs.Prelude.{ℕ, ◌==◌, Bool, true, false, not, ◌&&◌, if◌then◌else◌, None, is_none, List, [], ◌∷◌, ◌++◌, length}
 use Rattle.abc_fields.specs.declared.fault.FaultCode.{FaultCode}
 use Rattle.abc_fields.specs.declared.fault.FaultCode.TheVariants.{BadLength, EmptyChord, KeyRange}
 use Rattle.abc_scan.specs.declared.chord.Chord.{Chord}
@@ -68,6 +68,11 @@ note_context from tied = record { outer = None; column = column_of from; tied = 
 abbrev pub play_note : VoiceState → List Ratio → Bool → ℕ → Note → TimeTokenResult
 play_note state broken tied from note =
     sound_notes state (with_note state broken (note_context from tied) note (no_notes state))
+
+-- Whether a note surely leaves the state of its voice: no tie before or after it, no accidental of its own, no open tuplet.
+abbrev pub is_steady : VoiceState → Note → Bool → Bool
+is_steady state note tied =
+    not tied && is_none note.accidental && is_none state.tuplet && (length state.tied == 0)
 
 -- A chord that has a note sounds, one that has none takes no time. Not in ABC 2.1.
 abbrev pub chord_by : Bool → VoiceState → ℕ → ChordBuilder → TimeTokenResult

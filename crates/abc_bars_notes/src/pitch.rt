@@ -2,7 +2,7 @@
 
 ghost use Rattle.std.specs.Prelude.{◌≡◌, ◌^◌, ◌<◌, ◌≤◌, ◌≤ℤ◌, pos, negsuc, IfSome, IsTrue};
 ghost use Rattle.abc_text.specs.Letter.{semitones};
-ghost use Rattle.abc_bars_notes.specs.Pitch.{midi_key, pitch_of, total_shift, written_pitch};
+ghost use Rattle.abc_bars_notes.specs.Pitch.{is_unshifted, midi_key, pitch_of, total_shift, written_pitch};
 
 use abc_bars_items::HIGHEST_KEY;
 use abc_bars_voice::VoiceShift;
@@ -39,7 +39,8 @@ fn total_shift(shift: VoiceShift) -> i128
 
 /// Whether notes sound as they are written.
 fn is_unshifted(shift: VoiceShift) -> bool
-    ensures { IsTrue result → total_shift shift ≡ pos 0 }
+    ensures exact { result ≡ is_unshifted shift }
+    ensures zero { IsTrue result → total_shift shift ≡ pos 0 }
 {
     match (shift.clef, shift.octave, shift.transpose) {
         (0, 0, 0) => true,

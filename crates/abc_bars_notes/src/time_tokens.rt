@@ -8,7 +8,8 @@ ghost use Rattle.abc_bars_items.specs.Item.{AreTones, IsTone, IsWithinLongest, a
 ghost use Rattle.abc_bars_notes.specs.Sound.{fault_if, length_in, tied_note_in, tone_in};
 ghost use Rattle.abc_bars_items.specs.declared.item.Item.TheVariants as item_kinds;
 ghost use Rattle.abc_bars_voice.specs.Tuplet.{count_down};
-ghost use Rattle.abc_bars_notes.specs.TimeTokens.{first_length, sound_notes, play_note, play_chord, play_rest, voice_after, with_result, with_tone};
+ghost use Rattle.abc_bars_notes.specs.TimeTokens.{first_length, is_steady, sound_notes, play_note, play_chord, play_rest};
+ghost use Rattle.abc_bars_notes.specs.TimeTokens.{voice_after, with_result, with_tone};
 
 use crate::broken::BrokenFactors;
 use crate::chords::{ChordContext, chord_builder_of};
@@ -103,7 +104,9 @@ fn push_note(
 /// Whether a note leaves the state of its voice as it is. Most notes do.
 #[inline(always)]
 fn leaves_voice(state: &VoiceState, note: Note, tied: bool) -> bool
-    ensures { (broken : List Ratio) (from : ℕ) → IsTrue result → (play_note state.now broken tied from note).state ≡ state.now }
+    ensures exact { result ≡ is_steady state.now note tied }
+    ensures state { (broken : List Ratio) (from : ℕ) → IsTrue result
+        → (play_note state.now broken tied from note).state ≡ state.now }
 {
     match (tied, note.accidental, state.tuplet, state.tied.as_slice()) {
         (false, None, None, []) => true,
@@ -186,10 +189,12 @@ pub fn play_steady_note(
     broken: &BrokenFactors,
     place: NotePlace,
 ) -> Result<bool, AllocError>
-    ensures state { IfOk result (λ played. IsTrue played → (play_note state.now broken.now place.tied place.from note).state ≡ state.now) }
+    ensures exact { IfOk result (λ played. played ≡ is_steady state.now note place.tied) }
+    ensures state { IfOk result (λ played. IsTrue played
+        → (play_note state.now broken.now place.tied place.from note).state ≡ state.now) }
     ensures items { IfOk result (λ played. IsTrue played
         → items.new ≡ with_result items.old (play_note state.now broken.now place.tied place.from note)) }
-    ensures refused { IfOk result (λ played. played ≡ false → items.new ≡ items.old) }
+    ensures not_played { IfOk result (λ played. played ≡ false → items.new ≡ items.old) }
     ensures unchanged { OnErr result (items.new ≡ items.old) }
 {
     if !leaves_voice(state, note, place.tied) {

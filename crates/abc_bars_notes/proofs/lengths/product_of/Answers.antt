@@ -44,7 +44,8 @@ only c =
 pub returns-then-is_empty-clause-value : goal.returns-then-is_empty-clause-value
 returns-then-is_empty-clause-value c =
     subst (λ l. Some c.units_of.result ≡ result_ok (length_of c.args.unit l)) (only c)
-    (sym (ap result_ok (known_value c.args.unit (record { num = c.args.own.num; den = 1 } ∷ []) c.units_of.result (subst IsRatio c.get-part.ensures.value c.get-part.ensures.range) (whole_is c.args.own c.requires.own)
+    (sym (ap result_ok (known_value c.args.unit (record { num = c.args.own.num; den = 1 } ∷ []) c.units_of.result
+    (subst IsRatio c.get-part.ensures.value c.get-part.ensures.range) (whole_is c.args.own c.requires.own)
     (c.units_of.ensures.exact, c.units_of.ensures.range))))
 
 pub returns-then-is_empty-clause-exact : goal.returns-then-is_empty-clause-exact
