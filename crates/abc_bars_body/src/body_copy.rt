@@ -1,14 +1,16 @@
 //! Copies of a body for the tokens of a cell to change.
 
-ghost use Rattle.std.specs.Prelude.{◌≡◌, IfOk, IfSome, IsTrue, OnErr, OnOk};
+ghost use Rattle.std.specs.Prelude.{◌≡◌, ◌↔◌, IfOk, IfSome, IsTrue, OnErr, OnOk};
 ghost use Rattle.std.specs.Borrow.{sem};
 ghost use Rattle.abc_bars_body.specs.Body.{here, after_mention, with_here};
-ghost use Rattle.abc_bars_body.specs.BodyCopy.{IsOwned, stored_body, with_changed};
+ghost use Rattle.abc_bars_body.specs.BodyCopy.{IsOwned, is_surely_mentioned, stored_body, with_changed};
 ghost use Rattle.abc_bars_body.specs.BodyCopyLent.{LendsOwn};
 ghost use Rattle.abc_bars_body.specs.BodyFields.{field_result, field_result_of};
 ghost use Rattle.abc_bars_items.specs.Item.{IsItem};
+ghost use Rattle.abc_bars_voice.specs.Accidentals.{no_accidentals};
 ghost use Rattle.abc_bars_voice.specs.VoiceState.{without_accidentals};
 ghost use Rattle.abc_bars_voice.specs.declared.voice_state.VoiceState.{VoiceState as State};
+ghost use Rattle.abc_scan.specs.declared.directive.Reach.TheVariants.{Pitch};
 
 use crate::body::{Body, Current};
 use crate::body_fields::{FieldItem, kind_result};
@@ -36,7 +38,8 @@ impl BodyStorage {
     /// Whether the current voice is surely mentioned, by a quick test.
     #[tactic(auto, using(crate::proofs::HereLaws::still_mentioned))]
     fn is_surely_mentioned(&self) -> bool
-        ensures { IsTrue result → after_mention (stored_body self.now) ≡ stored_body self.now }
+        ensures exact { result ≡ is_surely_mentioned self.now }
+        ensures same { IsTrue result → after_mention (stored_body self.now) ≡ stored_body self.now }
     {
         match self {
             BodyStorage::Borrowed { body, .. } => matches!(body.get().current, Current::At(_)),
@@ -171,11 +174,12 @@ impl BodyCopy {
         }
     }
 
-    /// Whether the current voice surely has no accidentals.
+    /// Whether the current voice has no accidentals, and they have the usual reach.
     #[inline(always)]
     #[tactic(auto, using(crate::proofs::HereLaws::clear_same))]
     fn is_clear(&self, alloc: Global) -> bool
-        ensures { IsTrue result → self.now ≡ with_here self.now (without_accidentals (here self.now)) }
+        ensures exact { IsTrue result ↔ ((here self.now).accidentals ≡ no_accidentals Pitch) }
+        ensures same { IsTrue result → self.now ≡ with_here self.now (without_accidentals (here self.now)) }
     {
         let none = Accidentals::none(alloc, Reach::Pitch);
         self.here().accidentals.same(&none)
