@@ -1,4 +1,4 @@
+pub mod Opened
 pub mod Scores
 pub mod Tunes
 pub mod Values
-pub mod Words

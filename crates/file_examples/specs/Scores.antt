@@ -1,5 +1,5 @@
 -- The scores, and the changes and the notes of a track, of the worked examples of files. Not in ABC 2.1.
-use Rattle.std.specs.Prelude.{ℕ, pos, negsuc, true, false, List, [], ◌∷◌, codes, replicate}
+use Rattle.std.specs.Prelude.{ℕ, pos, negsuc, true, false, List, [], ◌∷◌, ◌++◌, codes, replicate}
 use Rattle.abc_voices_score.specs.declared.score.Change.{Change}
 use Rattle.abc_voices_score.specs.declared.score.ChangeKind.TheVariants.{Tempo, Meter, Key}
 use Rattle.abc_voices_score.specs.declared.score.Score.{Score}
@@ -22,10 +22,20 @@ one_eighth = record {
   programs = [] ∷ [];
 }
 
--- Its file, in hexadecimal. SMF 1.0.
+-- The header of a file of two tracks, in hexadecimal. SMF 1.0.
+abbrev header_of_two_tracks : List ℕ
+header_of_two_tracks = codes "4D546864000000060001000201E0"
+
+-- The track of the one note C, an eighth, in hexadecimal. SMF 1.0.
+abbrev eighth_track : List ℕ
+eighth_track = codes "4D54726B0000000D00903C508170803C4000FF2F00"
+
+-- The file of the tune, in hexadecimal: the header, the conductor's track, the track of the voice. SMF 1.0.
 abbrev pub one_eighth_file : List ℕ
 one_eighth_file =
-    codes "4D546864000000060001000201E04D54726B0000001700FF03014100FF510307A12000FF590200008170FF2F004D54726B0000000D00903C508170803C4000FF2F00"
+    header_of_two_tracks
+    ++ codes "4D54726B0000001700FF03014100FF510307A12000FF590200008170FF2F00"
+    ++ eighth_track
 
 -- Seven notes one after another in the time of four.
 abbrev pub seven_notes : List Sounding
@@ -34,7 +44,8 @@ seven_notes = seventh 60 0 ∷ seventh 62 1 ∷ seventh 64 2 ∷ seventh 65 3 �
 -- Their track, in hexadecimal. The bytes are those of a second compiler.
 abbrev pub seven_notes_track : List ℕ
 seven_notes_track =
-    codes "4D54726B0000004300903C508109803C4000903E508109803E4000904050810980404000904150810980414000904350810980434000904550810980454000904750810A80474000FF2F00"
+    codes "4D54726B0000004300903C508109803C4000903E508109803E40009040508109804040"
+    ++ codes "00904150810980414000904350810980434000904550810980454000904750810A80474000FF2F00"
 
 -- A key, a meter and a tempo of tick 0.
 abbrev pub opening_changes : List Change
@@ -55,7 +66,8 @@ changes_in_no_order =
 -- Their track, in hexadecimal. The bytes are those of a second compiler.
 abbrev pub changes_track : List ℕ
 changes_track =
-    codes "4D54726B0000003700FF510307A12000FF58040603180800FF5902F9018360FF510300000100FF5103FFFFFF00FF5804FF06180800FF590207008360FF2F00"
+    codes "4D54726B0000003700FF510307A12000FF58040603180800FF5902F901"
+    ++ codes "8360FF510300000100FF5103FFFFFF00FF5804FF06180800FF590207008360FF2F00"
 
 -- A note of a tune without dynamics, and two loud ones after it.
 abbrev pub two_loud_notes : List Sounding
@@ -77,6 +89,14 @@ the_longest = record {
   programs = [] ∷ [];
 }
 
+-- Its file, in hexadecimal: the header, the conductor's track, the track of the voice. The bytes are those of a second
+-- compiler.
+abbrev pub the_longest_file : List ℕ
+the_longest_file =
+    header_of_two_tracks
+    ++ codes "4D54726B0000000FF8808000FF58040200180800FF2F00"
+    ++ codes "4D54726B0000000F00903C50F8808000803C4000FF2F00"
+
 -- Fifteen voices without notes.
 abbrev pub fifteen_silent_voices : Score
 fifteen_silent_voices = record {
@@ -97,7 +117,10 @@ two_voices = record {
   programs = [] ∷ (program_at 0 1 ∷ []) ∷ [];
 }
 
--- Their file, in hexadecimal. SMF 1.0.
+-- Their file, in hexadecimal: the header of three tracks, the conductor's track, those of the voices. SMF 1.0.
 abbrev pub two_voices_file : List ℕ
 two_voices_file =
-    codes "4D546864000000060001000301E04D54726B000000058170FF2F004D54726B0000000D00903C508170803C4000FF2F004D54726B0000001000C1010091402D817081404000FF2F00"
+    codes "4D546864000000060001000301E0"
+    ++ codes "4D54726B000000058170FF2F00"
+    ++ eighth_track
+    ++ codes "4D54726B0000001000C1010091402D817081404000FF2F00"

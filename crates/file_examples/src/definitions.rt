@@ -1,6 +1,6 @@
 //! Worked examples by the definitions of `smf_bytes`: number texts, events, tracks and files. A body here does nothing;
 //! its contract is the example.
-#![tactic(auto, unfolding(abc_text::specs::Power::is_power_up_to, abc_time::specs::Grains::grains_of_a_tick, abc_time::specs::Grains::grains_of_the_latest_end, crate::specs::Words::count_trailing_zeros, smf_bytes::specs::File::file_bytes, smf_bytes::specs::File::header_chunk, smf_bytes::specs::Number::number_text, smf_bytes::specs::Number::read_result, smf_bytes::specs::Track::track, smf_bytes::specs::Track::track_body, hex::specs::Hex::encode_with))]
+#![tactic(auto, unfolding(crate::specs::Opened::files, crate::specs::Opened::numbers))]
 
 ghost use Rattle.std.specs.Prelude.{◌≡◌, pos, negsuc, true, false, [], ◌∷◌, ◌++◌, codes, replicate};
 ghost use Rattle.std.specs.List.{concat, list_all, list_any};
@@ -16,7 +16,7 @@ ghost use Rattle.smf_bytes.specs.Order.{in_order};
 ghost use Rattle.smf_bytes.specs.Track.{channel_of, conductor_events, track, track_body, voice_events};
 ghost use Rattle.file_examples.specs.Scores.{two_tempos, one_eighth, one_eighth_file, seven_notes, seven_notes_track};
 ghost use Rattle.file_examples.specs.Scores.{opening_changes, events_in_no_order, changes_in_no_order, changes_track};
-ghost use Rattle.file_examples.specs.Scores.{notes_in_no_order, fifteen_silent_voices, the_longest};
+ghost use Rattle.file_examples.specs.Scores.{notes_in_no_order, fifteen_silent_voices, the_longest, the_longest_file};
 ghost use Rattle.file_examples.specs.Values.{sounding};
 
 /// Variable-length quantities, the first and the last of each count of bytes, and 240. SMF 1.0.
@@ -160,8 +160,7 @@ pub fn notes_at_one_tick()
 
 /// The latest end, 131,072 whole notes, with a delta time of four bytes. The bytes are those of a second compiler.
 pub fn the_latest_end()
-    ensures { encode_upper (file_bytes the_longest)
-        ≡ codes "4D546864000000060001000201E04D54726B0000000FF8808000FF58040200180800FF2F004D54726B0000000F00903C50F8808000803C4000FF2F00" }
+    ensures { encode_upper (file_bytes the_longest) ≡ the_longest_file }
 {}
 
 /// The header of fifteen voices, the most, counts sixteen tracks; a voice without notes has a track of its end alone.

@@ -1,6 +1,6 @@
 //! Worked examples by the definitions of `abc_voices`: sections, plays, notes and changes of tunes. A body here does
 //! nothing; its contract is the example. Notes last one grain.
-#![tactic(auto, unfolding(abc_fields::specs::Letters::play_on, abc_repeat::specs::Mark::has_number, abc_repeat::specs::Mark::greatest_number, abc_repeat::specs::Mark::greatest_number_to, abc_repeat::specs::Order::sections_of, abc_repeat::specs::Play::play_of, abc_repeat::specs::Play::strain_play, abc_time::specs::Grains::grains_of_a_tick))]
+#![tactic(auto, unfolding(crate::specs::Opened::plays))]
 
 ghost use Rattle.std.specs.Prelude.{◌≡◌, true, false, [], ◌∷◌, Some, None};
 ghost use Rattle.std.specs.List.{list_any};
@@ -67,7 +67,8 @@ pub fn fields_that_stay()
 /// Ties go on in play: over a repeat, `|:C-|1C:|2C-||C`, and over sections, while another voice plays on, `P:A`, `V:1`
 /// with `C-`, `V:2` with `EE`, `P:B`, `V:1` with `C`. ABC 2.1 section 4.11; that they do is not in ABC 2.1.
 pub fn ties_over_repeats_and_sections()
-    ensures repeated { voices_notes (opening ∷ tied 60 ∷ single ∷ first ∷ note 60 ∷ closing ∷ second ∷ tied 60 ∷ double ∷ note 60 ∷ [])
+    ensures repeated { voices_notes
+        (opening ∷ tied 60 ∷ single ∷ first ∷ note 60 ∷ closing ∷ second ∷ tied 60 ∷ double ∷ note 60 ∷ [])
         ≡ (sounding 60 2 5 ∷ sounding 60 0 2 ∷ []) ∷ [] }
     ensures sections { voices_notes (part_a ∷ voice_1 ∷ tied 60 ∷ voice_2 ∷ note 64 ∷ note 64 ∷ part_b ∷ voice_1 ∷ note 60 ∷ [])
         ≡ (sounding 60 0 3 ∷ []) ∷ (sounding 64 1 2 ∷ sounding 64 0 1 ∷ []) ∷ [] }

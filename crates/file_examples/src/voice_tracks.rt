@@ -1,6 +1,6 @@
 //! Worked examples of the tracks of voices by the definitions of `smf_bytes`: velocities and programs. A body here does
 //! nothing; its contract is the example.
-#![tactic(auto, unfolding(abc_time::specs::Grains::grains_of_a_tick, smf_bytes::specs::File::file_bytes, smf_bytes::specs::File::header_chunk, smf_bytes::specs::Number::number_text, smf_bytes::specs::Track::track, smf_bytes::specs::Track::track_body, hex::specs::Hex::encode_with))]
+#![tactic(auto, unfolding(crate::specs::Opened::files))]
 
 ghost use Rattle.std.specs.Prelude.{◌≡◌, [], ◌∷◌, codes};
 ghost use Rattle.hex.specs.Hex.{encode_upper};
