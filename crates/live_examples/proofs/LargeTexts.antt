@@ -31,3 +31,6 @@ pub too_many_and_bad : (lines : Text) → list_all is_line lines ≡ false → e
 unfolding edited replaced spliced judged
 too_many_and_bad lines improper =
     ap (λ p. judged p (length (lines ++ codes "a" ∷ [])) (lines ++ codes "a" ∷ [])) improper
+
+-- all three, for the example of large texts
+pub ruleset large_texts = (too_many, not_too_many, too_many_and_bad)

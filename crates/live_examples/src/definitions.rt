@@ -1,5 +1,5 @@
 //! Worked examples by the definitions themselves. A body here does nothing; its contract is the example. Each module
-//! lists the definitions that it unfolds.
+//! names the definitions, or the sets of `Opened`, that it unfolds.
 
 pub mod answers;
 pub mod books;

@@ -22,7 +22,7 @@ pub fn lines_of_books()
 {}
 
 /// Lists of faults and of titles. A missing title is empty, and the space before it stays.
-#[tactic(auto, unfolding(abc2midi_live::specs::Answer::fault_line, abc2midi_live::specs::Answer::fault_list, abc2midi_live::specs::Answer::title_line, abc2midi_live::specs::Answer::title_list))]
+#[tactic(auto, unfolding(crate::specs::Opened::lists))]
 pub fn lists()
     ensures fault { fault_list (record { line = 5; column = 2; code = BadBroken } ∷ []) ≡ codes "5:2 BadBroken\nend\n" }
     ensures faults { fault_list (record { line = 1; column = 1; code = MissingKey }

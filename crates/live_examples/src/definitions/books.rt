@@ -1,5 +1,5 @@
 //! Books of texts in the toy language.
-#![tactic(auto, unfolding(abc_book::specs::Block::blocks_of, abc_tune_compiler::specs::Book::book_of, abc_tune_compiler::specs::Tune::tune_of))]
+#![tactic(auto, unfolding(crate::specs::Opened::books))]
 
 ghost use Rattle.std.specs.Prelude.{◌≡◌, [], ◌∷◌, codes};
 ghost use Rattle.abc_fields.specs.declared.fault.FaultCode.TheVariants.{BadByte, BadReference, TuneTooLong};

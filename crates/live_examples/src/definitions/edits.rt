@@ -1,5 +1,5 @@
 //! Edits of a text, and the differences of two books. How a text is edited is not in ABC 2.1.
-#![tactic(auto, unfolding(abc_lines::specs::Edits::edited, abc_lines::specs::Edits::replaced, abc_lines::specs::Text::spliced, abc_tune_compiler::specs::Files::removed_numbers, abc_tune_compiler::specs::Files::written_numbers))]
+#![tactic(auto, unfolding(crate::specs::Opened::edits, crate::specs::Opened::differences))]
 
 ghost use Rattle.std.specs.Prelude.{◌≡◌, ℕ, true, false, [], ◌∷◌, ◌++◌, length, codes, replicate};
 ghost use Rattle.std.specs.Global.{Vec};
@@ -95,7 +95,7 @@ pub fn long_lines()
 
 /// A text has at most 1,048,576 lines: of a text of one line, whatever lines are put before it. What is no line comes
 /// first, however many there are.
-#[tactic(auto, using(crate::proofs::LargeTexts::too_many, crate::proofs::LargeTexts::not_too_many, crate::proofs::LargeTexts::too_many_and_bad))]
+#[tactic(auto, using(crate::proofs::LargeTexts::large_texts))]
 pub fn large_texts()
     ensures most { (lines : Text) → list_all is_line lines ≡ true → length lines ≡ 1048575
         → edited (codes "a" ∷ []) (insertion 1 lines) ≡ Ok (lines ++ codes "a" ∷ []) }
