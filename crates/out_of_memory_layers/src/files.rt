@@ -9,8 +9,9 @@ use std::alloc::{AllocError, Global};
 use std::rt::Runtime;
 
 /// The file of a tune `T:A`, `K:C` whose note is `C`.
-pub const FILE_OF_C: &[u8] =
-    b"MThd\0\0\0\x06\0\x01\0\x02\x01\xE0MTrk\0\0\0\x17\0\xFF\x03\x01A\0\xFFQ\x03\x07\xA1\x20\0\xFFY\x02\0\0\x81p\xFF\x2F\0MTrk\0\0\0\x0D\0\x90\x3CP\x81p\x80\x3C\x40\0\xFF\x2F\0";
+pub const FILE_OF_C: &[u8] = b"MThd\0\0\0\x06\0\x01\0\x02\x01\xE0\
+    MTrk\0\0\0\x17\0\xFF\x03\x01A\0\xFFQ\x03\x07\xA1\x20\0\xFFY\x02\0\0\x81p\xFF\x2F\0\
+    MTrk\0\0\0\x0D\0\x90\x3CP\x81p\x80\x3C\x40\0\xFF\x2F\0";
 
 /// The number 240.
 pub fn quantity(rt: &impl Runtime, alloc: Global) -> Result<bool, AllocError> {

@@ -29,8 +29,9 @@ pub fn take(
 }
 
 /// The file of a tune `T:A`, `K:C` whose note is `D`, two semitones higher than `C`.
-pub const FILE_OF_D: &[u8] =
-    b"MThd\0\0\0\x06\0\x01\0\x02\x01\xE0MTrk\0\0\0\x17\0\xFF\x03\x01A\0\xFFQ\x03\x07\xA1\x20\0\xFFY\x02\0\0\x81p\xFF\x2F\0MTrk\0\0\0\x0D\0\x90\x3EP\x81p\x80\x3E\x40\0\xFF\x2F\0";
+pub const FILE_OF_D: &[u8] = b"MThd\0\0\0\x06\0\x01\0\x02\x01\xE0\
+    MTrk\0\0\0\x17\0\xFF\x03\x01A\0\xFFQ\x03\x07\xA1\x20\0\xFFY\x02\0\0\x81p\xFF\x2F\0\
+    MTrk\0\0\0\x0D\0\x90\x3EP\x81p\x80\x3E\x40\0\xFF\x2F\0";
 
 /// Checks the number of the job that was taken last, and its bytes.
 pub fn check_newest(rt: &impl Abort, held: &HeldJobs, number: u32, file: Option<&[u8]>) {
