@@ -1,16 +1,21 @@
 -- The events of a track before they are written.
-use Rattle.std.specs.Prelude.{◌≡◌, ℕ, ◌≤◌, ◌<◌, List, All}
+use Rattle.std.specs.Prelude.{◌≡◌, ℕ, ◌≤◌, ◌<◌, ◌==◌, ◌&&◌, Bool, List, length, All}
 use Rattle.abc_time.specs.Grains.{grains_of_the_latest_end, tick_at}
 use Rattle.abc_voices_score.specs.Limits.{AreProgramsWithin, IsVoiceWithin}
 use Rattle.smf_bytes.specs.declared.event.Event.{Event}
 use Rattle.smf_bytes.specs.declared.track.TrackEvents.{TrackEvents}
 use Rattle.smf_bytes.specs.declared.track.TrackEvents.TheVariants.{Conductor, Voice}
 use Rattle.smf_bytes.specs.declared.voice_track.VoiceMusic.{VoiceMusic}
+use Rattle.smf_bytes.specs.Groups.{are_in_turn}
 use Rattle.smf_bytes.specs.Track.{voice_events}
 
 -- The events of the music of a voice, in any order.
 abbrev pub music_events : VoiceMusic → List Event
 music_events music = voice_events music.channel music.programs.now music.notes.now
+
+-- Whether music has no programs, and its notes begin one after another.
+abbrev pub is_plain : VoiceMusic → Bool
+is_plain music = (length music.programs.now == 0) && are_in_turn music.notes.now
 
 -- The events of a track, in any order.
 abbrev pub events_in : TrackEvents → List Event

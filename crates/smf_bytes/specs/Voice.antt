@@ -1,5 +1,5 @@
 -- The events of a voice before they are written.
-use Rattle.std.specs.Prelude.{ℕ, ◌+◌, ◌==◌, if◌then◌else◌, List, [], ◌∷◌, ◌++◌, flat_map, map}
+use Rattle.std.specs.Prelude.{ℕ, ◌+◌, ◌==◌, Bool, true, false, if◌then◌else◌, List, [], ◌∷◌, ◌++◌, flat_map, map}
 use Rattle.abc_time.specs.Grains.{tick_at}
 use Rattle.abc_voices_score.specs.declared.score.ProgramChange.{ProgramChange as VoiceProgram}
 use Rattle.abc_voices_score.specs.declared.score.Sounding.{Sounding}
@@ -19,6 +19,11 @@ abbrev pub class_in : VoiceEventKind → ℕ
 class_in NoteOff = 1
 class_in ProgramChange = 2
 class_in NoteOn = 3
+
+-- Whether events of these kinds begin a note and end one.
+abbrev pub is_note : VoiceEventKind → VoiceEventKind → Bool
+is_note NoteOn NoteOff = true
+is_note _ _ = false
 
 -- The event on a channel.
 abbrev pub event_at : ℕ → VoiceEvent → Event

@@ -1,13 +1,14 @@
 //! Groups of notes, each of which ends before the next one begins: most groups are one note, others a chord.
-ghost use Rattle.std.specs.Prelude.{◌≤◌, ◌<◌, IsTrue, All, length, drop, take};
-ghost use Rattle.smf_bytes.specs.Groups.{AreInTurn};
+ghost use Rattle.std.specs.Prelude.{◌≡◌, ◌≤◌, ◌<◌, IsTrue, All, length, drop, take};
+ghost use Rattle.smf_bytes.specs.Groups.{AreInTurn, are_in_turn};
 
 use abc_time::Grains;
 use abc_voices_score::Sounding;
 
 /// Whether the notes begin one after another, from the last to the first.
 pub(crate) fn are_in_turn(notes: &[Sounding]) -> bool
-    ensures { IsTrue result → AreInTurn notes.now }
+    ensures turn { IsTrue result → AreInTurn notes.now }
+    ensures exact { result ≡ are_in_turn notes.now }
 {
     let mut left = notes;
     while let [note, others @ ..] = left {

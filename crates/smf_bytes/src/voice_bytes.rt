@@ -1,7 +1,7 @@
 //! The bytes of a voice's events, each after its delta time.
 ghost use Rattle.std.specs.Prelude.{◌≡◌, ◌<◌, ◌^◌, ◌++◌, IsTrue, OnOk};
 ghost use Rattle.smf_bytes.specs.Number.{number_text};
-ghost use Rattle.smf_bytes.specs.Voice.{bytes_of};
+ghost use Rattle.smf_bytes.specs.Voice.{bytes_of, is_note};
 
 use crate::number::{leading_byte, put_number};
 use crate::voice_event::{VoiceEvent, VoiceEventKind};
@@ -9,7 +9,8 @@ use std::alloc::AllocError;
 
 /// Whether the first event begins a note and the second ends one.
 pub(crate) fn is_note(first: &VoiceEvent, second: &VoiceEvent) -> bool
-    ensures { IsTrue result → (first.now.kind ≡ VoiceEventKind.NoteOn) × (second.now.kind ≡ VoiceEventKind.NoteOff) }
+    ensures kinds { IsTrue result → (first.now.kind ≡ VoiceEventKind.NoteOn) × (second.now.kind ≡ VoiceEventKind.NoteOff) }
+    ensures exact { result ≡ is_note first.now.kind second.now.kind }
 {
     first.kind == VoiceEventKind::NoteOn && second.kind == VoiceEventKind::NoteOff
 }

@@ -6,7 +6,7 @@ ghost use Rattle.smf_bytes.specs.Event.{note_events};
 ghost use Rattle.smf_bytes.specs.Groups.{AreInTurn};
 ghost use Rattle.smf_bytes.specs.Order.{in_order};
 ghost use Rattle.smf_bytes.specs.Track.{Follows, tick_after, timed_events, track_body, voice_events};
-ghost use Rattle.smf_bytes.specs.TrackEvents.{IsMusicWithin, music_events};
+ghost use Rattle.smf_bytes.specs.TrackEvents.{IsMusicWithin, is_plain, music_events};
 ghost use Rattle.smf_bytes.specs.Voice.{event_at};
 
 use crate::groups::{are_in_turn, first_group};
@@ -48,7 +48,8 @@ pub(crate) fn put_music(out: &mut Vec<u8>, music: VoiceMusic) -> Result<(), Allo
 /// Whether a voice has no programs, and its notes begin in turn.
 #[tactic(auto, using(std::proofs::lemmas::List::nil_from_length))]
 fn is_plain(music: VoiceMusic) -> bool
-    ensures { IsTrue result → (music.entry.programs.now ≡ []) × AreInTurn music.entry.notes.now }
+    ensures plain { IsTrue result → (music.entry.programs.now ≡ []) × AreInTurn music.entry.notes.now }
+    ensures exact { result ≡ is_plain music.entry }
 {
     match music.programs {
         [] => are_in_turn(music.notes),
