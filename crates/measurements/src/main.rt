@@ -5,9 +5,11 @@
 mod splices;
 mod work;
 
+use splices::SpliceRun;
+use std::env;
+use std::io::{self, ErrorKind};
 use std::process::ExitCode;
 use std::rt::Runtime;
-use std::{env, io};
 
 fn main(rt: HostRuntime) -> ExitCode {
     match measure(&rt) {
@@ -27,14 +29,20 @@ fn main(rt: HostRuntime) -> ExitCode {
 
 /// Makes the measurement that the command line names. Returns whether it names one.
 fn measure<R: Runtime + AllocGlobal>(rt: &R) -> io::Result<bool> {
-    let words: Vec<String> = env::args(rt)?.collect(rt.alloc())?;
-    let name = match words.get(1) {
-        Some(word) => word.as_str(),
-        None => "",
+    let words: Vec<String> = match env::args(rt) {
+        Ok(words) => words.collect(rt.alloc())?,
+        // A word is not UTF-8.
+        Err(error) if error.kind() == ErrorKind::InvalidData => return Ok(false),
+        Err(error) => return Err(error),
     };
-    match name {
-        "work" => work::print_work(rt)?,
-        "splices" => splices::make_splices(rt, words.as_slice())?,
+    match words.as_slice() {
+        [_, name] if name.as_str() == "work" => work::print_work(rt)?,
+        [_, name, numbers @ ..] if name.as_str() == "splices" => {
+            let Some(splices) = SpliceRun::of(numbers) else {
+                return Ok(false);
+            };
+            splices.make(rt)?;
+        }
         _ => return Ok(false),
     }
     Ok(true)
