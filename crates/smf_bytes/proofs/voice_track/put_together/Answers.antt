@@ -1,4 +1,4 @@
-use Rattle.std.proofs.Common.{◌≡◌, List, ◌++◌, map, subst, sym}
+use Rattle.std.proofs.Common.{◌≡◌, List, ◌++◌, subst, sym}
 use Rattle.std.specs.Prelude.{IfOk, OnOk}
 use Rattle.abc_time.specs.Grains.{tick_at}
 use Rattle.smf_bytes.specs.declared.event.Event.{Event}
