@@ -30,7 +30,7 @@ impl Side {
         !self.is_pending() && self.carried.is_none()
     }
 
-    fn edited(self) -> Side {
+    fn edit(self) -> Side {
         let book = match self.book {
             Version::Absent => Version::WithC,
             Version::WithC => Version::WithD,
@@ -39,14 +39,14 @@ impl Side {
         Side { book, ..self }
     }
 
-    fn taken(self) -> Side {
+    fn take(self) -> Side {
         Side {
             carried: Some(self.book),
             ..self
         }
     }
 
-    fn ended(self, done: bool) -> Side {
+    fn end(self, done: bool) -> Side {
         let stored = match self.carried {
             Some(carried) if done => carried,
             _ => Version::Unknown,
@@ -81,35 +81,35 @@ pub const OPENING: Account = Account {
 
 impl Account {
     /// After an edit of a tune, which goes from none to `C` to `D` to none.
-    pub fn edited(self, number: u32) -> Account {
+    pub fn edit(self, number: u32) -> Account {
         if number == 1 {
-            let first = self.first.edited();
+            let first = self.first.edit();
             Account { first, ..self }
         } else {
-            let second = self.second.edited();
+            let second = self.second.edit();
             Account { second, ..self }
         }
     }
 
     /// After the end of a number's job.
-    pub fn ended(self, number: u32, done: bool) -> Account {
+    pub fn end(self, number: u32, done: bool) -> Account {
         if number == 1 {
-            let first = self.first.ended(done);
+            let first = self.first.end(done);
             Account { first, ..self }
         } else {
-            let second = self.second.ended(done);
+            let second = self.second.end(done);
             Account { second, ..self }
         }
     }
 
     /// The number of the next job and what it carries, and the account after it.
-    pub fn taken(self) -> (Option<(u32, Version)>, Account) {
+    pub fn take(self) -> (Option<(u32, Version)>, Account) {
         if self.first.is_wanted() {
-            let first = self.first.taken();
+            let first = self.first.take();
             return (Some((1, first.book)), Account { first, ..self });
         }
         if self.second.is_wanted() {
-            let second = self.second.taken();
+            let second = self.second.take();
             return (Some((2, second.book)), Account { second, ..self });
         }
         (None, self)

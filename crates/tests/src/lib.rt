@@ -23,6 +23,8 @@ mod failing;
 #[cfg(test)]
 mod gap_lists;
 #[cfg(test)]
+mod jobs;
+#[cfg(test)]
 mod kept_runs;
 #[cfg(test)]
 mod memos;
@@ -50,7 +52,5 @@ mod sessions;
 mod shelf;
 #[cfg(test)]
 mod streams;
-#[cfg(test)]
-mod taken;
 #[cfg(test)]
 mod texts;

@@ -18,13 +18,7 @@ fn line_of(number: u8) -> [u8; 3]
 
 /// Whether a memo returns the file of a tune of this line after a file header that sets this byte; None if an allocation
 /// fails.
-fn answered(
-    alloc: Global,
-    memo: &mut ToyMemo,
-    byte: u8,
-    number: u8,
-    work: &mut Work,
-) -> Option<bool> {
+fn ask(alloc: Global, memo: &mut ToyMemo, byte: u8, number: u8, work: &mut Work) -> Option<bool> {
     let line = line_of(number);
     let built = memo.ask(alloc, byte, &line, work).ok()?;
     let file = [byte, line[0], line[1], line[2]];
@@ -43,7 +37,7 @@ fn gives(
     number: u8,
     work: &mut Work,
 ) -> bool {
-    answered(alloc, memo, byte, number, work).expect(rt, "there is memory")
+    ask(alloc, memo, byte, number, work).expect(rt, "there is memory")
 }
 
 /// Checks the files of tunes by their header byte and number, and after each how many tunes were built.
@@ -107,9 +101,9 @@ fn no_answer_hangs_on_memory(rt: HostRuntime) {
         return;
     };
     let mut work = Work::mint(&rt);
-    let first = answered(alloc, &mut memo, b'0', 1, &mut work);
-    let second = answered(alloc, &mut memo, b'0', 1, &mut work);
-    let third = answered(alloc, &mut memo, b'0', 1, &mut work);
+    let first = ask(alloc, &mut memo, b'0', 1, &mut work);
+    let second = ask(alloc, &mut memo, b'0', 1, &mut work);
+    let third = ask(alloc, &mut memo, b'0', 1, &mut work);
     assert!(rt; first.unwrap_or(true) && second.unwrap_or(true) && third.unwrap_or(true));
     assert!(rt; first.is_some() || second.is_some() && third.is_some());
     assert!(rt; second.is_some() || third.is_some());

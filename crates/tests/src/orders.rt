@@ -5,7 +5,7 @@ ghost use Rattle.abc_publish.specs.Publisher.{maps_of};
 ghost use Rattle.live_examples.specs.HeldJobs.{IsUnderWay};
 
 use crate::account::{Account, OPENING, Version};
-use crate::taken::{FILE_OF_C, FILE_OF_D, check_newest, take};
+use crate::jobs::{FILE_OF_C, FILE_OF_D, check_newest, take};
 use crate::texts::{apply, empty_session, insertion};
 use abc_fold::Work;
 use abc_live::Session;
@@ -31,7 +31,7 @@ const FIRST_EVENT: Event = Event::Edited(1);
 
 impl Event {
     /// The event that is tried after this one.
-    fn following(self) -> Option<Event> {
+    fn next(self) -> Option<Event> {
         match self {
             Event::Edited(1) => Some(Event::Edited(2)),
             Event::Edited(_) => Some(Event::Taken),
@@ -125,7 +125,7 @@ fn check(rt: &impl Abort, publisher: &Publisher, session: &Session, account: Acc
 }
 
 /// Takes a job, and checks its number and its bytes, or that there is none.
-fn check_taken(
+fn check_take(
     rt: &impl Abort,
     publisher: &mut Publisher,
     held: HeldJobs,
@@ -135,7 +135,7 @@ fn check_taken(
     requires { IsUnderWay (maps_of publisher.old) held }
     ensures { IsUnderWay (maps_of publisher.new) result.0 }
 {
-    let (expected, account) = account.taken();
+    let (expected, account) = account.take();
     let before = held.count();
     let held = take(rt, publisher, held, session);
     match expected {
@@ -158,23 +158,23 @@ fn after_event(
     ensures { IsUnderWay (maps_of publisher.new) result.0 }
 {
     match event {
-        Event::Edited(number) => (held, account.edited(number)),
-        Event::Taken => check_taken(rt, publisher, held, session, account),
+        Event::Edited(number) => (held, account.edit(number)),
+        Event::Taken => check_take(rt, publisher, held, session, account),
         Event::OlderEnds(done) => {
             let number = held.oldest().map_or(0, Job::number);
             let held = end_older(publisher, held, done);
-            (held, account.ended(number, done))
+            (held, account.end(number, done))
         }
         Event::NewerEnds(done) => {
             let number = held.newest().map_or(0, Job::number);
             let held = end_newer(publisher, held, done);
-            (held, account.ended(number, done))
+            (held, account.end(number, done))
         }
     }
 }
 
 /// Tries events one after another, and checks the publisher after each from a place on. Returns how many could happen.
-fn tried(
+fn try_events(
     rt: &impl Abort,
     alloc: Global,
     sessions: &[Session],
@@ -202,10 +202,10 @@ fn tried(
 
 /// Goes on to the next list of events: one up to a place moves on, those after it start again. The place that moved on;
 /// None after the last list.
-fn moved_on(events: &mut [Event; EVENTS], at: usize) -> Option<usize> {
+fn move_on(events: &mut [Event; EVENTS], at: usize) -> Option<usize> {
     for i in (0..EVENTS).rev() {
         if i <= at
-            && let Some(event) = events[i].following()
+            && let Some(event) = events[i].next()
         {
             events[i] = event;
             return Some(i);
@@ -224,8 +224,8 @@ fn all_orders_of_events(rt: HostRuntime) {
     let mut events = [FIRST_EVENT; EVENTS];
     let mut new = 0;
     for _ in 0..MOST_LISTS {
-        let count = tried(&rt, alloc, &sessions, &events, new);
-        match moved_on(&mut events, count) {
+        let count = try_events(&rt, alloc, &sessions, &events, new);
+        match move_on(&mut events, count) {
             Some(place) => new = place,
             None => return,
         }

@@ -1,6 +1,6 @@
 //! A publisher on a session that is edited between its calls.
 
-use crate::taken::{FILE_OF_C, FILE_OF_D, check_newest, take};
+use crate::jobs::{FILE_OF_C, FILE_OF_D, check_newest, take};
 use crate::texts::{apply, empty_session, insertion, lines_of};
 use abc_fold::Work;
 use abc_live::{Edit, Session};

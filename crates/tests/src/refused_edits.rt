@@ -41,7 +41,7 @@ impl Twins {
     }
 
     /// The report of the same edit of the other one, in two steps. Neither dropping it nor committing it allocates.
-    fn committed<R: Runtime + Abort>(&mut self, rt: &R, edit: &Edit) -> Report {
+    fn commit<R: Runtime + Abort>(&mut self, rt: &R, edit: &Edit) -> Report {
         let patch = self.other.prepare(edit, &mut self.work);
         let patch = patch.expect(rt, "there is memory");
         silent(rt, "EditPatch::drop_patch");
@@ -60,7 +60,7 @@ impl Twins {
         call(rt, name);
         let report = self.report(rt, edit);
         done(rt);
-        let other = self.committed(rt, edit);
+        let other = self.commit(rt, edit);
         assert!(rt; report.written.as_slice() == other.written.as_slice());
         assert!(rt; report.removed.as_slice() == other.removed.as_slice());
         assert!(rt; are_alike(&self.session, &self.other));

@@ -4,7 +4,7 @@ ghost use Rattle.std.specs.Prelude.{IfSome};
 ghost use Rattle.abc_publish.specs.Publisher.{maps_of};
 ghost use Rattle.live_examples.specs.HeldJobs.{IsUnderWay};
 
-use crate::taken::{FILE_OF_C, FILE_OF_D, check_newest};
+use crate::jobs::{FILE_OF_C, FILE_OF_D, check_newest};
 use crate::texts::{apply, empty_session, insertion, lines_of};
 use abc_fold::Work;
 use abc_live::{Edit, Session};
@@ -16,7 +16,7 @@ use std::process::Abort;
 use std::rt::Runtime;
 
 /// The next job, if there is one; nothing if a request for memory is refused.
-fn tried(publisher: &mut Publisher, session: &Session) -> Option<HeldJobs>
+fn try_take(publisher: &mut Publisher, session: &Session) -> Option<HeldJobs>
     ensures { IfSome result (λ held. IsUnderWay (maps_of publisher.new) held) }
 {
     match publisher.take(session) {
@@ -27,7 +27,7 @@ fn tried(publisher: &mut Publisher, session: &Session) -> Option<HeldJobs>
 }
 
 /// The next job from a number on, if there is one; nothing if a request for memory is refused.
-fn tried_from(publisher: &mut Publisher, session: &Session, from: u32) -> Option<HeldJobs>
+fn try_take_from(publisher: &mut Publisher, session: &Session, from: u32) -> Option<HeldJobs>
     ensures { IfSome result (λ held. IsUnderWay (maps_of publisher.new) held) }
 {
     match publisher.take_from(session, from) {
@@ -38,15 +38,15 @@ fn tried_from(publisher: &mut Publisher, session: &Session, from: u32) -> Option
 }
 
 /// Takes the next job, if there is one. After a refusal the number is still pending, and the job is then taken.
-fn taken<R: Runtime + Abort>(rt: &R, publisher: &mut Publisher, session: &Session) -> HeldJobs
+fn take_next<R: Runtime + Abort>(rt: &R, publisher: &mut Publisher, session: &Session) -> HeldJobs
     ensures { IsUnderWay (maps_of publisher.new) result }
 {
-    match tried(publisher, session) {
+    match try_take(publisher, session) {
         Some(held) => held,
         None => {
             again(rt);
             assert!(rt; publisher.is_pending(1, session) && !publisher.settled(session));
-            tried(publisher, session).expect(rt, "there is memory")
+            try_take(publisher, session).expect(rt, "there is memory")
         }
     }
 }
@@ -80,7 +80,7 @@ fn take<R: Runtime + Abort>(
     ends_well: bool,
 ) {
     call(rt, name);
-    let held = taken(rt, publisher, session);
+    let held = take_next(rt, publisher, session);
     done(rt);
     check_newest(rt, &held, 1, Some(file));
     end(rt, publisher, held, ends_well);
@@ -125,7 +125,7 @@ fn take_all<R: Runtime + Abort>(
     );
     apply(rt, session, Edit::Delete { from: 1, to: 4 }, &mut work);
     // a file that goes needs no allocation
-    let held = taken(rt, publisher, session);
+    let held = take_next(rt, publisher, session);
     check_newest(rt, &held, 1, None);
     end(rt, publisher, held, true);
 }
@@ -139,19 +139,15 @@ fn jobs_of_a_tune(rt: HostRuntime) {
 }
 
 /// The job of the second of two tunes. After a refusal the number is still pending, and the job is then taken.
-fn second_taken<R: Runtime + Abort>(
-    rt: &R,
-    publisher: &mut Publisher,
-    session: &Session,
-) -> HeldJobs
+fn take_second<R: Runtime + Abort>(rt: &R, publisher: &mut Publisher, session: &Session) -> HeldJobs
     ensures { IsUnderWay (maps_of publisher.new) result }
 {
-    match tried_from(publisher, session, 2) {
+    match try_take_from(publisher, session, 2) {
         Some(held) => held,
         None => {
             again(rt);
             assert!(rt; publisher.is_pending(1, session) && publisher.is_pending(2, session));
-            tried_from(publisher, session, 2).expect(rt, "there is memory")
+            try_take_from(publisher, session, 2).expect(rt, "there is memory")
         }
     }
 }
@@ -164,7 +160,7 @@ fn a_job_from_a_number_on(rt: HostRuntime) {
     let tunes = insertion(&rt, rt.alloc(), &lines);
     apply(&rt, &mut session, tunes, &mut Work::mint(&rt));
     call(&rt, "Publisher::take_from");
-    let held = second_taken(&rt, &mut publisher, &session);
+    let held = take_second(&rt, &mut publisher, &session);
     done(&rt);
     check_newest(&rt, &held, 2, Some(FILE_OF_C));
     assert!(rt; publisher.is_pending(1, &session));

@@ -1,9 +1,9 @@
 //! A run of commands: its answers, however the input comes in pieces, and its result if a stream or store fails.
 
 use crate::failing::Failing;
+use crate::jobs::{FILE_OF_C, FILE_OF_D};
 use crate::shelf::Shelf;
 use crate::streams::{Kept, Pieces};
-use crate::taken::{FILE_OF_C, FILE_OF_D};
 use abc_fold::Work;
 use abc2midi_live::{RunFault, run};
 use std::alloc::Global;

@@ -1,6 +1,6 @@
 //! The session by its public calls.
 
-use crate::taken::FILE_OF_C;
+use crate::jobs::FILE_OF_C;
 use crate::texts::{empty_session, insertion, lines_of};
 use abc_fold::Work;
 use abc_live::{Edit, EditError, LiveSession, Session};

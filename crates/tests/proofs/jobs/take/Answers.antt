@@ -2,7 +2,7 @@ use Rattle.std.proofs.Common.{subst}
 use Rattle.abc_publish.specs.Publisher.{maps_of}
 use Rattle.live_examples.specs.HeldJobs.{IsUnderWay}
 use Rattle.live_examples.proofs.Jobs.{given, new, own, stays}
-use Rattle.tests.proofs.taken.take.Goals as goal
+use Rattle.tests.proofs.jobs.take.Goals as goal
 
 pub returns-in-Nothing-Some : goal.returns-in-Nothing-Some
 returns-in-Nothing-Some g c = own _ _ _ _ (given _ _ _ _ _ c.expect-taken.ensures c.in-Nothing-Some.is-1 c.take.ensures.after)
