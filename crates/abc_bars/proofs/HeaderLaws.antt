@@ -24,7 +24,7 @@ use Rattle.abc_bars_header.specs.declared.header.Header.{Header}
 use Rattle.abc_bars.specs.LookBack.Defaults.{defaults_at}
 use Rattle.abc_bars.proofs.DeclaredVoices.{voices_named}
 use Rattle.abc_bars.proofs.Names.{each_with}
-use Rattle.abc_bars.proofs.HeaderViews.{defaults_behind, said, setting_said}
+use Rattle.abc_bars.proofs.HeaderViews.{defaults_after, said, setting_said}
 
 -- The properties of a name, if one more voice may be declared.
 abbrev shift_on : Option (List ℕ × Shift) → (List ℕ → Shift) → List ℕ → Shift
@@ -85,17 +85,17 @@ voice_declares opening before value (Ok voice) =
     ∙ declares header named.0 named.1 (place_of named.0 header.voices)
 
 -- The state after a field of each kind.
-behind_kind : (opening : Defaults) (before : List HeaderLine) (kind : FieldKind) (value : List ℕ) →
+following_kind : (opening : Defaults) (before : List HeaderLine) (kind : FieldKind) (value : List ℕ) →
     header_on opening before kind value ≡ (own_result (header_at opening before) kind value).header
-behind_kind opening before kinds.Reference value = reference_keeps (header_at opening before) (reference_of value)
-behind_kind opening before kinds.Parts value = order_keeps (header_at opening before) value (parts_of value)
-behind_kind opening before kinds.Voice value = voice_declares opening before value (voice_of value)
-behind_kind opening before kinds.Key value = key_keeps (header_at opening before) (key_of value)
-behind_kind opening before kind value = let set = setting_said (defaults_at opening before) kind value in λ i. record { defaults = set i; voices = voices_at before }
+following_kind opening before kinds.Reference value = reference_keeps (header_at opening before) (reference_of value)
+following_kind opening before kinds.Parts value = order_keeps (header_at opening before) value (parts_of value)
+following_kind opening before kinds.Voice value = voice_declares opening before value (voice_of value)
+following_kind opening before kinds.Key value = key_keeps (header_at opening before) (key_of value)
+following_kind opening before kind value = let set = setting_said (defaults_at opening before) kind value in λ i. record { defaults = set i; voices = voices_at before }
 
 -- The state after one more line of a header is what the line gives from the state before it.
-pub header_behind : (opening : Defaults) (before : List HeaderLine) (line : HeaderLine) →
+pub header_following : (opening : Defaults) (before : List HeaderLine) (line : HeaderLine) →
     header_at opening (line ∷ before) ≡ (header_result (header_at opening before) line).header
-header_behind opening before (FieldLine field) = behind_kind opening before (kind_of field.letter) field.value
-header_behind opening before (DirectiveLine directive) =
-    let set = defaults_behind opening before (DirectiveLine directive) in λ i. record { defaults = set i; voices = voices_at before }
+header_following opening before (FieldLine field) = following_kind opening before (kind_of field.letter) field.value
+header_following opening before (DirectiveLine directive) =
+    let set = defaults_after opening before (DirectiveLine directive) in λ i. record { defaults = set i; voices = voices_at before }

@@ -69,8 +69,8 @@ program_read defaults (Some program) = refl
 program_read defaults None = refl
 
 -- The values after one more line are those that it gives from the ones before it.
-pub defaults_behind : (opening : Defaults) (before : List HeaderLine) (line : HeaderLine) →
+pub defaults_after : (opening : Defaults) (before : List HeaderLine) (line : HeaderLine) →
     defaults_at opening (line ∷ before) ≡ (line_result (defaults_at opening before) line).defaults
-defaults_behind opening before (FieldLine field) = setting_said (defaults_at opening before) (kind_of field.letter) field.value
-defaults_behind opening before (DirectiveLine (directives.Program written)) = program_read (defaults_at opening before) (program_of written)
-defaults_behind opening before (DirectiveLine (directives.Reach reach)) = refl
+defaults_after opening before (FieldLine field) = setting_said (defaults_at opening before) (kind_of field.letter) field.value
+defaults_after opening before (DirectiveLine (directives.Program written)) = program_read (defaults_at opening before) (program_of written)
+defaults_after opening before (DirectiveLine (directives.Reach reach)) = refl

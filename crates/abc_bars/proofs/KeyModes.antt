@@ -102,20 +102,20 @@ tonic_no_none : (letter : Letter) → capital letter ≡ 110 → ⊥
 tonic_no_none A e = omega arith
 tonic_no_none _ e = omega arith
 
-tonic_key : (value : List ℕ) (sharps : ℤ) (behind : List ℕ) → IsTonic value sharps behind → key_in value ≡ spelled_key (tonal_start sharps (basis_at behind))
+tonic_key : (value : List ℕ) (sharps : ℤ) (following : List ℕ) → IsTonic value sharps following → key_in value ≡ spelled_key (tonal_start sharps (basis_at following))
 unfolding key_in start_of
-tonic_key value sharps behind is =
-    let some : eqb (length value) 0 ≡ false = ap (λ l. eqb (length l) 0) is.spelling ∙ ne_eqb (suc (length is.behind)) 0 (λ e. omega (arith, e)) in
+tonic_key value sharps following is =
+    let some : eqb (length value) 0 ≡ false = ap (λ l. eqb (length l) 0) is.spelling ∙ ne_eqb (suc (length is.following)) 0 (λ e. omega (arith, e)) in
     let other : bytes_eq value (codes "none") ≡ false = false_from_ne_true (bytes_eq value (codes "none")) (λ t.
-    let whole : capital is.letter ∷ is.behind ≡ codes "none" = sym is.spelling ∙ (bytes_eq-Decides value (codes "none")).0 t in
+    let whole : capital is.letter ∷ is.following ≡ codes "none" = sym is.spelling ∙ (bytes_eq-Decides value (codes "none")).0 t in
     tonic_no_none is.letter cc) in
     cond-false (eqb (length value) 0 || bytes_eq value (codes "none")) _ _ (or_from (eqb (length value) 0) (bytes_eq value (codes "none")) some other)
-    ∙ ap (λ o. spelled_key (start_by value o)) (tonic_to value sharps behind is)
+    ∙ ap (λ o. spelled_key (start_by value o)) (tonic_to value sharps following is)
 
 read_tonic : (value blanks run : List ℕ) (sharps : ℤ) (is : IsTonicWithRun value sharps blanks run)
-    → key_in value ≡ spelled_key (tonal_start sharps (basis_by (mode_of run) (length blanks) run is.behind is.rest))
+    → key_in value ≡ spelled_key (tonal_start sharps (basis_by (mode_of run) (length blanks) run is.following is.rest))
 read_tonic value blanks run sharps is =
-    tonic_key value sharps is.behind is.tonic ∙ ap (λ o. spelled_key (tonal_start sharps o)) (run_read is.behind blanks run is.rest is.letters)
+    tonic_key value sharps is.following is.tonic ∙ ap (λ o. spelled_key (tonal_start sharps o)) (run_read is.following blanks run is.rest is.letters)
 
 -- what completes a key leaves its sharps and whether it is minor
 shifted : (start : Key) (words : List (List ℕ)) (o : Option Shift) (key : Key) → option_map (key_after start words) o ≡ Some key → (key.sharps ≡ start.sharps) × (key.minor ≡ start.minor)
@@ -166,7 +166,7 @@ module _ (sharps : ℤ) (blanks : ℕ) (run text rest : List ℕ) where
 pub named_modes_add : NamedModesAdd
 named_modes_add value blanks run sharps added is_minor key is names read =
     with_mode (sharps +ℤ added) is_minor is.rest key
-    (ap spelled_key (sym (mode_sharps sharps (length blanks) run is.behind is.rest added is_minor names))
+    (ap spelled_key (sym (mode_sharps sharps (length blanks) run is.following is.rest added is_minor names))
     ∙ sym (read_tonic value blanks run sharps is)
     ∙ read_some (key_in value) key read)
 
@@ -191,9 +191,9 @@ by_default sharps blanks run text rest why =
 
 pub others_are_major : OthersAreMajor
 others_are_major value blanks run sharps key is none why read =
-    with_mode sharps false is.behind key
-    (ap spelled_key (sym (by_default sharps (length blanks) run is.behind is.rest why))
-    ∙ ap (λ o. spelled_key (tonal_start sharps (basis_by o (length blanks) run is.behind is.rest))) (sym (none_named run none))
+    with_mode sharps false is.following key
+    (ap spelled_key (sym (by_default sharps (length blanks) run is.following is.rest why))
+    ∙ ap (λ o. spelled_key (tonal_start sharps (basis_by o (length blanks) run is.following is.rest))) (sym (none_named run none))
     ∙ sym (read_tonic value blanks run sharps is)
     ∙ read_some (key_in value) key read)
 
@@ -201,5 +201,5 @@ pub other_runs_are_refused : OtherRunsAreRefused
 other_runs_are_refused value run sharps is none some =
     ap (λ o. ok_or o BadKey)
     (read_tonic value [] run sharps is
-    ∙ ap (λ o. spelled_key (tonal_start sharps (basis_by o 0 run is.behind is.rest))) (none_named run none)
+    ∙ ap (λ o. spelled_key (tonal_start sharps (basis_by o 0 run is.following is.rest))) (none_named run none)
     ∙ ap (λ o. spelled_key (tonal_start sharps o)) (cond-false (length run == 0) _ _ (ne_eqb (length run) 0 (λ e. omega arith))))

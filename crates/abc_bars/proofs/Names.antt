@@ -13,7 +13,7 @@ use Rattle.std.proofs.lemmas.Map.Keys.{IsDistinct-head, IsDistinct-push, IsDisti
 use Rattle.std.proofs.lemmas.Map.Views.{Contains-from_any, list_any-from_Contains}
 use Rattle.std.proofs.lemmas.Option.{slice_get_read}
 use Rattle.std.proofs.lemmas.Slice.Eq.{bytes_eq-Decides}
-use Rattle.abc_bars_header.proofs.NamePlaces.{find_place, place_behind, place_here}
+use Rattle.abc_bars_header.proofs.NamePlaces.{find_place, place_following, place_here}
 use Rattle.abc_bars_header.specs.Voices.{voice_at, with_voice_at}
 use Rattle.abc_bars_items.specs.declared.item.TheConstants.{MOST_VOICES}
 use Rattle.abc_bars.specs.LookBack.Header.{with_name}
@@ -66,7 +66,7 @@ pub last_place : (name : List ℕ) (names : List (List ℕ)) → list_any (bytes
 last_place name [] gone = place_here (bytes_eq name) name [] (nat_list_eq_equiv.refl name)
 last_place name (first ∷ names) gone =
     let parts = or_parts (bytes_eq name first) (list_any (bytes_eq name) names) gone in
-    place_behind (bytes_eq name) first (names ++ name ∷ []) parts.0 ∙ ap (option_map (λ k. k + 1)) (last_place name names parts.1) ∙ ap Some (add-one (length names))
+    place_following (bytes_eq name) first (names ++ name ∷ []) parts.0 ∙ ap (option_map (λ k. k + 1)) (last_place name names parts.1) ∙ ap Some (add-one (length names))
 
 -- One name more: not one that is among them, nor one too many.
 module _ (names : List (List ℕ)) (name : List ℕ) where

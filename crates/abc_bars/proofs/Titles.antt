@@ -31,7 +31,7 @@ use Rattle.abc_bars_header.specs.HeaderLine.{HeaderLine, FieldLine, DirectiveLin
 use Rattle.abc_bars_header.specs.Opening.{opening_meter, opening_tempo, opening_tempo_by}
 use Rattle.abc_bars_header.specs.Reference.{reference_of}
 use Rattle.abc_bars_body.specs.SameEntry.{bar_steps}
-use Rattle.abc_bars_body.specs.Step.{behind_kind, behind_line, body_step, directive_in, field_in, file_header_step, header_step, line_in, line_of, entry_step}
+use Rattle.abc_bars_body.specs.Step.{following_kind, following_line, body_step, directive_in, field_in, file_header_step, header_step, line_in, line_of, entry_step}
 use Rattle.abc_bars.proofs.LookBack.BodyItems.{AreOfBody, no_title, of_kind}
 use Rattle.abc_bars.specs.Titles.{title_said, titles_by, titles_from, titles_of_header, titles_said, SaysTitlesOfHeader}
 use Rattle.abc_bars_body.specs.declared.body.Body.{Body}
@@ -119,19 +119,19 @@ line_say header (FieldLine field) = own_say header (kind_of field.letter) field.
 line_say header (DirectiveLine directive) = directive_silent directive
 
 -- what holds of the value of each field line holds of each title
-from_passes : (P : List ℕ → Type 0) (kind : FieldKind) (value : List ℕ) (behind : List (List ℕ)) → P value → All P behind → All P (titles_from kind value behind)
-from_passes P fields.Title value behind is all = All-cons P value behind is all
-from_passes P fields.Key value behind is all = All-nil P
-from_passes P _ value behind is all = all
+from_passes : (P : List ℕ → Type 0) (kind : FieldKind) (value : List ℕ) (following : List (List ℕ)) → P value → All P following → All P (titles_from kind value following)
+from_passes P fields.Title value following is all = All-cons P value following is all
+from_passes P fields.Key value following is all = All-nil P
+from_passes P _ value following is all = all
 
 abbrev pub HasValue : (List ℕ → Type 0) → Cell → Type 0
 HasValue P cell = IfSome (field_in cell) (λ field. P field.value)
 
-by_passes : (P : List ℕ → Type 0) (field : Option Field) (directive : Option Directive) (behind : List (List ℕ))
-    → IfSome field (λ f. P f.value) → All P behind → All P (titles_by (line_of field directive) behind)
-by_passes P None None behind is all = All-nil P
-by_passes P None (Some directive) behind is all = all
-by_passes P (Some field) directive behind is all = from_passes P (kind_of field.letter) field.value behind is all
+by_passes : (P : List ℕ → Type 0) (field : Option Field) (directive : Option Directive) (following : List (List ℕ))
+    → IfSome field (λ f. P f.value) → All P following → All P (titles_by (line_of field directive) following)
+by_passes P None None following is all = All-nil P
+by_passes P None (Some directive) following is all = all
+by_passes P (Some field) directive following is all = from_passes P (kind_of field.letter) field.value following is all
 
 pub titles_pass : (P : List ℕ → Type 0) (cells : List Cell) → All (HasValue P) cells → All P (titles_of_header cells)
 titles_pass P [] all = All-nil P
@@ -145,15 +145,15 @@ said_from (entries.Opening defaults) cells = titles_of_header cells
 said_from (entries.Header header) cells = titles_of_header cells
 said_from (entries.Body body) cells = []
 
-behind_say : (header : Header) (kind : FieldKind) (value : List ℕ) (cells : List Cell)
-    → titles_from kind value [] ++ said_from (behind_kind header kind value) cells ≡ titles_from kind value (titles_of_header cells)
-behind_say header fields.Key value cells = refl
-behind_say header _ value cells = refl
+after_say : (header : Header) (kind : FieldKind) (value : List ℕ) (cells : List Cell)
+    → titles_from kind value [] ++ said_from (following_kind header kind value) cells ≡ titles_from kind value (titles_of_header cells)
+after_say header fields.Key value cells = refl
+after_say header _ value cells = refl
 
-behind_line_say : (header : Header) (line : HeaderLine) (cells : List Cell)
-    → titles_by (Some line) [] ++ said_from (behind_line header line) cells ≡ titles_by (Some line) (titles_of_header cells)
-behind_line_say header (FieldLine field) cells = behind_say header (kind_of field.letter) field.value cells
-behind_line_say header (DirectiveLine directive) cells = refl
+after_line_say : (header : Header) (line : HeaderLine) (cells : List Cell)
+    → titles_by (Some line) [] ++ said_from (following_line header line) cells ≡ titles_by (Some line) (titles_of_header cells)
+after_line_say header (FieldLine field) cells = after_say header (kind_of field.letter) field.value cells
+after_line_say header (DirectiveLine directive) cells = refl
 
 abbrev step_says : Entry × Items → List Cell → List (List ℕ)
 step_says step cells = titles_said step.1.items ++ said_from step.0 cells
@@ -166,9 +166,9 @@ header_says : (header : Header) (cell : Cell) (line : Option HeaderLine) (cells 
 header_says header cell None cells = body_says (body_from header empty_key) cell cells
 header_says header cell (Some line) cells =
     let own = own_line_result header line in
-    ap (λ titles. titles ++ said_from (behind_line own.header line) cells)
+    ap (λ titles. titles ++ said_from (following_line own.header line) cells)
     (program_quiet (items_with own.item own.header.defaults) (line_program line header.defaults) ∙ items_say own.item own.header.defaults ∙ line_say header line)
-    ∙ behind_line_say own.header line cells
+    ∙ after_line_say own.header line cells
 
 file_says : (defaults : Defaults) (line : Option HeaderLine) (cells : List Cell) → step_says (file_header_step defaults line) cells ≡ []
 file_says defaults None cells = refl

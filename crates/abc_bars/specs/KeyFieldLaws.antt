@@ -89,10 +89,10 @@ pub data NamesMode (run : List ℕ) : ℤ → Bool → Type 0 where
 
 -- After the tonic of a value, whose major key has `sharps` sharps, come blanks and a run of letters, each as long as it can be.
 pub record IsTonicWithRun (value : List ℕ) (sharps : ℤ) (blanks run : List ℕ) : Type 0 where
-  pub behind : List ℕ
+  pub following : List ℕ
   pub rest : List ℕ
-  pub tonic : IsTonic value sharps behind
-  pub letters : IsRun behind blanks run rest
+  pub tonic : IsTonic value sharps following
+  pub letters : IsRun following blanks run rest
 
 -- The run of letters names no mode.
 abbrev pub NamesNone : List ℕ → Type 0

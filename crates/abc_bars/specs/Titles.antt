@@ -23,15 +23,15 @@ titles_said tune = filter_map title_said tune
 
 -- What the T: lines of a header say from a field of this kind on, of what those after it say: a K: ends the header.
 abbrev pub titles_from : FieldKind → List ℕ → List (List ℕ) → List (List ℕ)
-titles_from fields.Title value behind = value ∷ behind
-titles_from fields.Key value behind = []
-titles_from _ value behind = behind
+titles_from fields.Title value following = value ∷ following
+titles_from fields.Key value following = []
+titles_from _ value following = following
 
 -- The same from this line on, or from music, which ends a header as well. A directive does not.
 abbrev pub titles_by : Option HeaderLine → List (List ℕ) → List (List ℕ)
-titles_by None behind = []
-titles_by (Some (FieldLine field)) behind = titles_from (kind_of field.letter) field.value behind
-titles_by (Some (DirectiveLine directive)) behind = behind
+titles_by None following = []
+titles_by (Some (FieldLine field)) following = titles_from (kind_of field.letter) field.value following
+titles_by (Some (DirectiveLine directive)) following = following
 
 -- The values of the T: lines of a tune's header, in order.
 abbrev pub titles_of_header : List (List (Spanned TokenKind)) → List (List ℕ)

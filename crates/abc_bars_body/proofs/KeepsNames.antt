@@ -12,7 +12,7 @@ use Rattle.abc_bars_body.specs.declared.entry.Entry.{Entry}
 use Rattle.abc_bars_body.specs.declared.entry.Entry.TheVariants as entries
 use Rattle.abc_bars_body.specs.Cell.{cell_result}
 use Rattle.abc_bars_body.specs.KeepsNames.{KeepsNames}
-use Rattle.abc_bars_body.specs.Mentioned.{Mentioned, behind_item, behind_items, behind_name, behind_time}
+use Rattle.abc_bars_body.specs.Mentioned.{Mentioned, after_item, after_items, after_name, preceding_time}
 use Rattle.abc_bars_body.specs.Step.{entry_step}
 use Rattle.abc_bars_body.proofs.VoicesLemmas.{values_long}
 use Rattle.abc_bars_body.proofs.Mentions.{cell_mentions, is_placed, keys_long, known_of}
@@ -21,28 +21,28 @@ abbrev More : Mentioned → Mentioned → Type 0
 More before after = (names : List (List ℕ)) × (after.0 ≡ before.0 ++ names)
 
 -- what is mentioned later is the same, or a voice is current and there are names after those of before
-abbrev IsBehind : Mentioned → Mentioned → Type 0
-IsBehind before after = (after ≡ before) ⊎ ((after.1 ≡ true) × (before.1 ≡ true → More before after))
+abbrev IsAfter : Mentioned → Mentioned → Type 0
+IsAfter before after = (after ≡ before) ⊎ ((after.1 ≡ true) × (before.1 ≡ true → More before after))
 
-time_behind : (known : Mentioned) → IsBehind known (behind_time known)
-time_behind (names, true) = inl refl
-time_behind (names, false) = inr (refl, λ named. cc)
+time_after : (known : Mentioned) → IsAfter known (preceding_time known)
+time_after (names, true) = inl refl
+time_after (names, false) = inr (refl, λ named. cc)
 
 name_more : (names : List (List ℕ)) (name : List ℕ) (placed : Bool) (among : Bool) → list_any (bytes_eq name) names ≡ among
-    → More (names, placed) (behind_name names name, true)
+    → More (names, placed) (after_name names name, true)
 name_more names name placed true is = ([], rw is (sym (append-nil names)))
 name_more names name placed false is = (name ∷ [], rw is refl)
 
-item_behind : (known : Mentioned) (item : Item) → IsBehind known (behind_item known item)
-item_behind known (items.Tone tones length) = time_behind known
-item_behind known (items.Rest length bar) = time_behind known
-item_behind known (items.Voice opening name) = inr (refl, λ named. name_more known.0 name known.1 (list_any (bytes_eq name) known.0) refl)
-item_behind known _ = inl refl
+item_after : (known : Mentioned) (item : Item) → IsAfter known (after_item known item)
+item_after known (items.Tone tones length) = time_after known
+item_after known (items.Rest length bar) = time_after known
+item_after known (items.Voice opening name) = inr (refl, λ named. name_more known.0 name known.1 (list_any (bytes_eq name) known.0) refl)
+item_after known _ = inl refl
 
-both_behind : (a b c : Mentioned) → IsBehind a b → IsBehind b c → IsBehind a c
-both_behind a b c (inl same) later = subst (λ (k : Mentioned). IsBehind k c) same later
-both_behind a b c (inr more) (inl same) = subst (λ (k : Mentioned). IsBehind a k) (sym same) (inr more)
-both_behind a b c (inr more) (inr later) = inr (
+both_after : (a b c : Mentioned) → IsAfter a b → IsAfter b c → IsAfter a c
+both_after a b c (inl same) later = subst (λ (k : Mentioned). IsAfter k c) same later
+both_after a b c (inr more) (inl same) = subst (λ (k : Mentioned). IsAfter a k) (sym same) (inr more)
+both_after a b c (inr more) (inr later) = inr (
   later.0,
   λ named.
       let first = more.1 named in
@@ -50,29 +50,29 @@ both_behind a b c (inr more) (inr later) = inr (
       (first.0 ++ second.0, second.1 ∙ ap (λ names. names ++ second.0) first.1 ∙ append_assoc a.0 first.0 second.0),
 )
 
-items_behind : (known : Mentioned) (tune : List Item) → IsBehind known (behind_items known tune)
-items_behind known [] = inl refl
-items_behind known (item ∷ tune) =
-    both_behind known (behind_item known item) (behind_items (behind_item known item) tune) (item_behind known item) (items_behind (behind_item known item) tune)
+items_following : (known : Mentioned) (tune : List Item) → IsAfter known (after_items known tune)
+items_following known [] = inl refl
+items_following known (item ∷ tune) =
+    both_after known (after_item known item) (after_items (after_item known item) tune) (item_after known item) (items_following (after_item known item) tune)
 
 none_more : (names more : List (List ℕ)) → length names ≡ length (names ++ more) → names ≡ names ++ more
 none_more names [] same = sym (append-nil names)
 none_more names (name ∷ more) same = absurd (omega (arith, same, length-append names (name ∷ more)))
 
-names_kept : (before after : Mentioned) → IsBehind before after → before.1 ≡ after.1 → length before.0 ≡ length after.0 → before.0 ≡ after.0
+names_kept : (before after : Mentioned) → IsAfter before after → before.1 ≡ after.1 → length before.0 ≡ length after.0 → before.0 ≡ after.0
 names_kept before after (inl same) placed long = ap (λ (k : Mentioned). k.0) (sym same)
 names_kept before after (inr more) placed long =
     let names = more.1 (placed ∙ more.0) in
     none_more before.0 names.0 (long ∙ ap length names.1) ∙ sym names.1
 
-cell_behind : (body : Body) (cell : List (Spanned TokenKind)) → IsBehind (known_of body) (known_of (cell_result body cell).body)
-cell_behind body cell =
+cell_after : (body : Body) (cell : List (Spanned TokenKind)) → IsAfter (known_of body) (known_of (cell_result body cell).body)
+cell_after body cell =
     let mentions = cell_mentions body cell in
-    subst (IsBehind (known_of body)) (sym mentions.1) (items_behind (known_of body) mentions.0)
+    subst (IsAfter (known_of body)) (sym mentions.1) (items_following (known_of body) mentions.0)
 
 keeps_names : (body : Body) (cell : List (Spanned TokenKind)) → KeepsNames body (cell_result body cell).body
 keeps_names body cell same long =
-    names_kept (known_of body) (known_of (cell_result body cell).body) (cell_behind body cell) (ap is_placed same)
+    names_kept (known_of body) (known_of (cell_result body cell).body) (cell_after body cell) (ap is_placed same)
     (keys_long body.voices ∙ long ∙ sym (keys_long (cell_result body cell).body.voices))
 
 body_of : Entry → Body → Body

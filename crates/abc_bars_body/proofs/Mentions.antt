@@ -56,11 +56,11 @@ use Rattle.abc_bars_header.specs.Opening.{opening_meter, opening_tempo, opening_
 use Rattle.abc_bars_header.specs.Reference.{reference_of}
 use Rattle.abc_bars_header.specs.declared.header.OwnResult.{OwnResult}
 use Rattle.abc_bars_body.specs.SameEntry.{bar_steps}
-use Rattle.abc_bars_body.specs.Step.{behind_kind, behind_line, body_step, file_header_step, header_step, line_in, entry_step}
+use Rattle.abc_bars_body.specs.Step.{following_kind, following_line, body_step, file_header_step, header_step, line_in, entry_step}
 use Rattle.abc_bars_header.specs.Voices.{place_of, with_voice_at}
 use Rattle.abc_bars_header.specs.Voices.{voice_at as header_voice_at}
 use Rattle.abc_bars_body.proofs.BodyOpenings.{opening_names}
-use Rattle.abc_bars_header.proofs.NamePlaces.{find_place, no_place, place_behind}
+use Rattle.abc_bars_header.proofs.NamePlaces.{find_place, no_place, place_following}
 use Rattle.abc_bars_notes.specs.BarRest.{bar_rest_of}
 use Rattle.abc_bars_notes.specs.Broken.{factors_of, is_bad_mark}
 use Rattle.abc_bars_notes.specs.Chords.{chord_builder_of}
@@ -78,12 +78,12 @@ use Rattle.abc_bars_items.specs.declared.item.TheConstants.{MOST_VOICES}
 use Rattle.abc_bars_voice.specs.declared.voice_state.VoiceState.{VoiceState}
 use Rattle.abc_text.proofs.Words.{first_word_is}
 use Rattle.abc_text.specs.Word.{bytes_before_blank, first_word, leading_blanks, words_of}
-use Rattle.abc_bars_body.specs.Mentioned.{AreNamed, IsNamed, Mentioned, MentionsFew, NamesVoices, behind_item, behind_items, behind_name, behind_time, items_of_cells}
+use Rattle.abc_bars_body.specs.Mentioned.{AreNamed, IsNamed, Mentioned, MentionsFew, NamesVoices, after_item, after_items, after_name, preceding_time, items_of_cells}
 
 -- what is mentioned by more items
-past_append : (known : Mentioned) (tune more : List Item) → behind_items known (tune ++ more) ≡ behind_items (behind_items known tune) more
+past_append : (known : Mentioned) (tune more : List Item) → after_items known (tune ++ more) ≡ after_items (after_items known tune) more
 past_append known [] more = refl
-past_append known (item ∷ tune) more = past_append (behind_item known item) tune more
+past_append known (item ∷ tune) more = past_append (after_item known item) tune more
 
 named_append : (tune more : List Item) → AreNamed tune → AreNamed more → AreNamed (tune ++ more)
 named_append [] more a b = b
@@ -98,26 +98,26 @@ known_of body = (keys_of body.voices, is_placed body.current)
 
 -- what is mentioned after items, which name their voices, is no more than before or than may be
 record Tells (before after : Mentioned) (given : List Item) : Type 0 where
-  value : after ≡ behind_items before given
+  value : after ≡ after_items before given
   named : AreNamed given
   few : length before.0 ≤ MOST_VOICES → length after.0 ≤ MOST_VOICES
 
 nothing_told : (before after : Mentioned) → after ≡ before → Tells before after []
 nothing_told before after same = record { value = same; named = tt; few = subst (λ (k : Mentioned). length k.0 ≤ MOST_VOICES) (sym same) }
 
-one_told : (before after : Mentioned) (item : Item) → after ≡ behind_item before item → IsNamed item
+one_told : (before after : Mentioned) (item : Item) → after ≡ after_item before item → IsNamed item
     → (length before.0 ≤ MOST_VOICES → length after.0 ≤ MOST_VOICES) → Tells before after (item ∷ [])
 one_told before after item value named few = record { value = value; named = (named, tt); few = few }
 
 both_told : (a b c : Mentioned) (xs ys : List Item) → Tells a b xs → Tells b c ys → Tells a c (xs ++ ys)
 both_told a b c xs ys first then = record {
-  value = then.value ∙ ap (λ k. behind_items k ys) first.value ∙ sym (past_append a xs ys);
+  value = then.value ∙ ap (λ k. after_items k ys) first.value ∙ sym (past_append a xs ys);
   named = named_append xs ys first.named then.named;
   few = λ h. then.few (first.few h);
 }
 
 -- an item that mentions none
-silent_told : (before after : Mentioned) (item : Item) → after ≡ before → behind_item before item ≡ before → IsNamed item → Tells before after (item ∷ [])
+silent_told : (before after : Mentioned) (item : Item) → after ≡ before → after_item before item ≡ before → IsNamed item → Tells before after (item ∷ [])
 silent_told before after item same quiet named =
     one_told before after item (same ∙ sym quiet) named (subst (λ (k : Mentioned). length k.0 ≤ MOST_VOICES) (sym same))
 
@@ -139,25 +139,25 @@ here_known : (body : Body) (state : VoiceState) → known_of (with_here body sta
 here_known body state = here_in_known body body.current state refl
 
 mentioned_by : (voices : List (List ℕ × VoiceState)) (current : Current) (another : VoiceState)
-    → known_of (after_mention_in (record { voices = voices; current = current; another = another }) current) ≡ behind_time (keys_of voices, is_placed current)
+    → known_of (after_mention_in (record { voices = voices; current = current; another = another }) current) ≡ preceding_time (keys_of voices, is_placed current)
 mentioned_by voices (Unnamed state) another = refl
 mentioned_by voices (At at) another = refl
 
-mentioned_known : (body : Body) → known_of (after_mention body) ≡ behind_time (known_of body)
+mentioned_known : (body : Body) → known_of (after_mention body) ≡ preceding_time (known_of body)
 mentioned_known body = mentioned_by body.voices body.current body.another
 
-note_few : (known : Mentioned) → length known.0 ≤ MOST_VOICES → length (behind_time known).0 ≤ MOST_VOICES
+note_few : (known : Mentioned) → length known.0 ≤ MOST_VOICES → length (preceding_time known).0 ≤ MOST_VOICES
 note_few (names, true) few = few
 note_few (names, false) few = lit≤ tt
 
 -- a note or rest, after which this holds for its voice
-note_told : (body : Body) (state : VoiceState) (item : Item) → behind_item (known_of body) item ≡ behind_time (known_of body) → IsNamed item
+note_told : (body : Body) (state : VoiceState) (item : Item) → after_item (known_of body) item ≡ preceding_time (known_of body) → IsNamed item
     → Tells (known_of body) (known_of (with_here (after_mention body) state)) (item ∷ [])
 note_told body state item heard named =
     let same = here_known (after_mention body) state ∙ mentioned_known body in
     one_told (known_of body) _ item (same ∙ sym heard) named (λ few. subst (λ (k : Mentioned). length k.0 ≤ MOST_VOICES) (sym same) (note_few (known_of body) few))
 
-rest_told : (body : Body) (item : Item) → behind_item (known_of body) item ≡ behind_time (known_of body) → IsNamed item
+rest_told : (body : Body) (item : Item) → after_item (known_of body) item ≡ preceding_time (known_of body) → IsNamed item
     → Tells (known_of body) (known_of (after_mention body)) (item ∷ [])
 rest_told body item heard named =
     let same = mentioned_known body in
@@ -209,7 +209,7 @@ voice_named value voice said = by (first_word value) refl said
 no_place_by : (name first : List ℕ) (names : List (List ℕ)) → (list_any (bytes_eq name) names ≡ false → position (bytes_eq name) names ≡ None)
     → (b : Bool) → bytes_eq name first ≡ b → (b || list_any (bytes_eq name) names) ≡ false → position (bytes_eq name) (first ∷ names) ≡ None
 no_place_by name first names rest true is other = absurd (cc)
-no_place_by name first names rest false is other = place_behind (bytes_eq name) first names is ∙ ap (option_map (λ k. k + 1)) (rest other)
+no_place_by name first names rest false is other = place_following (bytes_eq name) first names is ∙ ap (option_map (λ k. k + 1)) (rest other)
 
 no_place_of : (name : List ℕ) (names : List (List ℕ)) → list_any (bytes_eq name) names ≡ false → position (bytes_eq name) names ≡ None
 no_place_of name [] none = no_place (bytes_eq name) [] tt
@@ -223,10 +223,10 @@ apart : (name : List ℕ) (names : List (List ℕ)) → position (bytes_eq name)
 apart name names none =
     ⊎_elim (λ yes. let found = find_place (bytes_eq name) names yes in absurd (cc (found.1, none))) (λ no. no) (cases_Bool (list_any (bytes_eq name) names))
 
-name_known : (name : List ℕ) (names : List (List ℕ)) (at : ℕ) → position (bytes_eq name) names ≡ Some at → behind_name names name ≡ names
+name_known : (name : List ℕ) (names : List (List ℕ)) (at : ℕ) → position (bytes_eq name) names ≡ Some at → after_name names name ≡ names
 name_known name names at found = ap (λ b. cond b names (names ++ name ∷ [])) (among name names at found)
 
-name_new : (name : List ℕ) (names : List (List ℕ)) → position (bytes_eq name) names ≡ None → behind_name names name ≡ names ++ name ∷ []
+name_new : (name : List ℕ) (names : List (List ℕ)) → position (bytes_eq name) names ≡ None → after_name names name ≡ names ++ name ∷ []
 name_new name names none = ap (λ b. cond b names (names ++ name ∷ [])) (apart name names none)
 
 -- a V: of the body
@@ -383,11 +383,11 @@ chord_adds given place inside false = record {
 kind_adds : (given : CellResult) (place : ℕ) (kind : TokenKind) (ahead : List (Spanned TokenKind)) → Adds given (with_kind given place kind ahead)
 kind_adds given place (kinds.Note note) ahead =
     let body = after_mention given.body in
-    let played = play_note (here body) (factors_of given.behind ahead) (tie_ahead ahead) place note in
+    let played = play_note (here body) (factors_of given.preceding ahead) (tie_ahead ahead) place note in
     record { given = played.items; items = refl; tells = note_told given.body played.state _ refl tt }
 kind_adds given place (kinds.Rest long) ahead =
     let body = after_mention given.body in
-    let played = play_rest (here body) (factors_of given.behind ahead) place long in
+    let played = play_rest (here body) (factors_of given.preceding ahead) place long in
     record { given = played.items; items = refl; tells = note_told given.body played.state _ refl tt }
 kind_adds given place (kinds.BarRest bars) ahead =
     let body = after_mention given.body in
@@ -396,7 +396,7 @@ kind_adds given place (kinds.BarRest bars) ahead =
     (record { given = rest.0 ∷ []; items = refl; tells = rest_told given.body rest.0 refl tt })
 kind_adds given place (kinds.Chord chord) ahead =
     chord_adds given place
-    (λ state. chord_builder_of state (factors_of given.behind ahead) (record { length = chord.length; tied = tie_ahead ahead; from = place }) chord.parts)
+    (λ state. chord_builder_of state (factors_of given.preceding ahead) (record { length = chord.length; tied = tie_ahead ahead; from = place }) chord.parts)
     (has_note chord.parts)
 kind_adds given place (kinds.InlineField field) ahead = field_adds given place field
 kind_adds given place (kinds.Bar bar) ahead = record {
@@ -410,7 +410,7 @@ kind_adds given place (kinds.Tuplet mark) ahead =
     let body = with_here given.body (record (here given.body) { tuplet = opened.0 }) in
     fault_adds given (record given { body = body }) place opened.1
     (adds_nothing given (record given { body = body }) refl (here_known given.body (record (here given.body) { tuplet = opened.0 })))
-kind_adds given place (kinds.Broken mark) ahead = fault_if_adds given (is_bad_mark given.behind ahead) place BadBroken
+kind_adds given place (kinds.Broken mark) ahead = fault_if_adds given (is_bad_mark given.preceding ahead) place BadBroken
 kind_adds given place kinds.Tie ahead = tie_adds given place given.after_note
 kind_adds given place (kinds.Dynamic dynamic) ahead =
     adds_nothing given (with_dynamic given dynamic) refl (here_known given.body (record (here given.body) { dynamic = Some dynamic }))
@@ -426,7 +426,7 @@ tokens_add given (token ∷ ahead) =
     (record { given = one.given; items = one.items; tells = one.tells }) (tokens_add (with_token given token ahead) ahead)
 
 -- What a cell of a body mentions is what its items mention.
-pub cell_mentions : (body : Body) (cell : List (Spanned TokenKind)) → (given : List Item) × (known_of (cell_result body cell).body ≡ behind_items (known_of body) given)
+pub cell_mentions : (body : Body) (cell : List (Spanned TokenKind)) → (given : List Item) × (known_of (cell_result body cell).body ≡ after_items (known_of body) given)
 cell_mentions body cell = let added = tokens_add (empty_cell_result body) cell in (added.given, added.tells.value)
 
 -- the header
@@ -449,7 +449,7 @@ abbrev option_items : Option Item → List Item
 option_items None = []
 option_items (Some item) = item ∷ []
 
-quiet_tempo : (known : Mentioned) (unit : Ratio) (tempo : Option Tempo) → behind_item known (opening_tempo_by unit tempo) ≡ known
+quiet_tempo : (known : Mentioned) (unit : Ratio) (tempo : Option Tempo) → after_item known (opening_tempo_by unit tempo) ≡ known
 quiet_tempo known unit None = refl
 quiet_tempo known unit (Some tempo) = refl
 
@@ -506,7 +506,7 @@ declared_told header name shift named None found = by (nat_lt (length header.voi
         (λ few. omega (arith, ltb-true _ _ room, ap length keys, length-append before (name ∷ []), keys_long header.voices))
     by false room = nothing_told (known_in_header header) (known_in_header header) refl
 
-own_silent : (header : Header) (item : Item) → behind_item (known_in_header header) item ≡ known_in_header header → IsNamed item
+own_silent : (header : Header) (item : Item) → after_item (known_in_header header) item ≡ known_in_header header → IsNamed item
     → Tells (known_in_header header) (known_in_header header) (item ∷ [])
 own_silent header item quiet named = silent_told (known_in_header header) (known_in_header header) item refl quiet named
 
@@ -573,13 +573,13 @@ known_in (entries.Opening defaults) = ([], false)
 known_in (entries.Header header) = known_in_header header
 known_in (entries.Body body) = known_of body
 
-behind_known : (header : Header) (kind : FieldKind) (value : List ℕ) → known_in (behind_kind header kind value) ≡ known_in_header header
-behind_known header fields.Key value = body_known header (key_or_empty (key_of value))
-behind_known header _ value = refl
+after_known : (header : Header) (kind : FieldKind) (value : List ℕ) → known_in (following_kind header kind value) ≡ known_in_header header
+after_known header fields.Key value = body_known header (key_or_empty (key_of value))
+after_known header _ value = refl
 
-behind_line_known : (header : Header) (line : HeaderLine) → known_in (behind_line header line) ≡ known_in_header header
-behind_line_known header (FieldLine field) = behind_known header (kind_of field.letter) field.value
-behind_line_known header (DirectiveLine directive) = refl
+after_line_known : (header : Header) (line : HeaderLine) → known_in (following_line header line) ≡ known_in_header header
+after_line_known header (FieldLine field) = after_known header (kind_of field.letter) field.value
+after_line_known header (DirectiveLine directive) = refl
 
 abbrev StepTells : Mentioned → Entry × Items → Type 0
 StepTells before step = Tells before (known_in step.0) step.1.items
@@ -597,7 +597,7 @@ header_told header cell (Some line) =
     let own = own_line_result header line in
     let program = line_program line header.defaults in
     let given = items_with own.item own.header.defaults in
-    subst (λ (known : Mentioned). Tells (known_in_header header) known (append_program given program)) (sym (behind_line_known own.header line))
+    subst (λ (known : Mentioned). Tells (known_in_header header) known (append_program given program)) (sym (after_line_known own.header line))
     (program_told (known_in_header header) (known_in_header own.header) given program
     (items_told (known_in_header header) (known_in_header own.header) own.item own.header.defaults (line_told header line)))
 

@@ -46,7 +46,7 @@ may_be_tied kind = is_tieable (token_role kind)
 -- Before the first token of a cell.
 abbrev pub empty_cell_result : Body → CellResult
 empty_cell_result body =
-    record { body = body; items = record { items = []; faults = [] }; behind = Nothing; after_note = false }
+    record { body = body; items = record { items = []; faults = [] }; preceding = Nothing; after_note = false }
 
 -- After a token that gives an item.
 abbrev pub with_item : CellResult → Item → CellResult
@@ -84,13 +84,13 @@ with_result_in given body played =
 abbrev pub with_note : CellResult → ℕ → Note → List (Spanned TokenKind) → CellResult
 with_note given place note ahead =
     let body = after_mention given.body in
-    with_result_in given body (play_note (here body) (factors_of given.behind ahead) (tie_ahead ahead) place note)
+    with_result_in given body (play_note (here body) (factors_of given.preceding ahead) (tie_ahead ahead) place note)
 
 -- After a rest.
 abbrev pub with_rest : CellResult → ℕ → WrittenLength → List (Spanned TokenKind) → CellResult
 with_rest given place length ahead =
     let body = after_mention given.body in
-    with_result_in given body (play_rest (here body) (factors_of given.behind ahead) place length)
+    with_result_in given body (play_rest (here body) (factors_of given.preceding ahead) place length)
 
 -- A chord that has a note mentions its voice. Not in ABC 2.1.
 abbrev pub after_chord_mention : Bool → Body → Body
@@ -101,7 +101,7 @@ after_chord_mention false body = body
 abbrev pub with_chord : CellResult → ℕ → Chord → List (Spanned TokenKind) → CellResult
 with_chord given place chord ahead =
     let body = after_chord_mention (has_note chord.parts) given.body in
-    with_result_in given body (play_chord (here body) (factors_of given.behind ahead) (tie_ahead ahead) place chord)
+    with_result_in given body (play_chord (here body) (factors_of given.preceding ahead) (tie_ahead ahead) place chord)
 
 -- After a rest of bars.
 abbrev pub with_bar_rest : CellResult → ℕ → Option ℕ → CellResult
@@ -160,7 +160,7 @@ with_kind given place (kinds.InlineField field) ahead = with_field given place f
 with_kind given place (kinds.Bar bar) ahead = with_bar given bar
 with_kind given place (kinds.Ending passes) ahead = with_ending given place passes
 with_kind given place (kinds.Tuplet mark) ahead = with_tuplet given place mark
-with_kind given place (kinds.Broken mark) ahead = with_fault_if given (is_bad_mark given.behind ahead) place BadBroken
+with_kind given place (kinds.Broken mark) ahead = with_fault_if given (is_bad_mark given.preceding ahead) place BadBroken
 with_kind given place kinds.Tie ahead = with_tie given place
 with_kind given place (kinds.Dynamic dynamic) ahead = with_dynamic given dynamic
 with_kind given place (kinds.Directive directive) ahead = with_directive given place directive
@@ -172,7 +172,7 @@ with_kind given place _ ahead = given
 -- The same, with what the token is to those after it.
 abbrev pub with_token : CellResult → Spanned TokenKind → List (Spanned TokenKind) → CellResult
 with_token given token ahead = record (with_kind given token.from token.kind ahead) {
-  behind = preceding_after given.behind token.kind;
+  preceding = preceding_after given.preceding token.kind;
   after_note = may_be_tied token.kind;
 }
 

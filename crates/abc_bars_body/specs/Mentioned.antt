@@ -16,25 +16,25 @@ abbrev pub Mentioned : Type 0
 Mentioned = List (List ℕ) × Bool
 
 -- After the name of a voice: it is one more, unless it is mentioned already.
-abbrev pub behind_name : List (List ℕ) → List ℕ → List (List ℕ)
-behind_name names name = if list_any (bytes_eq name) names then names else names ++ name ∷ []
+abbrev pub after_name : List (List ℕ) → List ℕ → List (List ℕ)
+after_name names name = if list_any (bytes_eq name) names then names else names ++ name ∷ []
 
 -- After a note, chord or rest: it mentions the voice without a name if none is mentioned. Not in ABC 2.1.
-abbrev pub behind_time : Mentioned → Mentioned
-behind_time (names, true) = (names, true)
-behind_time (names, false) = ([] ∷ [], true)
+abbrev pub preceding_time : Mentioned → Mentioned
+preceding_time (names, true) = (names, true)
+preceding_time (names, false) = ([] ∷ [], true)
 
 -- After an item.
-abbrev pub behind_item : Mentioned → Item → Mentioned
-behind_item known (items.Tone tones length) = behind_time known
-behind_item known (items.Rest length bar) = behind_time known
-behind_item known (items.Voice opening name) = (behind_name known.0 name, true)
-behind_item known _ = known
+abbrev pub after_item : Mentioned → Item → Mentioned
+after_item known (items.Tone tones length) = preceding_time known
+after_item known (items.Rest length bar) = preceding_time known
+after_item known (items.Voice opening name) = (after_name known.0 name, true)
+after_item known _ = known
 
 -- After items.
-abbrev pub behind_items : Mentioned → List Item → Mentioned
-behind_items known [] = known
-behind_items known (item ∷ tune) = behind_items (behind_item known item) tune
+abbrev pub after_items : Mentioned → List Item → Mentioned
+after_items known [] = known
+after_items known (item ∷ tune) = after_items (after_item known item) tune
 
 -- A V: says a name.
 abbrev pub IsNamed : Item → Type 0
@@ -56,4 +56,4 @@ NamesVoices = (opening : Defaults) (cells : List (List (Spanned TokenKind))) →
 -- They mention no more voices than a tune may have.
 abbrev pub MentionsFew : Type 0
 MentionsFew = (opening : Defaults) (cells : List (List (Spanned TokenKind)))
-    → length (behind_items ([], false) (items_of_cells opening cells)).0 ≤ MOST_VOICES
+    → length (after_items ([], false) (items_of_cells opening cells)).0 ≤ MOST_VOICES

@@ -64,18 +64,18 @@ body_step body cell = step_of (cell_result body cell)
 
 -- The state after a field of this kind in a header: a K: ends it, even one that is refused, which sets
 -- an empty signature. ABC 2.1 section 3.1.14; the refused one is not in ABC 2.1.
-abbrev pub behind_kind : Header → FieldKind → List ℕ → Entry
-behind_kind header fields.Key value = entries.Body (body_from header (key_or_empty (key_of value)))
-behind_kind header _ value = entries.Header header
+abbrev pub following_kind : Header → FieldKind → List ℕ → Entry
+following_kind header fields.Key value = entries.Body (body_from header (key_or_empty (key_of value)))
+following_kind header _ value = entries.Header header
 
 -- The state after a line of a header: no directive ends it.
-abbrev pub behind_line : Header → HeaderLine → Entry
-behind_line header (FieldLine field) = behind_kind header (kind_of field.letter) field.value
-behind_line header (DirectiveLine directive) = entries.Header header
+abbrev pub following_line : Header → HeaderLine → Entry
+following_line header (FieldLine field) = following_kind header (kind_of field.letter) field.value
+following_line header (DirectiveLine directive) = entries.Header header
 
 -- The state after a line of a header, and what it gives.
 abbrev pub line_step : HeaderResult → HeaderLine → Entry × Items
-line_step given line = (behind_line given.header line, record { items = given.items; faults = given.faults })
+line_step given line = (following_line given.header line, record { items = given.items; faults = given.faults })
 
 -- A cell of a header, which is this line or music: a line of music ends the header as an empty K: would, and
 -- is a cell of the body. The latter is not in ABC 2.1.

@@ -55,14 +55,14 @@ fn may_be_tied(kind: &TokenKind) -> bool
 /// Factors that give a chord the same result as those of the marks around it. A chord without notes takes no time, so no
 /// token ahead is read for it.
 #[tactic(auto, using(crate::proofs::SilentChords::silent_same))]
-fn chord_factors(behind: Preceding, chord: &Chord, ahead: &[Token]) -> BrokenFactors
+fn chord_factors(preceding: Preceding, chord: &Chord, ahead: &[Token]) -> BrokenFactors
     ensures { (state : VoiceState) (tied : Bool) (from : ℕ) →
-        play_chord state result tied from chord.now ≡ play_chord state (factors_of behind ahead.now) tied from chord.now }
+        play_chord state result tied from chord.now ≡ play_chord state (factors_of preceding ahead.now) tied from chord.now }
 {
     if has_note(chord.parts.as_slice()) {
-        BrokenFactors::of(behind, ahead)
+        BrokenFactors::of(preceding, ahead)
     } else {
-        BrokenFactors::of(behind, &[])
+        BrokenFactors::of(preceding, &[])
     }
 }
 
@@ -72,7 +72,7 @@ pub struct CellResult {
     pub body: BodyCopy,
     pub items: ItemsBuilder,
     /// What precedes, as far as it matters to broken rhythm.
-    pub(crate) behind: Preceding,
+    pub(crate) preceding: Preceding,
     /// Whether a note or chord is directly before.
     pub(crate) after_note: bool,
 }
@@ -86,7 +86,7 @@ impl CellResult {
         Ok(CellResult {
             body,
             items,
-            behind: Preceding::Nothing,
+            preceding: Preceding::Nothing,
             after_note: false,
         })
     }
@@ -178,7 +178,7 @@ impl CellResult {
     ) -> Result<(), AllocError>
         ensures { OnOk result (self.new ≡ with_note self.old place note ahead.now) }
     {
-        let factors = BrokenFactors::of(self.behind, ahead);
+        let factors = BrokenFactors::of(self.preceding, ahead);
         let place = NotePlace {
             from: place,
             tied: tie_ahead(ahead),
@@ -200,7 +200,7 @@ impl CellResult {
     ) -> Result<(), AllocError>
         ensures { OnOk result (self.new ≡ with_rest self.old place written ahead.now) }
     {
-        let factors = BrokenFactors::of(self.behind, ahead);
+        let factors = BrokenFactors::of(self.preceding, ahead);
         self.body.mention(alloc)?;
         let mut here = self.body.take_here()?;
         play_rest(alloc, &mut here, &mut self.items, written, &factors, place)?;
@@ -218,7 +218,7 @@ impl CellResult {
     ) -> Result<(), AllocError>
         ensures { OnOk result (self.new ≡ with_chord self.old place chord.now ahead.now) }
     {
-        let factors = chord_factors(self.behind, chord, ahead);
+        let factors = chord_factors(self.preceding, chord, ahead);
         let place = NotePlace {
             from: place,
             tied: tie_ahead(ahead),
@@ -350,7 +350,7 @@ impl CellResult {
             TokenKind::Ending(passes) => self.ending(place, *passes),
             TokenKind::Tuplet(mark) => self.tuplet(place, *mark),
             TokenKind::Broken(_) => {
-                self.fault_if(is_bad_mark(self.behind, ahead), place, FaultCode::BadBroken)
+                self.fault_if(is_bad_mark(self.preceding, ahead), place, FaultCode::BadBroken)
             }
             TokenKind::Tie => self.tie(place),
             TokenKind::Blank | TokenKind::NoEffect => Ok(()),
@@ -369,13 +369,13 @@ impl CellResult {
         let place = token.from as usize;
         if let TokenKind::Note(note) = &token.kind {
             self.note(alloc, place, *note, ahead)?;
-            self.behind = Preceding::TimeToken;
+            self.preceding = Preceding::TimeToken;
             self.after_note = true;
             return Ok(());
         }
-        let behind = preceding_after(self.behind, &token.kind);
+        let preceding = preceding_after(self.preceding, &token.kind);
         self.kind(alloc, place, &token.kind, ahead)?;
-        self.behind = behind;
+        self.preceding = preceding;
         self.after_note = may_be_tied(&token.kind);
         Ok(())
     }

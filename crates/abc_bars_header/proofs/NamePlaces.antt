@@ -16,8 +16,8 @@ pub place_here : {K : Type 0} (p : K → Bool) (x : K) (xs : List K) → p x ≡
 place_here p x xs h = rw h (grind (arith, nat_tests))
 
 -- The first element does not pass.
-pub place_behind : {K : Type 0} (p : K → Bool) (x : K) (xs : List K) → p x ≡ false → position p (x ∷ xs) ≡ option_map (λ k. k + 1) (position p xs)
-place_behind p x xs h = rw h (one_more (prefix_len (λ y. not (p y)) xs) (length xs))
+pub place_following : {K : Type 0} (p : K → Bool) (x : K) (xs : List K) → p x ≡ false → position p (x ∷ xs) ≡ option_map (λ k. k + 1) (position p xs)
+place_following p x xs h = rw h (one_more (prefix_len (λ y. not (p y)) xs) (length xs))
 
 -- An element that passes has a place.
 pub find_place : {K : Type 0} (p : K → Bool) (xs : List K) → list_any p xs ≡ true → (at : ℕ) × (position p xs ≡ Some at)
@@ -28,12 +28,12 @@ find_place {K} p (x ∷ xs) there = by (p x) refl there (find_place p xs)
     by true is found rest = (0, place_here p x xs is)
     by false is found rest =
         let r = rest found in
-        (r.0 + 1, place_behind p x xs is ∙ ap (option_map (λ k. k + 1)) r.1)
+        (r.0 + 1, place_following p x xs is ∙ ap (option_map (λ k. k + 1)) r.1)
 
 -- No element passes.
 pub no_place : {K : Type 0} (p : K → Bool) (xs : List K) → AllByRecursion (λ x. p x ≡ false) xs → position p xs ≡ None
 no_place p [] none = refl
-no_place p (x ∷ xs) none = place_behind p x xs none.0 ∙ ap (option_map (λ k. k + 1)) (no_place p xs none.1)
+no_place p (x ∷ xs) none = place_following p x xs none.0 ∙ ap (option_map (λ k. k + 1)) (no_place p xs none.1)
 
 -- What holds of each name holds of the one at a place.
 name_at : {K V : Type 0} (P : K → Type 0) (vs : List (K × V)) (i : ℕ) (v : K × V) → AllByRecursion P (keys_of vs) → slice_get vs i ≡ Some v → P v.0

@@ -23,8 +23,8 @@ absent p xs none = by (list_any p xs) refl
     by false is = is
 
 -- A name without a place is put after the others.
-pub put_behind : {K : Type 0} (eq : K → K → Bool) (names : List K) (name : K) → position (eq name) names ≡ None → insert_key eq names name ≡ names ++ name ∷ []
-put_behind eq names name none = ap (λ b. cond b names (names ++ name ∷ [])) (absent (eq name) names none)
+pub put_after : {K : Type 0} (eq : K → K → Bool) (names : List K) (name : K) → position (eq name) names ≡ None → insert_key eq names name ≡ names ++ name ∷ []
+put_after eq names name none = ap (λ b. cond b names (names ++ name ∷ [])) (absent (eq name) names none)
 
 -- Past the end there is nothing.
 pub past_end : {X : Type 0} (xs : List X) (at : ℕ) → length xs ≤ at → slice_get xs at ≡ None

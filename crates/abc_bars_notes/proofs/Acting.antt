@@ -13,7 +13,7 @@ use Rattle.abc_bars_notes.specs.declared.broken.BrokenRole.{BrokenRole}
 use Rattle.abc_bars_notes.specs.declared.broken.BrokenRole.TheVariants as roles
 use Rattle.abc_bars_notes.specs.Broken.{role_of, is_time_token, preceding_after_mark, preceding_by, preceding_after, preceding_from, time_or, time_follows, mark_or, mark_ahead, mark_before}
 use Rattle.abc_bars_notes.specs.Broken.{is_after_time, is_bad_mark, factors_of}
-use Rattle.abc_bars_notes.specs.Acting.{hinders, IsTimeAt, IsMarkAt, IsFreeAt, AreFreeBetween, Acts, ActsBefore, ActsBehind, AreFactors, preceding_at}
+use Rattle.abc_bars_notes.specs.Acting.{hinders, IsTimeAt, IsMarkAt, IsFreeAt, AreFreeBetween, Acts, ActsBefore, ActsAfter, AreFactors, preceding_at}
 use Rattle.abc_bars_notes.specs.TokenRole.{has_note}
 
 -- what a role says of its token
@@ -178,11 +178,11 @@ within [] place P h = absurd h
 within (token ∷ cell) zero P h = omega arith
 within (token ∷ cell) (suc place) P h = let below = within cell place P h in omega arith
 
-step : (behind : Preceding) (cell : List (Spanned TokenKind)) (place : ℕ) (token : Spanned TokenKind) → slice_get cell place ≡ Some token
-    → preceding_from behind (take (suc place) cell) ≡ preceding_after (preceding_from behind (take place cell)) token.kind
-step behind [] place token e = cc
-step behind (first ∷ cell) zero token e = let same : first ≡ token = cc in ap (λ t. preceding_after behind t.kind) same
-step behind (first ∷ cell) (suc place) token e = step (preceding_after behind first.kind) cell place token e
+step : (preceding : Preceding) (cell : List (Spanned TokenKind)) (place : ℕ) (token : Spanned TokenKind) → slice_get cell place ≡ Some token
+    → preceding_from preceding (take (suc place) cell) ≡ preceding_after (preceding_from preceding (take place cell)) token.kind
+step preceding [] place token e = cc
+step preceding (first ∷ cell) zero token e = let same : first ≡ token = cc in ap (λ t. preceding_after preceding t.kind) same
+step preceding (first ∷ cell) (suc place) token e = step (preceding_after preceding first.kind) cell place token e
 
 -- the last of what matters before a place is a time token
 record IsLastTime (cell : List (Spanned TokenKind)) (place : ℕ) : Type 0 where
@@ -202,7 +202,7 @@ record IsLastMark (cell : List (Spanned TokenKind)) (mark : BrokenRhythm) (place
   between : AreFreeBetween cell first sign
   free : AreFreeBetween cell sign place
 
-no_time : (behind : Preceding) (mark : BrokenRhythm) → is_after_time (preceding_after_mark behind mark) ≡ false
+no_time : (preceding : Preceding) (mark : BrokenRhythm) → is_after_time (preceding_after_mark preceding mark) ≡ false
 no_time precedings.TimeToken mark = refl
 no_time _ mark = refl
 
@@ -257,9 +257,9 @@ last_time_is cell (suc place) first inside before h free =
     ∙ last_time_is cell place first (omega arith) earlier h (λ k from to. free k from (omega arith)))
     (cases_eq first place)
 
-last_mark_by : (cell : List (Spanned TokenKind)) (mark other : BrokenRhythm) (place : ℕ) (token : Spanned TokenKind) (behind : Preceding) → place ≤ length cell
-    → preceding_at cell place ≡ behind → slice_get cell place ≡ Some token → token.kind ≡ kinds.Broken other
-    → mark_before (preceding_after_mark behind other) ≡ Some mark → IsLastMark cell mark (suc place)
+last_mark_by : (cell : List (Spanned TokenKind)) (mark other : BrokenRhythm) (place : ℕ) (token : Spanned TokenKind) (preceding : Preceding) → place ≤ length cell
+    → preceding_at cell place ≡ preceding → slice_get cell place ≡ Some token → token.kind ≡ kinds.Broken other
+    → mark_before (preceding_after_mark preceding other) ≡ Some mark → IsLastMark cell mark (suc place)
 last_mark_by cell mark other place token precedings.TimeToken inside was is s e =
     let same : other ≡ mark = cc in
     let last = last_time cell place inside (ap is_after_time was) in
@@ -303,9 +303,9 @@ last_mark cell mark (suc place) inside e =
     last_mark_here cell mark place here.token (role_of here.token.kind) (omega arith) here.is (says here.token.kind) (last_mark cell mark place (omega arith))
     (sym (ap mark_before (step precedings.Nothing cell place here.token here.is)) ∙ e)
 
-behind_time : (behind : Preceding) (mark : BrokenRhythm) → is_after_time behind ≡ true → mark_before (preceding_after_mark behind mark) ≡ Some mark
-behind_time precedings.TimeToken mark e = refl
-behind_time _ mark e = cc
+preceding_time : (preceding : Preceding) (mark : BrokenRhythm) → is_after_time preceding ≡ true → mark_before (preceding_after_mark preceding mark) ≡ Some mark
+preceding_time precedings.TimeToken mark e = refl
+preceding_time _ mark e = cc
 
 last_mark_is : (cell : List (Spanned TokenKind)) (mark : BrokenRhythm) (place first sign : ℕ) → place ≤ length cell → first < sign → sign < place
     → IsMarkAt cell sign mark → IsTimeAt cell first → AreFreeBetween cell first sign → AreFreeBetween cell sign place
@@ -319,7 +319,7 @@ last_mark_is cell mark (suc place) first sign inside order before h time between
     let now : IsMarkAt cell place mark = subst (λ j. IsMarkAt cell j mark) same h in
     let at : first < place = omega arith in
     ap (λ kind. mark_before (preceding_by (preceding_at cell place) (role_of kind))) (there _ (λ t. t.kind ≡ kinds.Broken mark) here.token here.is now)
-    ∙ behind_time (preceding_at cell place) mark
+    ∙ preceding_time (preceding_at cell place) mark
     (last_time_is cell place first (omega arith) at time (λ k from to. between k from (omega arith))))
     (λ other.
     let earlier : sign < place = omega arith in
@@ -366,9 +366,9 @@ acts_from cell place mark h e =
         first_is = last.is;
         second_is = shifted cell (λ t. is_time_token t.kind ≡ true) (place + 1) next.place ((place + 1) + next.place) refl next.is;
         before = last.before;
-        behind = omega arith;
+        following = omega arith;
         free_before = last.free;
-        free_behind = λ k from to.
+        free_after = λ k from to.
             shifted cell (λ t. IsFree t.kind) (place + 1) (k - (place + 1)) k (omega arith) (next.free (k - (place + 1)) (omega arith));
       };
     }
@@ -378,13 +378,13 @@ acts_to : (cell : List (Spanned TokenKind)) (place : ℕ) (mark : BrokenRhythm) 
 acts_to cell place mark acts =
     let a = acts.acting in
     let before : acts.first < place = a.before in
-    let behind : place < acts.second = a.behind in
+    let following : place < acts.second = a.following in
     let inside : place < length cell = within cell place (λ t. t.kind ≡ kinds.Broken mark) a.mark_is in
     let last : is_after_time (preceding_at cell place) ≡ true = last_time_is cell place acts.first (omega arith) before a.first_is a.free_before in
     let next : time_follows (drop (place + 1) cell) ≡ true =
     time_is (drop (place + 1) cell) (acts.second - (place + 1))
     (unshifted cell (λ t. is_time_token t.kind ≡ true) (place + 1) (acts.second - (place + 1)) acts.second (omega arith) a.second_is)
-    (λ j below. unshifted cell (λ t. IsFree t.kind) (place + 1) j ((place + 1) + j) refl (a.free_behind ((place + 1) + j) (omega arith) (omega arith))) in
+    (λ j below. unshifted cell (λ t. IsFree t.kind) (place + 1) j ((place + 1) + j) refl (a.free_after ((place + 1) + j) (omega arith) (omega arith))) in
     λ i. not (last i && next i)
 
 pub marks_act : (cell : List (Spanned TokenKind)) (place : ℕ) (mark : BrokenRhythm) → IsMarkAt cell place mark
@@ -403,9 +403,9 @@ before_from cell place mark h e =
         first_is = last.time;
         second_is = h;
         before = last.order;
-        behind = last.before;
+        following = last.before;
         free_before = last.between;
-        free_behind = last.free;
+        free_after = last.free;
       };
     }
 
@@ -413,10 +413,10 @@ pub before_to : (cell : List (Spanned TokenKind)) (place : ℕ) (mark : BrokenRh
 before_to cell place mark acts =
     let a = acts.acting in
     let inside : place < length cell = within cell place (λ t. is_time_token t.kind ≡ true) a.second_is in
-    last_mark_is cell mark place acts.first acts.place (omega arith) a.before a.behind a.mark_is a.first_is a.free_before a.free_behind
+    last_mark_is cell mark place acts.first acts.place (omega arith) a.before a.following a.mark_is a.first_is a.free_before a.free_after
 
-pub behind_of : (cell : List (Spanned TokenKind)) (place : ℕ) (mark : BrokenRhythm) → IsTimeAt cell place → mark_ahead (drop (place + 1) cell) ≡ Some mark → ActsBehind cell mark place
-behind_of cell place mark h e =
+pub after_of : (cell : List (Spanned TokenKind)) (place : ℕ) (mark : BrokenRhythm) → IsTimeAt cell place → mark_ahead (drop (place + 1) cell) ≡ Some mark → ActsAfter cell mark place
+after_of cell place mark h e =
     let next = mark_first (drop (place + 1) cell) mark e in
     let order : next.place < next.second = next.order in
     record {
@@ -427,32 +427,32 @@ behind_of cell place mark h e =
         first_is = h;
         second_is = shifted cell (λ t. is_time_token t.kind ≡ true) (place + 1) next.second ((place + 1) + next.second) refl next.time;
         before = omega arith;
-        behind = omega arith;
+        following = omega arith;
         free_before = λ k from to.
             shifted cell (λ t. IsFree t.kind) (place + 1) (k - (place + 1)) k (omega arith) (next.free (k - (place + 1)) (omega arith));
-        free_behind = λ k from to.
+        free_after = λ k from to.
             shifted cell (λ t. IsFree t.kind) (place + 1) (k - (place + 1)) k (omega arith) (next.between (k - (place + 1)) (omega arith) (omega arith));
       };
     }
 
-pub behind_to : (cell : List (Spanned TokenKind)) (place : ℕ) (mark : BrokenRhythm) → ActsBehind cell mark place → mark_ahead (drop (place + 1) cell) ≡ Some mark
-behind_to cell place mark acts =
+pub after_to : (cell : List (Spanned TokenKind)) (place : ℕ) (mark : BrokenRhythm) → ActsAfter cell mark place → mark_ahead (drop (place + 1) cell) ≡ Some mark
+after_to cell place mark acts =
     let a = acts.acting in
     let before : place < acts.place = a.before in
-    let behind : acts.place < acts.second = a.behind in
+    let following : acts.place < acts.second = a.following in
     mark_is (drop (place + 1) cell) mark (acts.place - (place + 1)) (acts.second - (place + 1))
     (unshifted cell (λ t. t.kind ≡ kinds.Broken mark) (place + 1) (acts.place - (place + 1)) acts.place (omega arith) a.mark_is)
     (λ j below. unshifted cell (λ t. IsFree t.kind) (place + 1) j ((place + 1) + j) refl (a.free_before ((place + 1) + j) (omega arith) (omega arith)))
     (omega arith)
     (unshifted cell (λ t. is_time_token t.kind ≡ true) (place + 1) (acts.second - (place + 1)) acts.second (omega arith) a.second_is)
-    (λ j low high. unshifted cell (λ t. IsFree t.kind) (place + 1) j ((place + 1) + j) refl (a.free_behind ((place + 1) + j) (omega arith) (omega arith)))
+    (λ j low high. unshifted cell (λ t. IsFree t.kind) (place + 1) j ((place + 1) + j) refl (a.free_after ((place + 1) + j) (omega arith) (omega arith)))
 
 pub factors_act : (cell : List (Spanned TokenKind)) (place : ℕ) → IsTimeAt cell place
     → AreFactors cell place (factors_of (preceding_at cell place) (drop (place + 1) cell))
 factors_act cell place h = record {
   before = mark_before (preceding_at cell place);
-  behind = mark_ahead (drop (place + 1) cell);
+  following = mark_ahead (drop (place + 1) cell);
   before_is = λ mark. (before_from cell place mark h, before_to cell place mark);
-  behind_is = λ mark. (behind_of cell place mark h, behind_to cell place mark);
+  after_is = λ mark. (after_of cell place mark h, after_to cell place mark);
   factors_are = refl;
 }

@@ -17,7 +17,7 @@ use Rattle.abc_bars_notes.specs.declared.sound.ChordBuilder.{ChordBuilder}
 use Rattle.abc_bars_voice.specs.Alteration.{alteration_of, with_own}
 use Rattle.abc_bars_notes.specs.ChordKeys.{note_in, notes_in, AreAsLoud, ChordsAreAsLoud, ChordsSoundTheirKeys, NotesAreAsLoud, SoundsKey}
 use Rattle.abc_bars_notes.specs.Chords.{chord_builder_of, tie_follows}
-use Rattle.abc_bars_voice.specs.Reaching.{behind_notes}
+use Rattle.abc_bars_voice.specs.Reaching.{after_notes}
 use Rattle.abc_bars_notes.specs.Sound.{key_in, tone_in}
 use Rattle.abc_bars_notes.specs.TimeTokens.{chord_by, first_length}
 use Rattle.abc_bars_items.specs.Velocity.{velocity_of}
@@ -32,10 +32,10 @@ abbrev keys_of : VoiceState → Accidentals → List Note → List (Option ℕ)
 keys_of state accidentals [] = []
 keys_of state accidentals (note ∷ notes) = key_in state accidentals note ∷ keys_of state (with_own accidentals note) notes
 
-key_at : (state : VoiceState) (accidentals : Accidentals) (before behind : List Note) (note : Note)
-    → slice_get (keys_of state accidentals (before ++ note ∷ behind)) (length before) ≡ Some (key_in state (behind_notes accidentals before) note)
-key_at state accidentals [] behind note = refl
-key_at state accidentals (first ∷ before) behind note = key_at state (with_own accidentals first) before behind note
+key_at : (state : VoiceState) (accidentals : Accidentals) (before following : List Note) (note : Note)
+    → slice_get (keys_of state accidentals (before ++ note ∷ following)) (length before) ≡ Some (key_in state (after_notes accidentals before) note)
+key_at state accidentals [] following note = refl
+key_at state accidentals (first ∷ before) following note = key_at state (with_own accidentals first) before following note
 
 module _ (state : VoiceState) (broken : List Ratio) (chord_context : ChordContext) where
   -- the keys of the tones are those of the notes
@@ -78,15 +78,15 @@ module _ (state : VoiceState) (broken : List Ratio) (from : ℕ) (chord : Chord)
   abbrev builder : ChordBuilder
   builder = chord_builder_of state broken outside_of chord.parts
 
-  at_note : (before behind : List Note) (note : Note) → notes_in chord.parts ≡ before ++ note ∷ behind → length before < 16
-      → IsSomeAnd (slice_get builder.tones (length before)) (SoundsKey state (behind_notes state.accidentals before) note)
-  at_note before behind note is few =
-      with_key state (behind_notes state.accidentals before) note (slice_get builder.tones (length before))
+  at_note : (before following : List Note) (note : Note) → notes_in chord.parts ≡ before ++ note ∷ following → length before < 16
+      → IsSomeAnd (slice_get builder.tones (length before)) (SoundsKey state (after_notes state.accidentals before) note)
+  at_note before following note is few =
+      with_key state (after_notes state.accidentals before) note (slice_get builder.tones (length before))
       (ap (option_map key_of_tone) (chord_tone_at state broken outside_of chord.parts (length before) few)
       ∙ sym (slice_get-map key_of_tone (tones_of state broken outside_of state.accidentals chord.parts) (length before))
       ∙ ap (λ l. slice_get l (length before)) (tone_keys state broken outside_of chord.parts state.accidentals)
       ∙ ap (λ l. slice_get (keys_of state state.accidentals l) (length before)) is
-      ∙ key_at state state.accidentals before behind note)
+      ∙ key_at state state.accidentals before following note)
 
 pub chords_sound_their_keys : ChordsSoundTheirKeys
 chords_sound_their_keys state broken from chord tied some =

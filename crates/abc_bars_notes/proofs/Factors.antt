@@ -47,12 +47,12 @@ last None = record { nums = refl; dens = refl }
 last (Some factor) = record { nums = refl; dens = refl }
 
 -- Five factors: absent ones change nothing.
-pub same_products : (own outer tuplet behind ahead : Ratio) (o t b a : Option Ratio)
-    → outer ≡ unwrap_or o once → tuplet ≡ unwrap_or t once → behind ≡ unwrap_or b once → ahead ≡ unwrap_or a once
-    → SameProducts (own ∷ outer ∷ tuplet ∷ behind ∷ ahead ∷ []) (own ∷ (option_to_list o ++ (option_to_list t ++ (option_to_list b ++ option_to_list a))))
-same_products own outer tuplet behind ahead o t b a eo et eb ea =
+pub same_products : (own outer tuplet preceding ahead : Ratio) (o t b a : Option Ratio)
+    → outer ≡ unwrap_or o once → tuplet ≡ unwrap_or t once → preceding ≡ unwrap_or b once → ahead ≡ unwrap_or a once
+    → SameProducts (own ∷ outer ∷ tuplet ∷ preceding ∷ ahead ∷ []) (own ∷ (option_to_list o ++ (option_to_list t ++ (option_to_list b ++ option_to_list a))))
+same_products own outer tuplet preceding ahead o t b a eo et eb ea =
     let list : List Ratio = own ∷ (option_to_list o ++ (option_to_list t ++ (option_to_list b ++ option_to_list a))) in
-    let is : own ∷ unwrap_or o once ∷ unwrap_or t once ∷ unwrap_or b once ∷ unwrap_or a once ∷ [] ≡ own ∷ outer ∷ tuplet ∷ behind ∷ ahead ∷ [] =
+    let is : own ∷ unwrap_or o once ∷ unwrap_or t once ∷ unwrap_or b once ∷ unwrap_or a once ∷ [] ≡ own ∷ outer ∷ tuplet ∷ preceding ∷ ahead ∷ [] =
     λ i. own ∷ sym eo i ∷ sym et i ∷ sym eb i ∷ sym ea i ∷ [] in
     subst (λ l. SameProducts l list) is (one_more own _ _ (or_once o _ _ (or_once t _ _ (or_once b _ _ (last a)))))
 
@@ -68,15 +68,15 @@ for_some None h = tt
 for_some (Some x) h = h x refl
 
 -- each of them is a ratio in range
-pub all_ratios : (own outer tuplet behind ahead : Ratio) (o t b a : Option Ratio)
-    → outer ≡ unwrap_or o once → tuplet ≡ unwrap_or t once → behind ≡ unwrap_or b once → ahead ≡ unwrap_or a once
+pub all_ratios : (own outer tuplet preceding ahead : Ratio) (o t b a : Option Ratio)
+    → outer ≡ unwrap_or o once → tuplet ≡ unwrap_or t once → preceding ≡ unwrap_or b once → ahead ≡ unwrap_or a once
     → IsRatio own → IfSome o IsRatio → IfSome t IsRatio → IfSome b IsRatio → IfSome a IsRatio
-    → All IsRatio (own ∷ outer ∷ tuplet ∷ behind ∷ ahead ∷ [])
-all_ratios own outer tuplet behind ahead o t b a eo et eb ea h ho ht hb ha =
-    All-cons IsRatio own (outer ∷ tuplet ∷ behind ∷ ahead ∷ []) h
-    (All-cons IsRatio outer (tuplet ∷ behind ∷ ahead ∷ []) (or_once_is o outer eo ho)
-    (All-cons IsRatio tuplet (behind ∷ ahead ∷ []) (or_once_is t tuplet et ht)
-    (All-cons IsRatio behind (ahead ∷ []) (or_once_is b behind eb hb)
+    → All IsRatio (own ∷ outer ∷ tuplet ∷ preceding ∷ ahead ∷ [])
+all_ratios own outer tuplet preceding ahead o t b a eo et eb ea h ho ht hb ha =
+    All-cons IsRatio own (outer ∷ tuplet ∷ preceding ∷ ahead ∷ []) h
+    (All-cons IsRatio outer (tuplet ∷ preceding ∷ ahead ∷ []) (or_once_is o outer eo ho)
+    (All-cons IsRatio tuplet (preceding ∷ ahead ∷ []) (or_once_is t tuplet et ht)
+    (All-cons IsRatio preceding (ahead ∷ []) (or_once_is b preceding eb hb)
     (All-cons IsRatio ahead [] (or_once_is a ahead ea ha) (All-nil IsRatio)))))
 
 -- factors with the same products make the same lengths

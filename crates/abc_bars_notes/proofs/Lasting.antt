@@ -22,7 +22,7 @@ use Rattle.abc_time.specs.Length.{IsLength, length_of}
 use Rattle.abc_time.specs.Ratio.{IsRatio}
 use Rattle.abc_time.proofs.LengthLaws.{length_of-Ok}
 use Rattle.abc_bars_voice.specs.declared.voice_state.VoiceState.{VoiceState}
-use Rattle.abc_bars_notes.specs.Acting.{ActsBefore, ActsBehind, preceding_at}
+use Rattle.abc_bars_notes.specs.Acting.{ActsBefore, ActsAfter, preceding_at}
 use Rattle.abc_fields.specs.Meter.{HasMeterRange}
 use Rattle.abc_bars_items.specs.declared.item.Item.{Item}
 use Rattle.abc_bars_notes.specs.BarRest.{AreBars, bar_grains, bars_of, or_one_bar}
@@ -37,7 +37,7 @@ use Rattle.abc_bars_items.specs.Column.{column_of}
 use Rattle.abc_bars_notes.specs.Sound.{length_in, tone_in, key_in, fault_if}
 use Rattle.abc_bars_voice.specs.Tuplet.{tuplet_ratio, tuplet_factors, IsOpen, OpenTuplet}
 use Rattle.abc_bars_voice.specs.Unit.{IsUnitPart}
-use Rattle.abc_bars_notes.proofs.Acting.{before_from, before_to, behind_of, behind_to}
+use Rattle.abc_bars_notes.proofs.Acting.{before_from, before_to, after_of, after_to}
 use Rattle.abc_bars_notes.proofs.WholeBars.{bar_exact, bar_short}
 use Rattle.abc_bars_voice.proofs.WholeParts.{unit_exact}
 use Rattle.abc_bars_notes.proofs.Factors.{all_ratios as five_ratios, same_products, same_length, ok_or_none}
@@ -80,7 +80,7 @@ written_range written (Some factor) e = (ratio_says written factor e).range
 
 -- the list of five factors
 abbrev five : Ratio → Ratio → Ratio → Ratio → Ratio → List Ratio
-five own outer tuplet before behind = own ∷ outer ∷ tuplet ∷ before ∷ behind ∷ []
+five own outer tuplet before following = own ∷ outer ∷ tuplet ∷ before ∷ following ∷ []
 
 -- each of them is a ratio in range
 record AreRatios (t b a : Option Ratio) : Type 0 where
@@ -269,11 +269,11 @@ found_before state cell place h = record {
   few = λ mark acts. h.marks mark acts.place acts.acting.mark_is;
 }
 
-found_behind : (state : VoiceState) (cell : List (Spanned TokenKind)) (place : ℕ) → IsPlace state cell place
-    → Found (mark_ahead (drop (place + 1) cell)) (λ mark. ActsBehind cell mark place)
-found_behind state cell place h = record {
-  to = behind_to cell place;
-  from = λ mark. behind_of cell place mark h.time;
+found_after : (state : VoiceState) (cell : List (Spanned TokenKind)) (place : ℕ) → IsPlace state cell place
+    → Found (mark_ahead (drop (place + 1) cell)) (λ mark. ActsAfter cell mark place)
+found_after state cell place h = record {
+  to = after_to cell place;
+  from = λ mark. after_of cell place mark h.time;
   few = λ mark acts. h.marks mark acts.place acts.acting.mark_is;
 }
 
@@ -315,16 +315,16 @@ pub length_lasts : (state : VoiceState) (cell : List (Spanned TokenKind)) (place
     ↔ Lasts state cell place own outer g
 length_lasts state cell place own outer g h =
     let before = mark_before (preceding_at cell place) in
-    let behind = mark_ahead (drop (place + 1) cell) in
+    let following = mark_ahead (drop (place + 1) cell) in
     let fb = found_before state cell place h in
-    let fa = found_behind state cell place h in
+    let fa = found_after state cell place h in
     let t = option_map tuplet_ratio state.tuplet in
     let b = option_map second_factor before in
-    let a = option_map first_factor behind in
+    let a = option_map first_factor following in
     let ratios : AreRatios t b a = record {
       t_is = tuplet_range state.tuplet h.tuplet;
       b_is = chosen_range before (λ mark. ActsBefore cell mark place) Second second_factor fb second_makes;
-      a_is = chosen_range behind (λ mark. ActsBehind cell mark place) First first_factor fa first_makes;
+      a_is = chosen_range following (λ mark. ActsAfter cell mark place) First first_factor fa first_makes;
     } in
     let both = made state.unit (unit_range state.unit h.unit) t b a ratios (written_ratio own) (option_map written_ratio outer) g (written_range own (written_ratio own) refl) (outer_range outer) in
     let computed : length_by state.unit (texts_of own outer) (tuplet_factors state.tuplet ++ factors_at cell place)
@@ -337,19 +337,19 @@ length_lasts state cell place own outer g h =
             outer_factor = m.outer;
             tuplet_factor = unwrap_or t once;
             before_factor = unwrap_or b once;
-            behind_factor = unwrap_or a once;
+            after_factor = unwrap_or a once;
             own_is = ratio_says own m.w m.w_is;
             outer_is = outer_from outer m.outer m.outer_is;
             tuplet_is = tuplet_from state.tuplet;
             before_is = chosen_from before (λ mark. ActsBefore cell mark place) Second second_factor fb second_makes;
-            behind_is = chosen_from behind (λ mark. ActsBehind cell mark place) First first_factor fa first_makes;
+            after_is = chosen_from following (λ mark. ActsAfter cell mark place) First first_factor fa first_makes;
             exact = m.exact;
             short = m.short;
           },
       λ l.
           let te = tuplet_to state.tuplet l.tuplet_factor l.tuplet_is in
           let be = chosen_to before (λ mark. ActsBefore cell mark place) Second second_factor l.before_factor fb second_makes l.before_is in
-          let ae = chosen_to behind (λ mark. ActsBehind cell mark place) First first_factor l.behind_factor fa first_makes l.behind_is in
+          let ae = chosen_to following (λ mark. ActsAfter cell mark place) First first_factor l.after_factor fa first_makes l.after_is in
           computed ∙ both.1 (record {
             w = l.own_factor;
             outer = l.outer_factor;

@@ -16,7 +16,7 @@ use Rattle.abc_bars_notes.specs.declared.sound.NoteContext.{NoteContext}
 use Rattle.abc_bars_notes.specs.declared.sound.ChordBuilder.{ChordBuilder}
 use Rattle.abc_bars_notes.specs.Chords.{part_context, chord_builder_from, chord_builder_of, is_tie, tie_follows, with_fault, with_kind, with_part}
 use Rattle.abc_bars_items.specs.Column.{column_of}
-use Rattle.abc_bars_notes.specs.LooseTies.{is_behind_note, is_loose, is_loose_tie, TiesBehindNotes}
+use Rattle.abc_bars_notes.specs.LooseTies.{is_after_note, is_loose, is_loose_tie, TiesAfterNotes}
 use Rattle.abc_bars_notes.specs.Sound.{no_notes, note_faults}
 use Rattle.abc_bars_notes.specs.TokenRole.{has_note}
 use Rattle.abc_bars_notes.proofs.ChordParts.{either, filter_chord, filter_note}
@@ -61,7 +61,7 @@ first_loose from before part parts true e = rw e refl
 first_loose from before part parts false e = rw e refl
 
 ties_from : (state : VoiceState) (broken : List Ratio) (chord_context : ChordContext) (parts : List (Spanned ChordPartKind)) (before : Option ChordPartKind) (builder : ChordBuilder)
-    → builder.after_note ≡ is_behind_note before
+    → builder.after_note ≡ is_after_note before
     → Ties (chord_builder_from state broken chord_context parts builder) ≡ Ties builder ++ loose_in chord_context.from before parts
 ties_from state broken chord_context [] before builder e = sym (append-nil _)
 ties_from state broken chord_context (part ∷ parts) before builder e =
@@ -69,11 +69,11 @@ ties_from state broken chord_context (part ∷ parts) before builder e =
     ties_from state broken chord_context parts (Some part.kind) (with_part state broken chord_context part (tie_follows parts) builder) refl
     ∙ ap (λ l. l ++ loose_in chord_context.from (Some part.kind) parts) (kind_ties state broken (part_context chord_context part.from (tie_follows parts)) part.kind builder
     ∙ ap (λ b. Ties builder ++ one_tie b column part.kind) e)
-    ∙ append_assoc (Ties builder) (one_tie (is_behind_note before) column part.kind) (loose_in chord_context.from (Some part.kind) parts)
+    ∙ append_assoc (Ties builder) (one_tie (is_after_note before) column part.kind) (loose_in chord_context.from (Some part.kind) parts)
     ∙ ap (λ l. Ties builder ++ l) (first_loose chord_context.from before part parts (is_loose (before, part)) refl)
 
-pub ties_behind_notes : TiesBehindNotes
-ties_behind_notes state broken from chord tied =
+pub ties_after_notes : TiesAfterNotes
+ties_after_notes state broken from chord tied =
     let chord_context : ChordContext = record { length = chord.length; tied = tied; from = from } in
     filter_chord is_loose_tie (has_note chord.parts) state from (chord_builder_of state broken chord_context chord.parts) refl
     ∙ ties_from state broken chord_context chord.parts None (no_notes state) refl

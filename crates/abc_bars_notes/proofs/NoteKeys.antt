@@ -47,30 +47,30 @@ none_found note (first ∷ tied) h =
     ∙ (λ i. option_or (none_found note tied (All-tail (λ other. ¬ IsSame note other) first tied h) i)
     (one note first false (false_by (goes_on_in note first) (λ e. All-head (λ other. ¬ IsSame note other) first tied h (same_by note first e))) i))
 
-last_found : (note : Note) (before behind : List TiedNote) (tied : TiedNote) → IsSame note tied → All (λ other. ¬ IsSame note other) behind
-    → find (goes_on_in note) (reverse (before ++ tied ∷ behind)) ≡ Some tied
-last_found note before behind tied same h =
-    ap (find (goes_on_in note)) (reverse-append before (tied ∷ behind) ∙ ap (λ l. l ++ reverse before) (reverse-append (tied ∷ []) behind))
-    ∙ find-append (goes_on_in note) (reverse behind ++ tied ∷ []) (reverse before)
+last_found : (note : Note) (before following : List TiedNote) (tied : TiedNote) → IsSame note tied → All (λ other. ¬ IsSame note other) following
+    → find (goes_on_in note) (reverse (before ++ tied ∷ following)) ≡ Some tied
+last_found note before following tied same h =
+    ap (find (goes_on_in note)) (reverse-append before (tied ∷ following) ∙ ap (λ l. l ++ reverse before) (reverse-append (tied ∷ []) following))
+    ∙ find-append (goes_on_in note) (reverse following ++ tied ∷ []) (reverse before)
     ∙ ap (λ o. option_or o (find (goes_on_in note) (reverse before)))
-    (find-append (goes_on_in note) (reverse behind) (tied ∷ [])
-    ∙ (λ i. option_or (none_found note behind h i) (one note tied true (same_to note tied same) i)))
+    (find-append (goes_on_in note) (reverse following) (tied ∷ [])
+    ∙ (λ i. option_or (none_found note following h i) (one note tied true (same_to note tied same) i)))
 
 pub altered_by : (state : VoiceState) (accidentals : Accidentals) (note : Note) → IsAltered state accidentals note (alteration_of state accidentals note)
 altered_by state accidentals note =
     let signature = signature_alteration state.signature note.letter in
-    let behind_own : ℤ = unwrap_or (written_on accidentals note) (unwrap_or (tied_alteration state.tied note) signature) in
-    let no_own : note.accidental ≡ None → alteration_of state accidentals note ≡ behind_own =
-    λ e. ap (λ (a : Option Accidental). unwrap_or (option_map accidental_alteration a) behind_own) e in
-    let no_written : written_on accidentals note ≡ None → behind_own ≡ unwrap_or (tied_alteration state.tied note) signature =
+    let after_own : ℤ = unwrap_or (written_on accidentals note) (unwrap_or (tied_alteration state.tied note) signature) in
+    let no_own : note.accidental ≡ None → alteration_of state accidentals note ≡ after_own =
+    λ e. ap (λ (a : Option Accidental). unwrap_or (option_map accidental_alteration a) after_own) e in
+    let no_written : written_on accidentals note ≡ None → after_own ≡ unwrap_or (tied_alteration state.tied note) signature =
     λ e. ap (λ w. unwrap_or w (unwrap_or (tied_alteration state.tied note) signature)) e in
     record {
-      own = λ accidental e. ap (λ (a : Option Accidental). unwrap_or (option_map accidental_alteration a) behind_own) e;
+      own = λ accidental e. ap (λ (a : Option Accidental). unwrap_or (option_map accidental_alteration a) after_own) e;
       written = λ last e f. no_own e ∙ ap (λ w. unwrap_or w (unwrap_or (tied_alteration state.tied note) signature)) f;
-      tied = λ before behind tied e f is same h.
+      tied = λ before following tied e f is same h.
           no_own e ∙ no_written f
           ∙ ap (λ o. unwrap_or (option_map (λ (t : TiedNote). t.alteration) o) signature)
-          (ap (λ l. find (goes_on_in note) (reverse l)) is ∙ last_found note before behind tied same h);
+          (ap (λ l. find (goes_on_in note) (reverse l)) is ∙ last_found note before following tied same h);
       signature = λ e f h.
           no_own e ∙ no_written f
           ∙ ap (λ o. unwrap_or (option_map (λ (t : TiedNote). t.alteration) o) signature) (none_found note state.tied h);

@@ -39,9 +39,9 @@ pub record IsActing (cell : List (Spanned TokenKind)) (mark : BrokenRhythm) (fir
   pub first_is : IsTimeAt cell first
   pub second_is : IsTimeAt cell second
   pub before : first < place
-  pub behind : place < second
+  pub following : place < second
   pub free_before : AreFreeBetween cell first place
-  pub free_behind : AreFreeBetween cell place second
+  pub free_after : AreFreeBetween cell place second
 
 -- A mark at a place acts on some two time tokens.
 pub record Acts (cell : List (Spanned TokenKind)) (mark : BrokenRhythm) (place : ℕ) : Type 0 where
@@ -56,7 +56,7 @@ pub record ActsBefore (cell : List (Spanned TokenKind)) (mark : BrokenRhythm) (s
   pub acting : IsActing cell mark first place second
 
 -- A mark acts on the time token at a place as the first of the two.
-pub record ActsBehind (cell : List (Spanned TokenKind)) (mark : BrokenRhythm) (first : ℕ) : Type 0 where
+pub record ActsAfter (cell : List (Spanned TokenKind)) (mark : BrokenRhythm) (first : ℕ) : Type 0 where
   pub place : ℕ
   pub second : ℕ
   pub acting : IsActing cell mark first place second
@@ -65,10 +65,10 @@ pub record ActsBehind (cell : List (Spanned TokenKind)) (mark : BrokenRhythm) (f
 -- one, and of the mark that acts on it and the next, if there is one.
 pub record AreFactors (cell : List (Spanned TokenKind)) (place : ℕ) (factors : List Ratio) : Type 0 where
   pub before : Option BrokenRhythm
-  pub behind : Option BrokenRhythm
+  pub following : Option BrokenRhythm
   pub before_is : (mark : BrokenRhythm) → (before ≡ Some mark) ↔ ActsBefore cell mark place
-  pub behind_is : (mark : BrokenRhythm) → (behind ≡ Some mark) ↔ ActsBehind cell mark place
-  pub factors_are : factors ≡ option_to_list (option_map second_factor before) ++ option_to_list (option_map first_factor behind)
+  pub after_is : (mark : BrokenRhythm) → (following ≡ Some mark) ↔ ActsAfter cell mark place
+  pub factors_are : factors ≡ option_to_list (option_map second_factor before) ++ option_to_list (option_map first_factor following)
 
 -- What is nearest before a place of a cell, of what matters.
 abbrev pub preceding_at : List (Spanned TokenKind) → ℕ → Preceding

@@ -38,19 +38,19 @@ preceding_after_mark _ mark = precedings.Nothing
 
 -- What is nearest, of what matters, after one token more of this role.
 abbrev pub preceding_by : Preceding → BrokenRole → Preceding
-preceding_by behind roles.Time = precedings.TimeToken
-preceding_by behind (roles.Mark mark) = preceding_after_mark behind mark
-preceding_by behind roles.Hindrance = precedings.Nothing
-preceding_by behind roles.Silent = behind
+preceding_by preceding roles.Time = precedings.TimeToken
+preceding_by preceding (roles.Mark mark) = preceding_after_mark preceding mark
+preceding_by preceding roles.Hindrance = precedings.Nothing
+preceding_by preceding roles.Silent = preceding
 
 -- What is nearest, of what matters, after one token more.
 abbrev pub preceding_after : Preceding → TokenKind → Preceding
-preceding_after behind kind = preceding_by behind (role_of kind)
+preceding_after preceding kind = preceding_by preceding (role_of kind)
 
 -- What is nearest before the place after some tokens.
 abbrev pub preceding_from : Preceding → List (Spanned TokenKind) → Preceding
-preceding_from behind [] = behind
-preceding_from behind (token ∷ rest) = preceding_from (preceding_after behind token.kind) rest
+preceding_from preceding [] = preceding
+preceding_from preceding (token ∷ rest) = preceding_from (preceding_after preceding token.kind) rest
 
 -- Whether a token is a time token, or has no role and this holds of those after it.
 abbrev pub time_or : BrokenRole → Bool → Bool
@@ -112,8 +112,8 @@ second_factor mark = second_by mark.direction mark
 -- What the marks around a time token multiply it by: the mark before it, and the one that comes
 -- next, with these tokens after it.
 abbrev pub factors_of : Preceding → List (Spanned TokenKind) → List Ratio
-factors_of behind ahead =
-    option_to_list (option_map second_factor (mark_before behind)) ++ option_to_list (option_map first_factor (mark_ahead ahead))
+factors_of preceding ahead =
+    option_to_list (option_map second_factor (mark_before preceding)) ++ option_to_list (option_map first_factor (mark_ahead ahead))
 
 -- Whether the last of what matters is a time token.
 abbrev pub is_after_time : Preceding → Bool
@@ -122,4 +122,4 @@ is_after_time _ = false
 
 -- Whether a mark has no two time tokens to act on. Not in ABC 2.1.
 abbrev pub is_bad_mark : Preceding → List (Spanned TokenKind) → Bool
-is_bad_mark behind ahead = not (is_after_time behind && time_follows ahead)
+is_bad_mark preceding ahead = not (is_after_time preceding && time_follows ahead)

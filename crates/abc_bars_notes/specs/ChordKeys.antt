@@ -14,7 +14,7 @@ use Rattle.abc_bars_items.specs.declared.item.Tone.{Tone}
 use Rattle.abc_bars_voice.specs.declared.voice_state.VoiceState.{VoiceState}
 use Rattle.abc_bars_notes.specs.NoteKeys.{IsAltered}
 use Rattle.abc_bars_notes.specs.Pitch.{midi_key, pitch_of}
-use Rattle.abc_bars_voice.specs.Reaching.{behind_notes}
+use Rattle.abc_bars_voice.specs.Reaching.{after_notes}
 use Rattle.abc_bars_notes.specs.TimeTokens.{play_chord, play_note}
 use Rattle.abc_bars_notes.specs.TokenRole.{has_note}
 use Rattle.abc_bars_items.specs.Velocity.{velocity_of}
@@ -42,8 +42,9 @@ ChordsSoundTheirKeys =
     (state : VoiceState) (broken : List Ratio) (from : ℕ) (chord : Chord) (tied : Bool) → has_note chord.parts ≡ true
     → (tones : List Tone) × (lasting : Grains)
     × ((play_chord state broken tied from chord).items ≡ items.Tone tones lasting ∷ [])
-    × ((before behind : List Note) (note : Note) → notes_in chord.parts ≡ before ++ note ∷ behind → length before < MOST_CHORD_NOTES
-    → IsSomeAnd (slice_get tones (length before)) (SoundsKey state (behind_notes state.accidentals before) note))
+    × ((before following : List Note) (note : Note)
+      → notes_in chord.parts ≡ before ++ note ∷ following → length before < MOST_CHORD_NOTES
+    → IsSomeAnd (slice_get tones (length before)) (SoundsKey state (after_notes state.accidentals before) note))
 
 -- Tones are as loud as the last dynamic of their voice says.
 abbrev pub AreAsLoud : VoiceState → List Tone → Type 0

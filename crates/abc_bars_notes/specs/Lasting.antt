@@ -24,7 +24,7 @@ use Rattle.abc_bars_notes.specs.declared.broken.TheConstants.{MOST_MARKS}
 use Rattle.abc_bars_items.specs.declared.item.Item.{Item}
 use Rattle.abc_bars_items.specs.declared.item.Item.TheVariants as items
 use Rattle.abc_bars_voice.specs.declared.voice_state.VoiceState.{VoiceState}
-use Rattle.abc_bars_notes.specs.Acting.{IsTimeAt, IsMarkAt, ActsBefore, ActsBehind, preceding_at}
+use Rattle.abc_bars_notes.specs.Acting.{IsTimeAt, IsMarkAt, ActsBefore, ActsAfter, preceding_at}
 use Rattle.abc_bars_notes.specs.BarRest.{AreBars, bar_rest_of}
 use Rattle.abc_bars_notes.specs.Broken.{factors_of}
 use Rattle.abc_bars_items.specs.Column.{column_of}
@@ -79,10 +79,10 @@ IsFactorBefore cell place factor =
     ⊎ ((mark : BrokenRhythm) × ActsBefore cell mark place × IsSecondFactor mark.direction mark.marks factor)
 
 -- The factor of the mark that acts on a place and the next time token, if there is one.
-abbrev pub IsFactorBehind : List (Spanned TokenKind) → ℕ → Ratio → Type 0
-IsFactorBehind cell place factor =
-    (((mark : BrokenRhythm) → ¬ ActsBehind cell mark place) × (factor ≡ once))
-    ⊎ ((mark : BrokenRhythm) × ActsBehind cell mark place × IsFirstFactor mark.direction mark.marks factor)
+abbrev pub IsFactorAfter : List (Spanned TokenKind) → ℕ → Ratio → Type 0
+IsFactorAfter cell place factor =
+    (((mark : BrokenRhythm) → ¬ ActsAfter cell mark place) × (factor ≡ once))
+    ⊎ ((mark : BrokenRhythm) × ActsAfter cell mark place × IsFirstFactor mark.direction mark.marks factor)
 
 -- What is written so, and so after its chord, at a place of a cell is g grains long: the unit times what is written,
 -- what is written after the chord, and what the tuplet and the marks of broken rhythm say that act there, exactly,
@@ -93,13 +93,13 @@ pub record Lasts (state : VoiceState) (cell : List (Spanned
   pub outer_factor : Ratio
   pub tuplet_factor : Ratio
   pub before_factor : Ratio
-  pub behind_factor : Ratio
+  pub after_factor : Ratio
   pub own_is : SaysFactor own own_factor
   pub outer_is : IsOuterFactor outer outer_factor
   pub tuplet_is : IsTupletFactor state.tuplet tuplet_factor
   pub before_is : IsFactorBefore cell place before_factor
-  pub behind_is : IsFactorBehind cell place behind_factor
-  pub exact : IsLength state.unit (own_factor ∷ outer_factor ∷ tuplet_factor ∷ before_factor ∷ behind_factor ∷ []) g
+  pub after_is : IsFactorAfter cell place after_factor
+  pub exact : IsLength state.unit (own_factor ∷ outer_factor ∷ tuplet_factor ∷ before_factor ∷ after_factor ∷ []) g
   pub short : g ≤ grains_of_the_longest_length
 
 -- The length of a note: the one of the rule, else that of one unit, which is not in ABC 2.1.

@@ -14,9 +14,9 @@ use Rattle.abc_bars_notes.specs.TimeTokens.{play_chord}
 use Rattle.abc_bars_notes.specs.TokenRole.{is_note_part}
 
 -- Whether what is directly before a part, if anything does, is a note.
-abbrev pub is_behind_note : Option ChordPartKind → Bool
-is_behind_note None = false
-is_behind_note (Some kind) = is_note_part kind
+abbrev pub is_after_note : Option ChordPartKind → Bool
+is_after_note None = false
+is_after_note (Some kind) = is_note_part kind
 
 -- Each part of a chord with the one directly before it.
 abbrev pub with_before : List (Spanned ChordPartKind) → List (Option ChordPartKind × Spanned ChordPartKind)
@@ -24,7 +24,7 @@ with_before parts = zip (None ∷ map (λ part. Some part.kind) parts) parts
 
 -- Whether a part is a tie, and what is directly before it is no note.
 abbrev pub is_loose : Option ChordPartKind × Spanned ChordPartKind → Bool
-is_loose pair = is_tie pair.1.kind && not (is_behind_note pair.0)
+is_loose pair = is_tie pair.1.kind && not (is_after_note pair.0)
 
 -- Whether a fault is LooseTie.
 abbrev pub is_loose_tie : ℕ × FaultCode → Bool
@@ -32,8 +32,8 @@ is_loose_tie fault = number_of fault.1 == number_of LooseTie
 
 -- The loose ties inside a chord are those that have no note directly before them, in order, whatever is after the
 -- chord. Not in ABC 2.1.
-abbrev pub TiesBehindNotes : Type 0
-TiesBehindNotes =
+abbrev pub TiesAfterNotes : Type 0
+TiesAfterNotes =
     (state : VoiceState) (broken : List Ratio) (from : ℕ) (chord : Chord) (tied : Bool)
     → filter is_loose_tie (play_chord state broken tied from chord).faults
     ≡ map (λ pair. (column_of (from + pair.1.from), LooseTie)) (filter is_loose (with_before chord.parts))

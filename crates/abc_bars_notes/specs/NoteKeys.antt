@@ -25,8 +25,9 @@ IsSame note tied = (capital tied.letter ≡ capital note.letter) × (tied.octave
 pub record IsAltered (state : VoiceState) (accidentals : Accidentals) (note : Note) (by : ℤ) : Type 0 where
   pub own : (accidental : Accidental) → note.accidental ≡ Some accidental → by ≡ accidental_alteration accidental
   pub written : (last : ℤ) → note.accidental ≡ None → written_on accidentals note ≡ Some last → by ≡ last
-  pub tied : (before behind : List TiedNote) (tied : TiedNote) → note.accidental ≡ None → written_on accidentals note ≡ None
-      → state.tied ≡ before ++ tied ∷ behind → IsSame note tied → All (λ other. ¬ IsSame note other) behind → by ≡ tied.alteration
+  pub tied : (before following : List TiedNote) (tied : TiedNote) → note.accidental ≡ None → written_on accidentals note ≡ None
+      → state.tied ≡ before ++ tied ∷ following → IsSame note tied → All (λ other. ¬ IsSame note other) following
+      → by ≡ tied.alteration
   pub signature : note.accidental ≡ None → written_on accidentals note ≡ None → All (λ other. ¬ IsSame note other) state.tied
       → by ≡ signature_alteration state.signature note.letter
 

@@ -40,7 +40,7 @@ pub(crate) enum BrokenRole {
 #[derive(Drop)]
 pub struct BrokenFactors {
     /// From the mark before it.
-    pub(crate) behind: Option<Ratio>,
+    pub(crate) preceding: Option<Ratio>,
     /// From the mark that comes next.
     pub(crate) ahead: Option<Ratio>,
 }
@@ -52,20 +52,20 @@ impl Model for BrokenFactors {
 
     ghost Value = { List Ratio };
 
-    ghost view = { λ f. option_to_list f.behind ++ option_to_list f.ahead };
+    ghost view = { λ f. option_to_list f.preceding ++ option_to_list f.ahead };
 
-    ghost invariant = { λ f. IfSome f.behind IsRatio × IfSome f.ahead IsRatio };
+    ghost invariant = { λ f. IfSome f.preceding IsRatio × IfSome f.ahead IsRatio };
 }
 
 impl BrokenFactors {
     /// The factors of a note, chord or rest, by what precedes it and by the tokens after it in its cell.
     #[inline(always)]
-    pub fn of(behind: Preceding, ahead: &[Token]) -> BrokenFactors
-        ensures { result ≡ factors_of behind ahead.now }
+    pub fn of(preceding: Preceding, ahead: &[Token]) -> BrokenFactors
+        ensures { result ≡ factors_of preceding ahead.now }
     {
         BrokenFactors {
-            behind: factor_before(behind),
-            ahead: factor_behind(ahead),
+            preceding: factor_before(preceding),
+            ahead: factor_after(ahead),
         }
     }
 
@@ -73,7 +73,7 @@ impl BrokenFactors {
     pub(crate) fn is_empty(&self) -> bool
         ensures { result ≡ (length self.now == 0) }
     {
-        self.behind.is_none() && self.ahead.is_none()
+        self.preceding.is_none() && self.ahead.is_none()
     }
 }
 
@@ -90,14 +90,14 @@ fn role_of(kind: &TokenKind) -> BrokenRole
 }
 
 /// What precedes the next place, as far as it matters.
-pub fn preceding_after(behind: Preceding, kind: &TokenKind) -> Preceding
-    ensures { result ≡ preceding_after behind kind.now }
+pub fn preceding_after(preceding: Preceding, kind: &TokenKind) -> Preceding
+    ensures { result ≡ preceding_after preceding kind.now }
 {
-    match (role_of(kind), behind) {
+    match (role_of(kind), preceding) {
         (BrokenRole::Time, _) => Preceding::TimeToken,
         (BrokenRole::Mark(mark), Preceding::TimeToken) => Preceding::Mark(mark),
         (BrokenRole::Mark(_) | BrokenRole::Hindrance, _) => Preceding::Nothing,
-        (BrokenRole::Silent, _) => behind,
+        (BrokenRole::Silent, _) => preceding,
     }
 }
 
@@ -183,11 +183,11 @@ fn second_factor(mark: BrokenRhythm) -> Ratio
 }
 
 /// The factor of the preceding mark, if a note, chord or rest was before the mark.
-fn factor_before(behind: Preceding) -> Option<Ratio>
-    ensures value { result ≡ option_map second_factor (mark_before behind) }
+fn factor_before(preceding: Preceding) -> Option<Ratio>
+    ensures value { result ≡ option_map second_factor (mark_before preceding) }
     ensures range { IfSome result IsRatio }
 {
-    match behind {
+    match preceding {
         Preceding::Mark(mark) => Some(second_factor(mark)),
         Preceding::Nothing | Preceding::TimeToken => None,
     }
@@ -195,7 +195,7 @@ fn factor_before(behind: Preceding) -> Option<Ratio>
 
 /// The factor of the mark that comes next. Most notes have a note directly after them, which is looked at first.
 #[inline(always)]
-fn factor_behind(ahead: &[Token]) -> Option<Ratio>
+fn factor_after(ahead: &[Token]) -> Option<Ratio>
     ensures value { result ≡ option_map first_factor (mark_ahead ahead.now) }
     ensures range { IfSome result IsRatio }
 {
@@ -206,8 +206,8 @@ fn factor_behind(ahead: &[Token]) -> Option<Ratio>
 }
 
 /// Whether a mark has no two notes, chords or rests to act on.
-pub fn is_bad_mark(behind: Preceding, ahead: &[Token]) -> bool
-    ensures { result ≡ is_bad_mark behind ahead.now }
+pub fn is_bad_mark(preceding: Preceding, ahead: &[Token]) -> bool
+    ensures { result ≡ is_bad_mark preceding ahead.now }
 {
-    !(behind == Preceding::TimeToken && time_follows(ahead))
+    !(preceding == Preceding::TimeToken && time_follows(ahead))
 }

@@ -5,7 +5,7 @@ ghost use Rattle.abc_bars_notes.specs.ChordFaults.{BadLengthsAtNotes};
 ghost use Rattle.abc_bars_notes.specs.ChordKeys.{ChordsSoundTheirKeys, NotesAreAsLoud, ChordsAreAsLoud};
 ghost use Rattle.abc_bars_notes.specs.ChordNotes.{ChordsSound, BigAtTheSeventeenth};
 ghost use Rattle.abc_bars_notes.specs.Lasting.{NotesLast, RestsLast, BarRestsLast, FreeBarRests};
-ghost use Rattle.abc_bars_notes.specs.LooseTies.{TiesBehindNotes};
+ghost use Rattle.abc_bars_notes.specs.LooseTies.{TiesAfterNotes};
 ghost use Rattle.abc_bars_notes.specs.NoteKeys.{NotesSoundTheirKeys};
 
 /// A note or a rest lasts exactly the unit times its written factor, the factor of its tuplet and those of the marks of
@@ -30,7 +30,7 @@ pub fn notes_of_chords()
 
 /// A tie inside a chord is loose exactly if no note is directly before it.
 pub fn loose_ties_of_chords()
-    ensures { TiesBehindNotes }
+    ensures { TiesAfterNotes }
 {}
 
 /// A note sounds the key of its pitch, altered by its own accidental, else by the last one that reaches it, else as

@@ -106,7 +106,7 @@ fn product_of(
         own,
         outer.unwrap_or(ONCE),
         tuplet_ratio(tuplet).unwrap_or(ONCE),
-        broken.behind.unwrap_or(ONCE),
+        broken.preceding.unwrap_or(ONCE),
         broken.ahead.unwrap_or(ONCE),
     ];
     length(part, &factors).ok()

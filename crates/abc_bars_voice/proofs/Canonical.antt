@@ -19,7 +19,7 @@ use Rattle.abc_bars_voice.specs.declared.accidentals.Accidentals.TheVariants.{Ow
 use Rattle.abc_bars_voice.specs.declared.accidentals.LetterAccidentals.{LetterAccidentals}
 use Rattle.abc_bars_voice.specs.Accidentals.{letters_in, no_accidentals, no_letters, on_letter, reach_of, with_accidental, with_letter, with_octave, written_on}
 use Rattle.abc_bars_voice.specs.Alteration.{with_own, with_written}
-use Rattle.abc_bars_voice.specs.Reaching.{SameWhereHeardAlike, behind_notes}
+use Rattle.abc_bars_voice.specs.Reaching.{SameWhereHeardAlike, after_notes}
 use Rattle.abc_bars_voice.specs.OctaveGroups.{AllAbove}
 use Rattle.abc_bars_voice.proofs.Alike.{accidentals_of_parts}
 use Rattle.abc_bars_voice.proofs.Groups.{above_more, above_put, none_below}
@@ -70,9 +70,9 @@ kept_by : (accidentals : Accidentals) (note : Note) (by : Option ℤ) → IsKept
 kept_by accidentals note None h = h
 kept_by accidentals note (Some by) h = kept_on accidentals note by h
 
-kept_behind : (accidentals : Accidentals) (notes : List Note) → IsKept accidentals → IsKept (behind_notes accidentals notes)
-kept_behind accidentals [] h = h
-kept_behind accidentals (note ∷ notes) h = kept_behind (with_own accidentals note) notes (kept_by accidentals note (option_map accidental_alteration note.accidental) h)
+kept_after : (accidentals : Accidentals) (notes : List Note) → IsKept accidentals → IsKept (after_notes accidentals notes)
+kept_after accidentals [] h = h
+kept_after accidentals (note ∷ notes) h = kept_after (with_own accidentals note) notes (kept_by accidentals note (option_map accidental_alteration note.accidental) h)
 
 none_kept : (reach : Reach) → IsKept (no_accidentals reach)
 none_kept Not = tt
@@ -151,6 +151,6 @@ same_accidentals (OnLetters letters) (InOctaves others) r h k alike = cc
 
 pub same_where_heard_alike : SameWhereHeardAlike
 same_where_heard_alike reach notes others alike =
-    same_accidentals (behind_notes (no_accidentals reach) notes) (behind_notes (no_accidentals reach) others)
+    same_accidentals (after_notes (no_accidentals reach) notes) (after_notes (no_accidentals reach) others)
     (reach_stays (no_accidentals reach) notes ∙ sym (reach_stays (no_accidentals reach) others))
-    (kept_behind (no_accidentals reach) notes (none_kept reach)) (kept_behind (no_accidentals reach) others (none_kept reach)) alike
+    (kept_after (no_accidentals reach) notes (none_kept reach)) (kept_after (no_accidentals reach) others (none_kept reach)) alike

@@ -77,18 +77,18 @@ module _ {V : Type 0} where
   none_below key [] h = refl
   none_below key (first ∷ entries) h = rw (above_apart key first.0 h.0) (none_below key entries h.1)
 
-  behind_by : (first : V) (here there : Option V) (same : Bool) → (here ≡ None → there ≡ None) → cond same (Some first) here ≡ None → cond same (Some first) there ≡ None
-  behind_by first here there true h e = e
-  behind_by first here there false h e = h e
+  after_by : (first : V) (here there : Option V) (same : Bool) → (here ≡ None → there ≡ None) → cond same (Some first) here ≡ None → cond same (Some first) there ≡ None
+  after_by first here there true h e = e
+  after_by first here there false h e = h e
 
-  found_behind_by : (first : V) (here both there : Option V) (same : Bool) → (here ≡ None → both ≡ there) → cond same (Some first) here ≡ None → cond same (Some first) both ≡ there
-  found_behind_by first here both there true h e = cc
-  found_behind_by first here both there false h e = h e
+  found_after_by : (first : V) (here both there : Option V) (same : Bool) → (here ≡ None → both ≡ there) → cond same (Some first) here ≡ None → cond same (Some first) both ≡ there
+  found_after_by first here both there true h e = cc
+  found_after_by first here both there false h e = h e
 
-  found_behind : (entries others : List (ℤ × V)) (key : ℤ) → found entries key ≡ None → found (entries ++ others) key ≡ found others key
-  found_behind [] others key h = refl
-  found_behind (first ∷ entries) others key h =
-      found_behind_by first.1 (found entries key) (found (entries ++ others) key) (found others key) (int_eq key first.0) (found_behind entries others key) h
+  found_after : (entries others : List (ℤ × V)) (key : ℤ) → found entries key ≡ None → found (entries ++ others) key ≡ found others key
+  found_after [] others key h = refl
+  found_after (first ∷ entries) others key h =
+      found_after_by first.1 (found entries key) (found (entries ++ others) key) (found others key) (int_eq key first.0) (found_after entries others key) h
 
   found_front : (entries others : List (ℤ × V)) (key : ℤ) → found others key ≡ None → found (entries ++ others) key ≡ found entries key
   found_front [] others key h = h
@@ -99,10 +99,10 @@ module _ {V : Type 0} where
   put_above [] key value h = refl
   put_above (first ∷ entries) key value h = rw (less key first.0 h.0) refl
 
-  put_behind : (entries others : List (ℤ × V)) (key : ℤ) (value : V) → AllBelow key entries
+  put_after : (entries others : List (ℤ × V)) (key : ℤ) (value : V) → AllBelow key entries
       → insert_entry int_cmp (entries ++ others) key value ≡ entries ++ insert_entry int_cmp others key value
-  put_behind [] others key value h = refl
-  put_behind (first ∷ entries) others key value h = rw (greater key first.0 h.0) (ap (λ rest. first ∷ rest) (put_behind entries others key value h.1))
+  put_after [] others key value h = refl
+  put_after (first ∷ entries) others key value h = rw (greater key first.0 h.0) (ap (λ rest. first ∷ rest) (put_after entries others key value h.1))
 
   put_front_by : (first : ℤ × V) (entries others : List (ℤ × V)) (key : ℤ) (value : V) (r : Ordering)
       → insert_entry int_cmp (entries ++ others) key value ≡ insert_entry int_cmp entries key value ++ others
@@ -162,7 +162,7 @@ module _ {V : Type 0} where
   none_above octave group [] is above h = refl
   none_above octave group (first ∷ groups) is above h =
       let other : ¬ (group_of octave ≡ first.0) = λ e. <ℤ_irrefl (subst (λ g. group <ℤ g) (sym e ∙ is) above.0) in
-      found_behind first.1 (octaves_of groups) octave (none_elsewhere octave first.0 first.1 other h.1)
+      found_after first.1 (octaves_of groups) octave (none_elsewhere octave first.0 first.1 other h.1)
       ∙ none_above octave group groups is above.1 h.3
 
   all_above : (octave : ℤ) (groups : List (ℤ × List (ℤ × V))) → AllAbove (group_of octave) groups → AreGrouped groups → AllAbove octave (octaves_of groups)
@@ -178,7 +178,7 @@ module _ {V : Type 0} where
       found_front group.1 (octaves_of groups) octave (none_above octave group.0 groups ((Decides-int_eq (group_of octave) group.0).0 e) h.0 h.3)
   in_group_by octave group groups false e h rest =
       let other : ¬ (group_of octave ≡ group.0) = λ is. cc (e, (Decides-int_eq (group_of octave) group.0).1 is) in
-      found_behind group.1 (octaves_of groups) octave (none_elsewhere octave group.0 group.1 other h.1) ∙ rest
+      found_after group.1 (octaves_of groups) octave (none_elsewhere octave group.0 group.1 other h.1) ∙ rest
 
   pub in_group : (octave : ℤ) (groups : List (ℤ × List (ℤ × V))) → AreGrouped groups → found (octaves_of groups) octave ≡ found (group_at groups octave) octave
   in_group octave [] h = refl
@@ -213,7 +213,7 @@ module _ {V : Type 0} where
       sym (put_front first.1 (octaves_of groups) octave value (all_above octave groups (subst (λ g. AllAbove g groups) (sym is) h.0) h.3))
   one_list_by octave value first groups Greater e h rest =
       let above : first.0 <ℤ group_of octave = int_ranked (group_of octave) first.0 Greater e in
-      ap (λ more. first.1 ++ more) rest ∙ sym (put_behind first.1 (octaves_of groups) octave value (below_lie octave first.0 first.1 above h.1))
+      ap (λ more. first.1 ++ more) rest ∙ sym (put_after first.1 (octaves_of groups) octave value (below_lie octave first.0 first.1 above h.1))
 
   pub one_list : (octave : ℤ) (value : V) (groups : List (ℤ × List (ℤ × V))) → AreGrouped groups → octaves_of (with_value groups octave value) ≡ insert_entry int_cmp (octaves_of groups) octave value
   one_list octave value [] h = refl

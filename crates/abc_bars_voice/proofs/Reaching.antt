@@ -22,7 +22,7 @@ use Rattle.abc_bars_voice.specs.declared.accidentals.Accidentals.TheVariants.{Ow
 use Rattle.abc_bars_voice.specs.declared.accidentals.LetterAccidentals.{LetterAccidentals}
 use Rattle.abc_bars_voice.specs.Accidentals.{letters_in, no_accidentals, no_letters, on_letter, reach_of, with_accidental, with_letter, with_octave, written_on}
 use Rattle.abc_bars_voice.specs.Alteration.{with_own, with_written}
-use Rattle.abc_bars_voice.specs.Reaching.{AccidentalsReach, Hears, Reaches, behind_notes}
+use Rattle.abc_bars_voice.specs.Reaching.{AccidentalsReach, Hears, Reaches, after_notes}
 
 -- an accidental on a letter, as each letter sees it
 abbrev seen : LetterAccidentals → Letter → ℤ → Letter → Option ℤ
@@ -151,12 +151,12 @@ passed_over Own earlier note by h = refl
 passed_over (InOctaves octaves) earlier note by h = by_octave octaves earlier note by (int_eq note.octave earlier.octave) refl h
 passed_over (OnLetters letters) earlier note by h = on_another letters earlier.letter by note.letter h
 
-abbrev behind_one : Accidentals → Note → Option Accidental → Accidentals
-behind_one accidentals earlier accidental = with_written accidentals earlier (option_map accidental_alteration accidental)
+abbrev after_one : Accidentals → Note → Option Accidental → Accidentals
+after_one accidentals earlier accidental = with_written accidentals earlier (option_map accidental_alteration accidental)
 
 not_heard_by : (accidentals : Accidentals) (earlier note : Note) (accidental : Option Accidental) → earlier.accidental ≡ accidental
     → ¬ Hears (reach_of accidentals) note earlier
-    → written_on (behind_one accidentals earlier accidental) note ≡ written_on accidentals note
+    → written_on (after_one accidentals earlier accidental) note ≡ written_on accidentals note
 not_heard_by accidentals earlier note None e h = refl
 not_heard_by accidentals earlier note (Some accidental) e h =
     passed_over accidentals earlier note (accidental_alteration accidental)
@@ -169,7 +169,7 @@ not_heard accidentals earlier note h = not_heard_by accidentals earlier note ear
 heard : (accidentals : Accidentals) (earlier note : Note) (accidental : Accidental) → earlier.accidental ≡ Some accidental → Reaches (reach_of accidentals) earlier note
     → written_on (with_own accidentals earlier) note ≡ Some (accidental_alteration accidental)
 heard accidentals earlier note accidental e h =
-    ap (λ o. written_on (behind_one accidentals earlier o) note) e ∙ heard_on accidentals earlier note (accidental_alteration accidental) h
+    ap (λ o. written_on (after_one accidentals earlier o) note) e ∙ heard_on accidentals earlier note (accidental_alteration accidental) h
 
 reach_by : (accidentals : Accidentals) (earlier : Note) (by : Option ℤ) → reach_of (with_written accidentals earlier by) ≡ reach_of accidentals
 reach_by accidentals earlier None = refl
@@ -178,12 +178,12 @@ reach_by (InOctaves octaves) earlier (Some by) = refl
 reach_by (OnLetters letters) earlier (Some by) = refl
 
 -- accidentals reach as far after notes
-pub reach_stays : (accidentals : Accidentals) (notes : List Note) → reach_of (behind_notes accidentals notes) ≡ reach_of accidentals
+pub reach_stays : (accidentals : Accidentals) (notes : List Note) → reach_of (after_notes accidentals notes) ≡ reach_of accidentals
 reach_stays accidentals [] = refl
 reach_stays accidentals (note ∷ notes) = reach_stays (with_own accidentals note) notes ∙ reach_by accidentals note (option_map accidental_alteration note.accidental)
 
 pub none_of : (accidentals : Accidentals) (reach : Reach) (notes : List Note) (note : Note) → reach_of accidentals ≡ reach → All (λ other. ¬ Hears reach note other) notes
-    → written_on (behind_notes accidentals notes) note ≡ written_on accidentals note
+    → written_on (after_notes accidentals notes) note ≡ written_on accidentals note
 none_of accidentals reach [] note e h = refl
 none_of accidentals reach (first ∷ notes) note e h =
     let reach_is = reach_by accidentals first (option_map accidental_alteration first.accidental) ∙ e in
@@ -191,19 +191,19 @@ none_of accidentals reach (first ∷ notes) note e h =
     none_of (with_own accidentals first) reach notes note reach_is (All-tail (λ other. ¬ Hears reach note other) first notes h)
     ∙ not_heard accidentals first note (subst (λ r. ¬ Hears r note first) (sym e) first_not)
 
-behind_both : (accidentals : Accidentals) (before behind : List Note) → behind_notes accidentals (before ++ behind) ≡ behind_notes (behind_notes accidentals before) behind
-behind_both accidentals [] behind = refl
-behind_both accidentals (note ∷ before) behind = behind_both (with_own accidentals note) before behind
+after_both : (accidentals : Accidentals) (before following : List Note) → after_notes accidentals (before ++ following) ≡ after_notes (after_notes accidentals before) following
+after_both accidentals [] following = refl
+after_both accidentals (note ∷ before) following = after_both (with_own accidentals note) before following
 
-last_of : (accidentals : Accidentals) (reach : Reach) (before behind : List Note) (earlier note : Note) (accidental : Accidental) → reach_of accidentals ≡ reach
-    → earlier.accidental ≡ Some accidental → Reaches reach earlier note → All (λ other. ¬ Hears reach note other) behind
-    → written_on (behind_notes accidentals (before ++ earlier ∷ behind)) note ≡ Some (accidental_alteration accidental)
-last_of accidentals reach before behind earlier note accidental e written reaches none =
-    let so_far = behind_notes accidentals before in
+last_of : (accidentals : Accidentals) (reach : Reach) (before following : List Note) (earlier note : Note) (accidental : Accidental) → reach_of accidentals ≡ reach
+    → earlier.accidental ≡ Some accidental → Reaches reach earlier note → All (λ other. ¬ Hears reach note other) following
+    → written_on (after_notes accidentals (before ++ earlier ∷ following)) note ≡ Some (accidental_alteration accidental)
+last_of accidentals reach before following earlier note accidental e written reaches none =
+    let so_far = after_notes accidentals before in
     let reach_is : reach_of so_far ≡ reach = reach_stays accidentals before ∙ e in
     let own_reach = reach_by so_far earlier (option_map accidental_alteration earlier.accidental) ∙ reach_is in
-    ap (λ a. written_on a note) (behind_both accidentals before (earlier ∷ behind))
-    ∙ none_of (with_own so_far earlier) reach behind note own_reach none
+    ap (λ a. written_on a note) (after_both accidentals before (earlier ∷ following))
+    ∙ none_of (with_own so_far earlier) reach following note own_reach none
     ∙ heard so_far earlier note accidental written (subst (λ r. Reaches r earlier note) (sym reach_is) reaches)
 
 pub reach_none : (reach : Reach) → reach_of (no_accidentals reach) ≡ reach
@@ -228,8 +228,8 @@ nothing_on Pitch note = none_in note.letter
 
 pub accidentals_reach : AccidentalsReach
 accidentals_reach reach notes note = record {
-  last = λ before behind earlier accidental is written reaches none.
-      ap (λ l. written_on (behind_notes (no_accidentals reach) l) note) is
-      ∙ last_of (no_accidentals reach) reach before behind earlier note accidental (reach_none reach) written reaches none;
+  last = λ before following earlier accidental is written reaches none.
+      ap (λ l. written_on (after_notes (no_accidentals reach) l) note) is
+      ∙ last_of (no_accidentals reach) reach before following earlier note accidental (reach_none reach) written reaches none;
   none = λ h. none_of (no_accidentals reach) reach notes note (reach_none reach) h ∙ nothing_on reach note;
 }

@@ -25,27 +25,27 @@ pub record Hears (reach : Reach) (note earlier : Note) : Type 0 where
 
 -- What a note hears of these notes, oldest first: the accidental of the last note whose accidental reaches it.
 pub record HearsLast (reach : Reach) (notes : List Note) (note : Note) (heard : Option ℤ) : Type 0 where
-  pub last : (before behind : List Note) (earlier : Note) (accidental : Accidental) → notes ≡ before ++ earlier ∷ behind
-      → earlier.accidental ≡ Some accidental → Reaches reach earlier note → All (λ other. ¬ Hears reach note other) behind
+  pub last : (before following : List Note) (earlier : Note) (accidental : Accidental) → notes ≡ before ++ earlier ∷ following
+      → earlier.accidental ≡ Some accidental → Reaches reach earlier note → All (λ other. ¬ Hears reach note other) following
       → heard ≡ Some (accidental_alteration accidental)
   pub none : All (λ other. ¬ Hears reach note other) notes → heard ≡ None
 
 -- The accidentals after more notes.
-abbrev pub behind_notes : Accidentals → List Note → Accidentals
-behind_notes accidentals [] = accidentals
-behind_notes accidentals (note ∷ notes) = behind_notes (with_own accidentals note) notes
+abbrev pub after_notes : Accidentals → List Note → Accidentals
+after_notes accidentals [] = accidentals
+after_notes accidentals (note ∷ notes) = after_notes (with_own accidentals note) notes
 
 -- A note hears of the notes of its bar the last accidental that reaches it.
 abbrev pub AccidentalsReach : Type 0
 AccidentalsReach =
     (reach : Reach) (notes : List Note) (note : Note)
-    → HearsLast reach notes note (written_on (behind_notes (no_accidentals reach) notes) note)
+    → HearsLast reach notes note (written_on (after_notes (no_accidentals reach) notes) note)
 
 -- The accidentals after notes are nothing but what notes hear of them: they are equal if every note would hear the same,
 -- in whatever order they were written.
 abbrev pub SameWhereHeardAlike : Type 0
 SameWhereHeardAlike =
     (reach : Reach) (notes others : List Note)
-    → ((note : Note) → written_on (behind_notes (no_accidentals reach) notes) note
-    ≡ written_on (behind_notes (no_accidentals reach) others) note)
-    → behind_notes (no_accidentals reach) notes ≡ behind_notes (no_accidentals reach) others
+    → ((note : Note) → written_on (after_notes (no_accidentals reach) notes) note
+    ≡ written_on (after_notes (no_accidentals reach) others) note)
+    → after_notes (no_accidentals reach) notes ≡ after_notes (no_accidentals reach) others

@@ -15,14 +15,14 @@ use Rattle.abc_book.specs.Laws.{moved, AnXLineCuts}
 use Rattle.abc_book.specs.Stretch.{blocks_at}
 use Rattle.abc_book.proofs.OnePass.{one_pass}
 
-cut_from : (before : OpenBlock) (at : ℕ) (front behind : List LineClass)
-    → blocks_from before at (front ++ Field letter_x ∷ behind) ≡ blocks_from before at front ++ blocks_from Nothing (at + length front) (Field letter_x ∷ behind)
-cut_from before at [] behind = let here : at ≡ at + 0 = omega arith in ap (λ n. last_block before ++ blocks_from Nothing n (Field letter_x ∷ behind)) here
-cut_from before at (class ∷ front) behind =
-    let more = cut_from (after_line before at class) (at + 1) front behind in
+cut_from : (before : OpenBlock) (at : ℕ) (front following : List LineClass)
+    → blocks_from before at (front ++ Field letter_x ∷ following) ≡ blocks_from before at front ++ blocks_from Nothing (at + length front) (Field letter_x ∷ following)
+cut_from before at [] following = let here : at ≡ at + 0 = omega arith in ap (λ n. last_block before ++ blocks_from Nothing n (Field letter_x ∷ following)) here
+cut_from before at (class ∷ front) following =
+    let more = cut_from (after_line before at class) (at + 1) front following in
     let here : at + 1 + length front ≡ at + length (class ∷ front) = omega arith in
-    ap (λ l. block_ended_by before class ++ l) (more ∙ ap (λ n. blocks_from (after_line before at class) (at + 1) front ++ blocks_from Nothing n (Field letter_x ∷ behind)) here)
-    ∙ sym (append_assoc (block_ended_by before class) (blocks_from (after_line before at class) (at + 1) front) (blocks_from Nothing (at + length (class ∷ front)) (Field letter_x ∷ behind)))
+    ap (λ l. block_ended_by before class ++ l) (more ∙ ap (λ n. blocks_from (after_line before at class) (at + 1) front ++ blocks_from Nothing n (Field letter_x ∷ following)) here)
+    ∙ sym (append_assoc (block_ended_by before class) (blocks_from (after_line before at class) (at + 1) front) (blocks_from Nothing (at + length (class ∷ front)) (Field letter_x ∷ following)))
 
 abbrev moved_before : ℕ → OpenBlock → OpenBlock
 moved_before n Nothing = Nothing
@@ -83,11 +83,12 @@ pub is_field_x : (x : LineClass) → IsTrue (is_x_line x) → x ≡ Field letter
 is_field_x (Field letter) h = ap (λ l. Field l) (eqb-true letter letter_x h)
 is_field_x _ h = absurd (cc)
 
-cuts_at : (front behind : List LineClass) → blocks_of (front ++ Field letter_x ∷ behind) ≡ blocks_of front ++ map (moved (length front)) (blocks_of (Field letter_x ∷ behind))
-cuts_at front behind =
+cuts_at : (front following : List LineClass) → blocks_of (front ++ Field letter_x ∷ following) ≡ blocks_of front ++ map (moved (length front)) (blocks_of (Field letter_x ∷ following))
+cuts_at front following =
     let here : 0 + length front ≡ length front = omega arith in
-    one_pass (front ++ Field letter_x ∷ behind) ∙ cut_from Nothing 0 front behind
-    ∙ (λ i. sym (one_pass front) i ++ (blocks_moved (length front) 0 Nothing (Field letter_x ∷ behind) ∙ ap (λ l. map (moved (length front)) l) (sym (one_pass (Field letter_x ∷ behind)))) i)
+    one_pass (front ++ Field letter_x ∷ following) ∙ cut_from Nothing 0 front following
+    ∙ (λ i. sym (one_pass front) i ++ (blocks_moved (length front) 0 Nothing (Field letter_x ∷ following) ∙ ap (λ l. map (moved (length front)) l) (sym (one_pass (Field letter_x ∷ following)))) i)
 
 pub x_line_cuts : AnXLineCuts
-x_line_cuts before behind x h = subst (λ y. blocks_of (before ++ y ∷ behind) ≡ blocks_of before ++ map (moved (length before)) (blocks_of (y ∷ behind))) (sym (is_field_x x h)) (cuts_at before behind)
+x_line_cuts before following x h =
+    subst (λ y. blocks_of (before ++ y ∷ following) ≡ blocks_of before ++ map (moved (length before)) (blocks_of (y ∷ following))) (sym (is_field_x x h)) (cuts_at before following)

@@ -25,8 +25,8 @@ pub runs_blocks : List (List Line) → List Block
 runs_blocks runs = flat_map (λ later. later_blocks (pieces_of later)) (filter has_lines runs)
 
 -- the blocks after the current piece
-pub behind_at : ℕ → List LineClass → List Block
-behind_at at classes =
+pub after_at : ℕ → List LineClass → List Block
+after_at at classes =
     later_blocks (filter has_lines (other_pieces (pieces_at at classes))) ++ runs_blocks (other_pieces (runs_at at classes))
 
 -- the block so far with the current piece
@@ -34,12 +34,12 @@ pub grown : Block → ℕ → List LineClass → Block
 grown block at classes = record block { to = end_after block.to (first_piece (pieces_at at classes)) }
 
 pub record Passes (at : ℕ) (classes : List LineClass) : Type 0 where
-  pub inside : (block : Block) → blocks_from (Inside block) at classes ≡ grown block at classes ∷ behind_at at classes
+  pub inside : (block : Block) → blocks_from (Inside block) at classes ≡ grown block at classes ∷ after_at at classes
   pub ended : blocks_from Ended at classes ≡ runs_blocks (runs_at at classes)
   pub nothing : blocks_from Nothing at classes ≡ blocks_of_runs (filter has_lines (runs_at at classes))
 
 passes_x : (at letter : ℕ) (classes : List LineClass) → letter ≡ letter_x → Passes (at + 1) classes → Passes at (Field letter ∷ classes)
-unfolding runs_at pieces_at runs_blocks behind_at grown
+unfolding runs_at pieces_at runs_blocks after_at grown
 passes_x at letter classes e later = subst (λ x. Passes at (Field x ∷ classes)) (sym e) (record {
   inside = λ block. ap (λ l. block ∷ l) (later.inside (one_line Tune at));
   ended = later.inside (one_line Tune at);
@@ -47,7 +47,7 @@ passes_x at letter classes e later = subst (λ x. Passes at (Field x ∷ classes
 })
 
 passes_field : (at letter : ℕ) (classes : List LineClass) → (letter == letter_x) ≡ false → Passes (at + 1) classes → Passes at (Field letter ∷ classes)
-unfolding runs_at pieces_at runs_blocks behind_at grown
+unfolding runs_at pieces_at runs_blocks after_at grown
 passes_field at letter classes e later = record {
   inside = λ block. simp e (later.inside (record block { to = at + 1 }));
   ended = simp e (later.inside (one_line Free at));
@@ -55,7 +55,7 @@ passes_field at letter classes e later = record {
 }
 
 pub passes : (at : ℕ) (classes : List LineClass) → Passes at classes
-unfolding runs_at pieces_at runs_blocks behind_at grown
+unfolding runs_at pieces_at runs_blocks after_at grown
 passes at [] = record { inside = λ block. refl; ended = refl; nothing = refl }
 passes at (Blank ∷ classes) =
     let later = passes (at + 1) classes in

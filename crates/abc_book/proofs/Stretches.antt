@@ -8,7 +8,7 @@ use Rattle.abc_scan.specs.declared.class.LineClass.{LineClass}
 use Rattle.abc_book.specs.declared.block.Block.{Block}
 use Rattle.abc_book.specs.Block.{blocks_of}
 use Rattle.abc_book.specs.Laws.{moved, RiseFromTo}
-use Rattle.abc_book.specs.Stretch.{BeginTune, IsCut, blocks_at, blocks_before, blocks_behind, shifted, AStretchIsEnough}
+use Rattle.abc_book.specs.Stretch.{BeginTune, IsCut, blocks_at, blocks_before, blocks_after, shifted, AStretchIsEnough}
 use Rattle.abc_book.proofs.Cuts.{x_line_cuts}
 use Rattle.abc_book.proofs.Rising.{blocks_rise}
 
@@ -19,31 +19,31 @@ unmoved (block ∷ blocks) =
     let to : block.to + 0 ≡ block.to = omega arith in
     λ i. record { kind = block.kind; from = from i; to = to i } ∷ unmoved blocks i
 
-none_before : (behind : List LineClass) → blocks_of ([] ++ behind) ≡ blocks_of [] ++ blocks_at 0 behind
+none_before : (following : List LineClass) → blocks_of ([] ++ following) ≡ blocks_of [] ++ blocks_at 0 following
 unfolding blocks_of
-none_before behind = sym (unmoved (blocks_of behind))
+none_before following = sym (unmoved (blocks_of following))
 
-none_behind : (before : List LineClass) → blocks_of (before ++ []) ≡ blocks_of before ++ blocks_at (length before) []
+none_after : (before : List LineClass) → blocks_of (before ++ []) ≡ blocks_of before ++ blocks_at (length before) []
 unfolding blocks_of
-none_behind before = ap blocks_of (append-nil before) ∙ sym (append-nil (blocks_of before))
+none_after before = ap blocks_of (append-nil before) ∙ sym (append-nil (blocks_of before))
 
-tune_cuts : (before behind : List LineClass) → BeginTune behind → blocks_of (before ++ behind) ≡ blocks_of before ++ blocks_at (length before) behind
-tune_cuts before [] tune = none_behind before
-tune_cuts before (x ∷ behind) tune = x_line_cuts before behind x tune
+tune_cuts : (before following : List LineClass) → BeginTune following → blocks_of (before ++ following) ≡ blocks_of before ++ blocks_at (length before) following
+tune_cuts before [] tune = none_after before
+tune_cuts before (x ∷ following) tune = x_line_cuts before following x tune
 
-cuts : (before behind : List LineClass) → IsCut before behind → blocks_of (before ++ behind) ≡ blocks_of before ++ blocks_at (length before) behind
-cuts before behind cut = ⊎_elim
-    (λ (e : before ≡ []). subst (λ lines. blocks_of (lines ++ behind) ≡ blocks_of lines ++ blocks_at (length lines) behind) (sym e) (none_before behind))
-    (λ (tune : BeginTune behind). tune_cuts before behind tune)
+cuts : (before following : List LineClass) → IsCut before following → blocks_of (before ++ following) ≡ blocks_of before ++ blocks_at (length before) following
+cuts before following cut = ⊎_elim
+    (λ (e : before ≡ []). subst (λ lines. blocks_of (lines ++ following) ≡ blocks_of lines ++ blocks_at (length lines) following) (sym e) (none_before following))
+    (λ (tune : BeginTune following). tune_cuts before following tune)
     cut
 
 -- a text in three
-in_three : (before stretch behind : List LineClass) → IsCut before stretch → BeginTune behind
-    → blocks_of (before ++ (stretch ++ behind)) ≡ blocks_of before ++ (blocks_at (length before) stretch ++ blocks_at (length before + length stretch) behind)
-in_three before stretch behind cut tune =
-    ap blocks_of (sym (append_assoc before stretch behind)) ∙ tune_cuts (before ++ stretch) behind tune
-    ∙ (λ i. cuts before stretch cut i ++ blocks_at (length-append before stretch i) behind)
-    ∙ append_assoc (blocks_of before) (blocks_at (length before) stretch) (blocks_at (length before + length stretch) behind)
+in_three : (before stretch following : List LineClass) → IsCut before stretch → BeginTune following
+    → blocks_of (before ++ (stretch ++ following)) ≡ blocks_of before ++ (blocks_at (length before) stretch ++ blocks_at (length before + length stretch) following)
+in_three before stretch following cut tune =
+    ap blocks_of (sym (append_assoc before stretch following)) ∙ tune_cuts (before ++ stretch) following tune
+    ∙ (λ i. cuts before stretch cut i ++ blocks_at (length-append before stretch i) following)
+    ∙ append_assoc (blocks_of before) (blocks_at (length before) stretch) (blocks_at (length before + length stretch) following)
 
 rise_on : (first last : ℕ) (blocks : List Block) → RiseFromTo first blocks last → first ≤ last
 rise_on first last [] h = h
@@ -58,22 +58,22 @@ rising n classes = rise_moved n 0 (length classes) (blocks_of classes) (blocks_r
 
 -- blocks before a line, and blocks from it on
 module _ (line : ℕ) where
-  below : (first last : ℕ) (blocks : List Block) → RiseFromTo first blocks last → last ≤ line → (blocks_before line blocks ≡ blocks) × (blocks_behind line blocks ≡ [])
+  below : (first last : ℕ) (blocks : List Block) → RiseFromTo first blocks last → last ≤ line → (blocks_before line blocks ≡ blocks) × (blocks_after line blocks ≡ [])
   below first last [] h le = (refl, refl)
   below first last (block ∷ blocks) h le =
       let within = rise_on block.to last blocks h.2 in
       let before : nat_lt block.from line ≡ true = lt-ltb block.from line (omega (arith, h.1)) in
-      let behind : nat_le line block.from ≡ false = lt-leb line block.from (omega (arith, h.1)) in
+      let following : nat_le line block.from ≡ false = lt-leb line block.from (omega (arith, h.1)) in
       let later = below block.to last blocks h.2 le in
-      (simp before (ap (λ l. block ∷ l) later.0), simp behind later.1)
+      (simp before (ap (λ l. block ∷ l) later.0), simp following later.1)
 
-  above : (first last : ℕ) (blocks : List Block) → RiseFromTo first blocks last → line ≤ first → (blocks_before line blocks ≡ []) × (blocks_behind line blocks ≡ blocks)
+  above : (first last : ℕ) (blocks : List Block) → RiseFromTo first blocks last → line ≤ first → (blocks_before line blocks ≡ []) × (blocks_after line blocks ≡ blocks)
   above first last [] h le = (refl, refl)
   above first last (block ∷ blocks) h le =
       let before : nat_lt block.from line ≡ false = le-ltb block.from line (omega (arith, h.0)) in
-      let behind : nat_le line block.from ≡ true = le-leb line block.from (omega (arith, h.0)) in
+      let following : nat_le line block.from ≡ true = le-leb line block.from (omega (arith, h.0)) in
       let later = above block.to last blocks h.2 (omega (arith, h.0, h.1)) in
-      (simp before later.0, simp behind (ap (λ l. block ∷ l) later.1))
+      (simp before later.0, simp following (ap (λ l. block ∷ l) later.1))
 
 shifts : (n went came : ℕ) (blocks : List Block) → map (shifted went came) (map (moved (n + went)) blocks) ≡ map (moved (n + came)) blocks
 shifts n went came [] = refl
@@ -82,7 +82,7 @@ shifts n went came (block ∷ blocks) =
     let to : block.to + (n + went) - went + came ≡ block.to + (n + came) = omega arith in
     λ i. record { kind = block.kind; from = from i; to = to i } ∷ shifts n went came blocks i
 
-module _ (before old behind : List LineClass) (cut : IsCut before old) (tune : BeginTune behind) where
+module _ (before old following : List LineClass) (cut : IsCut before old) (tune : BeginTune following) where
   abbrev n : ℕ
   n = length before
 
@@ -90,30 +90,30 @@ module _ (before old behind : List LineClass) (cut : IsCut before old) (tune : B
   k = length old
 
   abbrev there : List Block
-  there = blocks_of (before ++ (old ++ behind))
+  there = blocks_of (before ++ (old ++ following))
 
   stay : blocks_before n there ≡ blocks_of before
   stay =
-      ap (blocks_before n) (in_three before old behind cut tune)
-      ∙ filter-append (λ (b : Block). nat_lt b.from n) (blocks_of before) (blocks_at n old ++ blocks_at (n + k) behind)
+      ap (blocks_before n) (in_three before old following cut tune)
+      ∙ filter-append (λ (b : Block). nat_lt b.from n) (blocks_of before) (blocks_at n old ++ blocks_at (n + k) following)
       ∙ (λ i. (below n 0 n (blocks_of before) (blocks_rise before) (omega arith)).0 i
-      ++ (filter-append (λ (b : Block). nat_lt b.from n) (blocks_at n old) (blocks_at (n + k) behind)
+      ++ (filter-append (λ (b : Block). nat_lt b.from n) (blocks_at n old) (blocks_at (n + k) following)
       ∙ (λ j. (above n (0 + n) (k + n) (blocks_at n old) (rising n old) (omega arith)).0 j
-      ++ (above n (0 + (n + k)) (length behind + (n + k)) (blocks_at (n + k) behind) (rising (n + k) behind) (omega arith)).0 j)) i)
+      ++ (above n (0 + (n + k)) (length following + (n + k)) (blocks_at (n + k) following) (rising (n + k) following) (omega arith)).0 j)) i)
       ∙ append-nil (blocks_of before)
 
-  rest : blocks_behind (n + k) there ≡ blocks_at (n + k) behind
+  rest : blocks_after (n + k) there ≡ blocks_at (n + k) following
   rest =
-      ap (blocks_behind (n + k)) (in_three before old behind cut tune)
-      ∙ filter-append (λ (b : Block). nat_le (n + k) b.from) (blocks_of before) (blocks_at n old ++ blocks_at (n + k) behind)
+      ap (blocks_after (n + k)) (in_three before old following cut tune)
+      ∙ filter-append (λ (b : Block). nat_le (n + k) b.from) (blocks_of before) (blocks_at n old ++ blocks_at (n + k) following)
       ∙ (λ i. (below (n + k) 0 n (blocks_of before) (blocks_rise before) (omega arith)).1 i
-      ++ (filter-append (λ (b : Block). nat_le (n + k) b.from) (blocks_at n old) (blocks_at (n + k) behind)
+      ++ (filter-append (λ (b : Block). nat_le (n + k) b.from) (blocks_at n old) (blocks_at (n + k) following)
       ∙ (λ j. (below (n + k) (0 + n) (k + n) (blocks_at n old) (rising n old) (omega arith)).1 j
-      ++ (above (n + k) (0 + (n + k)) (length behind + (n + k)) (blocks_at (n + k) behind) (rising (n + k) behind) (omega arith)).1 j)) i)
+      ++ (above (n + k) (0 + (n + k)) (length following + (n + k)) (blocks_at (n + k) following) (rising (n + k) following) (omega arith)).1 j)) i)
 
 pub stretch_is_enough : AStretchIsEnough
-stretch_is_enough before old new behind cut cut_new tune =
+stretch_is_enough before old new following cut cut_new tune =
     let n = length before in let k = length old in let m = length new in
-    in_three before new behind cut_new tune
-    ∙ (λ i. sym (stay before old behind cut tune) i
-    ++ (blocks_at n new ++ (sym (shifts n k m (blocks_of behind)) ∙ ap (map (shifted k m)) (sym (rest before old behind cut tune))) i))
+    in_three before new following cut_new tune
+    ∙ (λ i. sym (stay before old following cut tune) i
+    ++ (blocks_at n new ++ (sym (shifts n k m (blocks_of following)) ∙ ap (map (shifted k m)) (sym (rest before old following cut tune))) i))

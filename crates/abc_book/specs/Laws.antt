@@ -36,8 +36,8 @@ moved lines block = record { kind = block.kind; from = block.from + lines; to = 
 -- The blocks of a text are those of the lines before an X: line, and those of the rest. Not in ABC 2.1.
 abbrev pub AnXLineCuts : Type 0
 AnXLineCuts =
-    (before behind : List LineClass) (x : LineClass) → IsTrue (is_x_line x)
-    → blocks_of (before ++ x ∷ behind) ≡ blocks_of before ++ map (moved (length before)) (blocks_of (x ∷ behind))
+    (before following : List LineClass) (x : LineClass) → IsTrue (is_x_line x)
+    → blocks_of (before ++ x ∷ following) ≡ blocks_of before ++ map (moved (length before)) (blocks_of (x ∷ following))
 
 -- Blocks of at least one line follow one another from the first line to the last.
 abbrev pub RiseFromTo : ℕ → List Block → ℕ → Type 0

@@ -12,7 +12,7 @@ BeginTune (class ∷ classes) = IsTrue (is_x_line class)
 
 -- No block continues from the lines before into these: they are the first of the text, or begin a tune.
 abbrev pub IsCut : List LineClass → List LineClass → Type 0
-IsCut before behind = (before ≡ []) ⊎ BeginTune behind
+IsCut before following = (before ≡ []) ⊎ BeginTune following
 
 -- The blocks of lines that begin at line `first`, with their places in the text.
 abbrev pub blocks_at : ℕ → List LineClass → List Block
@@ -22,8 +22,8 @@ blocks_at first classes = map (moved first) (blocks_of classes)
 abbrev pub blocks_before : ℕ → List Block → List Block
 blocks_before line blocks = filter (λ block. nat_lt block.from line) blocks
 
-abbrev pub blocks_behind : ℕ → List Block → List Block
-blocks_behind line blocks = filter (λ block. nat_le line block.from) blocks
+abbrev pub blocks_after : ℕ → List Block → List Block
+blocks_after line blocks = filter (λ block. nat_le line block.from) blocks
 
 -- A block after `went` lines that `came` lines replaced.
 abbrev pub shifted : ℕ → ℕ → Block → Block
@@ -33,8 +33,8 @@ shifted went came block = record { kind = block.kind; from = block.from - went +
 -- are none or begin a tune. Then the blocks before it stay, and the blocks after it move by the difference of lines.
 abbrev pub AStretchIsEnough : Type 0
 AStretchIsEnough =
-    (before old new behind : List LineClass) → IsCut before old → IsCut before new → BeginTune behind
-    → let there = blocks_of (before ++ (old ++ behind)) in let end = length before + length old in
-    blocks_of (before ++ (new ++ behind))
+    (before old new following : List LineClass) → IsCut before old → IsCut before new → BeginTune following
+    → let there = blocks_of (before ++ (old ++ following)) in let end = length before + length old in
+    blocks_of (before ++ (new ++ following))
     ≡ blocks_before (length before) there
-    ++ (blocks_at (length before) new ++ map (shifted (length old) (length new)) (blocks_behind end there))
+    ++ (blocks_at (length before) new ++ map (shifted (length old) (length new)) (blocks_after end there))

@@ -22,11 +22,11 @@ abbrev first : List ℕ → ℕ
 first text = position_or_len is_letter text
 
 -- the changes of a text that begins with a known letter after a known accidental
-abbrev Behind : Option Accidental → Option (List Change) → Letter → Option (List Change)
-Behind accidental behind letter = option_and_then (and_change letter behind) accidental
+abbrev Following : Option Accidental → Option (List Change) → Letter → Option (List Change)
+Following accidental following letter = option_and_then (and_change letter following) accidental
 
 abbrev Read : List ℕ → List ℕ → ℕ → Option (List Change)
-Read text marks n = option_and_then (Behind (accidental_of (marks ++ take n text)) (changes_of (drop (n + 1) text))) (letter_of (get_or text n 0))
+Read text marks n = option_and_then (Following (accidental_of (marks ++ take n text)) (changes_of (drop (n + 1) text))) (letter_of (get_or text n 0))
 
 letter_there : (o : Option Letter) → is_some o ≡ true → (letter : Letter) × (o ≡ Some letter)
 letter_there None e = cc
@@ -44,9 +44,9 @@ marks_first (b ∷ bs) marks inside = ⊎_elim
     (λ letter.
     let n : first (b ∷ bs) ≡ 0 = cond-false (not (is_letter b)) (1 + first bs) 0 (not_from_true _ letter) in
     let known = letter_there (letter_of b) letter in
-    let here : Read (b ∷ bs) marks 0 ≡ Behind (accidental_of marks) (changes_of bs) known.0 =
-    ap (λ o. option_and_then (Behind (accidental_of (marks ++ [])) (changes_of bs)) o) known.1
-    ∙ ap (λ l. Behind (accidental_of l) (changes_of bs) known.0) (append-nil marks) in
+    let here : Read (b ∷ bs) marks 0 ≡ Following (accidental_of marks) (changes_of bs) known.0 =
+    ap (λ o. option_and_then (Following (accidental_of (marks ++ [])) (changes_of bs)) o) known.1
+    ∙ ap (λ l. Following (accidental_of l) (changes_of bs) known.0) (append-nil marks) in
     ap (λ o. at_letter o (accidental_of marks) (changes_with bs []) (changes_with bs (marks ++ b ∷ []))) known.1 ∙ sym here ∙ ap (Read (b ∷ bs) marks) (sym n))
     (λ other.
     let n : first (b ∷ bs) ≡ suc (first bs) = cond-true (not (is_letter b)) (1 + first bs) 0 (not_from_false _ other) ∙ omega arith in
@@ -54,8 +54,8 @@ marks_first (b ∷ bs) marks inside = ⊎_elim
     let more : k + 1 ≡ suc k = omega arith in
     let more2 : suc k + 1 ≡ suc (suc k) = omega arith in
     let there : Read bs (marks ++ b ∷ []) k ≡ Read (b ∷ bs) marks (suc k) =
-    (λ i. option_and_then (Behind (accidental_of (append_assoc marks (b ∷ []) (take k bs) i)) (changes_of (drop (more i) bs))) (letter_of (get_or bs k 0)))
-    ∙ ap (λ m. option_and_then (Behind (accidental_of (marks ++ b ∷ take k bs)) (changes_of (drop m (b ∷ bs)))) (letter_of (get_or bs k 0))) (sym more2) in
+    (λ i. option_and_then (Following (accidental_of (append_assoc marks (b ∷ []) (take k bs) i)) (changes_of (drop (more i) bs))) (letter_of (get_or bs k 0)))
+    ∙ ap (λ m. option_and_then (Following (accidental_of (marks ++ b ∷ take k bs)) (changes_of (drop m (b ∷ bs)))) (letter_of (get_or bs k 0))) (sym more2) in
     ap (λ o. at_letter o (accidental_of marks) (changes_with bs []) (changes_with bs (marks ++ b ∷ []))) (no_letter_there (letter_of b) other)
     ∙ marks_first bs (marks ++ b ∷ []) (omega (arith, n, inside)) ∙ there ∙ ap (Read (b ∷ bs) marks) (sym n))
     (cases_Bool (is_letter b))
@@ -88,27 +88,27 @@ change_at text at e =
     let found = cond_some (ltb (first text) (length text)) (first text) at (sym e) in
     subst (λ n. changes_with text [] ≡ Read text [] n) found.1 (marks_first text [] (ltb-true _ _ found.0))
 
-none_behind : (behind : Option (List Change)) (o : Option Letter) → option_and_then (Behind None behind) o ≡ None
-none_behind behind None = refl
-none_behind behind (Some letter) = refl
+none_after : (following : Option (List Change)) (o : Option Letter) → option_and_then (Following None following) o ≡ None
+none_after following None = refl
+none_after following (Some letter) = refl
 
 pub no_accidental : (text : List ℕ) (at : ℕ) → Some at ≡ position is_letter text → None ≡ accidental_of (take at text) → changes_of text ≡ None
 no_accidental text at e none =
     change_at text at e
-    ∙ ap (λ a. option_and_then (Behind a (changes_of (drop (at + 1) text))) (letter_of (get_or text at 0))) (sym none)
-    ∙ none_behind (changes_of (drop (at + 1) text)) (letter_of (get_or text at 0))
+    ∙ ap (λ a. option_and_then (Following a (changes_of (drop (at + 1) text))) (letter_of (get_or text at 0))) (sym none)
+    ∙ none_after (changes_of (drop (at + 1) text)) (letter_of (get_or text at 0))
 
 pub no_letter_at : (text : List ℕ) (at : ℕ) → Some at ≡ position is_letter text → None ≡ letter_of (get_or text at 0) → changes_of text ≡ None
 no_letter_at text at e none =
-    change_at text at e ∙ ap (option_and_then (Behind (accidental_of (take at text)) (changes_of (drop (at + 1) text)))) (sym none)
+    change_at text at e ∙ ap (option_and_then (Following (accidental_of (take at text)) (changes_of (drop (at + 1) text)))) (sym none)
 
 pub change_first : (text : List ℕ) (at : ℕ) (accidental : Accidental) (letter : Letter) → Some at ≡ position is_letter text → Some accidental ≡ accidental_of (take at text)
     → Some letter ≡ letter_of (get_or text at 0)
     → changes_of text ≡ and_change letter (changes_of (drop (at + 1) text)) accidental
 change_first text at accidental letter e is known =
     change_at text at e
-    ∙ ap (λ a. option_and_then (Behind a (changes_of (drop (at + 1) text))) (letter_of (get_or text at 0))) (sym is)
-    ∙ ap (option_and_then (Behind (Some accidental) (changes_of (drop (at + 1) text)))) (sym known)
+    ∙ ap (λ a. option_and_then (Following a (changes_of (drop (at + 1) text))) (letter_of (get_or text at 0))) (sym is)
+    ∙ ap (option_and_then (Following (Some accidental) (changes_of (drop (at + 1) text)))) (sym known)
 
 -- changes are read as they are written
 record First (text : List ℕ) (changes : List Change) : Type 0 where
@@ -126,11 +126,11 @@ first_of_changes (b ∷ bs) changes e = ⊎_elim
     (λ inside.
     let text = b ∷ bs in
     let at = first text in
-    let behind = changes_of (drop (at + 1) text) in
-    let letter = bound (Behind (accidental_of (take at text)) behind) (letter_of (get_or text at 0)) changes (sym (marks_first text [] inside) ∙ e) in
-    let accidental = bound (and_change letter.0 behind) (accidental_of (take at text)) changes letter.2 in
+    let following = changes_of (drop (at + 1) text) in
+    let letter = bound (Following (accidental_of (take at text)) following) (letter_of (get_or text at 0)) changes (sym (marks_first text [] inside) ∙ e) in
+    let accidental = bound (and_change letter.0 following) (accidental_of (take at text)) changes letter.2 in
     let change : Change = record { accidental = accidental.0; letter = letter.0 } in
-    let more = map_some (λ (more : List Change). change ∷ more) behind changes accidental.2 in
+    let more = map_some (λ (more : List Change). change ∷ more) following changes accidental.2 in
     inr record {
       change = change;
       more = more.0;

@@ -3,27 +3,27 @@ use Rattle.std.proofs.Common.{◌≡◌, ℕ, zero, suc, ◌+◌, ◌-◌, ◌<�
 use Rattle.std.specs.Prelude.{◌==◌, option_and_then}
 use Rattle.std.proofs.lemmas.Bool.{eqb-true}
 use Rattle.abc_fields.proofs.Fractions.{sum_of-suc}
-use Rattle.abc_fields.specs.Tempo.{fraction_of, word_in_front, behind_word, added, sum_with, sum_of}
+use Rattle.abc_fields.specs.Tempo.{fraction_of, word_in_front, after_word, added, sum_with, sum_of}
 
 -- a step of the sum
 left_over : (i : ℕ) → i < 16 → 16 - i ≡ suc (16 - (i + 1))
 left_over i h = omega arith
 
 at_step : (i : ℕ) (text word : List ℕ) (o : Option ℕ) → i < 16 → word ≡ word_in_front text → o ≡ fraction_of word
-    → sum_of (16 - i) text ≡ option_and_then (sum_with (sum_of (16 - (i + 1))) (behind_word text)) o
+    → sum_of (16 - i) text ≡ option_and_then (sum_with (sum_of (16 - (i + 1))) (after_word text)) o
 at_step i text word o h e f =
-    ap (λ n. sum_of n text) (left_over i h) ∙ sum_of-suc (16 - (i + 1)) text ∙ ap (option_and_then (sum_with (sum_of (16 - (i + 1))) (behind_word text))) (ap fraction_of (sym e) ∙ sym f)
+    ap (λ n. sum_of n text) (left_over i h) ∙ sum_of-suc (16 - (i + 1)) text ∙ ap (option_and_then (sum_with (sum_of (16 - (i + 1))) (after_word text))) (ap fraction_of (sym e) ∙ sym f)
 
 pub sum_of-none : (i : ℕ) (text word : List ℕ) → i < 16 → word ≡ word_in_front text → None ≡ fraction_of word → sum_of (16 - i) text ≡ None
 sum_of-none i text word h e f = at_step i text word None h e f
 
-pub sum_of-last : (i : ℕ) (text word behind : List ℕ) (part : ℕ) → i < 16 → word ≡ word_in_front text → behind ≡ behind_word text → Some part ≡ fraction_of word → true ≡ (length behind == 0)
+pub sum_of-last : (i : ℕ) (text word following : List ℕ) (part : ℕ) → i < 16 → word ≡ word_in_front text → following ≡ after_word text → Some part ≡ fraction_of word → true ≡ (length following == 0)
     → sum_of (16 - i) text ≡ Some part
 sum_of-last i text word [] part h e b f none = at_step i text word (Some part) h e f ∙ ap (λ l. sum_with (sum_of (16 - (i + 1))) l part) (sym b)
 sum_of-last i text word (x ∷ xs) part h e b f none = absurd (omega (arith, eqb-true (length (x ∷ xs)) 0 (sym none)))
 
-pub sum_of-more : (i : ℕ) (text word behind : List ℕ) (part : ℕ) → i < 16 → word ≡ word_in_front text → behind ≡ behind_word text → Some part ≡ fraction_of word → false ≡ (length behind == 0)
-    → sum_of (16 - i) text ≡ added part (sum_of (16 - (i + 1)) behind)
+pub sum_of-more : (i : ℕ) (text word following : List ℕ) (part : ℕ) → i < 16 → word ≡ word_in_front text → following ≡ after_word text → Some part ≡ fraction_of word → false ≡ (length following == 0)
+    → sum_of (16 - i) text ≡ added part (sum_of (16 - (i + 1)) following)
 sum_of-more i text word [] part h e b f some = cc
 sum_of-more i text word (x ∷ xs) part h e b f some = at_step i text word (Some part) h e f ∙ ap (λ l. sum_with (sum_of (16 - (i + 1))) l part) (sym b)
 

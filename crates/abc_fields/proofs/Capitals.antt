@@ -8,7 +8,7 @@ use Rattle.std.proofs.lemmas.List.Folds.{list_any-append, list_any_none}
 use Rattle.abc_text.proofs.Decimals.{digit_range}
 use Rattle.abc_fields.specs.Parts.{is_ignored, order_bytes, parts_of, is_order}
 use Rattle.abc_fields.specs.Letters.{letters_of}
-use Rattle.abc_fields.specs.Spelling.Parts.{IsCount, once, times, IsOrder, part, group, behind}
+use Rattle.abc_fields.specs.Spelling.Parts.{IsCount, once, times, IsOrder, part, group, following}
 use Rattle.abc_fields.proofs.Orders.{below_upper, accepted_order, accepts}
 use Rattle.abc_fields.proofs.LetterLaws.{parts_letters}
 
@@ -67,7 +67,7 @@ module _ (p : ℕ → Bool) where
       group_capitals n letters (some_count counted)
       ∙ order_capitals order
       ∙ sym (list_any-append (λ b. is_ascii_uppercase b && p b) inner (41 ∷ count) ∙ ap (λ t. among inner || t) (digits_none counted) ∙ or_false (among inner))
-  order_capitals (behind {depth} {front} {back} {first} {second} before after) =
+  order_capitals (following {depth} {front} {back} {first} {second} before after) =
       list_any-append p first second
       ∙ ap (λ t. t || list_any p second) (order_capitals before)
       ∙ ap (λ t. among front || t) (order_capitals after)

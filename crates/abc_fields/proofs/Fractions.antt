@@ -16,7 +16,7 @@ use Rattle.abc_text.specs.Number.{number_of, IsNumber}
 use Rattle.abc_text.specs.Cut.{cut_at}
 use Rattle.abc_text.specs.Power.{IsPowerUpTo}
 use Rattle.abc_text.specs.Word.{bytes_before_blank}
-use Rattle.abc_fields.specs.Tempo.{part_of, fraction_of, word_in_front, behind_word, added, sum_with, sum_of}
+use Rattle.abc_fields.specs.Tempo.{part_of, fraction_of, word_in_front, after_word, added, sum_with, sum_of}
 use Rattle.abc_fields.specs.Spelling.Tempo.{IsFraction, IsSum}
 use Rattle.abc_text.proofs.Powers.{power_from, power_to}
 use Rattle.abc_fields.proofs.Readings.{bound, map_some}
@@ -139,12 +139,12 @@ fraction_of-is text part is =
 -- a word is cut off a text
 pub record IsWord (text : List ℕ) : Type 0 where
   pub gap : List ℕ
-  pub spelling : text ≡ word_in_front text ++ (gap ++ behind_word text)
+  pub spelling : text ≡ word_in_front text ++ (gap ++ after_word text)
   pub gap_is : AreBlanks gap
-  pub gap_some : (behind_word text ≡ []) ⊎ (1 ≤ length gap)
+  pub gap_some : (after_word text ≡ []) ⊎ (1 ≤ length gap)
 
 pub word_cut : (text : List ℕ) → IsWord text
-unfolding word_in_front behind_word
+unfolding word_in_front after_word
 word_cut text =
     let n = bytes_before_blank text in
     let rest = drop n text in
@@ -152,8 +152,8 @@ word_cut text =
     ⊎_elim
     (λ none.
     let parts = trim_start-parts rest in
-    let behind : trim_start rest ≡ [] = ap trim_start none ∙ trim_start-blanks [] (All-nil _) in
-    record { gap = parts.0; spelling = whole ∙ ap (λ l. take n text ++ l) parts.1; gap_is = parts.2; gap_some = inl behind })
+    let following : trim_start rest ≡ [] = ap trim_start none ∙ trim_start-blanks [] (All-nil _) in
+    record { gap = parts.0; spelling = whole ∙ ap (λ l. take n text ++ l) parts.1; gap_is = parts.2; gap_some = inl following })
     (λ stop.
     let parts = trim_start-some rest stop.0 stop.1 stop.2 (not_hidden (is_blank stop.0) stop.3) in
     record { gap = parts.0; spelling = whole ∙ ap (λ l. take n text ++ l) parts.1; gap_is = parts.2; gap_some = inr parts.3 })
@@ -176,9 +176,9 @@ word_in_front-is : (text word more : List ℕ) → text ≡ word ++ more → All
 unfolding word_in_front
 word_in_front-is text word more e visible stops = ap (λ t. take (bytes_before_blank t) t) e ∙ take_exact _ word more (front_exact (λ b. not (is_blank b)) word more visible stops)
 
-behind_word-is : (text word more : List ℕ) → text ≡ word ++ more → AllPass (λ b. not (is_blank b)) word → prefix_len (λ b. not (is_blank b)) more ≡ 0 → behind_word text ≡ trim_start more
-unfolding behind_word
-behind_word-is text word more e visible stops =
+after_word-is : (text word more : List ℕ) → text ≡ word ++ more → AllPass (λ b. not (is_blank b)) word → prefix_len (λ b. not (is_blank b)) more ≡ 0 → after_word text ≡ trim_start more
+unfolding after_word
+after_word-is text word more e visible stops =
     ap (λ t. trim_start (drop (bytes_before_blank t) t)) e ∙ ap trim_start (drop_exact _ word more (front_exact (λ b. not (is_blank b)) word more visible stops))
 
 -- a sum begins with a digit
@@ -195,7 +195,7 @@ sum_begins (suc most) text sum (inl last) rest = begins_with text last.word last
 sum_begins (suc most) text sum (inr first) rest = begins_with text first.word (first.gap ++ first.rest) rest first.part first.spelling first.word_is
 
 -- the sum read is the one that a text spells
-pub sum_of-suc : (most : ℕ) (text : List ℕ) → sum_of (suc most) text ≡ option_and_then (sum_with (sum_of most) (behind_word text)) (fraction_of (word_in_front text))
+pub sum_of-suc : (most : ℕ) (text : List ℕ) → sum_of (suc most) text ≡ option_and_then (sum_with (sum_of most) (after_word text)) (fraction_of (word_in_front text))
 unfolding sum_of
 sum_of-suc most text = refl
 
@@ -204,8 +204,8 @@ unfolding sum_of
 sum_of-zero text = refl
 
 -- by the text after the first word
-sum_by : (most : ℕ) (text : List ℕ) (sum : ℕ) → ((rest : List ℕ) (n : ℕ) → sum_of most rest ≡ Some n → IsSum most rest n) → (behind : List ℕ) → behind_word text ≡ behind
-    → (part : ℕ) → IsFraction (word_in_front text) part → sum_with (sum_of most) (behind_word text) part ≡ Some sum → IsWord text → IsSum (suc most) text sum
+sum_by : (most : ℕ) (text : List ℕ) (sum : ℕ) → ((rest : List ℕ) (n : ℕ) → sum_of most rest ≡ Some n → IsSum most rest n) → (following : List ℕ) → after_word text ≡ following
+    → (part : ℕ) → IsFraction (word_in_front text) part → sum_with (sum_of most) (after_word text) part ≡ Some sum → IsWord text → IsSum (suc most) text sum
 sum_by most text sum rest_is [] b part word total cut =
     let one : Some part ≡ Some sum = sym (ap (λ l. sum_with (sum_of most) l part) b) ∙ total in
     let same : part ≡ sum = same_Some part sum one in
@@ -235,9 +235,9 @@ sum_by most text sum rest_is (x ∷ xs) b part word total cut =
 pub sum_of-Some : (most : ℕ) (text : List ℕ) (sum : ℕ) → sum_of most text ≡ Some sum → IsSum most text sum
 sum_of-Some zero text sum e = let none = sum_of-zero text in cc
 sum_of-Some (suc most) text sum e =
-    let found = bound (sum_with (sum_of most) (behind_word text)) (fraction_of (word_in_front text)) sum (sym (sum_of-suc most text) ∙ e) in
+    let found = bound (sum_with (sum_of most) (after_word text)) (fraction_of (word_in_front text)) sum (sym (sum_of-suc most text) ∙ e) in
     let word = fraction_of-Some (word_in_front text) found.0 found.1 in
-    sum_by most text sum (λ rest n. sum_of-Some most rest n) (behind_word text) refl found.0 word found.2 (word_cut text)
+    sum_by most text sum (λ rest n. sum_of-Some most rest n) (after_word text) refl found.0 word found.2 (word_cut text)
 
 more_than_none : (f : List ℕ → Option ℕ) (rest : List ℕ) (part : ℕ) → 1 ≤ length rest → sum_with f rest part ≡ added part (f rest)
 more_than_none f [] part some = absurd (omega arith)
@@ -249,20 +249,20 @@ sum_of-is (suc most) text sum (inl last) =
     let visible = fraction_visible last.word sum last.word_is in
     let stops = gap_or_end last.gap last.gap_is in
     let word : word_in_front text ≡ last.word = word_in_front-is text last.word last.gap last.spelling visible stops in
-    let behind : behind_word text ≡ [] = behind_word-is text last.word last.gap last.spelling visible stops ∙ trim_start-blanks last.gap last.gap_is in
+    let following : after_word text ≡ [] = after_word-is text last.word last.gap last.spelling visible stops ∙ trim_start-blanks last.gap last.gap_is in
     let read : fraction_of (word_in_front text) ≡ Some sum = ap fraction_of word ∙ fraction_of-is last.word sum last.word_is in
-    sum_of-suc most text ∙ ap (option_and_then (sum_with (sum_of most) (behind_word text))) read ∙ ap (λ l. sum_with (sum_of most) l sum) behind
+    sum_of-suc most text ∙ ap (option_and_then (sum_with (sum_of most) (after_word text))) read ∙ ap (λ l. sum_with (sum_of most) l sum) following
 sum_of-is (suc most) text sum (inr first) =
     let visible = fraction_visible first.word first.part first.word_is in
     let stops = gap_hidden first.gap first.rest first.gap_is first.gap_some in
     let begins = sum_begins most first.rest first.rest_sum first.rest_is [] in
     let rest_visible : prefix_len is_blank first.rest ≡ 0 = ap (prefix_len is_blank) (sym (append-nil first.rest)) ∙ begins.0 in
     let word : word_in_front text ≡ first.word = word_in_front-is text first.word (first.gap ++ first.rest) first.spelling visible stops in
-    let behind : behind_word text ≡ first.rest =
-    behind_word-is text first.word (first.gap ++ first.rest) first.spelling visible stops ∙ trim_start-gap first.gap first.rest first.gap_is rest_visible in
+    let following : after_word text ≡ first.rest =
+    after_word-is text first.word (first.gap ++ first.rest) first.spelling visible stops ∙ trim_start-gap first.gap first.rest first.gap_is rest_visible in
     let read : fraction_of (word_in_front text) ≡ Some first.part = ap fraction_of word ∙ fraction_of-is first.word first.part first.word_is in
     let rest_read : sum_of most first.rest ≡ Some first.rest_sum = sum_of-is most first.rest first.rest_sum first.rest_is in
-    sum_of-suc most text ∙ ap (option_and_then (sum_with (sum_of most) (behind_word text))) read ∙ ap (λ l. sum_with (sum_of most) l first.part) behind
+    sum_of-suc most text ∙ ap (option_and_then (sum_with (sum_of most) (after_word text))) read ∙ ap (λ l. sum_with (sum_of most) l first.part) following
     ∙ more_than_none (sum_of most) first.rest first.part begins.1 ∙ ap (added first.part) rest_read ∙ ap Some (sym first.total)
 
 -- the size of sums

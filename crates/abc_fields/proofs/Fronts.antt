@@ -12,7 +12,7 @@ use Rattle.abc_text.proofs.Decimals.{digit_range}
 use Rattle.abc_fields.specs.declared.parts.LastItem.{LastItem}
 use Rattle.abc_fields.specs.declared.parts.LastItem.TheVariants.{Nothing, Item}
 use Rattle.abc_fields.specs.declared.parts.Place.{Place}
-use Rattle.abc_fields.specs.Parts.{is_ignored, order_bytes, ends_item, begins_item, with_digit, at, behind_digit, next, next_of, ends_order, is_order, parts_of}
+use Rattle.abc_fields.specs.Parts.{is_ignored, order_bytes, ends_item, begins_item, with_digit, at, following_digit, next, next_of, ends_order, is_order, parts_of}
 use Rattle.abc_fields.specs.Letters.{Played, nothing_played, count_or_once, letters_so_far, with_item, close_group, count_on, play_on, letters_of, is_order_byte, read_on, front_of}
 use Rattle.abc_fields.proofs.LetterLaws.{plays_letter, plays_open, plays_close, plays_digit}
 use Rattle.abc_fields.proofs.Orders.{order_lost, begins_too, positive_step, guarded_digit, Follows, by_letter, by_open, by_close, by_digit, follows, accepts}
@@ -74,9 +74,9 @@ short_count digits positive n fits =
 -- the step: the state before a byte and after it
 record Step (place : Place) (played : Played) (b : ℕ) (rest : List ℕ) : Type 0 where
   accepts_it : Accepts played b
-  behind : Place
-  fits_behind : Fits behind (read_on played b)
-  ends_behind : ends_order (fold next_of (Some behind) (order_bytes rest)) ≡ true
+  following : Place
+  fits_after : Fits following (read_on played b)
+  ends_after : ends_order (fold next_of (Some following) (order_bytes rest)) ≡ true
   reads : fold play_on played (order_bytes (b ∷ rest)) ≡ fold play_on (read_on played b) (order_bytes rest)
 
 -- letters, parentheses and digits have a meaning
@@ -109,9 +109,9 @@ ignored_step place played b rest fits ignored ends =
         short = λ e. absurd (both_ways (is_order_byte b) silent (order_digit b e));
         counted = λ e d. absurd (both_ways (is_order_byte b) silent e);
       };
-      behind = place;
-      fits_behind = subst (Fits place) stays fits;
-      ends_behind = subst (λ t. ends_order (fold next_of (Some place) t) ≡ true) same ends;
+      following = place;
+      fits_after = subst (Fits place) stays fits;
+      ends_after = subst (λ t. ends_order (fold next_of (Some place) t) ≡ true) same ends;
       reads = ap (λ t. fold play_on played t) same ∙ ap (λ p. fold play_on p (order_bytes rest)) stays;
     }
 
@@ -155,7 +155,7 @@ silent_high b high = grind (arith, nat_tests)
 record Leads (played : Played) (b : ℕ) (after : Place) : Type 0 where
   says : is_order_byte b ≡ true
   accepts_it : Accepts played b
-  fits_behind : Fits after (play_on played b)
+  fits_after : Fits after (play_on played b)
 
 not_digit_upper : (b : ℕ) → is_ascii_uppercase b ≡ true → is_ascii_digit b ≡ false
 not_digit_upper b upper = grind (arith, nat_tests)
@@ -171,7 +171,7 @@ letter_leads place played b fits upper begins = record {
     short = λ e. absurd (both_ways (is_ascii_digit b) (not_digit_upper b upper) e);
     counted = λ e d. settled_count place.before played.count fits.counted begins;
   };
-  fits_behind =
+  fits_after =
       subst (Fits (at place.depth (Item 0 false))) (sym (plays_letter played b upper)) (record { groups = fits.groups; few = fits.few; counted = (refl, refl) });
 }
 
@@ -183,7 +183,7 @@ open_leads place played fits begins room = record {
     short = λ e. absurd (both_ways (is_ascii_digit 40) refl e);
     counted = λ e d. settled_count place.before played.count fits.counted begins;
   };
-  fits_behind =
+  fits_after =
       subst (Fits (at (place.depth + 1) Nothing)) (sym (plays_open played)) (record { groups = omega (arith, fits.groups); few = omega arith; counted = tt });
 }
 
@@ -199,7 +199,7 @@ close_leads place played fits ends some = record {
     short = λ e. absurd (both_ways (is_ascii_digit 41) refl e);
     counted = λ e d. settled_count place.before played.count fits.counted (begins_too place.before ends);
   };
-  fits_behind =
+  fits_after =
       subst (Fits (at (place.depth - 1) (Item 0 false))) (sym (plays_close played)) (closed_fits place.depth played.around (letters_so_far played) fits.groups fits.few some);
 }
 
@@ -207,7 +207,7 @@ not_open_digit : (b : ℕ) → is_ascii_digit b ≡ true → b ≡ 40 → ⊥
 not_open_digit b digit e = both_ways (is_ascii_digit b) (subst (λ k. is_ascii_digit k ≡ false) (sym e) refl) digit
 
 digit_leads : (depth : ℕ) (before : LastItem) (played : Played) (b : ℕ) (after : Place) → Fits (at depth before) played → is_ascii_digit b ≡ true
-    → behind_digit depth (with_digit before b) ≡ Some after → Leads played b after
+    → following_digit depth (with_digit before b) ≡ Some after → Leads played b after
 digit_leads depth Nothing played b after fits digit e = cc
 digit_leads depth (Item digits positive) played b after fits digit e =
     let longer = Item (digits + 1) (positive || not (b == 48)) in
@@ -220,7 +220,7 @@ digit_leads depth (Item digits positive) played b after fits digit e =
         short = λ e. short_count (digits + 1) (positive || not (b == 48)) (count_on played.count b) counted;
         counted = λ e d. absurd (both_ways (is_ascii_digit b) d digit);
       };
-      fits_behind =
+      fits_after =
           subst (λ p. Fits p (play_on played b)) given.1
           (subst (Fits (at depth longer)) (sym (plays_digit played b digit)) (record { groups = fits.groups; few = fits.few; counted = counted }));
     }
@@ -248,9 +248,9 @@ read_step place played b rest fits read ends =
           let goes : play_on played b ≡ read_on played b = sym (ap (λ t. cond t (play_on played b) played) leads.says) in
           record {
             accepts_it = leads.accepts_it;
-            behind = after;
-            fits_behind = subst (Fits after) goes leads.fits_behind;
-            ends_behind = ended;
+            following = after;
+            fits_after = subst (Fits after) goes leads.fits_after;
+            ends_after = ended;
             reads = ap (λ t. fold play_on played t) same ∙ ap (λ p. fold play_on p (order_bytes rest)) goes;
           }
     ] refl on
@@ -270,7 +270,7 @@ accepts_from [] place played fits ends i inside = absurd (omega arith)
 accepts_from (b ∷ text) place played fits ends zero inside = (one_step place played b text fits ends).accepts_it
 accepts_from (b ∷ text) place played fits ends (suc i) inside =
     let step = one_step place played b text fits ends in
-    accepts_from text step.behind (read_on played b) step.fits_behind step.ends_behind i (omega arith)
+    accepts_from text step.following (read_on played b) step.fits_after step.ends_after i (omega arith)
 
 -- the end of an order
 pub record Whole (played : Played) : Type 0 where
@@ -293,7 +293,7 @@ whole_from [] place played fits ends =
     )
 whole_from (b ∷ text) place played fits ends =
     let step = one_step place played b text fits ends in
-    let rest = whole_from text step.behind (read_on played b) step.fits_behind step.ends_behind in
+    let rest = whole_from text step.following (read_on played b) step.fits_after step.ends_after in
     (rest.0, rest.1 ∙ sym step.reads)
 
 nothing_fits : Fits (at 0 Nothing) nothing_played

@@ -79,19 +79,19 @@ no_tonic_to : (value : List ℕ) (o : Option (ℤ × List ℕ)) → tonic_at val
 no_tonic_to value None e h = refl
 no_tonic_to value (Some p) e h = absurd (h p.0 p.1 (tonic_from value p.0 p.1 e))
 
-first_from : (value first : List ℕ) (rest : List (List ℕ)) → words_of value ≡ first ∷ rest → (behind : List ℕ) × IsFirstWord value first behind
+first_from : (value first : List ℕ) (rest : List (List ℕ)) → words_of value ≡ first ∷ rest → (following : List ℕ) × IsFirstWord value first following
 first_from value first rest e = let are = (words_exact value (first ∷ rest)).0 e in (are.0, are.1)
 
-first_to : (value first behind : List ℕ) → IsFirstWord value first behind → words_of value ≡ first ∷ words_of behind
-first_to value first behind is = (words_exact value (first ∷ words_of behind)).1 (behind, is, (words_exact behind (words_of behind)).0 refl)
+first_to : (value first following : List ℕ) → IsFirstWord value first following → words_of value ≡ first ∷ words_of following
+first_to value first following is = (words_exact value (first ∷ words_of following)).1 (following, is, (words_exact following (words_of following)).0 refl)
 
-toneless_from : (value first behind : List ℕ) (start : Key) → HasNoTonic value → IsFirstWord value first behind → toneless_start first ≡ Some start → IsStart value start value
-toneless_from value first behind start toneless is e = ⊎_elim
-    (λ h. let known : Some empty_key ≡ Some start = h.1 in listed first behind toneless is (begins_from first h.0) (cc) refl)
+toneless_from : (value first following : List ℕ) (start : Key) → HasNoTonic value → IsFirstWord value first following → toneless_start first ≡ Some start → IsStart value start value
+toneless_from value first following start toneless is e = ⊎_elim
+    (λ h. let known : Some empty_key ≡ Some start = h.1 in listed first following toneless is (begins_from first h.0) (cc) refl)
     (λ h. ⊎_elim
     (λ k.
     let known : Some unchanged_key ≡ Some start = k.1 in
-    properties first behind toneless is (λ begins. both_ways (begins_accidental first) h.0 (begins_to first begins)) (sets_from first k.0) (cc) refl)
+    properties first following toneless is (λ begins. both_ways (begins_accidental first) h.0 (begins_to first begins)) (sets_from first k.0) (cc) refl)
     (λ k. let none : None ≡ Some start = k.1 in cc)
     (branches (sets_properties first) _ _ _ h.1))
     (branches (begins_accidental first) _ _ _ e)
@@ -103,13 +103,13 @@ by_words value found (first ∷ rest) w toneless e =
     let start = map_some {A = Key} {B = Key × List ℕ} (λ key. (key, value)) (toneless_start first) found e in
     subst (λ (p : Key × List ℕ). IsStart value p.0 p.1) (sym start.2) (toneless_from value first is.0 start.0 toneless is.1 start.1)
 
-tonal_from : (value : List ℕ) (found : Key × List ℕ) (major : ℤ) (behind : List ℕ) (o : Option (Basis × List ℕ)) → basis_at behind ≡ o → IsTonic value major behind
+tonal_from : (value : List ℕ) (found : Key × List ℕ) (major : ℤ) (following : List ℕ) (o : Option (Basis × List ℕ)) → basis_at following ≡ o → IsTonic value major following
     → tonal_start major o ≡ Some found → IsStart value found.0 found.1
-tonal_from value found major behind None b is e = cc
-tonal_from value found major behind (Some basis) b is e =
+tonal_from value found major following None b is e = cc
+tonal_from value found major following (Some basis) b is e =
     let key = map_some {A = Key} {B = Key × List ℕ} (λ key. (key, basis.1)) (key_on major basis.0) found e in
     subst (λ (p : Key × List ℕ). IsStart value p.0 p.1) (sym key.2)
-    (tonal major behind basis.0 is (basis_from behind basis.0 basis.1 b) (key_on_from major basis.0 key.0 key.1))
+    (tonal major following basis.0 is (basis_from following basis.0 basis.1 b) (key_on_from major basis.0 key.0 key.1))
 
 by_tonic : (value : List ℕ) (found : Key × List ℕ) (o : Option (ℤ × List ℕ)) → tonic_at value ≡ o → start_by value o ≡ Some found → IsStart value found.0 found.1
 by_tonic value found None t e = by_words value found (words_of value) refl (no_tonic_from value t) e
@@ -119,23 +119,23 @@ start_from : (value : List ℕ) (found : Key × List ℕ) → start_of value ≡
 unfolding start_of
 start_from value found e = by_tonic value found (tonic_at value) refl e
 
-toneless_to : (value first behind : List ℕ) (start : Key) → HasNoTonic value → IsFirstWord value first behind → toneless_start first ≡ Some start → start_of value ≡ Some (start, value)
+toneless_to : (value first following : List ℕ) (start : Key) → HasNoTonic value → IsFirstWord value first following → toneless_start first ≡ Some start → start_of value ≡ Some (start, value)
 unfolding start_of
-toneless_to value first behind start toneless is e =
+toneless_to value first following start toneless is e =
     ap (start_by value) (no_tonic_to value (tonic_at value) refl toneless)
-    ∙ ap (start_by_words value) (first_to value first behind is)
+    ∙ ap (start_by_words value) (first_to value first following is)
     ∙ ap (option_map {T = Key} {U = Key × List ℕ} (λ key. (key, value))) e
 
 start_to : (value : List ℕ) (start : Key) (text : List ℕ) → IsStart value start text → start_of value ≡ Some (start, text)
 unfolding start_of
-start_to value start text (tonal major behind basis is b k) =
-    ap (start_by value) (tonic_to value major behind is)
-    ∙ ap (tonal_start major) (basis_to behind basis text b)
+start_to value start text (tonal major following basis is b k) =
+    ap (start_by value) (tonic_to value major following is)
+    ∙ ap (tonal_start major) (basis_to following basis text b)
     ∙ ap (option_map {T = Key} {U = Key × List ℕ} (λ key. (key, text))) (key_on_to major basis start k)
-start_to value start text (listed first behind toneless is begins s t) =
-    toneless_to value first behind empty_key toneless is (cond-true (begins_accidental first) _ _ (begins_to first begins)) ∙ (λ i. Some (sym s i, sym t i))
-start_to value start text (properties first behind toneless is other sets s t) =
-    toneless_to value first behind unchanged_key toneless is
+start_to value start text (listed first following toneless is begins s t) =
+    toneless_to value first following empty_key toneless is (cond-true (begins_accidental first) _ _ (begins_to first begins)) ∙ (λ i. Some (sym s i, sym t i))
+start_to value start text (properties first following toneless is other sets s t) =
+    toneless_to value first following unchanged_key toneless is
     (cond-false (begins_accidental first) _ _ (false_from_ne_true (begins_accidental first) (λ b. other (begins_from first b))) ∙ cond-true (sets_properties first) _ _ (sets_to first sets))
     ∙ (λ i. Some (sym s i, sym t i))
 
@@ -242,9 +242,9 @@ key_on_range major Explicit key h = subst IsInRange (sym h) no_key_range
 key_on_range major (Named mode) key h = subst IsInRange (sym h.1) (record { sharps = h.0; signature = signature_of_range (major +ℤ added_sharps mode); shift = no_shift_small })
 
 start_range : (value : List ℕ) (start : Key) (text : List ℕ) → IsStart value start text → IsInRange start
-start_range value start text (tonal major behind basis is b k) = key_on_range major basis start k
-start_range value start text (listed first behind toneless is begins s t) = subst IsInRange (sym s) no_key_range
-start_range value start text (properties first behind toneless is other sets s t) = subst IsInRange (sym s) (record { sharps = no_sharps; signature = tt; shift = no_shift_small })
+start_range value start text (tonal major following basis is b k) = key_on_range major basis start k
+start_range value start text (listed first following toneless is begins s t) = subst IsInRange (sym s) no_key_range
+start_range value start text (properties first following toneless is other sets s t) = subst IsInRange (sym s) (record { sharps = no_sharps; signature = tt; shift = no_shift_small })
 
 signature_range : (o : Option Signature) (words : List (List ℕ)) (changed : Option Signature) → IsCompleted o words changed → IfSome o IsSignature → IfSome changed IsSignature
 signature_range None words changed h r = subst (λ c. IfSome c IsSignature) (sym h) tt

@@ -7,7 +7,7 @@ use Rattle.std.proofs.lemmas.List.Sums.{fold-append}
 use Rattle.std.proofs.lemmas.List.Elements.{All-head, All-tail}
 use Rattle.abc_text.specs.Number.{IsNumber}
 use Rattle.abc_text.proofs.Decimals.{digit_range}
-use Rattle.abc_fields.specs.Spelling.Parts.{IsCount, once, times, IsOrder, part, group, behind, IsParts}
+use Rattle.abc_fields.specs.Spelling.Parts.{IsCount, once, times, IsOrder, part, group, following, IsParts}
 use Rattle.abc_fields.specs.Letters.{Played, nothing_played, letters_so_far, with_item, close_group, count_on, play_on, letters_of}
 use Rattle.abc_fields.proofs.Orders.{below_upper, number_after}
 
@@ -82,7 +82,7 @@ plays_order (group {depth} {n} {inner} {count} {letters} few order times_is) pla
     ap (λ p. fold play_on p (inner ++ 41 ∷ count)) (plays_open played) ∙ fold-append play_on begun inner (41 ∷ count) ∙ ap (λ p. fold play_on p count) closed in
     let rest = plays_count times_is played.around outside letters in
     (ap (λ p. p.around) path ∙ rest.0, ap letters_so_far path ∙ rest.1)
-plays_order (behind {depth} {front} {back} {first} {second} before after) played =
+plays_order (following {depth} {front} {back} {first} {second} before after) played =
     let one = plays_order before played in
     let two = plays_order after (fold play_on played front) in
     let path = fold-append play_on played front back in

@@ -17,8 +17,8 @@ use Rattle.abc_fields.specs.declared.fault.FaultCode.TheVariants.{BadOrder}
 use Rattle.abc_fields.specs.declared.parts.LastItem.{LastItem}
 use Rattle.abc_fields.specs.declared.parts.LastItem.TheVariants.{Nothing, Item}
 use Rattle.abc_fields.specs.declared.parts.Place.{Place}
-use Rattle.abc_fields.specs.Parts.{is_ignored, order_bytes, ends_item, begins_item, with_digit, at, behind_digit, next, next_of, is_whole, place_behind, ends_order, is_order, parts_of}
-use Rattle.abc_fields.specs.Spelling.Parts.{IsCount, once, times, IsOrder, part, group, behind, IsParts}
+use Rattle.abc_fields.specs.Parts.{is_ignored, order_bytes, ends_item, begins_item, with_digit, at, following_digit, next, next_of, is_whole, place_following, ends_order, is_order, parts_of}
+use Rattle.abc_fields.specs.Spelling.Parts.{IsCount, once, times, IsOrder, part, group, following, IsParts}
 use Rattle.abc_fields.proofs.Readings.{branches}
 
 -- the place after a text, from this place on
@@ -93,11 +93,11 @@ count_places [] depth digits n all few = rw add-zero refl
 count_places (b ∷ text) depth digits n all few =
     let digit : is_ascii_digit b ≡ true = All-head (λ y. is_ascii_digit y ≡ true) b text all in
     let range = digit_range b digit in
-    let behind = count_places text depth (digits + 1) (n * 10 + (b - 48)) (All-tail (λ y. is_ascii_digit y ≡ true) b text all) (omega arith) in
+    let following = count_places text depth (digits + 1) (n * 10 + (b - 48)) (All-tail (λ y. is_ascii_digit y ≡ true) b text all) (omega arith) in
     let one = digit_next depth b digits (ltb 0 n) digit (omega arith) in
     let positive = ap (λ p. Some (at depth (Item (digits + 1) p))) (positive_step b n range.0) in
     let long : (digits + 1) + length text ≡ digits + length (b ∷ text) = omega arith in
-    ap (λ place. read place text) (one ∙ positive) ∙ behind ∙ ap (λ k. Some (at depth (Item k (ltb 0 (number_after (n * 10 + (b - 48)) text))))) long
+    ap (λ place. read place text) (one ∙ positive) ∙ following ∙ ap (λ k. Some (at depth (Item k (ltb 0 (number_after (n * 10 + (b - 48)) text))))) long
 
 count_ends : {count : List ℕ} {n : ℕ} → IsCount count n → (depth : ℕ) → Ends depth (read (Some (at depth (Item 0 false))) count)
 count_ends once depth = (Item 0 false, refl, refl)
@@ -116,7 +116,7 @@ order_ends (group {depth} {n} {inner} {count} few order counted) before begins =
     let apart = fold-append next_of (Some (at (depth + 1) Nothing)) inner (41 ∷ count) in
     let closed = ap (λ place. read place (41 ∷ count)) within.1 ∙ ap (λ place. read place count) (close_next depth within.0 within.2) in
     subst (Ends depth) (sym (entered ∙ apart ∙ closed)) (count_ends counted depth)
-order_ends (behind {depth} {front} {back} first second) before begins =
+order_ends (following {depth} {front} {back} first second) before begins =
     let front_ends = order_ends first before begins in
     let back_ends = order_ends second front_ends.0 (begins_too front_ends.0 front_ends.2) in
     subst (Ends depth) (sym (fold-append next_of (Some (at depth before)) front back ∙ ap (λ place. read place back) front_ends.1)) back_ends
@@ -168,7 +168,7 @@ record Finishes (depth : ℕ) (text : List ℕ) : Type 0 where
 
 joined : {depth : ℕ} {inner back letters : List ℕ} → IsInner depth inner → IsOrder depth back letters → (all : List ℕ) × IsOrder depth (inner ++ back) all
 joined empty order = (_, order)
-joined (filled front) order = (_, behind front order)
+joined (filled front) order = (_, following front order)
 
 some_digits : (digits n : ℕ) → digits ≡ suc n → (digits == 0) ≡ true → ⊥
 some_digits digits n long none = let zero : digits ≡ 0 = eqb-true digits 0 none in omega arith
@@ -280,11 +280,11 @@ after_digit b (at_item {depth} {digits} {positive} {outer} {inner} {bare} {count
 abbrev Leads : List ℕ → Place → Type 0
 Leads text place = Reached place.depth place.before text
 
-pub guarded_digit : (t : Bool) (depth : ℕ) (before : LastItem) (after : Place) → behind_digit depth (cond t (Some before) None) ≡ Some after → (t ≡ true) × (at depth before ≡ after)
+pub guarded_digit : (t : Bool) (depth : ℕ) (before : LastItem) (after : Place) → following_digit depth (cond t (Some before) None) ≡ Some after → (t ≡ true) × (at depth before ≡ after)
 guarded_digit true depth before after e = (refl, cc)
 guarded_digit false depth before after e = cc
 
-digit_leads : (depth : ℕ) (before : LastItem) (b : ℕ) (text : List ℕ) (after : Place) → Reached depth before text → is_ascii_digit b ≡ true → behind_digit depth (with_digit before b) ≡ Some after
+digit_leads : (depth : ℕ) (before : LastItem) (b : ℕ) (text : List ℕ) (after : Place) → Reached depth before text → is_ascii_digit b ≡ true → following_digit depth (with_digit before b) ≡ Some after
     → Leads (text ++ b ∷ []) after
 digit_leads depth Nothing b text after reached digit e = cc
 digit_leads depth (Item digits positive) b text after reached digit e =
@@ -296,7 +296,7 @@ pub data Follows (place : Place) (b : ℕ) (after : Place) : Type 0 where
   by_letter : is_ascii_uppercase b ≡ true → begins_item place.before ≡ true → at place.depth (Item 0 false) ≡ after → Follows place b after
   by_open : b ≡ 40 → begins_item place.before ≡ true → place.depth < 32 → at (place.depth + 1) Nothing ≡ after → Follows place b after
   by_close : b ≡ 41 → ends_item place.before ≡ true → 0 < place.depth → at (place.depth - 1) (Item 0 false) ≡ after → Follows place b after
-  by_digit : is_ascii_digit b ≡ true → behind_digit place.depth (with_digit place.before b) ≡ Some after → Follows place b after
+  by_digit : is_ascii_digit b ≡ true → following_digit place.depth (with_digit place.before b) ≡ Some after → Follows place b after
 
 pub follows : (place : Place) (b : ℕ) (after : Place) → next place b ≡ Some after → Follows place b after
 unfolding next
@@ -356,11 +356,11 @@ last_of None e = cc
 last_of (Some last) e = (last, refl, e)
 
 order_accepted : (value letters : List ℕ) → IsParts value letters → is_order value ≡ true
-order_accepted value letters order = ends_well (place_behind value) (order_ends order Nothing refl)
+order_accepted value letters order = ends_well (place_following value) (order_ends order Nothing refl)
 
 pub accepted_order : (value : List ℕ) → is_order value ≡ true → (letters : List ℕ) × IsParts value letters
 accepted_order value e =
-    let h = last_of (place_behind value) e in
+    let h = last_of (place_following value) e in
     order_from (order_bytes value) h.0 (leads_through (order_bytes value) [] (at 0 Nothing) h.0 (at_front outside) h.1) h.2
 
 pub accepts : (whole : Bool) → ◌≡◌ {A = Result (Unit {0}) FaultCode} (cond whole (Ok tt) (Err BadOrder)) (Ok tt) → whole ≡ true

@@ -116,8 +116,8 @@ begins_true name word e =
 begins_from : (name word text : List ℕ) → word ≡ name ++ text → begins_with name word ≡ true
 begins_from name word text e = (bytes_eq-Decides (take (length name) word) name).1 (ap (take (length name)) e ∙ take-append_seam name text)
 
-behind_name : (name word text : List ℕ) → word ≡ name ++ text → drop (length name) word ≡ text
-behind_name name word text e = ap (drop (length name)) e ∙ drop-append_seam name text
+after_name : (name word text : List ℕ) → word ≡ name ++ text → drop (length name) word ≡ text
+after_name name word text e = ap (drop (length name)) e ∙ drop-append_seam name text
 
 begins_false : (name word : List ℕ) → ¬ BeginsWith name word → begins_with name word ≡ false
 begins_false name word never = false_from_ne_true _ (λ e. never (drop (length name) word, begins_true name word e))
@@ -136,7 +136,7 @@ given name word e = record {
 }
 
 value_known : (name word value : List ℕ) (g : Gives name word value) → unquote (drop (length name) word) ≡ value
-value_known name word value g = ap unquote (behind_name name word g.text g.spelling) ∙ unquoted_known g.text value g.unquote
+value_known name word value g = ap unquote (after_name name word g.text g.spelling) ∙ unquoted_known g.text value g.unquote
 
 -- a word is read by its grammar
 plain_read : (word : List ℕ) (o : Option ℤ) → HasNoName word → mark_of word ≡ o → IsProperty word (option_map_or Clef o Other)

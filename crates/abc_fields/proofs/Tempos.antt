@@ -18,7 +18,7 @@ use Rattle.abc_text.specs.Blank.{is_blank, trim_start, trim_end}
 use Rattle.abc_text.specs.Number.{number_of, IsNumber}
 use Rattle.abc_text.specs.Cut.{cut_at}
 use Rattle.abc_fields.specs.Tempo.{if_positive, positive_number, sum_of, lowest_terms, beats, bare_by, bare_tempo, tempo_around, tempo_by, tempo_in, tempo_of, IsInRange}
-use Rattle.abc_fields.specs.Spelling.Tempo.{empty, text_alone, without_text, behind_text, before_text, IsSum, IsBeats, IsBareTempo, IsQuoted, IsBehindText, IsBeforeText, IsTempo}
+use Rattle.abc_fields.specs.Spelling.Tempo.{empty, text_alone, without_text, after_text, before_text, IsSum, IsBeats, IsBareTempo, IsQuoted, IsAfterText, IsBeforeText, IsTempo}
 use Rattle.abc_text.proofs.Numbers.{number_of-spells, number_of-spelled, number_small}
 use Rattle.abc_text.specs.Cut.{HasNoByte, IsCut}
 use Rattle.abc_text.proofs.Fronts.{front_other}
@@ -85,14 +85,14 @@ front_without byte other slash high text sum is = sum_bytes (λ b. not (b == byt
 
 beats_IsPlain : (text : List ℕ) (beat : Ratio) (n : ℕ) → IsBeats text beat n → IsPlain text
 beats_IsPlain text beat n is =
-    let behind = 61 ∷ (is.gap ++ is.number) in
-    let begins = sum_begins 16 is.front is.sum is.front_is behind in
-    let long = ap length is.spelling ∙ length-append is.front behind in
+    let following = 61 ∷ (is.gap ++ is.number) in
+    let begins = sum_begins 16 is.front is.sum is.front_is following in
+    let long = ap length is.spelling ∙ length-append is.front following in
     let split : text ≡ (is.front ++ 61 ∷ is.gap) ++ is.number = is.spelling ∙ sym (append_assoc is.front (61 ∷ is.gap) is.number) in
     record {
       some = omega (arith, long);
       no_quote = subst (HasNoByte 34) (sym is.spelling)
-          (All-append (λ b. not (b == 34) ≡ true) is.front behind (front_without 34 (inl (omega arith)) refl (omega arith) is.front is.sum is.front_is)
+          (All-append (λ b. not (b == 34) ≡ true) is.front following (front_without 34 (inl (omega arith)) refl (omega arith) is.front is.sum is.front_is)
           (All-cons (λ b. not (b == 34) ≡ true) 61 (is.gap ++ is.number) refl
           (All-append (λ b. not (b == 34) ≡ true) is.gap is.number
           (All-weaker (λ b. is_blank b ≡ true) (λ b. not (b == 34) ≡ true) (λ b. blank_other 34 b (omega arith)) is.gap is.gap_is)
@@ -164,12 +164,12 @@ bare_tempo-is text (Beat beat n) is =
 quoted_is : (inside : List ℕ) → HasNoByte 34 inside → IsQuoted (34 ∷ (inside ++ 34 ∷ []))
 quoted_is inside h = record { inside = inside; spelling = refl; no_quote = h }
 
-around_found : (text before inside behind : List ℕ) (m : Tempo) → text ≡ before ++ 34 ∷ (inside ++ 34 ∷ behind) → HasNoByte 34 inside → tempo_around before behind ≡ Some m → IsTempo text m
+around_found : (text before inside following : List ℕ) (m : Tempo) → text ≡ before ++ 34 ∷ (inside ++ 34 ∷ following) → HasNoByte 34 inside → tempo_around before following ≡ Some m → IsTempo text m
 unfolding tempo_around
 around_found text [] inside [] m e h f = text_alone (record { inside = inside; spelling = e; no_quote = h }) (sym (same_Some Unset m f))
 around_found text [] inside (b ∷ bs) m e h f =
     let trim_blanks = trim_start-parts (b ∷ bs) in
-    behind_text (record {
+    after_text (record {
       quoted = 34 ∷ (inside ++ 34 ∷ []);
       gap = trim_blanks.0;
       tempo = trim_start (b ∷ bs);
@@ -211,19 +211,19 @@ unfolding tempo_in
 tempo_in-by [] some = absurd (omega arith)
 tempo_in-by (b ∷ bs) some = refl
 
-around_is : (text before inside behind : List ℕ) (m : Tempo) → text ≡ before ++ 34 ∷ (inside ++ 34 ∷ behind) → HasNoByte 34 before → HasNoByte 34 inside → tempo_around before behind ≡ Some m
+around_is : (text before inside following : List ℕ) (m : Tempo) → text ≡ before ++ 34 ∷ (inside ++ 34 ∷ following) → HasNoByte 34 before → HasNoByte 34 inside → tempo_around before following ≡ Some m
     → tempo_in text ≡ Some m
-around_is text before inside behind m e h g f =
-    let long = ap length e ∙ length-append before (34 ∷ (inside ++ 34 ∷ behind)) in
-    let first : cut_at 34 text ≡ Some (before, inside ++ 34 ∷ behind) = ap (cut_at 34) e ∙ cut_at-found 34 before (inside ++ 34 ∷ behind) h in
+around_is text before inside following m e h g f =
+    let long = ap length e ∙ length-append before (34 ∷ (inside ++ 34 ∷ following)) in
+    let first : cut_at 34 text ≡ Some (before, inside ++ 34 ∷ following) = ap (cut_at 34) e ∙ cut_at-found 34 before (inside ++ 34 ∷ following) h in
     let some : 1 ≤ length text = omega (arith, long) in
     tempo_in-by text some ∙ ap (tempo_by text) first
-    ∙ ap (option_and_then (λ (more : List ℕ × List ℕ). tempo_around before more.1)) (cut_at-found 34 inside behind g) ∙ f
+    ∙ ap (option_and_then (λ (more : List ℕ × List ℕ). tempo_around before more.1)) (cut_at-found 34 inside following g) ∙ f
 
-around_behind : (behind : List ℕ) → 1 ≤ length behind → tempo_around [] behind ≡ bare_tempo (trim_start behind)
+around_after : (following : List ℕ) → 1 ≤ length following → tempo_around [] following ≡ bare_tempo (trim_start following)
 unfolding tempo_around
-around_behind [] some = absurd (omega arith)
-around_behind (b ∷ bs) some = refl
+around_after [] some = absurd (omega arith)
+around_after (b ∷ bs) some = refl
 
 around_before : (before : List ℕ) → 1 ≤ length before → tempo_around before [] ≡ bare_tempo (trim_end before)
 unfolding tempo_around
@@ -238,15 +238,15 @@ tempo_in-nothing : tempo_in [] ≡ Some Unset
 unfolding tempo_in
 tempo_in-nothing = refl
 
-behind_is : (text : List ℕ) (m : Tempo) → IsBehindText text m → tempo_in text ≡ Some m
-behind_is text m is =
+after_is : (text : List ℕ) (m : Tempo) → IsAfterText text m → tempo_in text ≡ Some m
+after_is text m is =
     let q = is.quoted_is in
     let plain = bare_IsPlain is.tempo m is.tempo_is in
-    let behind = is.gap ++ is.tempo in
-    let spelling : text ≡ 34 ∷ (q.inside ++ 34 ∷ behind) = is.spelling ∙ ap (λ l. l ++ behind) q.spelling ∙ ap (λ l. 34 ∷ l) (append_assoc q.inside (34 ∷ []) behind) in
-    let some : 1 ≤ length behind = omega (arith, plain.some, length-append is.gap is.tempo) in
-    around_is text [] q.inside behind m spelling (All-nil _) q.no_quote
-    (around_behind behind some ∙ ap bare_tempo (trim_start-gap is.gap is.tempo is.gap_is plain.begins) ∙ bare_tempo-is is.tempo m is.tempo_is)
+    let following = is.gap ++ is.tempo in
+    let spelling : text ≡ 34 ∷ (q.inside ++ 34 ∷ following) = is.spelling ∙ ap (λ l. l ++ following) q.spelling ∙ ap (λ l. 34 ∷ l) (append_assoc q.inside (34 ∷ []) following) in
+    let some : 1 ≤ length following = omega (arith, plain.some, length-append is.gap is.tempo) in
+    around_is text [] q.inside following m spelling (All-nil _) q.no_quote
+    (around_after following some ∙ ap bare_tempo (trim_start-gap is.gap is.tempo is.gap_is plain.begins) ∙ bare_tempo-is is.tempo m is.tempo_is)
 
 before_is : (text : List ℕ) (m : Tempo) → IsBeforeText text m → tempo_in text ≡ Some m
 before_is text m is =
@@ -266,7 +266,7 @@ tempo_in-is text m (text_alone q f) = around_is text [] q.inside [] m q.spelling
 tempo_in-is text m (without_text is) =
     let plain = bare_IsPlain text m is in
     tempo_in-by text plain.some ∙ ap (tempo_by text) (cut_at-none 34 text plain.no_quote) ∙ bare_tempo-is text m is
-tempo_in-is text m (behind_text is) = behind_is text m is
+tempo_in-is text m (after_text is) = after_is text m is
 tempo_in-is text m (before_text is) = before_is text m is
 
 -- the ranges of a tempo
@@ -288,7 +288,7 @@ range : (text : List ℕ) (m : Tempo) → IsTempo text m → IsInRange m
 range text m (empty e f) = subst IsInRange (sym f) tt
 range text m (text_alone q f) = subst IsInRange (sym f) tt
 range text m (without_text is) = bare_range text m is
-range text m (behind_text is) = bare_range is.tempo m is.tempo_is
+range text m (after_text is) = bare_range is.tempo m is.tempo_is
 range text m (before_text is) = bare_range is.tempo m is.tempo_is
 
 -- the reader answers the tempo

@@ -62,26 +62,26 @@ sign_to text added rest (none unsigned e h) = no_sign text unsigned ∙ (λ i. (
 
 -- the tonic
 abbrev with_sign : List ℕ → Letter → ℤ × List ℕ
-with_sign behind letter = (major_sharps letter +ℤ (sign_at behind).0, (sign_at behind).1)
+with_sign following letter = (major_sharps letter +ℤ (sign_at following).0, (sign_at following).1)
 
 pub tonic_from : (text : List ℕ) (s : ℤ) (rest : List ℕ) → tonic_at text ≡ Some (s, rest) → IsTonic text s rest
 tonic_from [] s rest e = cc
-tonic_from (b ∷ behind) s rest e =
-    let letter = map_some (with_sign behind) (tonic_letter b) (s, rest) e in
-    subst (λ (p : ℤ × List ℕ). IsTonic (b ∷ behind) p.0 p.1) (sym letter.2) (record {
+tonic_from (b ∷ following) s rest e =
+    let letter = map_some (with_sign following) (tonic_letter b) (s, rest) e in
+    subst (λ (p : ℤ × List ℕ). IsTonic (b ∷ following) p.0 p.1) (sym letter.2) (record {
       letter = letter.0;
-      behind = behind;
-      spelling = ap (λ x. x ∷ behind) (tonic_letter-is b letter.0 letter.1);
-      added = (sign_at behind).0;
-      sign = sign_from behind;
+      following = following;
+      spelling = ap (λ x. x ∷ following) (tonic_letter-is b letter.0 letter.1);
+      added = (sign_at following).0;
+      sign = sign_from following;
       sharps_are = refl;
     })
 
 pub tonic_to : (text : List ℕ) (s : ℤ) (rest : List ℕ) → IsTonic text s rest → tonic_at text ≡ Some (s, rest)
 tonic_to text s rest h =
-    let sign = sign_to h.behind h.added rest h.sign in
+    let sign = sign_to h.following h.added rest h.sign in
     ap tonic_at h.spelling
-    ∙ ap (option_map (with_sign h.behind)) (tonic_letter-capital h.letter)
+    ∙ ap (option_map (with_sign h.following)) (tonic_letter-capital h.letter)
     ∙ (λ i. Some (major_sharps h.letter +ℤ (sign i).0, (sign i).1))
     ∙ (λ i. Some (sym h.sharps_are i, rest))
 
@@ -93,38 +93,38 @@ stopped test (b ∷ bs) stops = front_none test b bs (stops b bs refl)
 front_len : (test : ℕ → Bool) (front rest : List ℕ) → AllPass test front → StopsAt test rest → prefix_len test (front ++ rest) ≡ length front
 front_len test front rest pass stops = front_exact test front rest pass (stopped test rest stops)
 
-stops_behind : (test : ℕ → Bool) (text : List ℕ) → StopsAt test (drop (prefix_len test text) text)
-stops_behind test text b rest e = ⊎_elim
+stops_following : (test : ℕ → Bool) (text : List ℕ) → StopsAt test (drop (prefix_len test text) text)
+stops_following test text b rest e = ⊎_elim
     (λ none. let no : b ∷ rest ≡ [] = sym e ∙ none in cc)
     (λ some. let same : b ∷ rest ≡ some.0 ∷ some.1 = sym e ∙ some.2 in let head : some.0 ≡ b = cc in subst (λ x. test x ≡ false) head some.3)
     (front_stops test text)
 
 -- the run of letters
 run_of : (text : List ℕ) →
-    let behind = drop (prefix_len is_blank text) text in
-    IsRun text (take (prefix_len is_blank text) text) (take (prefix_len is_ascii_alphabetic behind) behind) (drop (prefix_len is_ascii_alphabetic behind) behind)
+    let following = drop (prefix_len is_blank text) text in
+    IsRun text (take (prefix_len is_blank text) text) (take (prefix_len is_ascii_alphabetic following) following) (drop (prefix_len is_ascii_alphabetic following) following)
 run_of text =
     let n = prefix_len is_blank text in
-    let behind = drop n text in
-    let m = prefix_len is_ascii_alphabetic behind in
-    let whole = take-append-drop m behind in
+    let following = drop n text in
+    let m = prefix_len is_ascii_alphabetic following in
+    let whole = take-append-drop m following in
     record {
       spelling = sym (ap (λ l. take n text ++ l) whole ∙ take-append-drop n text);
       are_blanks = front_passes is_blank text;
-      no_more_blanks = subst (StopsAt is_blank) (sym whole) (stops_behind is_blank text);
-      are_letters = front_passes is_ascii_alphabetic behind;
-      no_more_letters = stops_behind is_ascii_alphabetic behind;
+      no_more_blanks = subst (StopsAt is_blank) (sym whole) (stops_following is_blank text);
+      are_letters = front_passes is_ascii_alphabetic following;
+      no_more_letters = stops_following is_ascii_alphabetic following;
     }
 
 pub run_read : (text blanks run rest : List ℕ) → IsRun text blanks run rest → basis_at text ≡ basis_by (mode_of run) (length blanks) run text rest
 unfolding basis_at
 run_read text blanks run rest is =
     let n : prefix_len is_blank text ≡ length blanks = ap (prefix_len is_blank) is.spelling ∙ front_len is_blank blanks (run ++ rest) is.are_blanks is.no_more_blanks in
-    let behind : drop (prefix_len is_blank text) text ≡ run ++ rest = (λ i. drop (n i) (is.spelling i)) ∙ drop-append_seam blanks (run ++ rest) in
+    let following : drop (prefix_len is_blank text) text ≡ run ++ rest = (λ i. drop (n i) (is.spelling i)) ∙ drop-append_seam blanks (run ++ rest) in
     let m : prefix_len is_ascii_alphabetic (drop (prefix_len is_blank text) text) ≡ length run =
-    ap (prefix_len is_ascii_alphabetic) behind ∙ front_len is_ascii_alphabetic run rest is.are_letters is.no_more_letters in
-    let letters = (λ i. take (m i) (behind i)) ∙ take-append_seam run rest in
-    let more = (λ i. drop (m i) (behind i)) ∙ drop-append_seam run rest in
+    ap (prefix_len is_ascii_alphabetic) following ∙ front_len is_ascii_alphabetic run rest is.are_letters is.no_more_letters in
+    let letters = (λ i. take (m i) (following i)) ∙ take-append_seam run rest in
+    let more = (λ i. drop (m i) (following i)) ∙ drop-append_seam run rest in
     λ i. basis_by (mode_of (letters i)) (n i) (letters i) text (more i)
 
 -- the basis of a signature
@@ -159,40 +159,40 @@ basis_to text basis rest (explicit blanks is some e) =
     ∙ ap (λ o. basis_by o (length blanks) (codes "exp") text rest) exp_is_no_mode
     ∙ cond-false (length blanks == 0) _ _ (some_length blanks some)
     ∙ (λ i. Some (sym e i, rest))
-basis_to text basis rest (major blanks run behind is nameless why e all) =
-    run_read text blanks run behind is
-    ∙ ap (λ o. basis_by o (length blanks) run text behind) (no_mode run (mode_of run) refl nameless)
+basis_to text basis rest (major blanks run following is nameless why e all) =
+    run_read text blanks run following is
+    ∙ ap (λ o. basis_by o (length blanks) run text following) (no_mode run (mode_of run) refl nameless)
     ∙ ⊎_elim
-    (λ nil. ap (λ r. basis_by None (length blanks) r text behind) nil)
-    (λ later. by_default (length blanks) run text behind (some_length blanks later.0) (not_exp run later.1))
+    (λ nil. ap (λ r. basis_by None (length blanks) r text following) nil)
+    (λ later. by_default (length blanks) run text following (some_length blanks later.0) (not_exp run later.1))
     why
     ∙ (λ i. Some (sym e i, sym all i))
 
 at_pair : (text : List ℕ) (a b : Basis × List ℕ) → Some a ≡ Some b → IsBasis text a.0 a.1 → IsBasis text b.0 b.1
 at_pair text a b e h = let same : a ≡ b = cc in subst (λ (p : Basis × List ℕ). IsBasis text p.0 p.1) same h
 
-basis_later : (text blanks run behind : List ℕ) (found : Basis × List ℕ) → IsRun text blanks run behind → ((mode : Mode) → IsMode run mode → ⊥) → (length blanks == 0) ≡ false
-    → cond (bytes_eq run (codes "exp")) (Some (Explicit, behind)) (Some (Named Ionian, text)) ≡ Some found → IsBasis text found.0 found.1
-basis_later text blanks run behind found is nameless some e = ⊎_elim
-    (λ h. at_pair text (Explicit, behind) found h.1 (explicit blanks (subst (λ r. IsRun text blanks r behind) ((bytes_eq-Decides run (codes "exp")).0 h.0) is) (some_blanks blanks some) refl))
+basis_later : (text blanks run following : List ℕ) (found : Basis × List ℕ) → IsRun text blanks run following → ((mode : Mode) → IsMode run mode → ⊥) → (length blanks == 0) ≡ false
+    → cond (bytes_eq run (codes "exp")) (Some (Explicit, following)) (Some (Named Ionian, text)) ≡ Some found → IsBasis text found.0 found.1
+basis_later text blanks run following found is nameless some e = ⊎_elim
+    (λ h. at_pair text (Explicit, following) found h.1 (explicit blanks (subst (λ r. IsRun text blanks r following) ((bytes_eq-Decides run (codes "exp")).0 h.0) is) (some_blanks blanks some) refl))
     (λ h. at_pair text (Named Ionian, text) found h.1
-    (major blanks run behind is nameless (inr (some_blanks blanks some, λ same. both_ways (bytes_eq run (codes "exp")) h.0 ((bytes_eq-Decides run (codes "exp")).1 same))) refl refl))
+    (major blanks run following is nameless (inr (some_blanks blanks some, λ same. both_ways (bytes_eq run (codes "exp")) h.0 ((bytes_eq-Decides run (codes "exp")).1 same))) refl refl))
     (branches (bytes_eq run (codes "exp")) _ _ _ e)
   where
     some_blanks : (blanks : List ℕ) → (length blanks == 0) ≡ false → 0 < length blanks
     some_blanks [] t = cc
     some_blanks (b ∷ bs) t = omega arith
 
-basis_by_mode : (text blanks run behind : List ℕ) (found : Basis × List ℕ) (o : Option Mode) → mode_of run ≡ o → IsRun text blanks run behind
-    → basis_by o (length blanks) run text behind ≡ Some found → IsBasis text found.0 found.1
-basis_by_mode text blanks run behind found (Some mode) o is e = at_pair text (Named mode, behind) found e (named blanks run mode is (mode_from run mode o) refl)
-basis_by_mode text blanks run behind found None o is e =
+basis_by_mode : (text blanks run following : List ℕ) (found : Basis × List ℕ) (o : Option Mode) → mode_of run ≡ o → IsRun text blanks run following
+    → basis_by o (length blanks) run text following ≡ Some found → IsBasis text found.0 found.1
+basis_by_mode text blanks run following found (Some mode) o is e = at_pair text (Named mode, following) found e (named blanks run mode is (mode_from run mode o) refl)
+basis_by_mode text blanks run following found None o is e =
     let nameless : (mode : Mode) → IsMode run mode → ⊥ = λ mode m. let known : Some mode ≡ None = sym (mode_to run mode m) ∙ o in cc in
     ⊎_elim
-    (λ h. at_pair text (Named Ionian, text) found h.1 (major blanks run behind is nameless (inl (no_length run h.0)) refl refl))
+    (λ h. at_pair text (Named Ionian, text) found h.1 (major blanks run following is nameless (inl (no_length run h.0)) refl refl))
     (λ h. ⊎_elim
     (λ k. let none : None ≡ Some found = k.1 in cc)
-    (λ k. basis_later text blanks run behind found is nameless k.0 k.1)
+    (λ k. basis_later text blanks run following found is nameless k.0 k.1)
     (branches (length blanks == 0) _ _ _ h.1))
     (branches (length run == 0) _ _ _ e)
 

@@ -24,7 +24,7 @@ voice_from text voice e =
     let at = first_at text from to (sym place.1) in
     subst (IsVoice text) (sym shift.2) record {
       identifier = slice_range text from to;
-      behind = drop to text;
+      following = drop to text;
       first = at.first;
       from = at.from_is;
       to = at.to_is;
@@ -34,17 +34,17 @@ voice_from text voice e =
 voice_to : (text : List ℕ) (voice : Voice) → IsVoice text voice → voice_in text ≡ Some voice
 unfolding voice_in
 voice_to text voice is =
-    let known = first_known text is.identifier is.behind is.first in
+    let known = first_known text is.identifier is.following is.first in
     let from = length is.first.blanks in
     let to = from + length is.identifier in
-    let shift : shift_of (words_of (drop to text)) ≡ Some voice.shift = ap (λ l. shift_of (words_of l)) known.behind_is ∙ (shift_exact (words_of is.behind) voice.shift).1 is.shift in
+    let shift : shift_of (words_of (drop to text)) ≡ Some voice.shift = ap (λ l. shift_of (words_of l)) known.after_is ∙ (shift_exact (words_of is.following) voice.shift).1 is.shift in
     let to_is : to ≡ voice.to = sym (is.to ∙ ap (λ n. n + length is.identifier) is.from) in
     sym (ap (option_and_then (voice_at text)) known.known)
     ∙ ap (option_map (λ (s : Shift). record { from = from; to = to; shift = s })) shift
     ∙ (λ i. Some (record { from = sym is.from i; to = to_is i; shift = voice.shift }))
 
 small_shift : (text : List ℕ) (voice : Voice) → IsVoice text voice → IsSmallShift voice.shift
-small_shift text voice is = shift_small (words_of is.behind) (Some voice.shift) (sym ((shift_exact (words_of is.behind) voice.shift).1 is.shift))
+small_shift text voice is = shift_small (words_of is.following) (Some voice.shift) (sym ((shift_exact (words_of is.following) voice.shift).1 is.shift))
 
 -- the reader answers the voice
 pub voice_read : (text : List ℕ) (r : Result Voice FaultCode) → r ≡ voice_of text → Reads (IsVoice text) (λ voice. IsSmallShift voice.shift) BadVoice r

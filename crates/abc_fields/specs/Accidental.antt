@@ -17,8 +17,8 @@ and_change letter changes accidental = option_map (λ more. record { accidental 
 
 -- The changes if a letter follows this accidental, or no accidental.
 abbrev pub at_letter : Option Letter → Option Accidental → Option (List Change) → Option (List Change) → Option (List Change)
-at_letter None accidental behind on = on
-at_letter (Some letter) accidental behind on = option_and_then (and_change letter behind) accidental
+at_letter None accidental following on = on
+at_letter (Some letter) accidental following on = option_and_then (and_change letter following) accidental
 
 -- The changes of a text after these marks.
 abbrev pub changes_with : List ℕ → List ℕ → Option (List Change)

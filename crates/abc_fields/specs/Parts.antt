@@ -39,9 +39,9 @@ abbrev pub at : ℕ → LastItem → Place
 at depth before = record { depth = depth; before = before }
 
 -- The place after a digit.
-abbrev pub behind_digit : ℕ → Option LastItem → Option Place
-behind_digit depth None = None
-behind_digit depth (Some before) = Some (at depth before)
+abbrev pub following_digit : ℕ → Option LastItem → Option Place
+following_digit depth None = None
+following_digit depth (Some before) = Some (at depth before)
 
 -- The place after a byte that may come at this place. The byte is a letter or the beginning of a group if an item may
 -- begin; the end of a group if its last item may end; or a digit of a count.
@@ -52,7 +52,7 @@ next place b =
     then (if begins_item place.before && nat_lt place.depth 32 then Some (at (place.depth + 1) Nothing) else None)
     else (if b == close_parenthesis
     then (if ends_item place.before && nat_lt 0 place.depth then Some (at (place.depth - 1) (Item 0 false)) else None)
-    else (if is_ascii_digit b then behind_digit place.depth (with_digit place.before b) else None)))
+    else (if is_ascii_digit b then following_digit place.depth (with_digit place.before b) else None)))
 
 -- The same for an optional place.
 abbrev pub next_of : Option Place → ℕ → Option Place
@@ -64,8 +64,8 @@ abbrev pub is_whole : Place → Bool
 is_whole place = (place.depth == 0) && ends_item place.before
 
 -- The place after a text, if an order may begin with it.
-abbrev pub place_behind : List ℕ → Option Place
-place_behind text = fold next_of (Some (at 0 Nothing)) (order_bytes text)
+abbrev pub place_following : List ℕ → Option Place
+place_following text = fold next_of (Some (at 0 Nothing)) (order_bytes text)
 
 -- The same for an optional place.
 abbrev pub ends_order : Option Place → Bool
@@ -74,7 +74,7 @@ ends_order (Some place) = is_whole place
 
 -- Whether a text is an order.
 abbrev pub is_order : List ℕ → Bool
-is_order text = ends_order (place_behind text)
+is_order text = ends_order (place_following text)
 
 -- The result of reading an order of parts.
 abbrev pub parts_of : List ℕ → Result (Unit {0}) FaultCode

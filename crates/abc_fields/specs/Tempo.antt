@@ -40,8 +40,8 @@ unfoldable pub word_in_front : List ℕ → List ℕ
 word_in_front text = take (bytes_before_blank text) text
 
 -- The rest after that part and its blanks.
-unfoldable pub behind_word : List ℕ → List ℕ
-behind_word text = trim_start (drop (bytes_before_blank text) text)
+unfoldable pub after_word : List ℕ → List ℕ
+after_word text = trim_start (drop (bytes_before_blank text) text)
 
 -- A fraction added to the sum of the rest.
 abbrev pub added : ℕ → Option ℕ → Option ℕ
@@ -55,7 +55,7 @@ sum_with sum_rest (b ∷ bs) part = added part (sum_rest (b ∷ bs))
 -- The sum of at most `most` fractions, in 512ths.
 unfoldable pub sum_of : ℕ → List ℕ → Option ℕ
 sum_of zero text = None
-sum_of (suc most) text = option_and_then (sum_with (sum_of most) (behind_word text)) (fraction_of (word_in_front text))
+sum_of (suc most) text = option_and_then (sum_with (sum_of most) (after_word text)) (fraction_of (word_in_front text))
 
 -- Both parts halved at most `most` times, while the upper one is even.
 unfoldable pub halve : ℕ → ℕ → ℕ → Ratio

@@ -46,8 +46,8 @@ sign_at (b ∷ rest) =
 -- The sharps of the major key on the tonic at the front of a text, and the rest after it.
 abbrev pub tonic_at : List ℕ → Option (ℤ × List ℕ)
 tonic_at [] = None
-tonic_at (b ∷ behind) =
-    option_map (λ letter. (major_sharps letter +ℤ (sign_at behind).0, (sign_at behind).1)) (tonic_letter b)
+tonic_at (b ∷ following) =
+    option_map (λ letter. (major_sharps letter +ℤ (sign_at following).0, (sign_at following).1)) (tonic_letter b)
 
 -- The sharps of a major key, written with at most one sign.
 abbrev pub IsMajor : ℤ → Type 0
@@ -65,6 +65,6 @@ basis_by None blanks run text rest =
 unfoldable pub basis_at : List ℕ → Option (Basis × List ℕ)
 basis_at text =
     let blanks = prefix_len is_blank text in
-    let behind = drop blanks text in
-    let letters = prefix_len is_ascii_alphabetic behind in
-    basis_by (mode_of (take letters behind)) blanks (take letters behind) text (drop letters behind)
+    let following = drop blanks text in
+    let letters = prefix_len is_ascii_alphabetic following in
+    basis_by (mode_of (take letters following)) blanks (take letters following) text (drop letters following)

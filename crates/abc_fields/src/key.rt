@@ -112,12 +112,12 @@ fn toneless_start(first: &[u8]) -> Option<Key>
 }
 
 /// Returns the beginning of a key on a tonic, by the text after the tonic, and the text with its other words.
-fn tonal_start(major: i8, behind: &[u8]) -> Option<(Key, &[u8])>
+fn tonal_start(major: i8, following: &[u8]) -> Option<(Key, &[u8])>
     requires { IsMajor major }
-    ensures { MatchOption result (tonal_start major (basis_at behind.now) ≡ None)
-        (λ p. tonal_start major (basis_at behind.now) ≡ Some (p.0, p.1.now)) }
+    ensures { MatchOption result (tonal_start major (basis_at following.now) ≡ None)
+        (λ p. tonal_start major (basis_at following.now) ≡ Some (p.0, p.1.now)) }
 {
-    let (basis, text) = basis_at(behind)?;
+    let (basis, text) = basis_at(following)?;
     Some((key_on(major, basis)?, text))
 }
 
@@ -128,7 +128,7 @@ fn start_of(value: &[u8]) -> Option<(Key, &[u8])>
         (λ p. start_of value.now ≡ Some (p.0, p.1.now)) }
 {
     match tonic_at(value) {
-        Some((major, behind)) => tonal_start(major, behind),
+        Some((major, following)) => tonal_start(major, following),
         None => {
             let (first, _) = next_word(value)?;
             Some((toneless_start(first)?, value))

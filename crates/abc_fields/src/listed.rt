@@ -15,9 +15,9 @@ fn with_word(signature: Signature, word: &[u8]) -> Signature
 {
     let mut changed = signature;
     let mut rest = word;
-    while let Some((change, behind)) = next_change(rest) {
+    while let Some((change, following)) = next_change(rest) {
         changed = altered_signature(changed, change.letter, change.accidental.alteration());
-        rest = behind;
+        rest = following;
     }
     if rest.is_empty() { changed } else { signature }
 }
@@ -30,9 +30,9 @@ pub(crate) fn with_accidentals(signature: Signature, text: &[u8]) -> Signature
 {
     let mut changed = signature;
     let mut rest = text;
-    while let Some((word, behind)) = next_word(rest) {
+    while let Some((word, following)) = next_word(rest) {
         changed = with_word(changed, word);
-        rest = behind;
+        rest = following;
     }
     changed
 }

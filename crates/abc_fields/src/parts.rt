@@ -2,7 +2,7 @@
 
 ghost use Rattle.std.specs.Prelude.{◌≡◌, ◌↔◌, ℕ, List};
 ghost use Rattle.abc_fields.specs.Letters.{letters_of};
-ghost use Rattle.abc_fields.specs.Parts.{is_ignored, ends_item, begins_item, with_digit, next, is_whole, place_behind, is_order};
+ghost use Rattle.abc_fields.specs.Parts.{is_ignored, ends_item, begins_item, with_digit, next, is_whole, place_following, is_order};
 ghost use Rattle.abc_fields.specs.Parts.{parts_of};
 ghost use Rattle.abc_fields.specs.Spelling.Parts.{IsParts};
 
@@ -121,8 +121,8 @@ fn is_ignored(byte: u8) -> bool
 
 /// The place after a text that may begin an order.
 #[tactic(auto, using(crate::proofs::Orders::order_step, crate::proofs::Orders::order_lost))]
-fn place_behind(text: &[u8]) -> Option<Place>
-    ensures { result ≡ place_behind text.now }
+fn place_following(text: &[u8]) -> Option<Place>
+    ensures { result ≡ place_following text.now }
 {
     let mut place = Place::FIRST;
     for byte in text {
@@ -137,7 +137,7 @@ fn place_behind(text: &[u8]) -> Option<Place>
 fn is_order(text: &[u8]) -> bool
     ensures { result ≡ is_order text.now }
 {
-    match place_behind(text) {
+    match place_following(text) {
         Some(place) => place.is_whole(),
         None => false,
     }

@@ -58,9 +58,9 @@ pub(crate) fn shift_in(text: &[u8]) -> Option<Shift>
 {
     let mut shift = NO_SHIFT;
     let mut rest = text;
-    while let Some((word, behind)) = next_word(rest) {
+    while let Some((word, following)) = next_word(rest) {
         shift = with_property(shift, property_of(word)?);
-        rest = behind;
+        rest = following;
     }
     Some(shift)
 }

@@ -2,7 +2,7 @@
 
 ghost use Rattle.std.specs.Prelude.{◌≡◌, ◌≤◌, ◌*◌, ok_or, IfOk, IfSome};
 ghost use Rattle.abc_text.specs.declared.digit.TheConstants.{LARGEST_NUMBER};
-ghost use Rattle.abc_fields.specs.Tempo.{positive_number, part_of, fraction_of, sum_of, lowest_terms, word_in_front, behind_word};
+ghost use Rattle.abc_fields.specs.Tempo.{positive_number, part_of, fraction_of, sum_of, lowest_terms, word_in_front, after_word};
 ghost use Rattle.abc_fields.specs.Tempo.{bare_tempo, tempo_around, tempo_in, tempo_of, IsInRange};
 ghost use Rattle.abc_fields.specs.Reading.{IsReading};
 ghost use Rattle.abc_fields.specs.Spelling.Tempo.{IsTempo};
@@ -64,10 +64,10 @@ fn fraction_of(word: &[u8]) -> Option<u32>
 }
 
 /// Returns the part before the first blank of a text, and the rest after that part and its blanks.
-#[tactic(auto, unfolding(crate::specs::Tempo::word_in_front, crate::specs::Tempo::behind_word))]
+#[tactic(auto, unfolding(crate::specs::Tempo::word_in_front, crate::specs::Tempo::after_word))]
 fn split_word(text: &[u8]) -> (&[u8], &[u8])
     ensures word { result.0.now ≡ word_in_front text.now }
-    ensures behind { result.1.now ≡ behind_word text.now }
+    ensures following { result.1.now ≡ after_word text.now }
 {
     let size = bytes_before_blank(text);
     (&text[..size], trim_start(&text[size..]))
@@ -81,12 +81,12 @@ fn sum_of(text: &[u8]) -> Option<u32>
     let mut sum = 0;
     let mut rest = text;
     for _ in 0..MOST_FRACTIONS {
-        let (word, behind) = split_word(rest);
+        let (word, following) = split_word(rest);
         sum += fraction_of(word)?;
-        if behind.is_empty() {
+        if following.is_empty() {
             return Some(sum);
         }
-        rest = behind;
+        rest = following;
     }
     None
 }
@@ -123,12 +123,12 @@ fn bare_tempo(text: &[u8]) -> Option<Tempo>
 
 /// The tempo of the part before a quoted text and after it.
 #[tactic(auto, unfolding(crate::specs::Tempo::tempo_around))]
-fn tempo_around(before: &[u8], behind: &[u8]) -> Option<Tempo>
-    ensures { result ≡ tempo_around before.now behind.now }
+fn tempo_around(before: &[u8], following: &[u8]) -> Option<Tempo>
+    ensures { result ≡ tempo_around before.now following.now }
 {
-    match (before.is_empty(), behind.is_empty()) {
+    match (before.is_empty(), following.is_empty()) {
         (true, true) => Some(Tempo::Unset),
-        (true, false) => bare_tempo(trim_start(behind)),
+        (true, false) => bare_tempo(trim_start(following)),
         (false, true) => bare_tempo(trim_end(before)),
         (false, false) => None,
     }
@@ -145,8 +145,8 @@ fn tempo_in(value: &[u8]) -> Option<Tempo>
     match cut_at(value, b'"') {
         None => bare_tempo(value),
         Some((before, quoted)) => {
-            let (_, behind) = cut_at(quoted, b'"')?;
-            tempo_around(before, behind)
+            let (_, following) = cut_at(quoted, b'"')?;
+            tempo_around(before, following)
         }
     }
 }

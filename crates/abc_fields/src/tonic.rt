@@ -45,8 +45,8 @@ fn sign_at(text: &[u8]) -> (i8, &[u8])
     ensures range { (negsuc 6 ≤ℤ result.0) × (result.0 ≤ℤ pos 7) }
 {
     match text {
-        [b'#', behind @ ..] => (7, behind),
-        [b'b', behind @ ..] => (-7, behind),
+        [b'#', following @ ..] => (7, following),
+        [b'b', following @ ..] => (-7, following),
         _ => (0, text),
     }
 }
@@ -59,9 +59,9 @@ pub(crate) fn tonic_at(text: &[u8]) -> Option<(i8, &[u8])>
 {
     match text {
         [] => None,
-        [byte, behind @ ..] => {
+        [byte, following @ ..] => {
             let letter = tonic_letter(*byte)?;
-            let (added, rest) = sign_at(behind);
+            let (added, rest) = sign_at(following);
             Some((major_sharps(letter) + added, rest))
         }
     }
@@ -84,8 +84,8 @@ pub(crate) fn basis_at(text: &[u8]) -> Option<(Basis, &[u8])>
         (λ p. basis_at text.now ≡ Some (p.0, p.1.now)) }
 {
     let blanks = leading_blanks(text);
-    let behind = &text[blanks..];
-    let (run, rest) = behind.split_at(letters(behind));
+    let following = &text[blanks..];
+    let (run, rest) = following.split_at(letters(following));
     if let Some(mode) = mode_of(run) {
         return Some((Basis::Named(mode), rest));
     }

@@ -74,7 +74,7 @@ module _ {State Cell Items : Type 0} (steps : Steps State Cell Items) (laws : Is
   pub taken_state : (state entered left own : State) (cell : Cell) (given : Items) → IsAlike steps entered state → IsStep steps cell entered left given → own ≡ left
       → IsAlike steps own (steps.next state cell)
   taken_state state entered left own cell given same kept is =
-      rw is (laws.transitive left (steps.next entered cell) (steps.next state cell) kept.behind_alike (laws.alike_states entered state cell same))
+      rw is (laws.transitive left (steps.next entered cell) (steps.next state cell) kept.after_alike (laws.alike_states entered state cell same))
 
   -- The kept items of a cell are those that it gives there.
   pub taken_items : (state entered left : State) (cell : Cell) (given out : Items) → IsAlike steps entered state → IsStep steps cell entered left given → out ≡ given → out ≡ steps.gives state cell

@@ -11,12 +11,12 @@ use Rattle.abc_fold.specs.Steps.{Steps, IsResumable}
 use Rattle.abc_fold.proofs.Kept.{some_same}
 
 -- After the pieces before a place this is the very state in which the last of them was left.
-pub record IsLeftBehind {F State Cell Items Work : Type 0} (pieces : List (Piece F State Cell Items Work)) (i : ℕ) (state : State) : Type 0 where
+pub record IsLeftAfter {F State Cell Items Work : Type 0} (pieces : List (Piece F State Cell Items Work)) (i : ℕ) (state : State) : Type 0 where
   pub some : 0 < i
   pub left : (before : Piece F State Cell Items Work) → slice_get pieces (i - 1) ≡ Some before → IsLeftIn state before
 
 -- In front of all pieces nothing is known.
-pub none_left : {F State Cell Items Work : Type 0} (pieces : List (Piece F State Cell Items Work)) (i : ℕ) (state : State) → false ≡ true → IsLeftBehind pieces i state
+pub none_left : {F State Cell Items Work : Type 0} (pieces : List (Piece F State Cell Items Work)) (i : ℕ) (state : State) → false ≡ true → IsLeftAfter pieces i state
 none_left pieces i state never = absurd (false≢true never)
 
 -- An item before the end of a longer list, and the last one.
@@ -39,8 +39,8 @@ module _ {F State Cell Items Work : Type 0} where
   pub kept_follow : (chain : Chained State Cell Items) (i : ℕ) (before piece : Piece F State Cell Items Work) → IsKeptAt chain i before → IsKeptAt chain (i + 1) piece → Follows before piece
   kept_follow chain i (New cell) piece at next = absurd at
   kept_follow chain i (Kept cell entered left items) (New other) at next = absurd next
-  kept_follow chain i (Kept cell entered left items) (Kept other behind later given) at next =
-      some_same behind left (sym next.own_entry ∙ at.next_entry)
+  kept_follow chain i (Kept cell entered left items) (Kept other following later given) at next =
+      some_same following left (sym next.own_entry ∙ at.next_entry)
 
   -- One more piece with its mark.
   pub marked_more : (pieces : List (Piece F State Cell Items Work)) (marks : List Bool) (piece : Piece F State Cell Items Work) (mark : Bool)
@@ -67,9 +67,9 @@ module _ {F State Cell Items Work : Type 0} where
   }
 
   -- The state in which a piece was left is the next entry.
-  pub left_behind : (pieces : List (Piece F State Cell Items Work)) (i : ℕ) (piece : Piece F State Cell Items Work) (state : State)
-      → piece ≡ get_or pieces i piece → i < length pieces → IsLeftIn state piece → IsLeftBehind pieces (i + 1) state
-  left_behind pieces i piece state is inside left = record {
+  pub left_following : (pieces : List (Piece F State Cell Items Work)) (i : ℕ) (piece : Piece F State Cell Items Work) (state : State)
+      → piece ≡ get_or pieces i piece → i < length pieces → IsLeftIn state piece → IsLeftAfter pieces (i + 1) state
+  left_following pieces i piece state is inside left = record {
     some = omega arith;
     left = λ before at.
         let place : i + 1 - 1 ≡ i = omega arith in
@@ -80,18 +80,18 @@ module _ {F State Cell Items Work : Type 0} where
   follows_taken : (steps : Steps State Cell Items) → IsResumable steps → (state : State) (before piece : Piece F State Cell Items Work) → IsLeftIn state before → Follows before piece
       → is_taken steps state piece ≡ true
   follows_taken steps laws state before (New cell) left follows = absurd follows
-  follows_taken steps laws state (New cell) (Kept other behind later given) left follows = absurd left
-  follows_taken steps laws state (Kept cell entered own items) (Kept other behind later given) left follows =
-      subst (λ s. steps.alike behind s ≡ true) (follows ∙ sym left) (laws.reflexive behind)
+  follows_taken steps laws state (New cell) (Kept other following later given) left follows = absurd left
+  follows_taken steps laws state (Kept cell entered own items) (Kept other following later given) left follows =
+      subst (λ s. steps.alike following s ≡ true) (follows ∙ sym left) (laws.reflexive following)
 
   -- A piece that follows a kept piece that still holds does so too.
   pub known_taken : (steps : Steps State Cell Items) → IsResumable steps
       → (pieces : List (Piece F State Cell Items Work)) (marks : List Bool) (i : ℕ) (state : State) (piece : Piece F State Cell Items Work)
-      → AreMarked pieces marks → piece ≡ get_or pieces i piece → i < length pieces → slice_get marks i ≡ Some true → IsLeftBehind pieces i state
+      → AreMarked pieces marks → piece ≡ get_or pieces i piece → i < length pieces → slice_get marks i ≡ Some true → IsLeftAfter pieces i state
       → is_taken steps state piece ≡ true
-  known_taken steps laws pieces marks i state piece right is inside marked behind =
-      let some = behind.some in
+  known_taken steps laws pieces marks i state piece right is inside marked following =
+      let some = following.some in
       let less : i - 1 < length pieces = omega (arith, inside) in
       let before = get_there pieces (i - 1) less in
       let own = slice_get_read pieces (length pieces) i piece refl inside is in
-      follows_taken steps laws state before.0 piece (behind.left before.0 before.1) (right i before.0 piece some marked before.1 own)
+      follows_taken steps laws state before.0 piece (following.left before.0 before.1) (right i before.0 piece some marked before.1 own)

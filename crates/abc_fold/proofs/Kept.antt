@@ -36,7 +36,7 @@ module _ {State Cell Items : Type 0} (steps : Steps State Cell Items) (laws : Is
       let own_alike = subst (λ s. IsAlike steps s opening) same_entry alike.0 in
       let next_alike = first_state (steps.next opening own) cells entries left alike.1 at_next in
       record {
-        behind_alike =
+        after_alike =
             subst (λ c. IsAlike steps left (steps.next entered c)) same_cell
             (laws.transitive left (steps.next opening own) (steps.next entered own) next_alike
             (laws.symmetric (steps.next entered own) (steps.next opening own) (laws.alike_states entered opening own own_alike)));

@@ -15,8 +15,8 @@ cells_of pieces = map cell_of pieces
 
 -- A state equivalent to the one after the cell, and the items that the cell gives, if it is entered in a state.
 pub record IsStep {State Cell Items : Type 0} (steps : Steps State Cell Items) (cell : Cell)
-    (entered behind : State) (given : Items) : Type 0 where
-  pub behind_alike : IsAlike steps behind (steps.next entered cell)
+    (entered following : State) (given : Items) : Type 0 where
+  pub after_alike : IsAlike steps following (steps.next entered cell)
   pub given_equal : given ≡ steps.gives entered cell
 
 -- The states and items of a kept piece are those of the fold for its cell, from the state in which it was entered.

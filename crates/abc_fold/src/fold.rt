@@ -43,12 +43,12 @@ pub trait Fold {
 
     /// Whether it is cheap to see that the state after a cell is equivalent to the one before it. If the answer is no,
     /// they may be equivalent all the same. It allocates nothing.
-    fn stays(&self, state: &Self::State, cell: &Self::Cell, behind: &Self::State) -> bool
-        requires { behind.now ≡ (Self.steps self.now).next state.now cell.now }
-        ensures { result ≡ true → IsAlike (Self.steps self.now) state.now behind.now }
+    fn stays(&self, state: &Self::State, cell: &Self::Cell, following: &Self::State) -> bool
+        requires { following.now ≡ (Self.steps self.now).next state.now cell.now }
+        ensures { result ≡ true → IsAlike (Self.steps self.now) state.now following.now }
     {
         let _ = cell;
-        Self::same(state, behind)
+        Self::same(state, following)
     }
 
     /// A copy of a state.

@@ -209,8 +209,8 @@ module _ {X : Type 0} {r : GapRow X} (g : IsGapped r) where
   pub seen_before : (i : ℕ) → i < r.at → get_or r.places.row i None ≡ slice_get (items_of r) i
   seen_before i lt = ap (λ cs. get_or cs i None) g.row ∙ seen_front g.front gap g.back i (omega (arith, g.before)) ∙ ap (λ xs. slice_get xs i) (sym held)
 
-  pub seen_behind : (i : ℕ) → r.at ≤ i → get_or r.places.row (i + gap) None ≡ slice_get (items_of r) i
-  seen_behind i le = ap (λ cs. get_or cs (i + gap) None) g.row ∙ seen_back g.front gap g.back i (i + gap) (omega (arith, g.before)) refl ∙ ap (λ xs. slice_get xs i) (sym held)
+  pub seen_after : (i : ℕ) → r.at ≤ i → get_or r.places.row (i + gap) None ≡ slice_get (items_of r) i
+  seen_after i le = ap (λ cs. get_or cs (i + gap) None) g.row ∙ seen_back g.front gap g.back i (i + gap) (omega (arith, g.before)) refl ∙ ap (λ xs. slice_get xs i) (sym held)
 
   pub held_at : (i : ℕ) → i < r.size → (x : X) × (slice_get (items_of r) i ≡ Some x)
   held_at i lt = some_at (items_of r) i (omega (arith, held_count))
@@ -256,8 +256,8 @@ module _ {X : Type 0} {r : GapRow X} (g : IsGapped r) where
       reach_back : r.at - 1 + gap ≡ length last.0 + gap
       reach_back = ap (λ k. k + gap) edge_back
 
-      pub free_behind : (r.at - 1 + gap < length q.row) × (get_or q.row (r.at - 1 + gap) None ≡ None)
-      free_behind = (
+      pub free_after : (r.at - 1 + gap < length q.row) × (get_or q.row (r.at - 1 + gap) None ≡ None)
+      free_after = (
         omega (arith, ap length emptied ∙ length_laid last.0 (suc gap) g.back, edge_back),
         ap (λ cs. get_or cs (r.at - 1 + gap) None) emptied ∙ high_empty last.0 last.1 gap g.back (r.at - 1 + gap) reach_back,
       )
@@ -288,8 +288,8 @@ module _ {X : Type 0} {r : GapRow X} (g : IsGapped r) where
     is_next : get_or r.places.row (r.at + gap) None ≡ Some next.0
     is_next = ap (λ cs. get_or cs (r.at + gap) None) row_on ∙ high_full g.front next.0 gap next.1 (r.at + gap) reach_on
 
-    pub full_behind : (x : X) × (get_or r.places.row (r.at + gap) None ≡ Some x)
-    full_behind = (next.0, is_next)
+    pub full_after : (x : X) × (get_or r.places.row (r.at + gap) None ≡ Some x)
+    full_after = (next.0, is_next)
 
     module _ (q : Places X) (item : X) (read : (get_or r.places.row (r.at + gap) None ≡ Some item) × (q.start ≡ r.places.start) × (q.row ≡ set r.places.row (r.at + gap) None)) where
       opened : q.row ≡ laid g.front (suc gap) next.1
@@ -328,7 +328,7 @@ module _ {X : Type 0} {r : GapRow X} (g : IsGapped r) where
     pub seen_at : get_or r.places.row (place_of r index) None ≡ slice_get (items_of r) index
     seen_at = ⊎_elim
         (λ (e : nat_lt index r.at ≡ true). ap (λ (b : Bool). get_or r.places.row (if b then index else index + gap) None) e ∙ seen_before index (ltb-true index r.at e))
-        (λ (e : nat_lt index r.at ≡ false). ap (λ (b : Bool). get_or r.places.row (if b then index else index + gap) None) e ∙ seen_behind index (ltb-false index r.at e))
+        (λ (e : nat_lt index r.at ≡ false). ap (λ (b : Bool). get_or r.places.row (if b then index else index + gap) None) e ∙ seen_after index (ltb-false index r.at e))
         (cases_Bool (nat_lt index r.at))
 
     pub full_at : (x : X) × (get_or r.places.row (place_of r index) None ≡ Some x)
@@ -342,8 +342,8 @@ module _ {X : Type 0} {r : GapRow X} (g : IsGapped r) where
         (g.before ∙ sym (length-set g.front index w)) (omega (arith, g.count, length-set g.front index w)) g.fits
         (written_front g.front g.back index w within ∙ ap (λ xs. set xs index w) (sym held))
 
-    wrote_behind : (w : X) → r.at ≤ index → Becomes r (record r { places = with_row r.places (set r.places.row (index + gap) (Some w)) }) (set (items_of r) index w) r.at r.size
-    wrote_behind w le =
+    wrote_after : (w : X) → r.at ≤ index → Becomes r (record r { places = with_row r.places (set r.places.row (index + gap) (Some w)) }) (set (items_of r) index w) r.at r.size
+    wrote_after w le =
         let k = index - length g.front in let back = set g.back k w in let is : index ≡ length g.front + k = omega (arith, g.before) in
         remade (with_row r.places (set r.places.row (index + gap) (Some w))) r.size r.at g.front back (set (items_of r) index w) refl
         (ap (λ cs. set cs (index + gap) (Some w)) g.row ∙ write_back g.front gap g.back k (index + gap) w (ap (λ j. j + gap) is))
@@ -355,14 +355,14 @@ module _ {X : Type 0} {r : GapRow X} (g : IsGapped r) where
         let Wrote = λ (b : Bool). Becomes r (record r { places = with_row r.places (set r.places.row (if b then index else index + gap) (Some w)) }) (set (items_of r) index w) r.at r.size in
         ⊎_elim
         (λ (e : nat_lt index r.at ≡ true). subst Wrote (sym e) (wrote_before w (ltb-true index r.at e)))
-        (λ (e : nat_lt index r.at ≡ false). subst Wrote (sym e) (wrote_behind w (ltb-false index r.at e)))
+        (λ (e : nat_lt index r.at ≡ false). subst Wrote (sym e) (wrote_after w (ltb-false index r.at e)))
         (cases_Bool (nat_lt index r.at))
 
   -- past the last item nothing is written
   unwritten : (index : ℕ) (w : X) → r.size ≤ index → with_item r index w ≡ r
   unwritten index w past =
-      let behind : nat_lt index r.at ≡ false = le-ltb index r.at (omega (arith, g.before, g.count)) in
-      ap (λ (b : Bool). record r { places = with_row r.places (set r.places.row (if b then index else index + gap) (Some w)) }) behind
+      let following : nat_lt index r.at ≡ false = le-ltb index r.at (omega (arith, g.before, g.count)) in
+      ap (λ (b : Bool). record r { places = with_row r.places (set r.places.row (if b then index else index + gap) (Some w)) }) following
       ∙ ap (λ cs. record r { places = with_row r.places cs }) (set_past r.places.row (index + gap) (Some w) (omega (arith, ap length g.row ∙ length_laid g.front gap g.back, g.count, g.fits)))
 
   pub sound_at : (index : ℕ) (w : X) → IsGapped (with_item r index w)

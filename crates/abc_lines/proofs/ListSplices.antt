@@ -22,15 +22,15 @@ item_front xs at removed new i inside before = grind (arith, common_steps, gets)
 
 pub item_among : {X : Type 0} (xs : List X) (at removed : ℕ) (new : List X) (i : ℕ) → at + removed ≤ length xs → at ≤ i → i - at < length new
     → slice_get new (i - at) ≡ slice_get (replaced_run xs at removed new) i
-item_among xs at removed new i inside behind before = grind (arith, common_steps, gets)
+item_among xs at removed new i inside following before = grind (arith, common_steps, gets)
 
 pub item_back : {X : Type 0} (xs : List X) (at removed : ℕ) (new : List X) (i : ℕ) → at + removed ≤ length xs → at + length new ≤ i → i - length new < length xs - removed
     → slice_get xs (i - length new + removed) ≡ slice_get (replaced_run xs at removed new) i
-item_back xs at removed new i inside behind before = grind (arith, common_steps, gets)
+item_back xs at removed new i inside following before = grind (arith, common_steps, gets)
 
 pub item_past : {X : Type 0} (xs : List X) (at removed : ℕ) (new : List X) (i : ℕ) → at + removed ≤ length xs → at + length new ≤ i → length xs - removed ≤ i - length new
     → None ≡ slice_get (replaced_run xs at removed new) i
-item_past xs at removed new i inside behind past = grind (arith, common_steps, gets)
+item_past xs at removed new i inside following past = grind (arith, common_steps, gets)
 
 -- a patch whose list is still the one that it was prepared on
 pub items_now : {X : Type 0} (on now : Gapped X) (at removed : ℕ) (new : List X) (patch : Patched X) → splice_view on at removed new ≡ patch → patch.on ≡ now

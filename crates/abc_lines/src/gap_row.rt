@@ -119,7 +119,7 @@ impl<T> GapRow<T> {
     /// Moves the first item after the gap to its other side.
     pub(crate) fn step_on(&mut self)
         requires gapped { IsGapped self.old }
-        requires behind { self.old.at < self.old.size }
+        requires following { self.old.at < self.old.size }
         ensures { Becomes self.old self.new (items_of self.old) (self.old.at + 1) self.old.size }
     {
         let item = self.places.read(self.at + (self.capacity - self.size));
@@ -167,7 +167,7 @@ impl<T> GapRow<T> {
     /// Takes the item after the gap.
     pub(crate) fn take_next(&mut self) -> T
         requires gapped { IsGapped self.old }
-        requires behind { self.old.at < self.old.size }
+        requires following { self.old.at < self.old.size }
         ensures taken { slice_get (items_of self.old) self.old.at ≡ Some result }
         ensures left { Becomes self.old self.new (remove (items_of self.old) self.old.at) self.old.at (self.old.size - 1) }
     {

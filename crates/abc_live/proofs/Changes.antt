@@ -20,7 +20,7 @@ use Rattle.abc_live_index.proofs.ReplacedFaults.{faults_meet}
 use Rattle.abc_lines.specs.Text.{Splice, Text}
 use Rattle.abc_live.specs.Prepared.{IsBook, IsPrepared, header_faults_there}
 use Rattle.abc_live.proofs.AlikeStates.{tunes_alike}
-use Rattle.abc_live.proofs.FaultLines.{header_stands, same_behind, same_header_faults, same_tunes, shifted_tunes, tunes_stand}
+use Rattle.abc_live.proofs.FaultLines.{header_stands, same_after, same_header_faults, same_tunes, shifted_tunes, tunes_stand}
 use Rattle.abc_live.proofs.TunePlaces.{LiesIn, header_lies}
 use Rattle.abc_live.proofs.Parts.{tells_of, tune_chains}
 use Rattle.abc_live.proofs.Stretches.{first_is, made_chains, old_lie, old_stretch, parts_lie, places_lie, still_alike}
@@ -43,12 +43,12 @@ if_not_below : {A : Type 0} (a b : ℕ) (x y : A) → b ≤ a → (if nat_lt a b
 if_not_below a b x y above = grind (arith, nat_tests)
 
 -- a list in three parts
-three_parts : {X : Type 0} (front behind : ℕ) (xs : List X) → front ≤ behind → xs ≡ take front xs ++ (take (behind - front) (drop front xs) ++ drop behind xs)
-three_parts front behind xs order =
-    let there : front + (behind - front) ≡ behind = omega (arith, order) in
+three_parts : {X : Type 0} (front following : ℕ) (xs : List X) → front ≤ following → xs ≡ take front xs ++ (take (following - front) (drop front xs) ++ drop following xs)
+three_parts front following xs order =
+    let there : front + (following - front) ≡ following = omega (arith, order) in
     sym (take-append-drop front xs)
-    ∙ ap (λ l. take front xs ++ l) (sym (take-append-drop (behind - front) (drop front xs))
-    ∙ ap (λ l. take (behind - front) (drop front xs) ++ l) (drop-drop (behind - front) front xs ∙ ap (λ n. drop n xs) there))
+    ∙ ap (λ l. take front xs ++ l) (sym (take-append-drop (following - front) (drop front xs))
+    ∙ ap (λ l. take (following - front) (drop front xs) ++ l) (drop-drop (following - front) front xs ∙ ap (λ n. drop n xs) there))
 
 module _ {State Cell Items Defaults : Type 0} (steps : Steps State Cell Items) (rules : Rules State Cell Items Defaults) where
   -- the faults of tunes
@@ -114,7 +114,7 @@ module _ {State Cell Items Defaults : Type 0} (steps : Steps State Cell Items) (
   header_there text from came first (Some block) is lies none ends =
       let some = lies.some in
       let most = ends block refl in
-      let there : LiesAmong from came block = record { behind = omega (arith, none); order = omega (arith, some); within = omega (arith, none, most) } in
+      let there : LiesAmong from came block = record { following = omega (arith, none); order = omega (arith, some); within = omega (arith, none, most) } in
       if_below from block.to (cell_faults_by rules from (counts_among rules.cells text from came) first block) [] (omega (arith, none, some))
       ∙ header_follows steps rules text from came first block is there
 
@@ -146,11 +146,11 @@ module _ {State Cell Items Defaults : Type 0} (steps : Steps State Cell Items) (
         (FaultAmong patch.stretch.lines.from patch.stretch.lines.came) patch.places (parts_lie steps rules s patch is)
         (λ k d inside. λ fault stands.
         let lies = places_lie steps rules s patch is k d inside in
-        let behind = lies.behind in
+        let following = lies.following in
         let within = lies.within in
         let least = stands.0 in
         let most = stands.1 in
-        (omega (arith, behind, least), omega (arith, within, most)))
+        (omega (arith, following, least), omega (arith, within, most)))
 
     old_header : IfSome patch.on.header (LiesIn (length patch.on.lines.text))
     old_header = header_lies rules.class patch.on.lines.text patch.on.header is.stood.header_is
@@ -167,8 +167,8 @@ module _ {State Cell Items Defaults : Type 0} (steps : Steps State Cell Items) (
     abbrev amid_tunes : List Block
     amid_tunes = take (patch.stretch.tunes.to - patch.stretch.tunes.from) (drop patch.stretch.tunes.from patch.on.tunes)
 
-    abbrev behind_tunes : List Block
-    behind_tunes = drop patch.stretch.tunes.to patch.on.tunes
+    abbrev after_tunes : List Block
+    after_tunes = drop patch.stretch.tunes.to patch.on.tunes
 
     abbrev old_faults : List Block → List Fault
     old_faults tunes = tune_faults (opening_of steps.next rules patch.on.lines.text (blocks_in rules patch.on.lines.text)) patch.on.lines.text tunes
@@ -179,8 +179,8 @@ module _ {State Cell Items Defaults : Type 0} (steps : Steps State Cell Items) (
         All-take P (patch.stretch.tunes.to - patch.stretch.tunes.from) (drop patch.stretch.tunes.from patch.on.tunes)
         (All-drop P patch.stretch.tunes.from patch.on.tunes (old_lie steps rules s patch is))
 
-    behind_lie : All (LiesIn (length patch.on.lines.text)) (drop patch.stretch.tunes.to patch.on.tunes)
-    behind_lie = All-drop (LiesIn (length patch.on.lines.text)) patch.stretch.tunes.to patch.on.tunes (old_lie steps rules s patch is)
+    after_lie : All (LiesIn (length patch.on.lines.text)) (drop patch.stretch.tunes.to patch.on.tunes)
+    after_lie = All-drop (LiesIn (length patch.on.lines.text)) patch.stretch.tunes.to patch.on.tunes (old_lie steps rules s patch is)
 
     end_is : patch.stretch.lines.to ≡ patch.stretch.lines.from + gone patch.stretch.lines
     end_is = let order = old_stretch steps rules s patch is in omega (arith, order)
@@ -192,63 +192,63 @@ module _ {State Cell Items Defaults : Type 0} (steps : Steps State Cell Items) (
         (take (patch.stretch.tunes.to - patch.stretch.tunes.from) (drop patch.stretch.tunes.from patch.on.tunes)) amid_lie
         (λ k d inside. λ fault stands.
         let own = is.in_stretch.amid k d inside in
-        let behind = own.0 in
+        let following = own.0 in
         let before = own.1 in
         let least = stands.0 in
         let most = stands.1 in
         let end = end_is in
-        (omega (arith, behind, least), omega (arith, before, most, end)))
+        (omega (arith, following, least), omega (arith, before, most, end)))
 
-    behind_stand : All (FaultAfter (patch.stretch.lines.from + gone patch.stretch.lines)) (old_faults (drop patch.stretch.tunes.to patch.on.tunes))
-    behind_stand =
-        tunes_stand steps rules start patch.on.lines.text (FaultAfter (patch.stretch.lines.from + gone patch.stretch.lines)) (drop patch.stretch.tunes.to patch.on.tunes) behind_lie
+    after_stand : All (FaultAfter (patch.stretch.lines.from + gone patch.stretch.lines)) (old_faults (drop patch.stretch.tunes.to patch.on.tunes))
+    after_stand =
+        tunes_stand steps rules start patch.on.lines.text (FaultAfter (patch.stretch.lines.from + gone patch.stretch.lines)) (drop patch.stretch.tunes.to patch.on.tunes) after_lie
         (λ k d inside. λ fault stands.
-        let behind = is.in_stretch.beyond k d inside in
+        let following = is.in_stretch.beyond k d inside in
         let least = stands.0 in
         let end = end_is in
-        omega (arith, behind, least, end))
+        omega (arith, following, least, end))
 
     -- the tunes after the stretch give as before if they begin in an equivalent state
     from_start : IsResumable steps → tune_faults (opening_of steps.next rules patch.text (blocks_in rules patch.text)) patch.text
-        (map (block_after patch.stretch) behind_tunes) ≡ tune_faults start patch.text (map (block_after patch.stretch) behind_tunes)
+        (map (block_after patch.stretch) after_tunes) ≡ tune_faults start patch.text (map (block_after patch.stretch) after_tunes)
     from_start laws =
         let now = opening_of steps.next rules patch.text (blocks_in rules patch.text) in
         ⊎_elim
         (λ (none : drop patch.stretch.tunes.to patch.on.tunes ≡ []).
         ap (λ l. tune_faults now patch.text (map (block_after patch.stretch) l)) none ∙ sym (ap (λ l. tune_faults start patch.text (map (block_after patch.stretch) l)) none))
-        (λ (alike : IsAlike steps start now). ap faults_of_tunes (sym (tunes_alike steps laws rules start now patch.text (map (block_after patch.stretch) behind_tunes) alike)))
+        (λ (alike : IsAlike steps start now). ap faults_of_tunes (sym (tunes_alike steps laws rules start now patch.text (map (block_after patch.stretch) after_tunes) alike)))
         (still_alike steps rules s patch is laws)
 
-    behind_shifted : tune_faults start patch.text (map (block_after patch.stretch) behind_tunes) ≡ map (shifted_fault (gone patch.stretch.lines) patch.stretch.lines.came) (old_faults behind_tunes)
-    behind_shifted =
-        let same = is.in_stretch.lines_behind ∙ ap (λ n. drop n patch.on.lines.text) end_is in
-        let beyond : All (λ (block : Block). patch.stretch.lines.from + gone patch.stretch.lines ≤ block.from) behind_tunes =
-        λ k d inside. let behind = is.in_stretch.beyond k d inside in let end = end_is in omega (arith, behind, end) in
-        shifted_tunes steps rules start patch.on.lines.text patch.text patch.stretch.lines.from (gone patch.stretch.lines) patch.stretch.lines.came behind_tunes same beyond behind_lie
+    after_shifted : tune_faults start patch.text (map (block_after patch.stretch) after_tunes) ≡ map (shifted_fault (gone patch.stretch.lines) patch.stretch.lines.came) (old_faults after_tunes)
+    after_shifted =
+        let same = is.in_stretch.lines_after ∙ ap (λ n. drop n patch.on.lines.text) end_is in
+        let beyond : All (λ (block : Block). patch.stretch.lines.from + gone patch.stretch.lines ≤ block.from) after_tunes =
+        λ k d inside. let following = is.in_stretch.beyond k d inside in let end = end_is in omega (arith, following, end) in
+        shifted_tunes steps rules start patch.on.lines.text patch.text patch.stretch.lines.from (gone patch.stretch.lines) patch.stretch.lines.came after_tunes same beyond after_lie
 
     -- if the stretch begins with the text and has the file header
     module _ (holds : HoldsHeader patch) where
-      holds_parts : patch.on.tunes ≡ amid_tunes ++ behind_tunes
+      holds_parts : patch.on.tunes ≡ amid_tunes ++ after_tunes
       holds_parts =
           three_parts patch.stretch.tunes.from patch.stretch.tunes.to patch.on.tunes is.in_stretch.order
-          ∙ ap (λ n. take n patch.on.tunes ++ (amid_tunes ++ behind_tunes)) holds.front
+          ∙ ap (λ n. take n patch.on.tunes ++ (amid_tunes ++ after_tunes)) holds.front
 
-      holds_places : patch.tunes ≡ patch.places ++ map (block_after patch.stretch) behind_tunes
-      holds_places = is.in_stretch.tunes_are ∙ ap (λ n. take n patch.on.tunes ++ (patch.places ++ map (block_after patch.stretch) behind_tunes)) holds.front
+      holds_places : patch.tunes ≡ patch.places ++ map (block_after patch.stretch) after_tunes
+      holds_places = is.in_stretch.tunes_are ∙ ap (λ n. take n patch.on.tunes ++ (patch.places ++ map (block_after patch.stretch) after_tunes)) holds.front
 
       holds_header : header_faults_there rules patch.stretch.lines.from
           (counts_among rules.cells patch.text patch.stretch.lines.from patch.stretch.lines.came) first patch.header ≡ header_faults steps.next steps.gives rules patch.text patch.header
       holds_header = header_there patch.text patch.stretch.lines.from patch.stretch.lines.came first patch.header (first_is steps rules s patch is first there) new_header holds.from holds.comes
 
-      holds_new : IsResumable steps → faults_found patch.text patch.header patch.tunes ≡ new_faults ++ map (shifted_fault (gone patch.stretch.lines) patch.stretch.lines.came) (old_faults behind_tunes)
+      holds_new : IsResumable steps → faults_found patch.text patch.header patch.tunes ≡ new_faults ++ map (shifted_fault (gone patch.stretch.lines) patch.stretch.lines.came) (old_faults after_tunes)
       holds_new laws =
           let own = opening_of steps.next rules patch.text (blocks_in rules patch.text) in
           let head = header_faults steps.next steps.gives rules patch.text patch.header in
-          let moved = map (block_after patch.stretch) behind_tunes in
-          let shifted = map (shifted_fault (gone patch.stretch.lines) patch.stretch.lines.came) (old_faults behind_tunes) in
+          let moved = map (block_after patch.stretch) after_tunes in
+          let shifted = map (shifted_fault (gone patch.stretch.lines) patch.stretch.lines.came) (old_faults after_tunes) in
           ap (λ tunes. head ++ tune_faults own patch.text tunes) holds_places
           ∙ ap (λ l. head ++ l) (faults_append own patch.text patch.places moved)
-          ∙ ap (λ l. head ++ (tune_faults own patch.text patch.places ++ l)) (from_start laws ∙ behind_shifted)
+          ∙ ap (λ l. head ++ (tune_faults own patch.text patch.places ++ l)) (from_start laws ∙ after_shifted)
           ∙ ap (λ l. head ++ (l ++ shifted)) (sym own_faults)
           ∙ ap (λ l. l ++ (faults_by rules patch.stretch.lines.from (counts_among rules.cells patch.text patch.stretch.lines.from patch.stretch.lines.came)
           patch.new_chains patch.places ++ shifted)) (sym holds_header)
@@ -284,12 +284,12 @@ module _ {State Cell Items Defaults : Type 0} (steps : Steps State Cell Items) (
           amid_stand
 
       holds_was : faults_found patch.on.lines.text patch.on.header patch.on.tunes ≡ [] ++
-          ((header_faults steps.next steps.gives rules patch.on.lines.text patch.on.header ++ old_faults amid_tunes) ++ old_faults behind_tunes)
+          ((header_faults steps.next steps.gives rules patch.on.lines.text patch.on.header ++ old_faults amid_tunes) ++ old_faults after_tunes)
       holds_was =
           let head = header_faults steps.next steps.gives rules patch.on.lines.text patch.on.header in
           ap (λ tunes. head ++ old_faults tunes) holds_parts
-          ∙ ap (λ l. head ++ l) (faults_append start patch.on.lines.text amid_tunes behind_tunes)
-          ∙ sym (append_assoc head (old_faults amid_tunes) (old_faults behind_tunes))
+          ∙ ap (λ l. head ++ l) (faults_append start patch.on.lines.text amid_tunes after_tunes)
+          ∙ sym (append_assoc head (old_faults amid_tunes) (old_faults after_tunes))
 
       holds_meets : IsResumable steps → faults_after patch.stretch.lines
           (book_of steps rules patch.on.lines.text).faults new_faults ≡ (book_of steps rules patch.text).faults
@@ -297,8 +297,8 @@ module _ {State Cell Items Defaults : Type 0} (steps : Steps State Cell Items) (
           ap (λ faults. faults_after patch.stretch.lines faults new_faults)
           (book_faults patch.on.lines.text patch.on.header patch.on.tunes is.stood.header_is is.stood.tunes_are ∙ ap (sort_dedup fault_cmp) holds_was)
           ∙ faults_meet patch.stretch.lines []
-          (header_faults steps.next steps.gives rules patch.on.lines.text patch.on.header ++ old_faults amid_tunes) (old_faults behind_tunes) new_faults
-          (All-nil (FaultBefore patch.stretch.lines.from)) holds_old behind_stand holds_stand
+          (header_faults steps.next steps.gives rules patch.on.lines.text patch.on.header ++ old_faults amid_tunes) (old_faults after_tunes) new_faults
+          (All-nil (FaultBefore patch.stretch.lines.from)) holds_old after_stand holds_stand
           ∙ ap (sort_dedup fault_cmp) (sym (holds_new laws))
           ∙ sym (book_faults patch.text patch.header patch.tunes is.stands.header_is is.stands.tunes_are)
 
@@ -307,7 +307,7 @@ module _ {State Cell Items Defaults : Type 0} (steps : Steps State Cell Items) (
       start_same : opening_of steps.next rules patch.text (blocks_in rules patch.text) ≡ opening_of steps.next rules patch.on.lines.text (blocks_in rules patch.on.lines.text)
       start_same =
           ap (λ h. rules.tune (state_after_header steps.next rules patch.text h)) (sym is.stands.header_is ∙ keeps.header)
-          ∙ ap rules.tune (same_behind steps rules patch.on.lines.text patch.text patch.stretch.lines.from patch.on.header is.in_stretch.lines_before keeps.before old_header)
+          ∙ ap rules.tune (same_after steps rules patch.on.lines.text patch.text patch.stretch.lines.from patch.on.header is.in_stretch.lines_before keeps.before old_header)
           ∙ ap (λ h. rules.tune (state_after_header steps.next rules patch.on.lines.text h)) is.stood.header_is
 
       front_lie : All (LiesIn (length patch.on.lines.text)) (take patch.stretch.tunes.from patch.on.tunes)
@@ -337,12 +337,12 @@ module _ {State Cell Items Defaults : Type 0} (steps : Steps State Cell Items) (
           ∙ own_faults
 
       old_is : faults_found patch.on.lines.text patch.on.header patch.on.tunes
-          ≡ (header_faults steps.next steps.gives rules patch.on.lines.text patch.on.header ++ old_faults front_tunes) ++ (old_faults amid_tunes ++ old_faults behind_tunes)
+          ≡ (header_faults steps.next steps.gives rules patch.on.lines.text patch.on.header ++ old_faults front_tunes) ++ (old_faults amid_tunes ++ old_faults after_tunes)
       old_is =
           let head = header_faults steps.next steps.gives rules patch.on.lines.text patch.on.header in
           ap (λ tunes. head ++ old_faults tunes) (three_parts patch.stretch.tunes.from patch.stretch.tunes.to patch.on.tunes is.in_stretch.order)
-          ∙ ap (λ l. head ++ l) (faults_three start patch.on.lines.text front_tunes amid_tunes behind_tunes)
-          ∙ sym (append_assoc head (old_faults front_tunes) (old_faults amid_tunes ++ old_faults behind_tunes))
+          ∙ ap (λ l. head ++ l) (faults_three start patch.on.lines.text front_tunes amid_tunes after_tunes)
+          ∙ sym (append_assoc head (old_faults front_tunes) (old_faults amid_tunes ++ old_faults after_tunes))
 
       new_header_is : header_faults steps.next steps.gives rules patch.text patch.header ≡ header_faults steps.next steps.gives rules patch.on.lines.text patch.on.header
       new_header_is =
@@ -354,32 +354,32 @@ module _ {State Cell Items Defaults : Type 0} (steps : Steps State Cell Items) (
           ap (λ own. tune_faults own patch.text front_tunes) start_same
           ∙ same_tunes steps rules start patch.on.lines.text patch.text patch.stretch.lines.from front_tunes is.in_stretch.lines_before is.in_stretch.before front_lie
 
-      new_behind : tune_faults (opening_of steps.next rules patch.text (blocks_in rules patch.text)) patch.text
-          (map (block_after patch.stretch) behind_tunes) ≡ map (shifted_fault (gone patch.stretch.lines) patch.stretch.lines.came) (old_faults behind_tunes)
-      new_behind = ap (λ own. tune_faults own patch.text (map (block_after patch.stretch) behind_tunes)) start_same ∙ behind_shifted
+      new_after : tune_faults (opening_of steps.next rules patch.text (blocks_in rules patch.text)) patch.text
+          (map (block_after patch.stretch) after_tunes) ≡ map (shifted_fault (gone patch.stretch.lines) patch.stretch.lines.came) (old_faults after_tunes)
+      new_after = ap (λ own. tune_faults own patch.text (map (block_after patch.stretch) after_tunes)) start_same ∙ after_shifted
 
       new_is : faults_found patch.text patch.header patch.tunes
           ≡ (header_faults steps.next steps.gives rules patch.on.lines.text patch.on.header ++ old_faults front_tunes)
-          ++ (new_faults ++ map (shifted_fault (gone patch.stretch.lines) patch.stretch.lines.came) (old_faults behind_tunes))
+          ++ (new_faults ++ map (shifted_fault (gone patch.stretch.lines) patch.stretch.lines.came) (old_faults after_tunes))
       new_is =
           let own = opening_of steps.next rules patch.text (blocks_in rules patch.text) in
           let head = header_faults steps.next steps.gives rules patch.on.lines.text patch.on.header in
-          let moved = map (block_after patch.stretch) behind_tunes in
+          let moved = map (block_after patch.stretch) after_tunes in
           ap (λ l. l ++ tune_faults own patch.text patch.tunes) new_header_is
           ∙ ap (λ tunes. head ++ tune_faults own patch.text tunes) is.in_stretch.tunes_are
           ∙ ap (λ l. head ++ l) (faults_three own patch.text front_tunes patch.places moved)
           ∙ ap (λ l. head ++ (l ++ (tune_faults own patch.text patch.places ++ tune_faults own patch.text moved))) new_front
-          ∙ ap (λ l. head ++ (old_faults front_tunes ++ (tune_faults own patch.text patch.places ++ l))) new_behind
-          ∙ ap (λ l. head ++ (old_faults front_tunes ++ (l ++ map (shifted_fault (gone patch.stretch.lines) patch.stretch.lines.came) (old_faults behind_tunes)))) (sym kept_new)
-          ∙ sym (append_assoc head (old_faults front_tunes) (new_faults ++ map (shifted_fault (gone patch.stretch.lines) patch.stretch.lines.came) (old_faults behind_tunes)))
+          ∙ ap (λ l. head ++ (old_faults front_tunes ++ (tune_faults own patch.text patch.places ++ l))) new_after
+          ∙ ap (λ l. head ++ (old_faults front_tunes ++ (l ++ map (shifted_fault (gone patch.stretch.lines) patch.stretch.lines.came) (old_faults after_tunes)))) (sym kept_new)
+          ∙ sym (append_assoc head (old_faults front_tunes) (new_faults ++ map (shifted_fault (gone patch.stretch.lines) patch.stretch.lines.came) (old_faults after_tunes)))
 
       kept_meets : faults_after patch.stretch.lines (book_of steps rules patch.on.lines.text).faults new_faults ≡ (book_of steps rules patch.text).faults
       kept_meets =
           ap (λ faults. faults_after patch.stretch.lines faults new_faults)
           (book_faults patch.on.lines.text patch.on.header patch.on.tunes is.stood.header_is is.stood.tunes_are ∙ ap (sort_dedup fault_cmp) old_is)
           ∙ faults_meet patch.stretch.lines
-          (header_faults steps.next steps.gives rules patch.on.lines.text patch.on.header ++ old_faults front_tunes) (old_faults amid_tunes) (old_faults behind_tunes) new_faults
-          front_stand amid_stand behind_stand (subst (All (FaultAmong patch.stretch.lines.from patch.stretch.lines.came)) (sym kept_new) own_stand)
+          (header_faults steps.next steps.gives rules patch.on.lines.text patch.on.header ++ old_faults front_tunes) (old_faults amid_tunes) (old_faults after_tunes) new_faults
+          front_stand amid_stand after_stand (subst (All (FaultAmong patch.stretch.lines.from patch.stretch.lines.came)) (sym kept_new) own_stand)
           ∙ ap (sort_dedup fault_cmp) (sym new_is)
           ∙ sym (book_faults patch.text patch.header patch.tunes is.stands.header_is is.stands.tunes_are)
 

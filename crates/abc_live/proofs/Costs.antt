@@ -73,12 +73,12 @@ kept_unbuilt first (suc count) = let one = sum_by-cons built_count_at (Some firs
 pub stretch_built : {C State Cell Items : Type 0} (patch : KeptPatchView C State Cell Items) → built_count (all_reused_tunes patch) ≡ built_count patch.reused_tunes
 stretch_built patch =
     let front = kept_numbers 0 patch.stretch.tunes.from in
-    let behind = kept_numbers patch.stretch.tunes.to (length patch.on.tunes - patch.stretch.tunes.to) in
-    let all = sum_by-append built_count_at front (patch.reused_tunes ++ behind) in
-    let rest = sum_by-append built_count_at patch.reused_tunes behind in
+    let following = kept_numbers patch.stretch.tunes.to (length patch.on.tunes - patch.stretch.tunes.to) in
+    let all = sum_by-append built_count_at front (patch.reused_tunes ++ following) in
+    let rest = sum_by-append built_count_at patch.reused_tunes following in
     let no_front = kept_unbuilt 0 patch.stretch.tunes.from in
-    let no_behind = kept_unbuilt patch.stretch.tunes.to (length patch.on.tunes - patch.stretch.tunes.to) in
-    omega (arith, all, rest, no_front, no_behind)
+    let no_after = kept_unbuilt patch.stretch.tunes.to (length patch.on.tunes - patch.stretch.tunes.to) in
+    omega (arith, all, rest, no_front, no_after)
 
 module _ {State Cell Items Defaults : Type 0} (steps : Steps State Cell Items) (rules : Rules State Cell Items Defaults) (text : Text) where
   pub cost_is : (edit : Option Splice) (s : Splice) (before after : Counters) → Some s ≡ edit

@@ -35,13 +35,13 @@ module _ {X : Type 0} where
       part xs ∙ ap (λ zs. take (to - from) (drop from zs)) same ∙ sym (part ys)
 
   -- and those after a stretch are the same in texts that are the same from there on
-  pub lines_behind : (xs ys : List X) (start gone came from to : ℕ) → drop (start + came) ys ≡ drop (start + gone) xs → start + gone ≤ from → from ≤ to
+  pub lines_after : (xs ys : List X) (start gone came from to : ℕ) → drop (start + came) ys ≡ drop (start + gone) xs → start + gone ≤ from → from ≤ to
       → take (to - gone + came - (from - gone + came)) (drop (from - gone + came) ys) ≡ take (to - from) (drop from xs)
-  lines_behind xs ys start gone came from to same behind order =
-      let long : to - gone + came - (from - gone + came) ≡ to - from = omega (arith, behind, order) in
+  lines_after xs ys start gone came from to same following order =
+      let long : to - gone + came - (from - gone + came) ≡ to - from = omega (arith, following, order) in
       let more = from - (start + gone) in
-      let there : from - gone + came ≡ start + came + more = omega (arith, behind) in
-      let here : start + gone + more ≡ from = omega (arith, behind) in
+      let there : from - gone + came ≡ start + came + more = omega (arith, following) in
+      let here : start + gone + more ≡ from = omega (arith, following) in
       ap (λ n. take n (drop (from - gone + came) ys)) long
       ∙ ap (λ n. take (to - from) (drop n ys)) there
       ∙ ap (take (to - from)) (sym (drop-drop more (start + came) ys) ∙ ap (drop more) same ∙ drop-drop more (start + gone) xs)
@@ -54,9 +54,9 @@ module _ {State Cell Items Defaults : Type 0} (steps : Steps State Cell Items) (
   -- the faults of some lines are in them
   stand_from : (from to : ℕ) (lines : Text) → from < to → length lines ≡ to - from → All (StandsIn from to) (faults_from (from + 1) lines)
   stand_from from to [] some count = absurd (omega (arith, some, count))
-  stand_from from to (line ∷ behind) some count =
-      let between = faults_in_lines steps.next steps.gives rules (from + 1) opening line behind in
-      let last : from + 1 + length behind ≡ to = omega (arith, some, count) in
+  stand_from from to (line ∷ following) some count =
+      let between = faults_in_lines steps.next steps.gives rules (from + 1) opening line following in
+      let last : from + 1 + length following ≡ to = omega (arith, some, count) in
       λ k d inside.
       let least = (between k d inside).0 in
       let most = (between k d inside).1 in
@@ -106,21 +106,21 @@ module _ {State Cell Items Defaults : Type 0} (steps : Steps State Cell Items) (
 
   moved_shifted : (first gone came : ℕ) → gone ≤ first → (faults : List Fault)
       → map (fault_moved (first - gone + came + 1)) faults ≡ map (shifted_fault gone came) (map (fault_moved (first + 1)) faults)
-  moved_shifted first gone came behind [] = refl
-  moved_shifted first gone came behind (fault ∷ faults) =
-      let line : fault.line + (first - gone + came + 1) ≡ fault.line + (first + 1) - gone + came = omega (arith, behind) in
+  moved_shifted first gone came following [] = refl
+  moved_shifted first gone came following (fault ∷ faults) =
+      let line : fault.line + (first - gone + came + 1) ≡ fault.line + (first + 1) - gone + came = omega (arith, following) in
       ap (λ n. record { line = n; column = fault.column; code = fault.code } ∷ map (fault_moved (first - gone + came + 1)) faults) line
-      ∙ ap (λ l. shifted_fault gone came (fault_moved (first + 1) fault) ∷ l) (moved_shifted first gone came behind faults)
+      ∙ ap (λ l. shifted_fault gone came (fault_moved (first + 1) fault) ∷ l) (moved_shifted first gone came following faults)
 
   -- a tune of the same lines at another place has its faults there
   pub shifted_tune : (text new : Text) (gone came : ℕ) (block : Block) → gone ≤ block.from → lines_in new (shifted gone came block) ≡ lines_in text block
       → (tune_of steps.next steps.gives rules opening new (shifted gone came block)).faults ≡ map (shifted_fault gone came) (tune_of steps.next steps.gives rules opening text block).faults
   unfolding tune_of
-  shifted_tune text new gone came block behind same =
+  shifted_tune text new gone came block following same =
       let lines = lines_in text block in
       ap (λ lines. faults_from (block.from - gone + came + 1) lines) same
       ∙ from_nothing (block.from - gone + came + 1) lines
-      ∙ moved_shifted block.from gone came behind (faults_from 0 lines)
+      ∙ moved_shifted block.from gone came following (faults_from 0 lines)
       ∙ ap (map (shifted_fault gone came)) (sym (from_nothing (block.from + 1) lines))
 
   -- tunes before a stretch
@@ -139,14 +139,14 @@ module _ {State Cell Items Defaults : Type 0} (steps : Steps State Cell Items) (
       → drop (start + came) new ≡ drop (start + gone) text → All (λ (block : Block). start + gone ≤ block.from) blocks → All (LiesIn (length text)) blocks
       → faults_of_tunes (map (tune_of steps.next steps.gives rules opening new) (map (shifted gone came) blocks))
       ≡ map (shifted_fault gone came) (faults_of_tunes (map (tune_of steps.next steps.gives rules opening text) blocks))
-  shifted_tunes text new start gone came [] same behind lie = refl
-  shifted_tunes text new start gone came (block ∷ blocks) same behind lie =
-      let own = All-head (λ (block : Block). start + gone ≤ block.from) block blocks behind in
+  shifted_tunes text new start gone came [] same following lie = refl
+  shifted_tunes text new start gone came (block ∷ blocks) same following lie =
+      let own = All-head (λ (block : Block). start + gone ≤ block.from) block blocks following in
       let some = (All-head (LiesIn (length text)) block blocks lie).some in
-      let here = lines_behind text new start gone came block.from block.to same own (omega (arith, some)) in
+      let here = lines_after text new start gone came block.from block.to same own (omega (arith, some)) in
       ap (λ l. l ++ faults_of_tunes (map (tune_of steps.next steps.gives rules opening new) (map (shifted gone came) blocks))) (shifted_tune text new gone came block (omega (arith, own)) here)
       ∙ ap (λ l. map (shifted_fault gone came) (tune_of steps.next steps.gives rules opening text block).faults ++ l)
-      (shifted_tunes text new start gone came blocks same (All-tail (λ (block : Block). start + gone ≤ block.from) block blocks behind) (All-tail (LiesIn (length text)) block blocks lie))
+      (shifted_tunes text new start gone came blocks same (All-tail (λ (block : Block). start + gone ≤ block.from) block blocks following) (All-tail (LiesIn (length text)) block blocks lie))
       ∙ sym (map-append (shifted_fault gone came) (tune_of steps.next steps.gives rules opening text block).faults (faults_of_tunes (map (tune_of steps.next steps.gives rules opening text) blocks)))
 
 module _ {State Cell Items Defaults : Type 0} (steps : Steps State Cell Items) (rules : Rules State Cell Items Defaults) where
@@ -165,10 +165,10 @@ module _ {State Cell Items Defaults : Type 0} (steps : Steps State Cell Items) (
       let here = lines_before new text n block.from block.to same (omega (arith, some)) (before block refl) in
       ap (λ lines. faults_along rules.faults (items_along steps.next steps.gives rules.header (cells_from rules.cells (block.from + 1) lines))) here
 
-  pub same_behind : (text new : Text) (n : ℕ) (header : Option Block) → take n new ≡ take n text → ((block : Block) → header ≡ Some block → block.to ≤ n) → IfSome header (LiesIn (length text))
+  pub same_after : (text new : Text) (n : ℕ) (header : Option Block) → take n new ≡ take n text → ((block : Block) → header ≡ Some block → block.to ≤ n) → IfSome header (LiesIn (length text))
       → state_after_header steps.next rules new header ≡ state_after_header steps.next rules text header
-  same_behind text new n None same before lies = refl
-  same_behind text new n (Some block) same before lies =
+  same_after text new n None same before lies = refl
+  same_after text new n (Some block) same before lies =
       let some = lies.some in
       let here = lines_before new text n block.from block.to same (omega (arith, some)) (before block refl) in
       ap (λ lines. Some (state_along steps.next rules.header (cells_from rules.cells (block.from + 1) lines))) here

@@ -81,13 +81,13 @@ module _ {C State Cell Items Defaults : Type 0} (steps : Steps State Cell Items)
       subst (λ (x : Stretch). AllZip (HasCells x.lines.from counts) patch.new_chains patch.places) (sym there)
       (subst (λ c. AllZip (HasCells patch.stretch.lines.from c) patch.new_chains patch.places) (sym (own_counts counts are)) (made_cells steps rules s patch is))
 
-  pub behind_inside : (outputs : List Output) → outputs ≡ map (output_in rules) (drop 1 text.chains.items) → stretch.tunes.to ≤ length outputs
-  behind_inside outputs are =
+  pub after_inside : (outputs : List Output) → outputs ≡ map (output_in rules) (drop 1 text.chains.items) → stretch.tunes.to ≤ length outputs
+  after_inside outputs are =
       let many = ap length are ∙ length-map (drop 1 text.chains.items) (output_in rules)
       ∙ ap (λ (k : KeptTextView C State Cell Items). length (drop 1 k.chains.items)) (sym on) ∙ old_count steps rules s patch is in
       let count = is.in_stretch.count in
-      let behind = ap (λ (x : Stretch). x.tunes.to) there in
-      omega (arith, many, count, behind)
+      let following = ap (λ (x : Stretch). x.tunes.to) there in
+      omega (arith, many, count, following)
 
   pub few_faults : (found : List Fault) → IsText text.lines.text → found ≡ (book_of steps rules text.lines.text).faults
       → All (λ (fault : Fault). stretch.lines.from + gone stretch.lines < fault.line → fault.line - gone stretch.lines + stretch.lines.came ≤ 2097152) found
@@ -97,7 +97,7 @@ module _ {C State Cell Items Defaults : Type 0} (steps : Steps State Cell Items)
       (header_lies rules.class patch.on.lines.text patch.on.header is.stood.header_is) (old_lie steps rules s patch is) in
       let all : All (λ (fault : Fault). fault.line ≤ length patch.on.lines.text) found = subst (All (λ (fault : Fault). fault.line ≤ length patch.on.lines.text)) (sym own) within in
       let long = ap (λ (k : KeptTextView C State Cell Items). length k.lines.text) on in
-      λ k d inside behind.
+      λ k d inside following.
       let line = all k d inside in
       let few = limits.count in
       let came = few_came in

@@ -38,24 +38,24 @@ module _ (text : Text) (at removed : ℕ) (lines : List (Vec ℕ)) (inside : at 
   pub line_among : (i : ℕ) (line : Vec ℕ) (found : List ℕ) → at ≤ i → i - at < length lines → line ≡ get_or lines (i - at) line → found ≡ (get_or lines (i - at) line).items
       → Some found ≡ slice_get (spliced text (splice_from at removed lines)) i
   unfolding spliced
-  line_among i line found behind before is own =
+  line_among i line found following before is own =
       let many = length-lines_of lines in
       ap Some (own ∙ ap (λ (l : Vec ℕ). l.items) (sym is))
       ∙ sym (mapped_at (λ (l : Vec ℕ). l.items) lines (i - at) line (read_at lines (i - at) line before is))
-      ∙ item_among text at removed (lines_of lines) i inside behind (omega (arith, many, before))
+      ∙ item_among text at removed (lines_of lines) i inside following (omega (arith, many, before))
 
   -- one after it
-  pub line_behind : (i : ℕ) → at ≤ i → length lines ≤ i - at → i < length (spliced text (splice_from at removed lines))
+  pub line_following : (i : ℕ) → at ≤ i → length lines ≤ i - at → i < length (spliced text (splice_from at removed lines))
       → slice_get text (i - length lines + removed) ≡ slice_get (spliced text (splice_from at removed lines)) i
   unfolding spliced
-  line_behind i from behind before =
+  line_following i from following before =
       let many = length-lines_of lines in
       let long = length-spliced text (splice_from at removed lines) inside in
-      ap (λ n. slice_get text (i - n + removed)) (sym many) ∙ item_back text at removed (lines_of lines) i inside (omega (arith, many, from, behind)) (omega (arith, many, long, inside, before))
+      ap (λ n. slice_get text (i - n + removed)) (sym many) ∙ item_back text at removed (lines_of lines) i inside (omega (arith, many, from, following)) (omega (arith, many, long, inside, before))
 
   pub line_small : (i : ℕ) → IsText text → at ≤ i → length lines ≤ i - at → i < length (spliced text (splice_from at removed lines)) → i - length lines + removed ≤ MOST_LINES
-  line_small i limits from behind before =
+  line_small i limits from following before =
       let many = length-lines_of lines in
       let long = length-spliced text (splice_from at removed lines) inside in
       let few = limits.count in
-      omega (arith, many, long, inside, before, from, behind, few)
+      omega (arith, many, long, inside, before, from, following, few)

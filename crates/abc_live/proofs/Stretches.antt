@@ -20,7 +20,7 @@ use Rattle.abc_live.specs.Prepared.{HeaderCells, IsPrepared, count_in}
 use Rattle.abc_live.proofs.AlikeStates.{chains_alike}
 use Rattle.abc_live.proofs.TunePlaces.{LiesIn, all_first, all_second, header_lies, tunes_lie}
 use Rattle.abc_live.proofs.Parts.{counts_are, header_chain, some_chain, tune_chains}
-use Rattle.abc_live.proofs.Zips.{zip_behind, zip_fronts, zip_middle, zip_rest}
+use Rattle.abc_live.proofs.Zips.{zip_after, zip_fronts, zip_middle, zip_rest}
 use Rattle.abc_live_index.specs.Output.{ReusesOutput, counts_of, output_in}
 use Rattle.abc_live_index.specs.Tunes.{HasCells, IsTuneAt, LiesAmong, counts_among, line_run, lowered_place}
 use Rattle.abc_live_index.proofs.ChainOutputs.{has_cells, zipped_cells}
@@ -36,10 +36,10 @@ use Rattle.abc_tune_compiler.specs.Tune.{lines_in}
 lies_among : (from came count : ℕ) (places : List Block) → All (λ (place : Block). (from ≤ place.from) × (place.to ≤ from + came)) places → All (LiesIn count) places → All (LiesAmong from came) places
 lies_among from came count places there own =
     λ k d inside.
-    let behind = (there k d inside).0 in
+    let following = (there k d inside).0 in
     let within = (there k d inside).1 in
     let some = (own k d inside).some in
-    record { behind = behind; order = omega (arith, some); within = within }
+    record { following = following; order = omega (arith, some); within = within }
 
 -- a tune of a stretch gives the items that its key has
 tune_at : {State Cell Items Defaults : Type 0} (steps : Steps State Cell Items) (rules : Rules State Cell Items Defaults)
@@ -50,9 +50,9 @@ tune_at steps rules laws opening left from came text chain place alike inside li
     let many = among_inside text from came inside in
     let within = lies.within in
     let cells : chain.cells ≡ flat_map rules.cells (lines_in (take came (drop from text)) (lowered_place from place)) =
-    is.cells ∙ ap (flat_map rules.cells) (sym (among text from came place.from place.to lies.behind lies.order lies.within)) in
+    is.cells ∙ ap (flat_map rules.cells) (sym (among text from came place.from place.to lies.following lies.order lies.within)) in
     record {
-      lies = record { behind = lies.behind; order = lies.order; within = omega (arith, within, many) };
+      lies = record { following = lies.following; order = lies.order; within = omega (arith, within, many) };
       items = is.folds.items ∙ sym (equal_items steps laws (rules.tune left) opening chain.cells alike) ∙ ap (items_from steps (rules.tune left)) cells;
     }
 
@@ -81,7 +81,7 @@ header_cells steps rules text from came first (Some block) inside lies is held =
     let none = all.0 in
     let most = all.1 in
     let some = lies.some in
-    let there : LiesAmong from came block = record { behind = omega (arith, none); order = omega (arith, some); within = omega (arith, none, most) } in
+    let there : LiesAmong from came block = record { following = omega (arith, none); order = omega (arith, some); within = omega (arith, none, most) } in
     has_cells steps rules.cells rules.header text first block is from came there inside
 
 module _ {C State Cell Items Defaults : Type 0} (steps : Steps State Cell Items) (rules : Rules State Cell Items Defaults)
@@ -180,12 +180,12 @@ module _ {C State Cell Items Defaults : Type 0} (steps : Steps State Cell Items)
       let parts : AllZip R (take patch.stretch.tunes.from (old_tunes patch) ++
       (patch.new_chains ++ drop patch.stretch.tunes.to (old_tunes patch))) patch.tunes = subst (λ chains. AllZip R chains patch.tunes) is.in_stretch.chains_are new_chains in
       let both = subst (AllZip R (take patch.stretch.tunes.from (old_tunes patch) ++ (patch.new_chains ++ drop patch.stretch.tunes.to (old_tunes patch)))) is.in_stretch.tunes_are parts in
-      let behind = zip_behind R (take patch.stretch.tunes.from (old_tunes patch)) patch.new_chains
+      let following = zip_after R (take patch.stretch.tunes.from (old_tunes patch)) patch.new_chains
       (drop patch.stretch.tunes.to (old_tunes patch)) (take patch.stretch.tunes.from patch.on.tunes) patch.places (map (block_after patch.stretch) (drop patch.stretch.tunes.to patch.on.tunes))
       (zip_fronts P patch.stretch.tunes.from (old_tunes patch) patch.on.tunes old_chains) (sym is.in_stretch.places_count) both in
       chains_alike steps laws rules.cells was now patch.on.lines.text patch.text (drop patch.stretch.tunes.to (old_tunes patch))
       (drop patch.stretch.tunes.to patch.on.tunes) (map (block_after patch.stretch) (drop patch.stretch.tunes.to patch.on.tunes))
-      (zip_rest P patch.stretch.tunes.to (old_tunes patch) patch.on.tunes old_chains) behind
+      (zip_rest P patch.stretch.tunes.to (old_tunes patch) patch.on.tunes old_chains) following
 
   pub made_cells : AllZip (HasCells patch.stretch.lines.from (counts_among rules.cells patch.text patch.stretch.lines.from patch.stretch.lines.came)) patch.new_chains patch.places
   made_cells =

@@ -13,16 +13,16 @@ module _ {A B : Type 0} (R : A → B → Type 0) where
       ((all.0, rest.0), rest.1)
 
   -- those in the middle
-  pub zip_middle : (before xs behind : List A) (first us last : List B) → length before ≡ length first → length xs ≡ length us
-      → AllZip R (before ++ (xs ++ behind)) (first ++ (us ++ last)) → AllZip R xs us
-  zip_middle before xs behind first us last fronts same all =
-      (zip_parts xs behind us last same (zip_parts before (xs ++ behind) first (us ++ last) fronts all).1).0
+  pub zip_middle : (before xs following : List A) (first us last : List B) → length before ≡ length first → length xs ≡ length us
+      → AllZip R (before ++ (xs ++ following)) (first ++ (us ++ last)) → AllZip R xs us
+  zip_middle before xs following first us last fronts same all =
+      (zip_parts xs following us last same (zip_parts before (xs ++ following) first (us ++ last) fronts all).1).0
 
   -- those after
-  pub zip_behind : (before xs behind : List A) (first us last : List B) → length before ≡ length first → length xs ≡ length us
-      → AllZip R (before ++ (xs ++ behind)) (first ++ (us ++ last)) → AllZip R behind last
-  zip_behind before xs behind first us last fronts same all =
-      (zip_parts xs behind us last same (zip_parts before (xs ++ behind) first (us ++ last) fronts all).1).1
+  pub zip_after : (before xs following : List A) (first us last : List B) → length before ≡ length first → length xs ≡ length us
+      → AllZip R (before ++ (xs ++ following)) (first ++ (us ++ last)) → AllZip R following last
+  zip_after before xs following first us last fronts same all =
+      (zip_parts xs following us last same (zip_parts before (xs ++ following) first (us ++ last) fronts all).1).1
 
   pub zip_rest : (n : ℕ) (xs : List A) (us : List B) → AllZip R xs us → AllZip R (drop n xs) (drop n us)
   zip_rest zero xs us all = all

@@ -9,7 +9,7 @@ use Rattle.abc_fold.specs.Steps.{Steps}
 use Rattle.abc_live_cost.specs.Layout.{Chain}
 use Rattle.abc_live_cost.specs.Spot.{Spot, spot_at, state_after, spots_in_line, spots_along, spots_of}
 use Rattle.abc_live_cost.specs.Past.{Past, past_of, pasts_in_line, pasts_along, flat_option, past_at}
-use Rattle.abc_live_cost.proofs.Lists.{find_behind, find_before}
+use Rattle.abc_live_cost.proofs.Lists.{find_after, find_before}
 
 pub record Full (State : Type 0) : Type 0 where
   pub line : ℕ
@@ -94,15 +94,15 @@ pub before_lines : {State Cell Items : Type 0} (steps : Steps State Cell Items) 
     (state : State) (lines : Text) (n k : ℕ) → n < line → find (is_at n k) (full_along steps read line source place state lines) ≡ None
 before_lines steps read line source place state [] n k h = refl
 before_lines steps read line source place state (bytes ∷ lines) n k h =
-    find_behind (is_at n k) _ _ (other_line steps.next line 0 source place state (read bytes) n k (λ e. omega arith))
+    find_after (is_at n k) _ _ (other_line steps.next line 0 source place state (read bytes) n k (λ e. omega arith))
     ∙ before_lines steps read (line + 1) source (place + length (read bytes)) (state_after steps.next state (read bytes)) lines n k (omega arith)
 
-pub behind_lines : {State Cell Items : Type 0} (steps : Steps State Cell Items) (read : List ℕ → List Cell) (line source place : ℕ)
+pub after_lines : {State Cell Items : Type 0} (steps : Steps State Cell Items) (read : List ℕ → List Cell) (line source place : ℕ)
     (state : State) (lines : Text) (n k : ℕ) → line + length lines ≤ n → find (is_at n k) (full_along steps read line source place state lines) ≡ None
-behind_lines steps read line source place state [] n k h = refl
-behind_lines steps read line source place state (bytes ∷ lines) n k h =
-    find_behind (is_at n k) _ _ (other_line steps.next line 0 source place state (read bytes) n k (λ e. omega arith))
-    ∙ behind_lines steps read (line + 1) source (place + length (read bytes)) (state_after steps.next state (read bytes)) lines n k (omega arith)
+after_lines steps read line source place state [] n k h = refl
+after_lines steps read line source place state (bytes ∷ lines) n k h =
+    find_after (is_at n k) _ _ (other_line steps.next line 0 source place state (read bytes) n k (λ e. omega arith))
+    ∙ after_lines steps read (line + 1) source (place + length (read bytes)) (state_after steps.next state (read bytes)) lines n k (omega arith)
 
 pub in_lines : {State Cell Items : Type 0} (steps : Steps State Cell Items) (read : List ℕ → List Cell) (line source place : ℕ)
     (state : State) (lines : Text) (i k : ℕ) → option_map as_past
@@ -119,6 +119,6 @@ in_lines steps read line source place state (bytes ∷ lines) zero k =
 in_lines steps read line source place state (bytes ∷ lines) (suc i) k =
     let here : line + suc i ≡ line + 1 + i = omega arith in
     rw here (
-    ap (option_map as_past) (find_behind (is_at (line + 1 + i) k) (full_line steps.next line 0 source place state (read bytes)) _
+    ap (option_map as_past) (find_after (is_at (line + 1 + i) k) (full_line steps.next line 0 source place state (read bytes)) _
     (other_line steps.next line 0 source place state (read bytes) (line + 1 + i) k (λ e. omega arith)))
     ∙ in_lines steps read (line + 1) source (place + length (read bytes)) (state_after steps.next state (read bytes)) lines i k)

@@ -51,13 +51,13 @@ carried_once s a b m h k l =
     let m_a : a ≡ m = cc (simp yes_a at h) in
     ⊎_elim
     (λ (q : b < s.at). let yes_b : nat_lt b s.at ≡ true = lt-ltb b s.at q in let m_b : b ≡ m = cc (simp yes_b at k) in omega arith)
-    (λ (q : s.at ≤ b). behind b q k (λ e r. omega arith))
+    (λ (q : s.at ≤ b). following b q k (λ e r. omega arith))
     (cases_lt b s.at))
-    (λ (p : s.at ≤ a). behind a p h (λ e r. behind b (let far : s.at ≤ b = omega arith in far) k (λ e' r'. omega arith)))
+    (λ (p : s.at ≤ a). following a p h (λ e r. following b (let far : s.at ≤ b = omega arith in far) k (λ e' r'. omega arith)))
     (cases_lt a s.at)
   where
-    behind : (n : ℕ) → s.at ≤ n → old_line s n ≡ Some m → (n - length s.lines + s.removed ≡ m → s.at + length s.lines ≤ n → ⊥) → ⊥
-    behind n p h use' =
+    following : (n : ℕ) → s.at ≤ n → old_line s n ≡ Some m → (n - length s.lines + s.removed ≡ m → s.at + length s.lines ≤ n → ⊥) → ⊥
+    following n p h use' =
         let no : nat_lt n s.at ≡ false = le-ltb n s.at p in
         ⊎_elim
         (λ (q : n < s.at + length s.lines). let in_new : nat_lt n (s.at + length s.lines) ≡ true = lt-ltb n (s.at + length s.lines) q in absurd (cc (simp (no, in_new) at h)))

@@ -14,8 +14,8 @@ pub or_none : {A : Type 0} (o : Option A) → option_or o None ≡ o
 or_none None = refl
 or_none (Some a) = refl
 
-pub find_behind : {A : Type 0} (p : A → Bool) (xs ys : List A) → find p xs ≡ None → find p (xs ++ ys) ≡ find p ys
-find_behind p xs ys e = find-append p xs ys ∙ ap (λ o. option_or o (find p ys)) e
+pub find_after : {A : Type 0} (p : A → Bool) (xs ys : List A) → find p xs ≡ None → find p (xs ++ ys) ≡ find p ys
+find_after p xs ys e = find-append p xs ys ∙ ap (λ o. option_or o (find p ys)) e
 
 pub find_before : {A : Type 0} (p : A → Bool) (xs ys : List A) → find p ys ≡ None → find p (xs ++ ys) ≡ find p xs
 find_before p xs ys e = find-append p xs ys ∙ (ap (λ o. option_or (find p xs) o) e ∙ or_none (find p xs))
@@ -25,9 +25,9 @@ row_before [] ys i h = absurd (omega arith)
 row_before (x ∷ xs) ys zero h = refl
 row_before (x ∷ xs) ys (suc i) h = row_before xs ys i (omega arith)
 
-pub row_behind : {A : Type 0} (xs ys : List (List A)) (i : ℕ) → row_at (xs ++ ys) (length xs + i) ≡ row_at ys i
-row_behind [] ys i = ap (λ k. row_at ys k) (zero-add i)
-row_behind (x ∷ xs) ys i = rw suc-add (row_behind xs ys i)
+pub row_after : {A : Type 0} (xs ys : List (List A)) (i : ℕ) → row_at (xs ++ ys) (length xs + i) ≡ row_at ys i
+row_after [] ys i = ap (λ k. row_at ys k) (zero-add i)
+row_after (x ∷ xs) ys i = rw suc-add (row_after xs ys i)
 
 pub row_take : {A : Type 0} (n : ℕ) (xs : List (List A)) (i : ℕ) → i < n → row_at (take n xs) i ≡ row_at xs i
 row_take zero xs i h = absurd (omega arith)

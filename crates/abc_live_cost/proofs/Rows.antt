@@ -13,8 +13,8 @@ use Rattle.abc_live_cost.specs.FreshCells.{old_line}
 use Rattle.abc_live_cost.specs.Past.{Past, past_of, no_pasts, pasts_along, lines_between, rows_from, rows_of, pasts, flat_option}
 use Rattle.abc_live_cost.specs.Past.{row_at, past_at, entry_of_past}
 use Rattle.abc_live_cost.specs.Laws.{RowsAgree}
-use Rattle.abc_live_cost.proofs.Lists.{find-map, find_behind, find_before, row_before, row_behind, row_take, row_drop}
-use Rattle.abc_live_cost.proofs.AllCells.{Full, full_of, as_past, as_spot, is_at, all_spots, before_lines, behind_lines, in_lines}
+use Rattle.abc_live_cost.proofs.Lists.{find-map, find_after, find_before, row_before, row_after, row_take, row_drop}
+use Rattle.abc_live_cost.proofs.AllCells.{Full, full_of, as_past, as_spot, is_at, all_spots, before_lines, after_lines, in_lines}
 
 none_in_line : {A C : Type 0} (cells : List C) (k : ℕ) → flat_option (slice_get (map (λ (_ : C). let none : Option A = None in none) cells) k) ≡ None
 none_in_line [] k = refl
@@ -61,7 +61,7 @@ before_chains steps read text first [] last n k h below = refl
 before_chains steps read text first (chain ∷ chains) last n k h below =
     let a : first ≤ chain.block.from = h.0 in
     let b : chain.block.from ≤ chain.block.to = omega (arith, h.1) in
-    find_behind (is_at n k) (full_of steps read text chain) (flat_map (full_of steps read text) chains)
+    find_after (is_at n k) (full_of steps read text chain) (flat_map (full_of steps read text) chains)
     (before_lines steps read chain.block.from chain.source 0 chain.opening (lines_in text chain.block) n k (omega arith))
     ∙ before_chains steps read text chain.block.to chains last n k h.2 (omega arith)
 
@@ -86,7 +86,7 @@ in_chains {State = State} steps read text at (chain ∷ chains) i k h =
     ⊎_elim
     (λ (l : at + i < chain.block.from).
     let e : find (is_at (at + i) k) (full_of steps read text chain ++ flat) ≡ None =
-    find_behind (is_at (at + i) k) (full_of steps read text chain) flat (before_lines steps read chain.block.from chain.source 0 chain.opening lines (at + i) k l)
+    find_after (is_at (at + i) k) (full_of steps read text chain) flat (before_lines steps read chain.block.from chain.source 0 chain.opening lines (at + i) k l)
     ∙ before_chains steps read text chain.block.to chains (length text) (at + i) k h.2 (omega arith) in
     ap (option_map as_past) e
     ∙ sym (ap (λ row. flat_option (slice_get row k)) (row_before gap (own ++ others) i (omega arith)) ∙ none_in_rows steps read (lines_between text at chain.block.from) i k))
@@ -99,16 +99,16 @@ in_chains {State = State} steps read text at (chain ∷ chains) i k h =
     ap (option_map as_past) (find_before (is_at (at + i) k) (full_of steps read text chain) flat (before_chains steps read text chain.block.to chains (length text) (at + i) k h.2 m))
     ∙ (ap (λ n. option_map as_past (find (is_at n k) (full_of steps read text chain))) (sym here)
     ∙ (in_lines steps read chain.block.from chain.source 0 chain.opening lines j k
-    ∙ sym (ap (λ row. flat_option (slice_get row k)) (ap (row_at (gap ++ (own ++ others))) (sym there) ∙ (row_behind gap (own ++ others) j ∙ row_before own others j (omega arith)))))))
+    ∙ sym (ap (λ row. flat_option (slice_get row k)) (ap (row_at (gap ++ (own ++ others))) (sym there) ∙ (row_after gap (own ++ others) j ∙ row_before own others j (omega arith)))))))
     (λ (m : chain.block.to ≤ at + i).
     let q = at + i - chain.block.to in
     let further : chain.block.to + q ≡ at + i = omega arith in
-    let behind : length own + q ≡ j = omega arith in
-    ap (option_map as_past) (find_behind (is_at (at + i) k) (full_of steps read text chain) flat (behind_lines steps read chain.block.from chain.source 0 chain.opening lines (at + i) k (omega arith)))
+    let following : length own + q ≡ j = omega arith in
+    ap (option_map as_past) (find_after (is_at (at + i) k) (full_of steps read text chain) flat (after_lines steps read chain.block.from chain.source 0 chain.opening lines (at + i) k (omega arith)))
     ∙ (ap (λ n. option_map as_past (find (is_at n k) flat)) (sym further)
     ∙ (in_chains steps read text chain.block.to chains q k h.2
     ∙ sym (ap (λ row. flat_option (slice_get row k)) (ap (row_at (gap ++ (own ++ others))) (sym there)
-    ∙ (row_behind gap (own ++ others) j ∙ (ap (row_at (own ++ others)) (sym behind) ∙ row_behind own others q)))))))
+    ∙ (row_after gap (own ++ others) j ∙ (ap (row_at (own ++ others)) (sym following) ∙ row_after own others q)))))))
     (cases_lt (at + i) chain.block.to))
     (cases_lt (at + i) chain.block.from)
 
@@ -153,7 +153,7 @@ carried_rows steps read old s line k h inside =
     let no : nat_lt line s.at ≡ false = le-ltb line s.at l in
     let j = line - s.at in
     let there : length front + j ≡ line = omega arith in
-    let step : row_at (front ++ (fresh ++ tail)) line ≡ row_at (fresh ++ tail) j = ap (row_at (front ++ (fresh ++ tail))) (sym there) ∙ row_behind front (fresh ++ tail) j in
+    let step : row_at (front ++ (fresh ++ tail)) line ≡ row_at (fresh ++ tail) j = ap (row_at (front ++ (fresh ++ tail))) (sym there) ∙ row_after front (fresh ++ tail) j in
     ⊎_elim
     (λ (m : line < s.at + length s.lines).
     let yes : nat_lt line (s.at + length s.lines) ≡ true = lt-ltb line (s.at + length s.lines) m in
@@ -161,10 +161,10 @@ carried_rows steps read old s line k h inside =
     (λ (m : s.at + length s.lines ≤ line).
     let no' : nat_lt line (s.at + length s.lines) ≡ false = le-ltb line (s.at + length s.lines) m in
     let q = j - length s.lines in
-    let behind : length fresh + q ≡ j = omega arith in
+    let following : length fresh + q ≡ j = omega arith in
     let was : s.at + s.removed + q ≡ line - length s.lines + s.removed = omega arith in
     simp (no, no') (ap (λ row. flat_option (slice_get row k))
-    (step ∙ (ap (row_at (fresh ++ tail)) (sym behind) ∙ (row_behind fresh tail q ∙ (row_drop (s.at + s.removed) rows q ∙ ap (row_at rows) was))))))
+    (step ∙ (ap (row_at (fresh ++ tail)) (sym following) ∙ (row_after fresh tail q ∙ (row_drop (s.at + s.removed) rows q ∙ ap (row_at rows) was))))))
     (cases_lt line (s.at + length s.lines)))
     (cases_lt line s.at)
 

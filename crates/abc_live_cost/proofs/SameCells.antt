@@ -14,7 +14,7 @@ use Rattle.abc_live_cost.specs.FreshCells.{old_line, is_line, is_carried_from, a
 use Rattle.abc_live_cost.specs.Past.{row_at}
 use Rattle.abc_live_cost.specs.KeptState.{items_of, cells_of}
 use Rattle.abc_live_cost.specs.EditLaws.{CellsAreThings, CarriedCells}
-use Rattle.abc_live_cost.proofs.Lists.{row_before, row_behind, row_take, row_drop}
+use Rattle.abc_live_cost.proofs.Lists.{row_before, row_after, row_take, row_drop}
 
 -- what a fold gives along cells, without their lines
 abbrev pub given_over : {State Cell Items : Type 0} → Steps State Cell Items → State → List Cell → List Items
@@ -113,10 +113,10 @@ carried_line old s n m inside h =
     let j = n - s.at in
     let q = j - length s.lines in
     let there : length front + j ≡ n = omega arith in
-    let behind : length s.lines + q ≡ j = omega arith in
+    let following : length s.lines + q ≡ j = omega arith in
     let was : s.at + s.removed + q ≡ m = omega arith in
-    ap (row_at (front ++ (s.lines ++ tail))) (sym there) ∙ (row_behind front (s.lines ++ tail) j
-    ∙ (ap (row_at (s.lines ++ tail)) (sym behind) ∙ (row_behind s.lines tail q ∙ (row_drop (s.at + s.removed) old q ∙ ap (row_at old) was)))))
+    ap (row_at (front ++ (s.lines ++ tail))) (sym there) ∙ (row_after front (s.lines ++ tail) j
+    ∙ (ap (row_at (s.lines ++ tail)) (sym following) ∙ (row_after s.lines tail q ∙ (row_drop (s.at + s.removed) old q ∙ ap (row_at old) was)))))
     (cases_lt n (s.at + length s.lines)))
     (cases_lt n s.at)
 

@@ -18,7 +18,7 @@ use Rattle.abc_live_cost.specs.FreshCells.{are_carried_from}
 use Rattle.abc_live_cost.specs.Past.{Past, rows_of, past_at, entry_of_past, first_past, first_row, rest, fresh_cells_in_line}
 use Rattle.abc_live_cost.specs.Past.{fresh_cells_along}
 use Rattle.abc_live_cost.specs.Pieces.{pasts_beside, pasts_over, pieces_of}
-use Rattle.abc_live_cost.specs.KeptState.{cells_of, KeptState, entry_of, behind, steps_over, MatchesPast, MatchPasts}
+use Rattle.abc_live_cost.specs.KeptState.{cells_of, KeptState, entry_of, following, steps_over, MatchesPast, MatchPasts}
 use Rattle.abc_live_cost.specs.Laws.{PastsNameCells}
 use Rattle.abc_live_cost.specs.EditLaws.{UntouchedItems, StepsAreFresh}
 use Rattle.abc_live_cost.proofs.AllCells.{Full, as_past, as_spot, is_at, full_of, along_spots}
@@ -64,7 +64,7 @@ one_step : {State Cell Items : Type 0} (steps : Steps State Cell Items) (a b : S
     → steps_over steps c cells kept_states ≡ fresh_cells_in_line steps d cells pieces)
     → (held : Option (KeptState State)) (past : Option (Past State)) → MatchesPast steps cell held past
     → cond (is_fresh_after steps.alike a (entry_of held)) (1 + steps_over steps (steps.next a cell) cells kept_states)
-    (steps_over steps (behind a held) cells kept_states) ≡ cond (is_fresh_after steps.alike b (entry_of_past past)) 1 0 + fresh_cells_in_line steps (steps.next b cell) cells pieces
+    (steps_over steps (following a held) cells kept_states) ≡ cond (is_fresh_after steps.alike b (entry_of_past past)) 1 0 + fresh_cells_in_line steps (steps.next b cell) cells pieces
 one_step steps a b cell cells kept_states pieces one h go None None m = ap (λ n. 1 + n) (go (steps.next a cell) (steps.next b cell) (one.alike_states a b cell h))
 one_step steps a b cell cells kept_states pieces one h go None (Some past) m = absurd m
 one_step steps a b cell cells kept_states pieces one h go (Some held) None m = absurd m
@@ -225,17 +225,17 @@ spot_found steps read old w h k =
     sym (entered_is steps read old w.line w.nth h) ∙ (ap entry_of_past (sym (rows_hold steps read old w.line w.nth h)) ∙ ap (λ o. entry_of_past (option_map as_past o)) (found_at_line w all rises k))
 
 first_in_line : {State Cell : Type 0} (next : State → Cell → State) (line nth : ℕ) (state : State) (cells : List Cell)
-    (others : List (Spot State)) (spot : Spot State) (behind : List (Spot State))
+    (others : List (Spot State)) (spot : Spot State) (following : List (Spot State))
     → ((one : Spot State) (more : List (Spot State)) → others ≡ one ∷ more → one.entered ≡ state_after next state cells)
-    → spots_in_line next line nth state cells ++ others ≡ spot ∷ behind → spot.entered ≡ state
-first_in_line next line nth state [] others spot behind h e = h spot behind e
-first_in_line next line nth state (cell ∷ cells) others spot behind h e = let one : spot_at line nth state ≡ spot = cc in sym (ap (λ y. y.entered) one)
+    → spots_in_line next line nth state cells ++ others ≡ spot ∷ following → spot.entered ≡ state
+first_in_line next line nth state [] others spot following h e = h spot following e
+first_in_line next line nth state (cell ∷ cells) others spot following h e = let one : spot_at line nth state ≡ spot = cc in sym (ap (λ y. y.entered) one)
 
 first_entered : {State Cell Items : Type 0} (steps : Steps State Cell Items) (read : List ℕ → List Cell) (line : ℕ) (state : State)
-    (lines : Text) (spot : Spot State) (behind : List (Spot State)) → spots_along steps read line state lines ≡ spot ∷ behind → spot.entered ≡ state
-first_entered steps read line state [] spot behind e = absurd (cc)
-first_entered steps read line state (bytes ∷ lines) spot behind e =
-    first_in_line steps.next line 0 state (read bytes) (spots_along steps read (line + 1) (state_after steps.next state (read bytes)) lines) spot behind
+    (lines : Text) (spot : Spot State) (following : List (Spot State)) → spots_along steps read line state lines ≡ spot ∷ following → spot.entered ≡ state
+first_entered steps read line state [] spot following e = absurd (cc)
+first_entered steps read line state (bytes ∷ lines) spot following e =
+    first_in_line steps.next line 0 state (read bytes) (spots_along steps read (line + 1) (state_after steps.next state (read bytes)) lines) spot following
     (λ one more k. first_entered steps read (line + 1) (state_after steps.next state (read bytes)) lines one more k) e
 
 no_cells : {A B : Type 0} (p : A → Option B) (spots : List A) (cells : List B) → map p spots ≡ map (λ b. Some b) cells → spots ≡ [] → cells ≡ []

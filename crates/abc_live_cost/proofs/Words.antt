@@ -19,7 +19,7 @@ use Rattle.abc_fold.specs.Steps.{Steps}
 use Rattle.abc_live_cost.specs.Layout.{header_chain, Chain, tune_chains, chains_of, ChainsRise}
 use Rattle.abc_live_cost.specs.Spot.{Spot, state_after, spots_in_line, spots_along, spots_of, is_spot_at}
 use Rattle.abc_live_cost.specs.Laws.{ChainsLieInOrder, EnteredAreItems, NthOfLine}
-use Rattle.abc_live_cost.proofs.Lists.{find_behind, find_before}
+use Rattle.abc_live_cost.proofs.Lists.{find_after, find_before}
 
 -- entered states are items
 
@@ -54,13 +54,13 @@ pub record Nothing {State : Type 0} (n : ℕ) (spots : List (Spot State)) : Type
 nothing_both : {State : Type 0} (n : ℕ) (xs ys : List (Spot State)) → Nothing n xs → Nothing n ys → Nothing n (xs ++ ys)
 nothing_both n xs ys h k = record {
   kept = filter-append (in_line n) xs ys ∙ ((λ i. h.kept i ++ filter (in_line n) ys) ∙ k.kept);
-  found = λ j. find_behind (is_spot_at n j) xs ys (h.found j) ∙ k.found j;
+  found = λ j. find_after (is_spot_at n j) xs ys (h.found j) ∙ k.found j;
 }
 
-alike_behind : {State : Type 0} (n k : ℕ) (xs ys : List (Spot State)) → Nothing n xs → Alike n k ys → Alike n k (xs ++ ys)
-alike_behind {State = State} n k xs ys h e =
+alike_after : {State : Type 0} (n k : ℕ) (xs ys : List (Spot State)) → Nothing n xs → Alike n k ys → Alike n k (xs ++ ys)
+alike_after {State = State} n k xs ys h e =
     let a : filter (in_line n) (xs ++ ys) ≡ filter (in_line n) ys = filter-append (in_line n) xs ys ∙ ap (λ l. l ++ filter (in_line n) ys) h.kept in
-    ap (λ l. slice_get (map (λ (spot : Spot State). spot.entered) l) k) a ∙ (e ∙ ap (option_map (λ (spot : Spot State). spot.entered)) (sym (find_behind (is_spot_at n k) xs ys (h.found k))))
+    ap (λ l. slice_get (map (λ (spot : Spot State). spot.entered) l) k) a ∙ (e ∙ ap (option_map (λ (spot : Spot State). spot.entered)) (sym (find_after (is_spot_at n k) xs ys (h.found k))))
 
 alike_before : {State : Type 0} (n k : ℕ) (xs ys : List (Spot State)) → Alike n k xs → Nothing n ys → Alike n k (xs ++ ys)
 alike_before {State = State} n k xs ys e h =
@@ -117,7 +117,7 @@ along_alike {State = State} steps read line state (bytes ∷ lines) n k =
     let own : Alike line k front = same_line steps.next line 0 state cells k ∙ ap (λ m. option_map (λ (spot : Spot State). spot.entered) (find (is_spot_at line m) front)) zero_add in
     alike_before n k front others (subst (λ m. Alike m k front) e own)
     (outside steps read (line + 1) (state_after steps.next state cells) lines n (let below : n < line + 1 = omega arith in inl below)))
-    (λ (e : line ≡ n → ⊥). alike_behind n k front others (other_line steps.next line 0 state cells n e) (along_alike steps read (line + 1) (state_after steps.next state cells) lines n k))
+    (λ (e : line ≡ n → ⊥). alike_after n k front others (other_line steps.next line 0 state cells n e) (along_alike steps read (line + 1) (state_after steps.next state cells) lines n k))
     (cases_eq line n)
 
 before_chains : {State Cell Items : Type 0} (steps : Steps State Cell Items) (read : List ℕ → List Cell) (text : Text) (first : ℕ)
@@ -143,7 +143,7 @@ chains_alike steps read text first (chain ∷ chains) last n k h =
     (along_alike steps read chain.block.from chain.opening lines n k) (before_chains steps read text chain.block.to chains last n h.2 l))
     (λ (l : chain.block.to ≤ n).
     let past : chain.block.from + length lines ≤ n = omega arith in
-    alike_behind n k (spots_of steps read text chain) (flat_map (spots_of steps read text) chains)
+    alike_after n k (spots_of steps read text chain) (flat_map (spots_of steps read text) chains)
     (outside steps read chain.block.from chain.opening lines n (inr past)) (chains_alike steps read text chain.block.to chains last n k h.2))
     (cases_lt n chain.block.to)
 

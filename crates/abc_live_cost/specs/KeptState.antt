@@ -34,9 +34,9 @@ abbrev pub entry_of : {State : Type 0} → Option (KeptState State) → Option S
 entry_of held = option_map (λ one. one.entry) held
 
 -- The state after a cell by its kept states.
-abbrev pub behind : {State : Type 0} → State → Option (KeptState State) → State
-behind otherwise None = otherwise
-behind otherwise (Some held) = held.after
+abbrev pub following : {State : Type 0} → State → Option (KeptState State) → State
+following otherwise None = otherwise
+following otherwise (Some held) = held.after
 
 -- The steps along cells: one if no state is kept of the cell or it was entered in a state that is not equivalent; else the
 -- fold goes on in the kept state.
@@ -46,7 +46,7 @@ steps_over steps state [] kept_states = 0
 steps_over steps state (cell ∷ cells) kept_states =
     cond (is_fresh_after steps.alike state (entry_of (first_past kept_states)))
     (1 + steps_over steps (steps.next state cell) cells (rest kept_states))
-    (steps_over steps (behind state (first_past kept_states)) cells (rest kept_states))
+    (steps_over steps (following state (first_past kept_states)) cells (rest kept_states))
 
 -- The kept states of a cell match its past, up to equivalent states.
 abbrev pub MatchesPast : {State Cell Items : Type 0} → Steps State Cell Items → Cell → Option (KeptState State)

@@ -25,7 +25,7 @@ use Rattle.abc_tune_compiler.specs.Tune.{fault_of_tune, faults_along, first_of, 
 counts_there : {Cell : Type 0} (read : List ℕ → List Cell) (text : Text) (before count : ℕ) (place : Block) → LiesAmong before count place
     → counts_in before (counts_among read text before count) place ≡ counts_of read (lines_in text place)
 counts_there read text before count place lies =
-    among (counts_of read text) before count place.from place.to lies.behind lies.order lies.within
+    among (counts_of read text) before count place.from place.to lies.following lies.order lies.within
     ∙ ap (take (place.to - place.from)) (drop-map (λ line. length (read line)) place.from text)
     ∙ take-map (λ line. length (read line)) (place.to - place.from) (drop place.from text)
 
@@ -63,17 +63,17 @@ module _ {State Cell Items : Type 0} (steps : Steps State Cell Items) where
   placed_along read line state (bytes ∷ lines) =
       let cells = read bytes in
       let rest = flat_map read lines in
-      let behind = state_after state cells in
+      let following = state_after state cells in
       let split = items_append state cells rest in
       let own : take (length cells) (items_from steps state (cells ++ rest)) ≡ items_from steps state cells =
-      ap (take (length cells)) split ∙ ap (λ n. take n (items_from steps state cells ++ items_from steps behind rest))
-      (sym (given_each state cells)) ∙ take-append_seam (items_from steps state cells) (items_from steps behind rest) in
-      let others : drop (length cells) (items_from steps state (cells ++ rest)) ≡ items_from steps behind rest =
-      ap (drop (length cells)) split ∙ ap (λ n. drop n (items_from steps state cells ++ items_from steps behind rest))
-      (sym (given_each state cells)) ∙ drop-append_seam (items_from steps state cells) (items_from steps behind rest) in
+      ap (take (length cells)) split ∙ ap (λ n. take n (items_from steps state cells ++ items_from steps following rest))
+      (sym (given_each state cells)) ∙ take-append_seam (items_from steps state cells) (items_from steps following rest) in
+      let others : drop (length cells) (items_from steps state (cells ++ rest)) ≡ items_from steps following rest =
+      ap (drop (length cells)) split ∙ ap (λ n. drop n (items_from steps state cells ++ items_from steps following rest))
+      (sym (given_each state cells)) ∙ drop-append_seam (items_from steps state cells) (items_from steps following rest) in
       ap (λ l. map (placed_at line) l ++ placed_from (line + 1) (counts_of read lines) (drop (length cells) (items_from steps state (cells ++ rest)))) own
       ∙ ap (λ l. map (placed_at line) (items_from steps state cells) ++ placed_from (line + 1) (counts_of read lines) l) others
-      ∙ ap (λ l. map (placed_at line) (items_from steps state cells) ++ l) (placed_along read (line + 1) behind lines)
+      ∙ ap (λ l. map (placed_at line) (items_from steps state cells) ++ l) (placed_along read (line + 1) following lines)
       ∙ sym (along_append line state cells (cells_from read (line + 1) lines))
 
   things_at : (line : ℕ) (items : List Items) → placed_values (map (placed_at line) items) ≡ items
@@ -86,12 +86,12 @@ module _ {State Cell Items : Type 0} (steps : Steps State Cell Items) where
   things_along read line state [] = refl
   things_along read line state (bytes ∷ lines) =
       let cells = read bytes in
-      let behind = state_after state cells in
-      let rest = items_along steps.next steps.gives behind (cells_from read (line + 1) lines) in
+      let following = state_after state cells in
+      let rest = items_along steps.next steps.gives following (cells_from read (line + 1) lines) in
       ap placed_values (along_append line state cells (cells_from read (line + 1) lines))
       ∙ map-append (λ (one : Placed Items). one.here) (map (placed_at line) (items_from steps state cells)) rest
       ∙ ap (λ l. l ++ placed_values rest) (things_at line (items_from steps state cells))
-      ∙ ap (λ l. items_from steps state cells ++ l) (things_along read (line + 1) behind lines)
+      ∙ ap (λ l. items_from steps state cells ++ l) (things_along read (line + 1) following lines)
       ∙ sym (items_append state cells (flat_map read lines))
 
   module _ (read : List ℕ → List Cell) (opening : State) (text : Text) (chain : Chained State Cell Items) (place : Block) (is : IsChainOf steps read opening text chain place) where
@@ -117,7 +117,7 @@ module _ {State Cell Items : Type 0} (steps : Steps State Cell Items) where
           ap (sum_by (λ (count : ℕ). count)) (counts_there read text before count place lies) ∙ counts_sum read (lines_in text place) ∙ sym (ap length is.cells) in
           let within = lies.within in
           record {
-            lies = record { behind = lies.behind; order = lies.order; within = omega (arith, many, within) };
+            lies = record { following = lies.following; order = lies.order; within = omega (arith, many, within) };
             shape = ap length is.folds.items ∙ given_each opening chain.cells;
             all = omega (arith, own);
           }

@@ -4,7 +4,7 @@ use Rattle.std.proofs.Common.{ap, ◌∙◌, arith}
 use Rattle.std.proofs.lemmas.List.{drop_all, drop-drop, take-append-drop, length-take-le, length-drop, drop-map, take-map}
 use Rattle.std.proofs.lemmas.List.{map-append, length-map}
 use Rattle.std.proofs.lemmas.Option.{slice_get-map}
-use Rattle.abc_live_index.proofs.Lists.{drop_later, get_behind, one_on, parts_same, take_next, take_same}
+use Rattle.abc_live_index.proofs.Lists.{drop_later, get_after, one_on, parts_same, take_next, take_same}
 use Rattle.abc_live_index.specs.Outputs.{title_by, titles_of}
 use Rattle.abc_live_index.specs.Owners.{Owners, claim_of, owners_with_claim, claims_of, owners_after}
 use Rattle.abc_live_index.specs.declared.output.Output.{Output}
@@ -18,7 +18,7 @@ owners_on all place output owners next whole here put so =
 
 -- after the last tune they are all owners
 pub owners_end : (all : List Output) (place : ℕ) (owners whole : Owners) → length all ≤ place → owners_after owners place (claims_of (drop place all)) ≡ whole → owners ≡ whole
-owners_end all place owners whole behind so = ap (λ (l : List Output). owners_after owners place (claims_of l)) (sym (drop_all place all behind)) ∙ so
+owners_end all place owners whole following so = ap (λ (l : List Output). owners_after owners place (claims_of l)) (sym (drop_all place all following)) ∙ so
 
 -- one claim more that stays
 pub claims_on : (old new : List Output) (place : ℕ) → option_map claim_of (slice_get old place) ≡ option_map claim_of (slice_get new place)
@@ -31,13 +31,13 @@ pub claims_front : (old new : List Output) (front : ℕ) → take front new ≡ 
 claims_front old new front same = take-map claim_of front old ∙ ap claims_of (sym same) ∙ sym (take-map claim_of front new)
 
 -- if those of the stretch do, all do
-pub claims_end : (old new : List Output) (front came behind place : ℕ) → front ≤ behind → came ≡ behind - front → drop (front + came) new ≡ drop behind old → behind ≤ place
+pub claims_end : (old new : List Output) (front came following place : ℕ) → front ≤ following → came ≡ following - front → drop (front + came) new ≡ drop following old → following ≤ place
     → take place (claims_of old) ≡ take place (claims_of new) → claims_of old ≡ claims_of new
-claims_end old new front came behind place order count rest past so =
-    let there : front + came ≡ behind = omega (arith, order, count) in
-    let same : drop behind (claims_of old) ≡ drop behind (claims_of new) =
-    drop-map claim_of behind old ∙ ap claims_of (sym rest) ∙ ap (λ n. claims_of (drop n new)) there ∙ sym (drop-map claim_of behind new) in
-    parts_same (claims_of old) (claims_of new) place so (drop_later (claims_of old) (claims_of new) behind place past same)
+claims_end old new front came following place order count rest past so =
+    let there : front + came ≡ following = omega (arith, order, count) in
+    let same : drop following (claims_of old) ≡ drop following (claims_of new) =
+    drop-map claim_of following old ∙ ap claims_of (sym rest) ∙ ap (λ n. claims_of (drop n new)) there ∙ sym (drop-map claim_of following new) in
+    parts_same (claims_of old) (claims_of new) place so (drop_later (claims_of old) (claims_of new) following place past same)
 
 -- one title more
 pub titles_on : (all : List Output) (from place : ℕ) (output : Output) (title : Title) (titles next : List Title) → from ≤ place
@@ -46,30 +46,30 @@ pub titles_on : (all : List Output) (from place : ℕ) (output : Output) (title 
 titles_on all from place output title titles next order here is put so =
     let place_is : from + (place - from) ≡ place = omega (arith, order) in
     let more : place - from + 1 ≡ place + 1 - from = omega (arith, order) in
-    let there = get_behind from all (place - from) ∙ ap (slice_get all) place_is ∙ here in
+    let there = get_after from all (place - from) ∙ ap (slice_get all) place_is ∙ here in
     put ∙ ap (λ t. titles ++ t ∷ []) is ∙ ap (λ l. l ++ title_by output ∷ []) so ∙ sym (map-append title_by (take (place - from) (drop from all)) (output ∷ []))
     ∙ ap titles_of (sym (take_next (drop from all) (place - from) output there)) ∙ ap (λ n. titles_of (take n (drop from all))) more
 
 -- if all claims stay, as many tunes came as went
-pub came_count : (old new : List Output) (front came behind : ℕ) → claims_of old ≡ claims_of new → front ≤ behind
-    → behind ≤ length old → length new ≡ front + came + (length old - behind) → came ≡ behind - front
-came_count old new front came behind same order inside count =
+pub came_count : (old new : List Output) (front came following : ℕ) → claims_of old ≡ claims_of new → front ≤ following
+    → following ≤ length old → length new ≡ front + came + (length old - following) → came ≡ following - front
+came_count old new front came following same order inside count =
     let lengths : length old ≡ length new = sym (length-map old claim_of) ∙ ap length same ∙ length-map new claim_of in
     omega (arith, lengths, order, inside, count)
 
 -- the titles of a stretch, if as many tunes came as went, and those before and after it
-pub titles_among : (old new : List Output) (front came behind end : ℕ) (titles : List Title) → front ≤ behind → behind ≤ length old → came ≡ behind - front → end ≡ front + came
-    → length new ≡ front + came + (length old - behind) → take front new ≡ take front old → drop (front + came) new ≡ drop behind old → titles ≡ titles_of (take (end - front) (drop front new))
+pub titles_among : (old new : List Output) (front came following end : ℕ) (titles : List Title) → front ≤ following → following ≤ length old → came ≡ following - front → end ≡ front + came
+    → length new ≡ front + came + (length old - following) → take front new ≡ take front old → drop (front + came) new ≡ drop following old → titles ≡ titles_of (take (end - front) (drop front new))
     → take front (titles_of old) ++ (titles ++ drop (front + length titles) (titles_of old)) ≡ titles_of new
-titles_among old new front came behind end titles order inside count last long start rest are =
+titles_among old new front came following end titles order inside count last long start rest are =
     let some : List Output = take (end - front) (drop front new) in
     let stretch : end - front ≡ came = omega (arith, last) in
-    let there : front + came ≡ behind = omega (arith, order, count) in
+    let there : front + came ≡ following = omega (arith, order, count) in
     let many : length titles ≡ came =
     ap length are ∙ length-map some title_by ∙ length-take-le (end - front) (drop front new) (omega (arith, stretch, long, length-drop front new)) ∙ stretch in
     let first : take front (titles_of old) ≡ titles_of (take front new) = take-map title_by front old ∙ ap titles_of (sym start) in
     let last : drop (front + length titles) (titles_of old) ≡ titles_of (drop came (drop front new)) =
-    ap (λ n. drop (front + n) (titles_of old)) many ∙ ap (λ n. drop n (titles_of old)) there ∙ drop-map title_by behind old ∙ ap titles_of (sym rest) ∙ ap titles_of (sym (drop-drop came front new)) in
+    ap (λ n. drop (front + n) (titles_of old)) many ∙ ap (λ n. drop n (titles_of old)) there ∙ drop-map title_by following old ∙ ap titles_of (sym rest) ∙ ap titles_of (sym (drop-drop came front new)) in
     let middle : titles ≡ titles_of (take came (drop front new)) = are ∙ ap (λ n. titles_of (take n (drop front new))) stretch in
     ap (λ l. l ++ (titles ++ drop (front + length titles) (titles_of old))) first
     ∙ ap (λ l. titles_of (take front new) ++ (titles ++ l)) last

@@ -3,7 +3,7 @@ use Rattle.std.proofs.Common.{◌≡◌, ℕ, ◌+◌, ◌==◌, eqb-true, Bool,
 use Rattle.std.proofs.Common.{is_some, option_and_then, slice_get, refl, sym, ap, ◌∙◌, subst, arith}
 use Rattle.std.proofs.lemmas.Cmp.{ranked}
 use Rattle.std.proofs.lemmas.List.{drop-drop}
-use Rattle.abc_live_index.proofs.Lists.{get_behind}
+use Rattle.abc_live_index.proofs.Lists.{get_after}
 use Rattle.std.specs.BTreeMap.{insert_entry}
 use Rattle.std.specs.List.{AllZip}
 use Rattle.std.specs.Map.{keys_of}
@@ -95,7 +95,7 @@ module _ (whole : List Output) where
   first_on : (rest : List Output) (place : ℕ) (output : Output) → drop place whole ≡ output ∷ rest → (slice_get whole place ≡ Some output) × (drop (place + 1) whole ≡ rest)
   first_on rest place output is =
       let zeroth : place ≡ place + 0 = omega arith in
-      (ap (slice_get whole) zeroth ∙ sym (get_behind place whole 0) ∙ ap (λ l. slice_get l 0) is, sym (drop-drop 1 place whole) ∙ ap (drop 1) is)
+      (ap (slice_get whole) zeroth ∙ sym (get_after place whole 0) ∙ ap (λ l. slice_get l 0) is, sym (drop-drop 1 place whole) ∙ ap (drop 1) is)
 
   backed_on : (rest : List Output) (place : ℕ) (owners : Owners) (files : Files) → drop place whole ≡ rest → AllZip IsBacked owners files
       → AllZip IsBacked (owners_after owners place (claims_of rest)) (files_by (λ (o : Output). o.number) (λ (o : Output). o.built.bytes) files rest)

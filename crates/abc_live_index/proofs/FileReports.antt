@@ -13,7 +13,7 @@ use Rattle.std.proofs.lemmas.Cmp.{nat_cmp_total, ranked}
 use Rattle.std.proofs.lemmas.List.Elements.{filter_agree, Contains-append_left, Contains-push, Contains-push_cases}
 use Rattle.std.proofs.lemmas.Map.Keys.{sorted_from_strictly_increasing}
 use Rattle.std.proofs.lemmas.Slice.Eq.{bytes_eq-Decides}
-use Rattle.abc_live_index.proofs.Lists.{same_before, same_behind}
+use Rattle.abc_live_index.proofs.Lists.{same_before, same_after}
 use Rattle.abc_live_index.proofs.Orders.{one_order}
 use Rattle.abc_live_index.proofs.FileOwners.{Answers, file_by_owner, keys_agree, owner_answers}
 use Rattle.abc_live_index.specs.Outputs.{files_of}
@@ -54,7 +54,7 @@ sorted_members found n = (
 )
 
 lt_or_same : (m n : ℕ) → m < n + 1 → (m < n) ⊎ (m ≡ n)
-lt_or_same m n order = elim (cases_lt m n) [ inl less ↦ inl less | inr behind ↦ inr (omega (arith, order, behind)) ]
+lt_or_same m n order = elim (cases_lt m n) [ inl less ↦ inl less | inr following ↦ inr (omega (arith, order, following)) ]
 
 -- the numbers that have an owner are those that have a file
 pub keys_are : (outputs : List Output) (owners : Owners) → owners ≡ owners_of outputs → keys_of owners ≡ keys_of (files_of outputs)
@@ -236,14 +236,14 @@ module _ (before after : List Output) where
         let gives : bytes_at before place ≡ r.output.built.bytes = ap (option_and_then (λ (o : Output). o.built.bytes)) (same ∙ r.here) in
         false≢true (sym r.differs ∙ same_bytes (bytes_at before place) r.output.built.bytes gives)
 
-    module _ (front came behind to : ℕ) (order : front ≤ behind) (count : came ≡ behind - front) (past : behind ≤ to)
-        (start : take front after ≡ take front before) (rest : drop (front + came) after ≡ drop behind before) where
+    module _ (front came following to : ℕ) (order : front ≤ following) (count : came ≡ following - front) (past : following ≤ to)
+        (start : take front after ≡ take front before) (rest : drop (front + came) after ≡ drop following before) where
       in_stretch : (place n : ℕ) → Rewrites (owners_of before) place n → Within (owners_of before) front to n
       in_stretch place n r =
           let low : front ≤ place = elim (cases_lt place front) [ inl less ↦ absurd (changed_there place n r (same_before before after front place less start)) | inr there ↦ there ] in
-          let high : place < to = elim (cases_lt place behind) [
+          let high : place < to = elim (cases_lt place following) [
             | inl less ↦ omega (arith, less, past)
-            | inr there ↦ absurd (changed_there place n r (same_behind before after behind (front + came) place place there
+            | inr there ↦ absurd (changed_there place n r (same_after before after following (front + came) place place there
                 (omega (arith, order, count, there)) (omega (arith, order, count, there)) rest))
           ] in
           (place, low, high, rewritten_there (owners_of before) place n r)

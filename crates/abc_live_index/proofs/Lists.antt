@@ -17,16 +17,16 @@ pub take_next : {X : Type 0} (xs : List X) (k : ℕ) (x : X) → slice_get xs k 
 take_next xs k x is = take_more xs k x (slice_get_within xs k x is) ∙ ap (λ y. take k xs ++ y ∷ []) (get_or_from_slice_get xs k x x is)
 
 pub past : {X : Type 0} (xs : List X) (i : ℕ) → slice_get xs i ≡ None → length xs ≤ i
-past xs i is = elim (slice_get_cases xs i).1 [ inl some ↦ absurd (let e = sym is ∙ some.2 in cc) | inr behind ↦ behind.0 ]
+past xs i is = elim (slice_get_cases xs i).1 [ inl some ↦ absurd (let e = sym is ∙ some.2 in cc) | inr following ↦ following.0 ]
 
 -- there is one at each place
 pub never_none : {X : Type 0} (xs : List X) (i : ℕ) → slice_get xs i ≡ None → i < length xs → ⊥
-never_none xs i is inside = let behind = past xs i is in omega (arith, behind, inside)
+never_none xs i is inside = let following = past xs i is in omega (arith, following, inside)
 
 take_past : {X : Type 0} (xs : List X) (k : ℕ) → slice_get xs k ≡ None → take (k + 1) xs ≡ take k xs
 take_past xs k is =
-    let behind = past xs k is in
-    take_all (k + 1) xs (omega (arith, behind)) ∙ sym (take_all k xs behind)
+    let following = past xs k is in
+    take_all (k + 1) xs (omega (arith, following)) ∙ sym (take_all k xs following)
 
 take_same_step : {X : Type 0} (xs ys : List X) (k : ℕ) (x y : Option X) → slice_get xs k ≡ x → slice_get ys k ≡ y → x ≡ y → take k xs ≡ take k ys → take (k + 1) xs ≡ take (k + 1) ys
 take_same_step xs ys k None None here there same front = take_past xs k here ∙ front ∙ sym (take_past ys k there)
@@ -50,10 +50,10 @@ drop_later xs ys k n order same =
     let later : k + (n - k) ≡ n = omega (arith, order) in
     ap (λ m. drop m xs) (sym later) ∙ sym (drop-drop (n - k) k xs) ∙ ap (drop (n - k)) same ∙ drop-drop (n - k) k ys ∙ ap (λ m. drop m ys) later
 
-pub get_behind : {X : Type 0} (n : ℕ) (xs : List X) (k : ℕ) → slice_get (drop n xs) k ≡ slice_get xs (n + k)
-get_behind zero xs k = let e : k ≡ 0 + k = omega arith in ap (slice_get xs) e
-get_behind (suc n) [] k = refl
-get_behind (suc n) (x ∷ xs) k = let e : suc (n + k) ≡ suc n + k = omega arith in get_behind n xs k ∙ ap (slice_get (x ∷ xs)) e
+pub get_after : {X : Type 0} (n : ℕ) (xs : List X) (k : ℕ) → slice_get (drop n xs) k ≡ slice_get xs (n + k)
+get_after zero xs k = let e : k ≡ 0 + k = omega arith in ap (slice_get xs) e
+get_after (suc n) [] k = refl
+get_after (suc n) (x ∷ xs) k = let e : suc (n + k) ≡ suc n + k = omega arith in get_after n xs k ∙ ap (slice_get (x ∷ xs)) e
 
 get_front : {X : Type 0} (n : ℕ) (xs : List X) (k : ℕ) → k < n → slice_get (take n xs) k ≡ slice_get xs k
 get_front zero xs k order = absurd (omega (arith, order))
@@ -65,11 +65,11 @@ get_front (suc n) (x ∷ xs) (suc k) order = get_front n xs k (omega (arith, ord
 pub same_before : {X : Type 0} (xs ys : List X) (n k : ℕ) → k < n → take n ys ≡ take n xs → slice_get xs k ≡ slice_get ys k
 same_before xs ys n k before same = sym (get_front n xs k before) ∙ ap (λ l. slice_get l k) (sym same) ∙ get_front n ys k before
 
-pub same_behind : {X : Type 0} (xs ys : List X) (from to i k : ℕ) → from ≤ i → to ≤ k → k - to ≡ i - from → drop to ys ≡ drop from xs → slice_get xs i ≡ slice_get ys k
-same_behind xs ys from to i k here there apart same =
+pub same_after : {X : Type 0} (xs ys : List X) (from to i k : ℕ) → from ≤ i → to ≤ k → k - to ≡ i - from → drop to ys ≡ drop from xs → slice_get xs i ≡ slice_get ys k
+same_after xs ys from to i k here there apart same =
     let one : i ≡ from + (i - from) = omega (arith, here) in
     let other : to + (i - from) ≡ k = omega (arith, there, apart) in
-    ap (slice_get xs) one ∙ sym (get_behind from xs (i - from)) ∙ ap (λ l. slice_get l (i - from)) (sym same) ∙ get_behind to ys (i - from) ∙ ap (slice_get ys) other
+    ap (slice_get xs) one ∙ sym (get_after from xs (i - from)) ∙ ap (λ l. slice_get l (i - from)) (sym same) ∙ get_after to ys (i - from) ∙ ap (slice_get ys) other
 
 -- what follows from two facts of an answer
 pub ok_both : {A E : Type 0} (answer : Result A E) (P Q R : A → Type 0) → ((x : A) → P x → Q x → R x) → IfOk answer P → IfOk answer Q → IfOk answer R

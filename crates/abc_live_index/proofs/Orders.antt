@@ -22,11 +22,11 @@ module _ {A : Type 0} (cmp : A → A → Ordering) (total : IsTotalOrder cmp) wh
   same_head x y xs ys front back (inr late) (inl is) = is
   same_head x y xs ys front back (inr late) (inr later) = never_both x y (above x y xs front later) (above y x ys back late)
 
-  behind_head : (x y n : A) (xs ys : List A) → AllByRecursion (λ z. cmp x z ≡ Less) xs → x ≡ y → Contains xs n → (y ≡ n) ⊎ Contains ys n → Contains ys n
-  behind_head x y n xs ys front same there (inl is) =
+  after_head : (x y n : A) (xs ys : List A) → AllByRecursion (λ z. cmp x z ≡ Less) xs → x ≡ y → Contains xs n → (y ≡ n) ⊎ Contains ys n → Contains ys n
+  after_head x y n xs ys front same there (inl is) =
       let up = above x n xs front there in
       never_both x x (ap (cmp x) (same ∙ is) ∙ up) (ap (cmp x) (same ∙ is) ∙ up)
-  behind_head x y n xs ys front same there (inr late) = late
+  after_head x y n xs ys front same there (inr late) = late
 
   -- two that have the same elements are the same
   pub one_order : (xs ys : List A) → IsStrictlySortedBy cmp xs → IsStrictlySortedBy cmp ys
@@ -38,6 +38,6 @@ module _ {A : Type 0} (cmp : A → A → Ordering) (total : IsTotalOrder cmp) wh
   one_order (x ∷ xs) (y ∷ ys) up down forth back =
       let head : x ≡ y = same_head x y xs ys up.0 down.0 (contains_cons y ys x (forth x (contains_head x xs x refl))) (contains_cons x xs y (back y (contains_head y ys y refl))) in
       let rest : xs ≡ ys = one_order xs ys up.1 down.1
-      (λ n there. behind_head x y n xs ys up.0 head there (contains_cons y ys n (forth n (contains_tail x xs n there))))
-      (λ n there. behind_head y x n ys xs down.0 (sym head) there (contains_cons x xs n (back n (contains_tail y ys n there)))) in
+      (λ n there. after_head x y n xs ys up.0 head there (contains_cons y ys n (forth n (contains_tail x xs n there))))
+      (λ n there. after_head y x n ys xs down.0 (sym head) there (contains_cons x xs n (back n (contains_tail y ys n there)))) in
       ap (λ z. z ∷ xs) head ∙ ap (λ l. y ∷ l) rest

@@ -20,7 +20,7 @@ none_on xs i is = drop_all i xs (past xs i is)
 
 -- and one before it
 pub never_none : {X : Type 0} {A : Type 0} (xs : List X) (i : ℕ) → i < length xs → slice_get xs i ≡ None → A
-never_none xs i inside is = absurd (let behind = past xs i is in omega (arith, inside, behind))
+never_none xs i inside is = absurd (let following = past xs i is in omega (arith, inside, following))
 
 -- the first of those from one place to another, and the rest
 pub between : {X : Type 0} (xs : List X) (from to : ℕ) (x : X) → from < to → slice_get xs from ≡ Some x → take (to - from) (drop from xs) ≡ x ∷ take (to - (from + 1)) (drop (from + 1) xs)
@@ -46,11 +46,11 @@ module _ {Items : Type 0} (faults : Items → List (ℕ × FaultCode)) where
       (map (placed_at line) (take (to - from) (drop from all))) ++ faults_along faults (placed_from next counts (drop to all))
   lines_on all line next from to count counts left are ends follows =
       let long : count ≡ to - from = omega (arith, ends) in
-      let behind : drop count (drop from all) ≡ drop to all = drop-drop count from all ∙ ap (λ k. drop k all) (let e : from + count ≡ to = omega (arith, ends) in e) in
+      let following : drop count (drop from all) ≡ drop to all = drop-drop count from all ∙ ap (λ k. drop k all) (let e : from + count ≡ to = omega (arith, ends) in e) in
       ap (λ l. faults_along faults (placed_from line l (drop from all))) are
       ∙ flat_map-append (λ one. map (fault_in one.line) (faults one.here)) (map (placed_at line) (take count (drop from all))) (placed_from (line + 1) counts (drop count (drop from all)))
       ∙ ap (λ k. faults_along faults (map (placed_at line) (take k (drop from all))) ++ faults_along faults (placed_from (line + 1) counts (drop count (drop from all)))) long
-      ∙ ap (λ l. faults_along faults (map (placed_at line) (take (to - from) (drop from all))) ++ faults_along faults (placed_from (line + 1) counts l)) behind
+      ∙ ap (λ l. faults_along faults (map (placed_at line) (take (to - from) (drop from all))) ++ faults_along faults (placed_from (line + 1) counts l)) following
       ∙ ap (λ k. faults_along faults (map (placed_at line) (take (to - from) (drop from all))) ++ faults_along faults (placed_from k counts (drop to all))) (sym follows)
 
 -- an order after another
@@ -113,7 +113,7 @@ made_more f xs at y made more is put whole =
 
 -- if none is left, these are all
 pub made_all : {A B : Type 0} (f : A → B) (xs : List A) (at : ℕ) (made : List B) → length xs ≤ at → made ++ map f (drop at xs) ≡ map f xs → made ≡ map f xs
-made_all f xs at made behind whole = sym (append-nil made) ∙ ap (λ l. made ++ map f l) (sym (drop_all at xs behind)) ∙ whole
+made_all f xs at made following whole = sym (append-nil made) ∙ ap (λ l. made ++ map f l) (sym (drop_all at xs following)) ∙ whole
 
 -- what holds of an answer holds of what follows from it
 pub ok_more : {A E : Type 0} (answer : Result A E) (P Q : A → Type 0) → ((x : A) → P x → Q x) → IfOk answer P → IfOk answer Q

@@ -6,10 +6,10 @@ module _ {X : Type 0} (xs : List X) (before count : ℕ) where
   -- a run of them is a run of the whole
   pub among : (from to : ℕ) → before ≤ from → from ≤ to → to ≤ before + count
       → take (to - before - (from - before)) (drop (from - before) (take count (drop before xs))) ≡ take (to - from) (drop from xs)
-  among from to behind order within =
-      let many : count ≡ from - before + (before + count - from) = omega (arith, behind, order, within) in
-      let long : to - before - (from - before) ≡ to - from = omega (arith, behind, order) in
-      let there : before + (from - before) ≡ from = omega (arith, behind) in
+  among from to following order within =
+      let many : count ≡ from - before + (before + count - from) = omega (arith, following, order, within) in
+      let long : to - before - (from - before) ≡ to - from = omega (arith, following, order) in
+      let there : before + (from - before) ≡ from = omega (arith, following) in
       let fewer : to - from ≤ before + count - from = omega (arith, within) in
       ap (λ n. take n (drop (from - before) (take count (drop before xs)))) long
       ∙ ap (λ n. take (to - from) (drop (from - before) (take n (drop before xs)))) many

@@ -106,16 +106,16 @@ shifted_order gone came (x ∷ xs) all up = (
   shifted_order gone came xs (All-tail (λ (f : Fault). gone ≤ f.line) x xs all) up.1,
 )
 
-module _ (from gone came : ℕ) (before old behind new : List Fault)
-    (front : All (FaultBefore from) before) (stretch : All (FaultAmong from gone) old) (back : All (FaultAfter (from + gone)) behind) (stand : All (FaultAmong from came) new) where
+module _ (from gone came : ℕ) (before old following new : List Fault)
+    (front : All (FaultBefore from) before) (stretch : All (FaultAmong from gone) old) (back : All (FaultAfter (from + gone)) following) (stand : All (FaultAmong from came) new) where
   abbrev shift : Fault → Fault
   shift = shifted_fault gone came
 
   abbrev was : List Fault
-  was = before ++ (old ++ behind)
+  was = before ++ (old ++ following)
 
   abbrev is : List Fault
-  is = before ++ (new ++ map shift behind)
+  is = before ++ (new ++ map shift following)
 
   abbrev whole : List Fault
   whole = sort_dedup fault_cmp was
@@ -168,20 +168,20 @@ module _ (from gone came : ℕ) (before old behind new : List Fault)
   front_forth : (f : Fault) → Contains first f → Contains is f
   front_forth f there =
       let low = early f there in
-      elim (Contains-append_cases before (old ++ behind) f ((no_fault_lost was f).0 (from_filter (is_before from) whole f there).0)) [
-        | inl one ↦ Contains-append_left before (new ++ map shift behind) f one
-        | inr rest ↦ elim (Contains-append_cases old behind f rest) [
+      elim (Contains-append_cases before (old ++ following) f ((no_fault_lost was f).0 (from_filter (is_before from) whole f there).0)) [
+        | inl one ↦ Contains-append_left before (new ++ map shift following) f one
+        | inr rest ↦ elim (Contains-append_cases old following f rest) [
           | inl one ↦ absurd (let high = All-contains (FaultAmong from gone) old f stretch one in omega (arith, low, high.0))
-          | inr one ↦ absurd (let high = All-contains (FaultAfter (from + gone)) behind f back one in omega (arith, low, high))
+          | inr one ↦ absurd (let high = All-contains (FaultAfter (from + gone)) following f back one in omega (arith, low, high))
         ]
       ]
 
-  kept_behind : (f : Fault) → Contains kept f → Contains behind f
-  kept_behind f there =
+  kept_after : (f : Fault) → Contains kept f → Contains following f
+  kept_after f there =
       let far = late f there in
-      elim (Contains-append_cases before (old ++ behind) f ((no_fault_lost was f).0 (from_filter (is_after (from + gone)) whole f there).0)) [
+      elim (Contains-append_cases before (old ++ following) f ((no_fault_lost was f).0 (from_filter (is_after (from + gone)) whole f there).0)) [
         | inl one ↦ absurd (let low = All-contains (FaultBefore from) before f front one in omega (arith, low, far))
-        | inr rest ↦ elim (Contains-append_cases old behind f rest) [
+        | inr rest ↦ elim (Contains-append_cases old following f rest) [
           | inl one ↦ absurd (let low = All-contains (FaultAmong from gone) old f stretch one in omega (arith, low.1, far))
           | inr one ↦ one
         ]
@@ -190,14 +190,14 @@ module _ (from gone came : ℕ) (before old behind new : List Fault)
   back_forth : (f : Fault) → Contains (map shift kept) f → Contains is f
   back_forth f there =
       let one = from_map shift kept f there in
-      Contains-append_right before (new ++ map shift behind) f
-      (Contains-append_right new (map shift behind) f (subst (λ g. Contains (map shift behind) g) one.2 (to_map shift behind one.0 (kept_behind one.0 one.1))))
+      Contains-append_right before (new ++ map shift following) f
+      (Contains-append_right new (map shift following) f (subst (λ g. Contains (map shift following) g) one.2 (to_map shift following one.0 (kept_after one.0 one.1))))
 
   forth : (f : Fault) → Contains (first ++ (middle ++ map shift kept)) f → Contains is f
   forth f there = elim (Contains-append_cases first (middle ++ map shift kept) f there) [
     | inl one ↦ front_forth f one
     | inr rest ↦ elim (Contains-append_cases middle (map shift kept) f rest) [
-      | inl one ↦ Contains-append_right before (new ++ map shift behind) f (Contains-append_left new (map shift behind) f ((no_fault_lost new f).0 one))
+      | inl one ↦ Contains-append_right before (new ++ map shift following) f (Contains-append_left new (map shift following) f ((no_fault_lost new f).0 one))
       | inr one ↦ back_forth f one
     ]
   ]
@@ -205,23 +205,23 @@ module _ (from gone came : ℕ) (before old behind new : List Fault)
   -- and each of the new text is in one of the parts
   front_back : (f : Fault) → Contains before f → Contains first f
   front_back f there =
-      to_filter (is_before from) whole f ((no_fault_lost was f).1 (Contains-append_left before (old ++ behind) f there)) (le-leb f.line from (All-contains (FaultBefore from) before f front there))
+      to_filter (is_before from) whole f ((no_fault_lost was f).1 (Contains-append_left before (old ++ following) f there)) (le-leb f.line from (All-contains (FaultBefore from) before f front there))
 
-  behind_back : (f : Fault) → Contains (map shift behind) f → Contains (map shift kept) f
-  behind_back f there =
-      let one = from_map shift behind f there in
+  after_back : (f : Fault) → Contains (map shift following) f → Contains (map shift kept) f
+  after_back f there =
+      let one = from_map shift following f there in
       let here : Contains kept one.0 =
       to_filter (is_after (from + gone)) whole one.0
-      ((no_fault_lost was one.0).1 (Contains-append_right before (old ++ behind) one.0 (Contains-append_right old behind one.0 one.1)))
-      (lt-ltb (from + gone) one.0.line (All-contains (FaultAfter (from + gone)) behind one.0 back one.1)) in
+      ((no_fault_lost was one.0).1 (Contains-append_right before (old ++ following) one.0 (Contains-append_right old following one.0 one.1)))
+      (lt-ltb (from + gone) one.0.line (All-contains (FaultAfter (from + gone)) following one.0 back one.1)) in
       subst (λ g. Contains (map shift kept) g) one.2 (to_map shift kept one.0 here)
 
   backward : (f : Fault) → Contains is f → Contains (first ++ (middle ++ map shift kept)) f
-  backward f there = elim (Contains-append_cases before (new ++ map shift behind) f there) [
+  backward f there = elim (Contains-append_cases before (new ++ map shift following) f there) [
     | inl one ↦ Contains-append_left first (middle ++ map shift kept) f (front_back f one)
-    | inr rest ↦ Contains-append_right first (middle ++ map shift kept) f (elim (Contains-append_cases new (map shift behind) f rest) [
+    | inr rest ↦ Contains-append_right first (middle ++ map shift kept) f (elim (Contains-append_cases new (map shift following) f rest) [
       | inl one ↦ Contains-append_left middle (map shift kept) f ((no_fault_lost new f).1 one)
-      | inr one ↦ Contains-append_right middle (map shift kept) f (behind_back f one)
+      | inr one ↦ Contains-append_right middle (map shift kept) f (after_back f one)
     ])
   ]
 
@@ -232,4 +232,4 @@ module _ (from gone came : ℕ) (before old behind new : List Fault)
 
 pub faults_meet : FaultsMeet
 unfolding faults_after
-faults_meet lines before old behind new front stretch back stand = meets lines.from (gone lines) lines.came before old behind new front stretch back stand
+faults_meet lines before old following new front stretch back stand = meets lines.from (gone lines) lines.came before old following new front stretch back stand

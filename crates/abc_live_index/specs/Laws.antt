@@ -39,8 +39,8 @@ FaultAfter to fault = to < fault.line
 -- The faults of a text, with those of a stretch replaced, are those of the text with the stretch replaced.
 abbrev pub FaultsMeet : Type 0
 FaultsMeet =
-    (lines : Replacement) (before old behind new : List Fault)
+    (lines : Replacement) (before old following new : List Fault)
     → All (FaultBefore lines.from) before → All (FaultAmong lines.from (gone lines)) old
-    → All (FaultAfter (lines.from + gone lines)) behind → All (FaultAmong lines.from lines.came) new
-    → faults_after lines (sort_dedup fault_cmp (before ++ (old ++ behind))) new
-    ≡ sort_dedup fault_cmp (before ++ (new ++ map (shifted_fault (gone lines) lines.came) behind))
+    → All (FaultAfter (lines.from + gone lines)) following → All (FaultAmong lines.from lines.came) new
+    → faults_after lines (sort_dedup fault_cmp (before ++ (old ++ following))) new
+    ≡ sort_dedup fault_cmp (before ++ (new ++ map (shifted_fault (gone lines) lines.came) following))

@@ -18,4 +18,4 @@ pub record IsChange (change : TuneChange) : Type 0 where
   pub inside : change.tunes.to ≤ length (old_outputs change)
   pub count : length (new_outputs change) ≡ change.tunes.from + change.tunes.came + (length (old_outputs change) - change.tunes.to)
   pub front : take change.tunes.from (new_outputs change) ≡ take change.tunes.from (old_outputs change)
-  pub behind : drop (change.tunes.from + change.tunes.came) (new_outputs change) ≡ drop change.tunes.to (old_outputs change)
+  pub following : drop (change.tunes.from + change.tunes.came) (new_outputs change) ≡ drop change.tunes.to (old_outputs change)

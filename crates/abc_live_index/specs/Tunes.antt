@@ -19,7 +19,7 @@ lowered_place before place = record { kind = place.kind; from = place.from - bef
 
 -- A place of a text lies among `count` lines at index `before`.
 pub record LiesAmong (before count : ℕ) (place : Block) : Type 0 where
-  pub behind : before ≤ place.from
+  pub following : before ≤ place.from
   pub order : place.from ≤ place.to
   pub within : place.to ≤ before + count
 

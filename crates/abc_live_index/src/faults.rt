@@ -20,7 +20,7 @@ fn faults_before(alloc: Global, faults: &[Fault], from: usize) -> Result<Vec<Fau
 }
 
 /// The faults after the first `to` lines.
-fn faults_behind(alloc: Global, faults: &[Fault], to: usize) -> Result<Vec<Fault>, AllocError>
+fn faults_following(alloc: Global, faults: &[Fault], to: usize) -> Result<Vec<Fault>, AllocError>
     ensures { IfOk result (λ kept. kept.items ≡ filter (is_after to) faults.now) }
 {
     faults
@@ -33,14 +33,14 @@ fn faults_behind(alloc: Global, faults: &[Fault], to: usize) -> Result<Vec<Fault
 /// Appends the faults after `gone` lines that `came` others replace, with their new lines.
 fn put_shifted(
     faults: &mut Vec<Fault>,
-    behind: &[Fault],
+    following: &[Fault],
     gone: usize,
     came: usize,
 ) -> Result<(), AllocError>
-    requires { All (λ fault. fault.line - gone + came ≤ u32.MAX) behind.now }
-    ensures { OnOk result (faults.new.items ≡ faults.old.items ++ map (shifted_fault gone came) behind.now) }
+    requires { All (λ fault. fault.line - gone + came ≤ u32.MAX) following.now }
+    ensures { OnOk result (faults.new.items ≡ faults.old.items ++ map (shifted_fault gone came) following.now) }
 {
-    for fault in behind {
+    for fault in following {
         let line = (fault.line as usize).saturating_sub(gone) + came;
         faults.push(Fault {
             line: line as u32,
@@ -65,7 +65,7 @@ pub(crate) fn faults_after(
     let new = sort_dedup(alloc, new)?;
     faults.extend_from_slice(&new)?;
     let gone = lines.to.saturating_sub(lines.from);
-    let behind = faults_behind(alloc, old, lines.from + gone)?;
-    put_shifted(&mut faults, &behind, gone, lines.came)?;
+    let following = faults_following(alloc, old, lines.from + gone)?;
+    put_shifted(&mut faults, &following, gone, lines.came)?;
     Ok(faults)
 }

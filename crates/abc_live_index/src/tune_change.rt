@@ -142,7 +142,7 @@ impl TuneChange<'_> {
 
     /// Whether the tune at index `new` after the change is the old one at index `old`: both are before the stretch, or
     /// both after it.
-    #[tactic(auto, using(crate::proofs::Lists::same_before, crate::proofs::Lists::same_behind))]
+    #[tactic(auto, using(crate::proofs::Lists::same_before, crate::proofs::Lists::same_after))]
     fn keeps_tune(&self, old: usize, new: usize) -> bool
         requires { IsChange self.now }
         ensures { result ≡ true → slice_get (old_outputs self.now) old ≡ slice_get (new_outputs self.now) new }

@@ -21,7 +21,7 @@ use Rattle.abc_live_text.specs.Chains.{AreChains, places_of}
 use Rattle.abc_live_text.specs.Origin.{BlocksRise, rows_until}
 use Rattle.abc_live_text.specs.Row.{CarriedRow, Row, carried_row}
 use Rattle.abc_live_text.specs.KeptText.{AreRows}
-use Rattle.abc_live_text.proofs.StretchLines.{BeginBehind, length-until, placed_both}
+use Rattle.abc_live_text.proofs.StretchLines.{BeginAfter, length-until, placed_both}
 use Rattle.abc_live_text.proofs.Edits.{edit_carried, edit_of, edit_origins, edit_read, fresh_row}
 use Rattle.abc_live_text.proofs.FreshSteps.{map-over}
 use Rattle.abc_live_text.proofs.Parts.{edited_parts, part_moved}
@@ -84,16 +84,16 @@ stretch_rows rules s from own = take (s.at - from) own ++ (map (fresh_row rules)
 pub record IsAmong (from to count : ℕ) (front own back : List Block) : Type 0 where
   pub first : BlocksRise 0 front from
   pub here : BlocksRise from own to
-  pub begins : BeginBehind from (own ++ back)
-  pub ends : BeginBehind to back
+  pub begins : BeginAfter from (own ++ back)
+  pub ends : BeginAfter to back
   pub inside : to ≤ count
 
 -- All rows are those before the stretch, in it, and after it.
 pub record Parted {State Cell Items Defaults : Type 0} (rules : Rules State Cell Items Defaults) (s : Splice) (all own : List (CarriedRow Cell)) (from : ℕ) : Type 0 where
   pub before : List (CarriedRow Cell)
-  pub behind : List (CarriedRow Cell)
-  pub old_are : all ≡ before ++ (own ++ behind)
-  pub new_are : edit_of rules s all ≡ before ++ (stretch_rows rules s from own ++ behind)
+  pub following : List (CarriedRow Cell)
+  pub old_are : all ≡ before ++ (own ++ following)
+  pub new_are : edit_of rules s all ≡ before ++ (stretch_rows rules s from own ++ following)
   pub count : from ≡ length before
 
 pub parted : {State Cell Items Defaults : Type 0} (rules : Rules State Cell Items Defaults) (s : Splice) (rows : List (CarriedRow Cell)) (from to : ℕ) (front own back : List Block)
@@ -109,7 +109,7 @@ parted rules s rows from to front own back among order h k =
     let long_o : length o ≡ to - from = length-until rows from to (0 + length front) own among.here among.inside in
     record {
       before = a;
-      behind = d;
+      following = d;
       old_are = whole;
       new_are = ap (edit_of rules s) whole
           ∙ (edited_parts a o d (map (fresh_row rules) s.lines) s.at s.removed (omega (arith, long_a, h)) (omega (arith, long_a, long_o, k, order))

@@ -33,7 +33,7 @@ pub record IsEditedRun {State Cell Items Defaults : Type 0} (rules : Rules State
       ++ (map (moved span.lines.from) (tunes_among (stretch_rows rules s span.lines.from own))
       ++ map (shifted (span.lines.to - span.lines.from) (length (stretch_rows rules s span.lines.from own))) (drop span.tunes.to (tunes_in (blocks_in rules text))))
   pub before : All (Ends span.lines.from) (take span.tunes.from (tunes_in (blocks_in rules text)))
-  pub behind : All (StartsFrom span.lines.to) (drop span.tunes.to (tunes_in (blocks_in rules text)))
+  pub following : All (StartsFrom span.lines.to) (drop span.tunes.to (tunes_in (blocks_in rules text)))
   pub amid : All (λ (block : Block). (span.lines.from ≤ block.from) × (block.to ≤ span.lines.to))
       (take (span.tunes.to - span.tunes.from) (drop span.tunes.from (tunes_in (blocks_in rules text))))
   pub order : span.tunes.from ≤ span.tunes.to

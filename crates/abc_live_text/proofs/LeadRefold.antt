@@ -121,7 +121,7 @@ module _ {C State Cell Items Defaults : Type 0} (steps : C → Steps State Cell 
       let read = bare_read (rules on.compiler) on.lines.text on.rows.items stands.read in
       let all = settled_carried (steps on.compiler) (rules on.compiler) on.lines.text (map carried_row on.rows.items) on.chains.items read.cells stands.chains_are in
       let own = all_mid (IsCarried on.chains.items) parts.before
-      (first_run (rules on.compiler) on.lines.text (splice_at at removed []) on.rows.items lead) parts.behind (subst (All (IsCarried on.chains.items)) parts.old_are all) in
+      (first_run (rules on.compiler) on.lines.text (splice_at at removed []) on.rows.items lead) parts.following (subst (All (IsCarried on.chains.items)) parts.old_are all) in
       subst (λ (k : KeptTextView C State Cell Items). All (IsCarried k.chains.items) rows) view
       (subst (All (IsCarried on.chains.items)) (sym r)
       (edited_carried on.chains.items old new at (at + removed) (subst (All (IsCarried on.chains.items)) (sym (old_is tunes places old e p o ∙ own_is)) own)))
@@ -151,8 +151,8 @@ module _ {C State Cell Items Defaults : Type 0} {steps : Steps State Cell Items}
       let b : s.at + s.removed ≡ s.at + s.removed - 0 = omega arith in
       edit.rows_are ∙ (λ i. take (a i) (old i) ++ (own i ++ drop (b i) (old i)))
 
-  run_parts : new_rows ≡ facts.run.parts.before ++ (run ++ facts.run.parts.behind)
-  run_parts = facts.run.parts.new_are ∙ ap (λ r. facts.run.parts.before ++ (r ++ facts.run.parts.behind)) (sym runs)
+  run_parts : new_rows ≡ facts.run.parts.before ++ (run ++ facts.run.parts.following)
+  run_parts = facts.run.parts.new_are ∙ ap (λ r. facts.run.parts.before ++ (r ++ facts.run.parts.following)) (sym runs)
 
   header_there : header_among run ≡ header_in now_blocks
   header_there = ap (λ r. header_among r) runs ∙ sym facts.header
@@ -169,7 +169,7 @@ module _ {C State Cell Items Defaults : Type 0} {steps : Steps State Cell Items}
         header_is = same;
         chain = header_made steps rules (spliced on.lines.text s) new_rows first (header_in now_blocks) kept.laws new_rows_are.read.cells
             (subst (λ r. IsHeaderChain steps rules.header r first (header_in now_blocks)) (sym run_parts)
-            (header_moved steps rules.header facts.run.parts.before run facts.run.parts.behind first (header_in now_blocks) facts.run.parts.count header_lies
+            (header_moved steps rules.header facts.run.parts.before run facts.run.parts.following first (header_in now_blocks) facts.run.parts.count header_lies
             (subst (IsHeaderChain steps rules.header run first) same begin.chain)));
         begins = begin.begins ∙ ap (λ (h : Option Block). rules.tune (state_after_chain h first)) same;
       }
@@ -179,7 +179,7 @@ module _ {C State Cell Items Defaults : Type 0} {steps : Steps State Cell Items}
       → IsRaisedUpTo (header_steps steps rules.header on.chains.items new_rows (header_in now_blocks)) before after
   lead_head {before = before} {after = after} raise = subst (λ n. IsRaisedUpTo n before after)
       (ap (header_steps steps rules.header on.chains.items run) header_there
-      ∙ (header_taken steps rules.header on.chains.items facts.run.parts.before run facts.run.parts.behind (header_in now_blocks) facts.run.parts.count header_lies
+      ∙ (header_taken steps rules.header on.chains.items facts.run.parts.before run facts.run.parts.following (header_in now_blocks) facts.run.parts.count header_lies
       ∙ ap (λ r. header_steps steps rules.header on.chains.items r (header_in now_blocks)) (sym run_parts))) raise
 
   pub lead_early : {before after : Counters} → IsRaisedUpTo (header_steps steps rules.header on.chains.items run (header_among run)) before after

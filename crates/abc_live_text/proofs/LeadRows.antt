@@ -17,9 +17,9 @@ use Rattle.abc_live_text.specs.NewParts.{IsLead, span_to, start_of}
 use Rattle.abc_live_text.specs.Row.{CarriedRow, Row, carried_row}
 use Rattle.abc_live_text.specs.KeptText.{AreRows}
 use Rattle.abc_live_text.specs.declared.stretch.Span.{Span}
-use Rattle.abc_live_text.proofs.StretchLines.{BeginBehind, length-until}
+use Rattle.abc_live_text.proofs.StretchLines.{BeginAfter, length-until}
 use Rattle.abc_live_text.proofs.Edits.{edit_of}
-use Rattle.abc_live_text.proofs.TuneStretch.{all_starts, begin_behind, laid_out, strict_rest}
+use Rattle.abc_live_text.proofs.TuneStretch.{all_starts, begin_after, laid_out, strict_rest}
 use Rattle.abc_live_text.proofs.NewBlocks.{begin_rest, header_first, tunes_first}
 use Rattle.abc_live_text.proofs.EditedRows.{IsAmong, Parted, parted, placed_read, stretch_rows}
 use Rattle.abc_live_text.proofs.Spans.{Ends, rise_amid, rise_front, rise_to, start_inside}
@@ -65,7 +65,7 @@ module _ {State Cell Items Defaults : Type 0} (rules : Rules State Cell Items De
         first = zeroth;
         here = here;
         begins = omega arith;
-        ends = subst (λ n. BeginBehind n back) (sym is.to) (begin_behind back (length text));
+        ends = subst (λ n. BeginAfter n back) (sym is.to) (begin_after back (length text));
         inside = omega (arith, inside, laid.long);
       } in
       let cut = parted rules s all 0 lead.lines.to [] (head ∷ front) back among (omega arith) (omega arith) is.ends in
@@ -74,11 +74,11 @@ module _ {State Cell Items Defaults : Type 0} (rules : Rules State Cell Items De
       let a = map class_in own.before in
       let o = map class_in first_run in
       let r = map class_in new_run in
-      let b = map class_in own.behind in
+      let b = map class_in own.following in
       let old_classes : a ++ (o ++ b) ≡ map rules.class text =
-      part_classes _ own.before first_run own.behind _ own.old_are (placed_read rules text rows are).classes in
+      part_classes _ own.before first_run own.following _ own.old_are (placed_read rules text rows are).classes in
       let new_classes : a ++ (r ++ b) ≡ map rules.class (spliced text s) =
-      part_classes _ own.before new_run own.behind _ own.new_are new.classes in
+      part_classes _ own.before new_run own.following _ own.new_are new.classes in
       let none : own.before ≡ [] = nil_from_length own.before (sym own.count) in
       let none_classes : a ≡ [] = ap (map class_in) none in
       let count : length first_run ≡ lead.lines.to = length-until all 0 lead.lines.to 0 (head ∷ front) here (omega (arith, inside, laid.long))
@@ -93,15 +93,15 @@ module _ {State Cell Items Defaults : Type 0} (rules : Rules State Cell Items De
       let law_header = header_first a r b none_classes (begin_rest a o b front back tunes_are to) in
       let strict_parts : RiseFromTo 0 (front ++ back) (length text) = subst (λ (l : List Block). RiseFromTo 0 l (length text)) (sym whole) laid.strict in
       let start = is.to in
-      let none_behind : lead.tunes.to ≡ lead.tunes.to - 0 = omega arith in
+      let none_after : lead.tunes.to ≡ lead.tunes.to - 0 = omega arith in
       record {
         run = record {
           parts = own;
           tunes = sym (ap (λ c. tunes_in (blocks_of c)) new_classes) ∙ (law
               ∙ (λ i. map (moved (long_before i)) (tunes_in (blocks_of r)) ++ map (shifted (long_old i) (length-map new_run class_in i)) back));
           before = All-nil (Ends 0);
-          behind = all_starts (start_of back (length text)) back (length text) lead.lines.to (omega (arith, start)) (strict_rest 0 front back (length text) strict_parts);
-          amid = subst (λ n. All (λ (block : Block). (0 ≤ block.from) × (block.to ≤ lead.lines.to)) (take n tunes)) none_behind (rise_amid 0 head.to front lead.lines.to (omega arith) here.2);
+          following = all_starts (start_of back (length text)) back (length text) lead.lines.to (omega (arith, start)) (strict_rest 0 front back (length text) strict_parts);
+          amid = subst (λ n. All (λ (block : Block). (0 ≤ block.from) × (block.to ≤ lead.lines.to)) (take n tunes)) none_after (rise_amid 0 head.to front lead.lines.to (omega arith) here.2);
           order = omega arith;
           most = is.most;
           begins = omega arith;

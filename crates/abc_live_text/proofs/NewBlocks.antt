@@ -10,7 +10,7 @@ use Rattle.std.proofs.lemmas.List.Elements.{All-cons, All-nil, All-drop}
 use Rattle.std.proofs.lemmas.List.{drop_all, drop_at, append-nil}
 use Rattle.abc_book.specs.Block.{blocks_of, is_x_line, letter_x}
 use Rattle.abc_book.specs.Laws.{RiseFromTo, holds, moved}
-use Rattle.abc_book.specs.Stretch.{BeginTune, blocks_at, blocks_before, blocks_behind, shifted}
+use Rattle.abc_book.specs.Stretch.{BeginTune, blocks_at, blocks_before, blocks_after, shifted}
 use Rattle.abc_book.specs.declared.block.Block.{Block}
 use Rattle.abc_book.specs.declared.block.BlockKind.{BlockKind}
 use Rattle.abc_book.specs.declared.block.BlockKind.TheVariants as kinds
@@ -23,7 +23,7 @@ use Rattle.abc_scan.specs.declared.class.LineClass.TheVariants.{Blank, Comment, 
 use Rattle.abc_tune_compiler.specs.Book.{header_in, is_file_header, is_tune, tunes_in}
 use Rattle.abc_live_text.specs.NewParts.{start_of}
 use Rattle.abc_live_text.proofs.Parts.{drop_past}
-use Rattle.abc_live_text.proofs.Spans.{before_are, behind_are, keep_none, tunes_before, tunes_behind, tunes_both, tunes_moved}
+use Rattle.abc_live_text.proofs.Spans.{before_are, after_are, keep_none, tunes_before, tunes_following, tunes_both, tunes_moved}
 use Rattle.abc_live_text.proofs.Spans.{tunes_shifted, tunes_strict}
 
 begin_x : (classes : List LineClass) (n : ℕ) → slice_get classes n ≡ Some (Field letter_x) → BeginTune (drop n classes)
@@ -52,14 +52,14 @@ x_begins classes (block ∷ blocks) begin =
     (λ (e : is_tune block.kind ≡ false). simp e more)
     (cases_Bool (is_tune block.kind))
 
-all_behind : (P : Block → Type 0) (xs ys : List Block) → All P (xs ++ ys) → All P ys
-all_behind P xs ys all = subst (All P) (drop_at xs ys (length xs) refl) (All-drop P (length xs) (xs ++ ys) all)
+all_after : (P : Block → Type 0) (xs ys : List Block) → All P (xs ++ ys) → All P ys
+all_after P xs ys all = subst (All P) (drop_at xs ys (length xs) refl) (All-drop P (length xs) (xs ++ ys) all)
 
 -- A tune begins where others do, or the text ends there.
 begin_start : (classes : List LineClass) (xs ys : List Block) → tunes_in (blocks_of classes) ≡ xs ++ ys → BeginTune (drop (start_of ys (length classes)) classes)
 begin_start classes xs [] e = subst BeginTune (sym (drop_all (length classes) classes (omega arith))) tt
 begin_start classes xs (block ∷ ys) e =
-    let all = all_behind (BeginsWithX classes) xs (block ∷ ys) (subst (All (BeginsWithX classes)) e (x_begins classes (blocks_of classes) (tunes_begin classes))) in
+    let all = all_after (BeginsWithX classes) xs (block ∷ ys) (subst (All (BeginsWithX classes)) e (x_begins classes (blocks_of classes) (tunes_begin classes))) in
     begin_x classes block.from (all 0 block (omega arith))
 
 begin_front : (own rest : List LineClass) → 1 ≤ length own → BeginTune (own ++ rest) → BeginTune own
@@ -130,9 +130,9 @@ header_front : (xs ys zs : List Block) → header_in ys ≡ None → header_in z
 header_front [] ys zs e f = e ∙ sym f
 header_front (x ∷ xs) ys zs e f = refl
 
-cut : (before behind : List LineClass) → 1 ≤ length behind → BeginTune behind → blocks_of (before ++ behind) ≡ blocks_of before ++ map (moved (length before)) (blocks_of behind)
+cut : (before following : List LineClass) → 1 ≤ length following → BeginTune following → blocks_of (before ++ following) ≡ blocks_of before ++ map (moved (length before)) (blocks_of following)
 cut before [] some begin = absurd (omega arith)
-cut before (x ∷ behind) some begin = x_line_cuts before behind x begin
+cut before (x ∷ following) some begin = x_line_cuts before following x begin
 
 -- It stays if the lines after some lines begin a tune before and after.
 header_stays : (before old new : List LineClass) → 1 ≤ length old → 1 ≤ length new → BeginTune old → BeginTune new → header_in (blocks_of (before ++ new)) ≡ header_in (blocks_of (before ++ old))
@@ -151,98 +151,98 @@ some_whole [] rest some = absurd (omega arith)
 some_whole (class ∷ own) rest some = omega arith
 
 -- What is known of a stretch that begins a tune: which tunes are before it, in it and after it.
-pub record IsRun (before old behind : List LineClass) (front mid back : List Block) : Type 0 where
-  pub tunes : tunes_in (blocks_of (before ++ (old ++ behind))) ≡ front ++ (mid ++ back)
-  pub from : length before ≡ start_of (mid ++ back) (length (before ++ (old ++ behind)))
-  pub to : length before + length old ≡ start_of back (length (before ++ (old ++ behind)))
+pub record IsRun (before old following : List LineClass) (front mid back : List Block) : Type 0 where
+  pub tunes : tunes_in (blocks_of (before ++ (old ++ following))) ≡ front ++ (mid ++ back)
+  pub from : length before ≡ start_of (mid ++ back) (length (before ++ (old ++ following)))
+  pub to : length before + length old ≡ start_of back (length (before ++ (old ++ following)))
   pub some : 1 ≤ length old
 
-pub run_begins : (before old behind : List LineClass) (front mid back : List Block) → IsRun before old behind front mid back → BeginTune old
-run_begins before old behind front mid back run =
-    let all = before ++ (old ++ behind) in
+pub run_begins : (before old following : List LineClass) (front mid back : List Block) → IsRun before old following front mid back → BeginTune old
+run_begins before old following front mid back run =
+    let all = before ++ (old ++ following) in
     let here = begin_start all front (mid ++ back) run.tunes in
-    let rest : drop (start_of (mid ++ back) (length all)) all ≡ old ++ behind = ap (λ n. drop n all) (sym run.from)
-    ∙ (drop_past (length before) before (old ++ behind) (omega arith) ∙ (let z : length before - length before ≡ 0 = omega arith in ap (λ n. drop n (old ++ behind)) z)) in
-    begin_front old behind run.some (subst BeginTune rest here)
+    let rest : drop (start_of (mid ++ back) (length all)) all ≡ old ++ following = ap (λ n. drop n all) (sym run.from)
+    ∙ (drop_past (length before) before (old ++ following) (omega arith) ∙ (let z : length before - length before ≡ 0 = omega arith in ap (λ n. drop n (old ++ following)) z)) in
+    begin_front old following run.some (subst BeginTune rest here)
 
 -- The lines after a stretch begin a tune if the tunes after it do.
-pub begin_rest : (before old behind : List LineClass) (front back : List Block)
-    → tunes_in (blocks_of (before ++ (old ++ behind))) ≡ front ++ back → length before + length old ≡ start_of back (length (before ++ (old ++ behind))) → BeginTune behind
-begin_rest before old behind front back tunes to =
-    let all = before ++ (old ++ behind) in
+pub begin_rest : (before old following : List LineClass) (front back : List Block)
+    → tunes_in (blocks_of (before ++ (old ++ following))) ≡ front ++ back → length before + length old ≡ start_of back (length (before ++ (old ++ following))) → BeginTune following
+begin_rest before old following front back tunes to =
+    let all = before ++ (old ++ following) in
     let here = begin_start all front back tunes in
-    let rest : drop (start_of back (length all)) all ≡ behind =
-    ap (λ n. drop n all) (sym to) ∙ (drop_past (length before + length old) before (old ++ behind) (omega arith)
-    ∙ ((let z : length before + length old - length before ≡ length old = omega arith in ap (λ n. drop n (old ++ behind)) z)
-    ∙ (drop_past (length old) old behind (omega arith) ∙ (let z : length old - length old ≡ 0 = omega arith in ap (λ n. drop n behind) z)))) in
+    let rest : drop (start_of back (length all)) all ≡ following =
+    ap (λ n. drop n all) (sym to) ∙ (drop_past (length before + length old) before (old ++ following) (omega arith)
+    ∙ ((let z : length before + length old - length before ≡ length old = omega arith in ap (λ n. drop n (old ++ following)) z)
+    ∙ (drop_past (length old) old following (omega arith) ∙ (let z : length old - length old ≡ 0 = omega arith in ap (λ n. drop n following) z)))) in
     subst BeginTune rest here
 
-run_ends : (before old behind : List LineClass) (front mid back : List Block) → IsRun before old behind front mid back → BeginTune behind
-run_ends before old behind front mid back run = begin_rest before old behind (front ++ mid) back (run.tunes ∙ sym (append_assoc front mid back)) run.to
+run_ends : (before old following : List LineClass) (front mid back : List Block) → IsRun before old following front mid back → BeginTune following
+run_ends before old following front mid back run = begin_rest before old following (front ++ mid) back (run.tunes ∙ sym (append_assoc front mid back)) run.to
 
-tunes_parts : (before old new behind : List LineClass) (there front back : List Block)
-    → blocks_of (before ++ (new ++ behind)) ≡ blocks_before (length before) there
-    ++ (blocks_at (length before) new ++ map (shifted (length old) (length new)) (blocks_behind (length before + length old) there))
-    → tunes_in (blocks_before (length before) there) ≡ front → tunes_in (blocks_behind (length before + length old) there) ≡ back
-    → tunes_in (blocks_of (before ++ (new ++ behind))) ≡ front ++ (map (moved (length before)) (tunes_in (blocks_of new)) ++ map (shifted (length old) (length new)) back)
-tunes_parts before old new behind there front back law first last =
+tunes_parts : (before old new following : List LineClass) (there front back : List Block)
+    → blocks_of (before ++ (new ++ following)) ≡ blocks_before (length before) there
+    ++ (blocks_at (length before) new ++ map (shifted (length old) (length new)) (blocks_after (length before + length old) there))
+    → tunes_in (blocks_before (length before) there) ≡ front → tunes_in (blocks_after (length before + length old) there) ≡ back
+    → tunes_in (blocks_of (before ++ (new ++ following))) ≡ front ++ (map (moved (length before)) (tunes_in (blocks_of new)) ++ map (shifted (length old) (length new)) back)
+tunes_parts before old new following there front back law first last =
     let a = blocks_before (length before) there in
     let b = blocks_at (length before) new in
-    let c = map (shifted (length old) (length new)) (blocks_behind (length before + length old) there) in
+    let c = map (shifted (length old) (length new)) (blocks_after (length before + length old) there) in
     ap tunes_in law ∙ (tunes_both a (b ++ c)
     ∙ (λ i. first i ++ (tunes_both b c ∙ (λ j. tunes_moved (length before) (blocks_of new) j ++
-    (tunes_shifted (length old) (length new) (blocks_behind (length before + length old) there) ∙ ap (map (shifted (length old) (length new))) last) j)) i))
+    (tunes_shifted (length old) (length new) (blocks_after (length before + length old) there) ∙ ap (map (shifted (length old) (length new))) last) j)) i))
 
 -- The tunes after the edit of a stretch.
-pub tunes_after : (before old new behind : List LineClass) (front mid back : List Block) → IsRun before old behind front mid back → BeginTune new
-    → tunes_in (blocks_of (before ++ (new ++ behind))) ≡ front ++ (map (moved (length before)) (tunes_in (blocks_of new)) ++ map (shifted (length old) (length new)) back)
-tunes_after before old new behind front mid back run begins =
-    let all = before ++ (old ++ behind) in
+pub tunes_after : (before old new following : List LineClass) (front mid back : List Block) → IsRun before old following front mid back → BeginTune new
+    → tunes_in (blocks_of (before ++ (new ++ following))) ≡ front ++ (map (moved (length before)) (tunes_in (blocks_of new)) ++ map (shifted (length old) (length new)) back)
+tunes_after before old new following front mid back run begins =
+    let all = before ++ (old ++ following) in
     let there = blocks_of all in
     let n = length all in
-    let begin = run_begins before old behind front mid back run in
-    let law = stretch_is_enough before old new behind (inr begin) (inr begins) (run_ends before old behind front mid back run) in
+    let begin = run_begins before old following front mid back run in
+    let law = stretch_is_enough before old new following (inr begin) (inr begins) (run_ends before old following front mid back run) in
     let rise = tunes_strict 0 there n (blocks_rise all) in
     let rise_first = subst (λ (t : List Block). RiseFromTo 0 t n) run.tunes rise in
     let both : tunes_in there ≡ (front ++ mid) ++ back = run.tunes ∙ sym (append_assoc front mid back) in
     let rise_last = subst (λ (t : List Block). RiseFromTo 0 t n) both rise in
     let first : tunes_in (blocks_before (length before) there) ≡ front =
     tunes_before (length before) there ∙ ((λ i. blocks_before (run.from i) (run.tunes i)) ∙ before_are front (mid ++ back) n rise_first) in
-    let last : tunes_in (blocks_behind (length before + length old) there) ≡ back =
-    tunes_behind (length before + length old) there ∙ ((λ i. blocks_behind (run.to i) (both i)) ∙ behind_are (front ++ mid) back n rise_last) in
-    tunes_parts before old new behind there _ back law first last
+    let last : tunes_in (blocks_after (length before + length old) there) ≡ back =
+    tunes_following (length before + length old) there ∙ ((λ i. blocks_after (run.to i) (both i)) ∙ after_are (front ++ mid) back n rise_last) in
+    tunes_parts before old new following there _ back law first last
 
 -- And the file header.
-pub header_after : (before old new behind : List LineClass) (front mid back : List Block) → IsRun before old behind front mid back → 1 ≤ length new → BeginTune new
-    → header_in (blocks_of (before ++ (new ++ behind))) ≡ header_in (blocks_of (before ++ (old ++ behind)))
-header_after before old new behind front mid back run more begins =
-    header_stays before (old ++ behind) (new ++ behind) (some_whole old behind run.some) (some_whole new behind more)
-    (begin_whole old behind run.some (run_begins before old behind front mid back run)) (begin_whole new behind more begins)
+pub header_after : (before old new following : List LineClass) (front mid back : List Block) → IsRun before old following front mid back → 1 ≤ length new → BeginTune new
+    → header_in (blocks_of (before ++ (new ++ following))) ≡ header_in (blocks_of (before ++ (old ++ following)))
+header_after before old new following front mid back run more begins =
+    header_stays before (old ++ following) (new ++ following) (some_whole old following run.some) (some_whole new following more)
+    (begin_whole old following run.some (run_begins before old following front mid back run)) (begin_whole new following more begins)
 
 -- The tunes after the edit of the first lines of a text.
-pub tunes_first : (before old new behind : List LineClass) (mid back : List Block) → before ≡ []
-    → tunes_in (blocks_of (before ++ (old ++ behind))) ≡ mid ++ back → length before + length old ≡ start_of back (length (before ++ (old ++ behind)))
-    → tunes_in (blocks_of (before ++ (new ++ behind))) ≡ map (moved (length before)) (tunes_in (blocks_of new)) ++ map (shifted (length old) (length new)) back
-tunes_first before old new behind mid back none tunes to =
-    let all = before ++ (old ++ behind) in
+pub tunes_first : (before old new following : List LineClass) (mid back : List Block) → before ≡ []
+    → tunes_in (blocks_of (before ++ (old ++ following))) ≡ mid ++ back → length before + length old ≡ start_of back (length (before ++ (old ++ following)))
+    → tunes_in (blocks_of (before ++ (new ++ following))) ≡ map (moved (length before)) (tunes_in (blocks_of new)) ++ map (shifted (length old) (length new)) back
+tunes_first before old new following mid back none tunes to =
+    let all = before ++ (old ++ following) in
     let there = blocks_of all in
     let n = length all in
-    let law = stretch_is_enough before old new behind (inl none) (inl none) (begin_rest before old behind mid back tunes to) in
+    let law = stretch_is_enough before old new following (inl none) (inl none) (begin_rest before old following mid back tunes to) in
     let rise = subst (λ (t : List Block). RiseFromTo 0 t n) tunes (tunes_strict 0 there n (blocks_rise all)) in
     let zeroth : length before ≡ 0 = ap length none in
     let first : tunes_in (blocks_before (length before) there) ≡ [] = ap (λ k. tunes_in (blocks_before k there)) zeroth ∙ ap tunes_in (keep_none 0 there (λ i d l. omega arith)) in
-    let last : tunes_in (blocks_behind (length before + length old) there) ≡ back =
-    tunes_behind (length before + length old) there ∙ ((λ i. blocks_behind (to i) (tunes i)) ∙ behind_are mid back n rise) in
-    tunes_parts before old new behind there _ back law first last
+    let last : tunes_in (blocks_after (length before + length old) there) ≡ back =
+    tunes_following (length before + length old) there ∙ ((λ i. blocks_after (to i) (tunes i)) ∙ after_are mid back n rise) in
+    tunes_parts before old new following there _ back law first last
 
-header_only : (new behind : List LineClass) → BeginTune behind → header_in (blocks_of (new ++ behind)) ≡ header_in (blocks_of new)
+header_only : (new following : List LineClass) → BeginTune following → header_in (blocks_of (new ++ following)) ≡ header_in (blocks_of new)
 header_only new [] begin = ap (λ c. header_in (blocks_of c)) (append-nil new)
-header_only new (x ∷ behind) begin =
-    let some : 1 ≤ suc (length behind) = omega arith in
-    ap header_in (cut new (x ∷ behind) some begin)
-    ∙ (header_front (blocks_of new) (map (moved (length new)) (blocks_of (x ∷ behind))) [] (header_moved (length new) (blocks_of (x ∷ behind)) (no_header (x ∷ behind) some begin)) refl
+header_only new (x ∷ following) begin =
+    let some : 1 ≤ suc (length following) = omega arith in
+    ap header_in (cut new (x ∷ following) some begin)
+    ∙ (header_front (blocks_of new) (map (moved (length new)) (blocks_of (x ∷ following))) [] (header_moved (length new) (blocks_of (x ∷ following)) (no_header (x ∷ following) some begin)) refl
     ∙ ap header_in (append-nil (blocks_of new)))
 
 -- And the file header, which is that of the first lines.
-pub header_first : (before new behind : List LineClass) → before ≡ [] → BeginTune behind → header_in (blocks_of (before ++ (new ++ behind))) ≡ header_in (blocks_of new)
-header_first before new behind none begin = ap (λ (b : List LineClass). header_in (blocks_of (b ++ (new ++ behind)))) none ∙ header_only new behind begin
+pub header_first : (before new following : List LineClass) → before ≡ [] → BeginTune following → header_in (blocks_of (before ++ (new ++ following))) ≡ header_in (blocks_of new)
+header_first before new following none begin = ap (λ (b : List LineClass). header_in (blocks_of (b ++ (new ++ following)))) none ∙ header_only new following begin

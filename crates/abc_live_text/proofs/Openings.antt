@@ -46,10 +46,10 @@ opening_alike {State = State} {Cell = Cell} steps rules text chain (Some block) 
     let placed = placed_in rules text block in
     let same : chain.cells ≡ placed_values placed = own.cells ∙ sym (cells_are_things rules.cells text (chain_at 0 rules.header block)) in
     let last = last_state steps placed chain.entries rules.header (subst (λ cells. AreAlike steps chain.entries (states_from steps rules.header cells)) same own.folds.entries) in
-    let behind = state_along steps.next rules.header placed in
+    let following = state_along steps.next rules.header placed in
     let here : slice_get chain.entries (length chain.cells) ≡ Some last.0 = ap (λ (cells : List Cell). slice_get chain.entries (length cells)) same ∙ last.1 in
-    subst (λ (after : Option State). IsAlike steps (rules.tune after) (rules.tune (Some behind))) (sym here)
-    (lawful.alike_openings last.0 behind (lawful.equal_defaults last.0 behind last.2))
+    subst (λ (after : Option State). IsAlike steps (rules.tune after) (rules.tune (Some following))) (sym here)
+    (lawful.alike_openings last.0 following (lawful.equal_defaults last.0 following last.2))
 
 chain_made : {State Cell Items : Type 0} (steps : Steps State Cell Items) (read : List ℕ → List Cell) (own opening : State)
     (text : Text) (rows : List (CarriedRow Cell)) (chain : Chained State Cell Items) (block : Block)

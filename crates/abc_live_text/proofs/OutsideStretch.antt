@@ -25,7 +25,7 @@ use Rattle.abc_live_text.proofs.Costs.{raised_both, raised_up}
 use Rattle.abc_live_text.proofs.Edits.{spliced_is}
 use Rattle.abc_live_text.proofs.FreshSteps.{edit_steps}
 use Rattle.abc_live_text.proofs.Openings.{tunes_made}
-use Rattle.abc_live_text.proofs.Parts.{drop_past, part_before, part_behind, zip_both, zip_given}
+use Rattle.abc_live_text.proofs.Parts.{drop_past, part_before, part_following, zip_both, zip_given}
 use Rattle.abc_live_text.proofs.Parts.{zip_same}
 use Rattle.abc_live_text.proofs.EditedRows.{AreRenewed}
 use Rattle.abc_live_text.proofs.Spans.{Ends}
@@ -36,9 +36,9 @@ lines_before text s from h k =
     let long : length (take s.at text) ≡ s.at = length-take-le s.at text (omega (arith, k)) in
     ap (take from) (spliced_is text s) ∙ (take-append-le from (take s.at text) (s.lines ++ drop (s.at + s.removed) text) (omega (arith, long, h)) ∙ take-take from s.at text h)
 
-pub lines_behind : (text : Text) (s : Splice) (from gone came : ℕ) → from ≤ s.at → s.at + s.removed ≤ from + gone → from + gone ≤ length text → came ≡ gone - s.removed + length s.lines
+pub lines_after : (text : Text) (s : Splice) (from gone came : ℕ) → from ≤ s.at → s.at + s.removed ≤ from + gone → from + gone ≤ length text → came ≡ gone - s.removed + length s.lines
     → drop (from + came) (spliced text s) ≡ drop (from + gone) text
-lines_behind text s from gone came h k inside e =
+lines_after text s from gone came h k inside e =
     let long : length (take s.at text) ≡ s.at = length-take-le s.at text (omega (arith, k, inside)) in
     let rest : ℕ = from + gone - (s.at + s.removed) in
     let a : from + came - length (take s.at text) - length s.lines ≡ rest = omega (arith, long, e, h, k) in
@@ -60,12 +60,12 @@ chain_before steps read opening text new from chain block e ends own = record {
   cells = own.cells ∙ ap (flat_map read) (sym (part_before new text block.from block.to from e ends.0 ends.1));
 }
 
-pub chain_behind : {State Cell Items : Type 0} (steps : Steps State Cell Items) (read : List ℕ → List Cell) (opening : State)
+pub chain_after : {State Cell Items : Type 0} (steps : Steps State Cell Items) (read : List ℕ → List Cell) (opening : State)
     (text new : Text) (from gone came : ℕ) (chain : Chained State Cell Items) (block : Block) → drop (from + came) new ≡ drop (from + gone) text → StartsFrom (from + gone) block
     → IsChainOf steps read opening text chain block → IsChainOf steps read opening new chain (shifted gone came block)
-chain_behind steps read opening text new from gone came chain block e starts own = record {
+chain_after steps read opening text new from gone came chain block e starts own = record {
   folds = own.folds;
-  cells = own.cells ∙ ap (flat_map read) (sym (part_behind text new block.from block.to from gone came e starts.0 starts.1));
+  cells = own.cells ∙ ap (flat_map read) (sym (part_following text new block.from block.to from gone came e starts.0 starts.1));
 }
 
 -- A file header that is before the stretch.
@@ -95,25 +95,25 @@ module _ {State Cell Items Defaults : Type 0} (steps : Steps State Cell Items) (
       ∙ ap rules.tune (state_before steps.next rules text new from (header_in (blocks_in rules text)) e ends)
 
   -- The chains of tunes outside the stretch, and the new ones of the stretch, are those of the new text.
-  pub tunes_stay : (tunes made : List (Chained State Cell Items)) (rows : List (CarriedRow Cell)) (own now : State) (front behind : ℕ) (places : List Block)
+  pub tunes_stay : (tunes made : List (Chained State Cell Items)) (rows : List (CarriedRow Cell)) (own now : State) (front following : ℕ) (places : List Block)
       → IsResumable steps → take from new ≡ take from text → drop (from + came) new ≡ drop (from + gone) text
-      → tunes_in (blocks_in rules new) ≡ take front (tunes_in (blocks_in rules text)) ++ (places ++ map (shifted gone came) (drop behind (tunes_in (blocks_in rules text))))
-      → All (Ends from) (take front (tunes_in (blocks_in rules text))) → All (StartsFrom (from + gone)) (drop behind (tunes_in (blocks_in rules text)))
+      → tunes_in (blocks_in rules new) ≡ take front (tunes_in (blocks_in rules text)) ++ (places ++ map (shifted gone came) (drop following (tunes_in (blocks_in rules text))))
+      → All (Ends from) (take front (tunes_in (blocks_in rules text))) → All (StartsFrom (from + gone)) (drop following (tunes_in (blocks_in rules text)))
       → AllZip (IsChainOf steps rules.cells now text) (take front tunes) (take front (tunes_in (blocks_in rules text)))
-      → AllZip (IsChainOf steps rules.cells now text) (drop behind tunes) (drop behind (tunes_in (blocks_in rules text)))
+      → AllZip (IsChainOf steps rules.cells now text) (drop following tunes) (drop following (tunes_in (blocks_in rules text)))
       → IsAlike steps own now → map cells_in rows ≡ map rules.cells new → AllZip (IsChain steps own rows) made places
-      → AllZip (IsChainOf steps rules.cells now new) (take front tunes ++ (made ++ drop behind tunes)) (tunes_in (blocks_in rules new))
-  tunes_stay tunes made rows own now front behind places laws e f all before starts old_front old_behind alike read chains =
+      → AllZip (IsChainOf steps rules.cells now new) (take front tunes ++ (made ++ drop following tunes)) (tunes_in (blocks_in rules new))
+  tunes_stay tunes made rows own now front following places laws e f all before starts old_front old_after alike read chains =
       let blocks = tunes_in (blocks_in rules text) in
       let a = zip_same (IsChainOf steps rules.cells now text) (IsChainOf steps rules.cells now new) (Ends from) (take front tunes) (take front blocks)
       (λ chain block known own. chain_before steps rules.cells now text new from chain block e known own) before old_front in
       let b = tunes_made steps rules.cells own now new rows made places laws alike read chains in
       let c = zip_given (IsChainOf steps rules.cells now text) (IsChainOf steps rules.cells now new) (StartsFrom (from + gone))
-      (shifted gone came) (drop behind tunes) (drop behind blocks)
-      (λ chain block known own. chain_behind steps rules.cells now text new from gone came chain block f known own) starts old_behind in
-      subst (AllZip (IsChainOf steps rules.cells now new) (take front tunes ++ (made ++ drop behind tunes))) (sym all)
-      (zip_both (IsChainOf steps rules.cells now new) (take front tunes) (made ++ drop behind tunes) (take front blocks) (places ++ map (shifted gone came) (drop behind blocks)) a
-      (zip_both (IsChainOf steps rules.cells now new) made (drop behind tunes) places (map (shifted gone came) (drop behind blocks)) b c))
+      (shifted gone came) (drop following tunes) (drop following blocks)
+      (λ chain block known own. chain_after steps rules.cells now text new from gone came chain block f known own) starts old_after in
+      subst (AllZip (IsChainOf steps rules.cells now new) (take front tunes ++ (made ++ drop following tunes))) (sym all)
+      (zip_both (IsChainOf steps rules.cells now new) (take front tunes) (made ++ drop following tunes) (take front blocks) (places ++ map (shifted gone came) (drop following blocks)) a
+      (zip_both (IsChainOf steps rules.cells now new) made (drop following tunes) places (map (shifted gone came) (drop following blocks)) b c))
 
 -- So is the chain of a file header that is before the stretch.
 pub header_stays : {State Cell Items Defaults : Type 0} (steps : Steps State Cell Items) (rules : Rules State Cell Items Defaults)

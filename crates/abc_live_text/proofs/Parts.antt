@@ -50,9 +50,9 @@ part_before xs ys from to n e h k =
     sym (drop-take from (to - from) xs) ∙ (ap (λ m. drop from (take m xs)) sum ∙ (ap (drop from) own ∙ (ap (λ m. drop from (take m ys)) (sym sum) ∙ drop-take from (to - from) ys)))
 
 -- A part of two lists with the same end, from a place of the one and a place of the other.
-pub part_behind : {X : Type 0} (xs ys : List X) (from to start gone came : ℕ) → drop (start + came) ys ≡ drop (start + gone) xs → start + gone ≤ from → from ≤ to
+pub part_following : {X : Type 0} (xs ys : List X) (from to start gone came : ℕ) → drop (start + came) ys ≡ drop (start + gone) xs → start + gone ≤ from → from ≤ to
     → take (to - gone + came - (from - gone + came)) (drop (from - gone + came) ys) ≡ take (to - from) (drop from xs)
-part_behind xs ys from to start gone came e h k =
+part_following xs ys from to start gone came e h k =
     let rest : ℕ = from - (start + gone) in
     let count : to - gone + came - (from - gone + came) ≡ to - from = omega arith in
     let there : from - gone + came ≡ start + came + rest = omega arith in

@@ -17,8 +17,8 @@ module _ {F State Cell Items Work : Type 0} (chains : List (Chained State Cell I
   follows_one : (source i : ℕ) (last piece : Piece F State Cell Items Work) → IsLeftAt chains source i last → LiesAt chains (Some (source, i)) piece → Follows last piece
   follows_one source i last (New cell) left stands = absurd stands
   follows_one source i (New cell) (Kept other entered own items) left stands = absurd left
-  follows_one source i (Kept cell before behind given) (Kept other entered own items) left stands =
-      some_same entered behind (sym stands.0 ∙ left)
+  follows_one source i (Kept cell before following given) (Kept other entered own items) left stands =
+      some_same entered following (sym stands.0 ∙ left)
 
   -- A piece that is where others end follows the last of them.
   pub follows_end : (pieces : List (Piece F State Cell Items Work)) (piece : Piece F State Cell Items Work) (at : Option (ℕ × ℕ))
@@ -62,11 +62,11 @@ module _ {F State Cell Items Work : Type 0} (chains : List (Chained State Cell I
       subst (λ n. EndsAt chains pieces origin.source n) place own
 
   -- The end that a line names.
-  pub ends_behind : (pieces : List (Piece F State Cell Items Work)) (end o : Option Origin) (k : ℕ)
+  pub ends_after : (pieces : List (Piece F State Cell Items Work)) (end o : Option Origin) (k : ℕ)
       → IfSome end (λ (e : Origin). address_from k o ≡ Some (e.source, e.first)) → IfSome (address_from k o) (λ a. EndsAt chains pieces a.0 a.1)
       → IfSome end (λ (e : Origin). EndsAt chains pieces e.source e.first)
-  ends_behind pieces None o k is ends = tt
-  ends_behind pieces (Some e) o k is ends = subst (λ at. IfSome at (λ a. EndsAt chains pieces a.0 a.1)) is ends
+  ends_after pieces None o k is ends = tt
+  ends_after pieces (Some e) o k is ends = subst (λ at. IfSome at (λ a. EndsAt chains pieces a.0 a.1)) is ends
 
   stands_one : (source i : ℕ) (chain : Chained State Cell Items) (piece : Piece F State Cell Items Work)
       → entries_at chains source ≡ chain.entries → IsKeptAt chain i piece → LiesAt chains (Some (source, i)) piece

@@ -41,7 +41,7 @@ steps_are_over {F = F} {State = State} {Cell = Cell} {Items = Items} {Work = Wor
     (λ (e : steps.alike entered b ≡ true).
     let first : steps.alike entered a ≡ true = same_test steps laws entered a b h ∙ e in
     let back = laws.symmetric entered a first in
-    let next = laws.transitive (steps.next a cell) (steps.next entered cell) left (laws.alike_states a entered cell back) (laws.symmetric left (steps.next entered cell) own.behind_alike) in
+    let next = laws.transitive (steps.next a cell) (steps.next entered cell) left (laws.alike_states a entered cell back) (laws.symmetric left (steps.next entered cell) own.after_alike) in
     simp (e, first, zero-add) (steps_are_over steps laws (steps.next a cell) left pieces next others))
     (λ (e : steps.alike entered b ≡ false).
     let first : steps.alike entered a ≡ false = same_test steps laws entered a b h ∙ e in

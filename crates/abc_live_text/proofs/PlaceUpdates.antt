@@ -18,10 +18,10 @@ pub move_more : {X : Type 0} (f : X → X) (xs next : List X) (i : ℕ) (x : X) 
     → take (i + 1) next ++ map f (drop (i + 1) next) ≡ take i xs ++ map f (drop i xs)
 move_more f xs next i x put inside is =
     let there : take (i + 1) next ≡ take i xs ++ f x ∷ [] = ap (take (i + 1)) put ∙ take_more_set xs i (f x) inside in
-    let behind : drop (i + 1) next ≡ drop (i + 1) xs = ap (drop (i + 1)) put ∙ drop-set-lt (i + 1) xs i (f x) (omega arith) in
+    let following : drop (i + 1) next ≡ drop (i + 1) xs = ap (drop (i + 1)) put ∙ drop-set-lt (i + 1) xs i (f x) (omega arith) in
     ap (λ l. l ++ map f (drop (i + 1) next)) there
     ∙ append_assoc (take i xs) (f x ∷ []) (map f (drop (i + 1) next))
-    ∙ ap (λ l. take i xs ++ (f x ∷ map f l)) behind
+    ∙ ap (λ l. take i xs ++ (f x ∷ map f l)) following
     ∙ ap (λ l. take i xs ++ map f l) (sym (cut_at xs i x inside is))
 
 -- A tune after a stretch stays if as many lines came as went.
@@ -48,27 +48,27 @@ none_moves stretch tunes most same beyond within =
     ∙ ap (λ l. take stretch.tunes.to tunes ++ l) (all_stay stretch (drop stretch.tunes.to tunes) same beyond (λ i d l. (within i d l).0))
 
 -- What holds of all after a place holds of the one there, and of those after it when another one is put there.
-pub one_behind : {X : Type 0} (P : X → Type 0) (xs : List X) (i : ℕ) (x : X) → All P (drop i xs) → i < length xs → x ≡ get_or xs i x → P x
-one_behind P xs i x all inside is =
+pub one_after : {X : Type 0} (P : X → Type 0) (xs : List X) (i : ℕ) (x : X) → All P (drop i xs) → i < length xs → x ≡ get_or xs i x → P x
+one_after P xs i x all inside is =
     let own : All P (x ∷ drop (i + 1) xs) = subst (All P) (cut_at xs i x inside is) all in
     own 0 x (omega arith)
 
-pub rest_behind : {X : Type 0} (P : X → Type 0) (xs next : List X) (i : ℕ) (x y : X) → next ≡ set xs i y → All P (drop i xs) → i < length xs → x ≡ get_or xs i x → All P (drop (i + 1) next)
-rest_behind P xs next i x y put all inside is =
+pub rest_after : {X : Type 0} (P : X → Type 0) (xs next : List X) (i : ℕ) (x y : X) → next ≡ set xs i y → All P (drop i xs) → i < length xs → x ≡ get_or xs i x → All P (drop (i + 1) next)
+rest_after P xs next i x y put all inside is =
     let own : All P (x ∷ drop (i + 1) xs) = subst (All P) (cut_at xs i x inside is) all in
     subst (All P) (sym (ap (drop (i + 1)) put ∙ drop-set-lt (i + 1) xs i y (omega arith))) (λ k d l. own (suc k) d (omega (arith, l)))
 
 -- Tunes that lie within some lines lie within more.
 -- The tunes of the stretch are put, and then those after it are moved.
-pub put_and_moved : {X : Type 0} (f : X → X) (old places : List X) (front behind : ℕ) → front + length places ≡ behind → behind ≤ length old
-    → take behind (take front old ++ (places ++ drop behind old)) ++ map f (drop behind (take front old ++ (places ++ drop behind old))) ≡ take front old ++ (places ++ map f (drop behind old))
-put_and_moved f old places front behind count inside =
-    let whole = take front old ++ (places ++ drop behind old) in
-    let parts : whole ≡ (take front old ++ places) ++ drop behind old = sym (append_assoc (take front old) places (drop behind old)) in
-    let long : length (take front old ++ places) ≡ behind =
+pub put_and_moved : {X : Type 0} (f : X → X) (old places : List X) (front following : ℕ) → front + length places ≡ following → following ≤ length old
+    → take following (take front old ++ (places ++ drop following old)) ++ map f (drop following (take front old ++ (places ++ drop following old))) ≡ take front old ++ (places ++ map f (drop following old))
+put_and_moved f old places front following count inside =
+    let whole = take front old ++ (places ++ drop following old) in
+    let parts : whole ≡ (take front old ++ places) ++ drop following old = sym (append_assoc (take front old) places (drop following old)) in
+    let long : length (take front old ++ places) ≡ following =
     let a = length-append (take front old) places in let b = length-take-le front old (omega (arith, count, inside)) in omega (arith, a, b, count) in
-    let begin : take behind whole ≡ take front old ++ places = ap (take behind) parts
-    ∙ ap (λ n. take n ((take front old ++ places) ++ drop behind old)) (sym long) ∙ take-append_seam (take front old ++ places) (drop behind old) in
-    let end : drop behind whole ≡ drop behind old = ap (drop behind) parts
-    ∙ ap (λ n. drop n ((take front old ++ places) ++ drop behind old)) (sym long) ∙ drop-append_seam (take front old ++ places) (drop behind old) in
-    (λ j. begin j ++ map f (end j)) ∙ append_assoc (take front old) places (map f (drop behind old))
+    let begin : take following whole ≡ take front old ++ places = ap (take following) parts
+    ∙ ap (λ n. take n ((take front old ++ places) ++ drop following old)) (sym long) ∙ take-append_seam (take front old ++ places) (drop following old) in
+    let end : drop following whole ≡ drop following old = ap (drop following) parts
+    ∙ ap (λ n. drop n ((take front old ++ places) ++ drop following old)) (sym long) ∙ drop-append_seam (take front old ++ places) (drop following old) in
+    (λ j. begin j ++ map f (end j)) ∙ append_assoc (take front old) places (map f (drop following old))

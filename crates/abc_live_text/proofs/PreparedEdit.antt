@@ -27,12 +27,12 @@ all_among stretch (block ∷ tunes) all =
     let own : LiesAmong stretch (moved stretch.lines.from block) = (omega arith, omega (arith, known.1)) in
     All-cons (LiesAmong stretch) (moved stretch.lines.from block) (map (moved stretch.lines.from) tunes) own (all_among stretch tunes (λ i d l. all (suc i) d (omega arith)))
 
-tunes_behind : {State Cell Items Defaults : Type 0} (steps : Steps State Cell Items) (rules : Rules State Cell Items Defaults)
+tunes_following : {State Cell Items Defaults : Type 0} (steps : Steps State Cell Items) (rules : Rules State Cell Items Defaults)
     (text : Text) (first : Option (Chained State Cell Items)) (stretch : Stretch) (old made : List (Chained State Cell Items)) → AreChains steps rules text old
     → drop 1 (chains_after first stretch old made) ≡ take stretch.tunes.from (drop 1 old) ++ (made ++ drop stretch.tunes.to (drop 1 old))
-tunes_behind steps rules text first stretch [] made own = absurd own
-tunes_behind steps rules text None stretch (chain ∷ tunes) made own = refl
-tunes_behind steps rules text (Some new) stretch (chain ∷ tunes) made own = refl
+tunes_following steps rules text first stretch [] made own = absurd own
+tunes_following steps rules text None stretch (chain ∷ tunes) made own = refl
+tunes_following steps rules text (Some new) stretch (chain ∷ tunes) made own = refl
 
 first_same : {State Cell Items Defaults : Type 0} (steps : Steps State Cell Items) (rules : Rules State Cell Items Defaults)
     (text : Text) (first : Option (Chained State Cell Items)) (stretch : Stretch) (old made : List (Chained State Cell Items)) → AreChains steps rules text old → first ≡ None
@@ -81,7 +81,7 @@ module _ {C State Cell Items Defaults : Type 0} {steps : Steps State Cell Items}
     ends = new_parts.ends;
     inside = new_parts.inside;
     came = new_parts.came;
-    chains_are = ap (drop 1) c ∙ tunes_behind steps rules on.lines.text new.first new.stretch on.chains.items new.new_chains kept.stands.chains_are;
+    chains_are = ap (drop 1) c ∙ tunes_following steps rules on.lines.text new.first new.stretch on.chains.items new.new_chains kept.stands.chains_are;
     tunes_are = t ∙ ap (λ l. take new.stretch.tunes.from on.tunes ++ (l ++ map (block_after new.stretch) (drop new.stretch.tunes.to on.tunes))) (sym p);
     places_count = ap length p ∙ (length-map new.tunes (moved new.stretch.lines.from) ∙ sym new_parts.count);
     before = new_parts.before;
@@ -97,7 +97,7 @@ module _ {C State Cell Items Defaults : Type 0} {steps : Steps State Cell Items}
         (λ (anew : HeaderIsReplaced new.first new.header on.header new.stretch). inl (record { front = anew.front; from = anew.from; goes = anew.goes; comes = anew.comes }))
         new_parts.keeps;
     lines_before = ap (take new.stretch.lines.from) x ∙ new_parts.lines_before;
-    lines_behind = ap (drop (new.stretch.lines.from + new.stretch.lines.came)) x ∙ new_parts.lines_behind;
+    lines_after = ap (drop (new.stretch.lines.from + new.stretch.lines.came)) x ∙ new_parts.lines_after;
   }
 
 -- A stretch has no more lines than the text.

@@ -32,7 +32,7 @@ use Rattle.abc_live_text.proofs.Costs.{raised_up}
 use Rattle.abc_live_text.proofs.FreshSteps.{edit_steps}
 use Rattle.abc_live_text.proofs.EditedRuns.{IsEditedRun}
 use Rattle.abc_live_text.proofs.Openings.{folds_alike, opening_alike}
-use Rattle.abc_live_text.proofs.OutsideStretch.{StartsFrom, kept_some, lines_before, lines_behind, tunes_stay}
+use Rattle.abc_live_text.proofs.OutsideStretch.{StartsFrom, kept_some, lines_before, lines_after, tunes_stay}
 use Rattle.abc_live_text.proofs.OutsideStretch.{stretch_cost}
 use Rattle.abc_live_text.proofs.Parts.{zip_both, zip_given, zip_same}
 use Rattle.abc_live_text.proofs.EditedRows.{AreRenewed, chain_moved, new_parts, rows_moved, steps_moved, stretch_rows}
@@ -177,8 +177,8 @@ module _ {C State Cell Items Defaults : Type 0} {steps : Steps State Cell Items}
 
   module _ (span : Span) (old run : List (CarriedRow Cell)) (facts : IsEditedRun rules on.lines.text s on.rows.items span old) (runs : run ≡ stretch_rows rules s span.lines.from old)
       (own : State) (alike : IsAlike steps own new_opening) where
-    run_parts : all_rows ≡ facts.parts.before ++ (run ++ facts.parts.behind)
-    run_parts = facts.parts.new_are ∙ ap (λ r. facts.parts.before ++ (r ++ facts.parts.behind)) (sym runs)
+    run_parts : all_rows ≡ facts.parts.before ++ (run ++ facts.parts.following)
+    run_parts = facts.parts.new_are ∙ ap (λ r. facts.parts.before ++ (r ++ facts.parts.following)) (sym runs)
 
     tunes_there : tunes_in new_blocks ≡ take span.tunes.from on.tunes
         ++ (map (moved span.lines.from) (tunes_among run) ++ map (shifted (span.lines.to - span.lines.from) (length run)) (drop span.tunes.to on.tunes))
@@ -195,7 +195,7 @@ module _ {C State Cell Items Defaults : Type 0} {steps : Steps State Cell Items}
     run_cost before now after head raise =
         let places = map (moved span.lines.from) (tunes_among run) in
         let moved_sum : sum_by (steps_taken steps own on.chains.items run) (tunes_among run) ≡ sum_by (steps_taken steps own on.chains.items all_rows) places =
-        sums_moved steps own on.chains.items facts.parts.before run facts.parts.behind span.lines.from (tunes_among run) facts.parts.count within
+        sums_moved steps own on.chains.items facts.parts.before run facts.parts.following span.lines.from (tunes_among run) facts.parts.count within
         ∙ ap (λ r. sum_by (steps_taken steps own on.chains.items r) places) (sym run_parts) in
         stretch_cost steps rules on.lines.text s on.chains.items all_rows own (take span.tunes.from on.tunes) places
         (map (shifted (span.lines.to - span.lines.from) (length run)) (drop span.tunes.to on.tunes)) before now after kept.laws inside kept.stands.chains_are all_renewed alike tunes_there head
@@ -212,12 +212,12 @@ module _ {C State Cell Items Defaults : Type 0} {steps : Steps State Cell Items}
         let sum = line_sum in
         let ends = facts.ends in
         let most = facts.inside in
-        lines_behind on.lines.text s span.lines.from (span.lines.to - span.lines.from) (length run) facts.begins (omega (arith, sum, ends)) (omega (arith, sum, most)) came_is
+        lines_after on.lines.text s span.lines.from (span.lines.to - span.lines.from) (length run) facts.begins (omega (arith, sum, ends)) (omega (arith, sum, most)) came_is
 
     placed_chains : (tunes : List Block) (made : List (Chained State Cell Items)) → tunes ≡ tunes_among run → AllZip (IsChain steps own run) made tunes
         → AllZip (IsChain steps own all_rows) made (map (moved span.lines.from) tunes)
     placed_chains tunes made e chains = subst (λ r. AllZip (IsChain steps own r) made (map (moved span.lines.from) tunes)) (sym run_parts)
-        (zips_moved steps own facts.parts.before run facts.parts.behind span.lines.from made tunes facts.parts.count (subst (All (LiesWithin (length run))) (sym e) within) chains)
+        (zips_moved steps own facts.parts.before run facts.parts.following span.lines.from made tunes facts.parts.count (subst (All (LiesWithin (length run))) (sym e) within) chains)
 
     -- The chains of the tunes of the new text, if those outside begin in its states.
     pub run_chains : (tunes : List Block) (made : List (Chained State Cell Items)) → tunes ≡ tunes_among run → AllZip (IsChain steps own run) made tunes
@@ -231,7 +231,7 @@ module _ {C State Cell Items Defaults : Type 0} {steps : Steps State Cell Items}
         (tunes_there
         ∙ (λ i. take span.tunes.from (kept.stands.tunes_are i)
         ++ (map (moved span.lines.from) (sym e i) ++ map (shifted (span.lines.to - span.lines.from) (length run)) (drop span.tunes.to (kept.stands.tunes_are i)))))
-        facts.before (subst (λ n. All (StartsFrom n) (drop span.tunes.to old_blocks)) (sym line_sum) facts.behind) front back alike all_renewed.read.cells (placed_chains tunes made e chains)
+        facts.before (subst (λ n. All (StartsFrom n) (drop span.tunes.to old_blocks)) (sym line_sum) facts.following) front back alike all_renewed.read.cells (placed_chains tunes made e chains)
 
     -- What is folded again, with the file header and its chain.
     pub run_renewed : (header : Option Block) (first : Option (Chained State Cell Items)) (tunes : List Block) (made : List (Chained State Cell Items)) (reused_tunes : List (Option ℕ))
@@ -249,7 +249,7 @@ module _ {C State Cell Items Defaults : Type 0} {steps : Steps State Cell Items}
         let begun : AllZip (IsChain steps new_opening run) made tunes = zip_same (IsChain steps own run) (IsChain steps new_opening run) (LiesWithin (length run)) made tunes
         (λ chain block known own_chain. record { folds = folds_alike steps own new_opening chain kept.laws alike own_chain.folds; cells = own_chain.cells }) here refolded.chains_are in
         let goes = subst (λ r. KnowsAlong steps on.chains.items new_opening r (map (moved span.lines.from) tunes) reused_tunes) (sym run_parts)
-        (along_moved steps new_opening on.chains.items facts.parts.before run facts.parts.behind span.lines.from tunes reused_tunes facts.parts.count here (refolded.along new_opening begun)) in
+        (along_moved steps new_opening on.chains.items facts.parts.before run facts.parts.following span.lines.from tunes reused_tunes facts.parts.count here (refolded.along new_opening begun)) in
         let order = facts.order in
         let most : span.tunes.to ≤ length on.tunes = subst (λ (t : List Block). span.tunes.to ≤ length t) (sym kept.stands.tunes_are) facts.most in
         let front_count : length (take span.tunes.from on.tunes) ≡ span.tunes.from = length-take-le span.tunes.from on.tunes (omega (arith, order, most)) in
@@ -259,7 +259,7 @@ module _ {C State Cell Items Defaults : Type 0} {steps : Steps State Cell Items}
         span.tunes.from span.tunes.to (length on.tunes) reused_tunes front_count back_count goes in
         let same = kept.stands.tunes_are in
         let before = subst (λ (t : List Block). All (Ends span.lines.from) (take span.tunes.from t)) (sym same) facts.before in
-        let behind = subst (λ (t : List Block). All (StartsFrom span.lines.to) (drop span.tunes.to t)) (sym same) facts.behind in
+        let following = subst (λ (t : List Block). All (StartsFrom span.lines.to) (drop span.tunes.to t)) (sym same) facts.following in
         record {
           order = facts.order;
           most = most;
@@ -272,12 +272,12 @@ module _ {C State Cell Items Defaults : Type 0} {steps : Steps State Cell Items}
           chains_are = chains;
           count = sym (AllZip-long (IsChain steps own run) made tunes refolded.chains_are);
           before = All-weaker (Ends span.lines.from) (LiesBefore stretch) (λ b h. h.1) (take span.tunes.from on.tunes) before;
-          beyond = All-weaker (StartsFrom span.lines.to) (LiesAfter stretch) (λ b h. h.0) (drop span.tunes.to on.tunes) behind;
+          beyond = All-weaker (StartsFrom span.lines.to) (LiesAfter stretch) (λ b h. h.0) (drop span.tunes.to on.tunes) following;
           among = here;
           amid = subst (λ (t : List Block). All (LiesAmid stretch) (take (span.tunes.to - span.tunes.from) (drop span.tunes.from t))) (sym same) facts.amid;
           keeps = keeps;
           lines_before = lines_before on.lines.text s span.lines.from facts.begins inside;
-          lines_behind = lines_past ∙ ap (λ n. drop n on.lines.text) line_sum;
+          lines_after = lines_past ∙ ap (λ n. drop n on.lines.text) line_sum;
           items = refolded.items;
           untouched = takes_untouched steps rules on.lines.text s on.chains.items all_rows
               (reused_tunes_after stretch (length on.tunes) reused_tunes) kept.laws kept.lawful inside kept.stands.chains_are all_renewed.read all_renewed.from

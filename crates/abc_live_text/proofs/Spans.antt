@@ -5,7 +5,7 @@ use Rattle.std.proofs.lemmas.Bool.{cases_Bool}
 use Rattle.std.proofs.lemmas.Bool.Decides.{nat_tests}
 use Rattle.std.proofs.lemmas.List.Elements.{All-cons, All-nil}
 use Rattle.abc_book.specs.Laws.{RiseFromTo, moved}
-use Rattle.abc_book.specs.Stretch.{blocks_before, blocks_behind, shifted}
+use Rattle.abc_book.specs.Stretch.{blocks_before, blocks_after, shifted}
 use Rattle.abc_book.specs.declared.block.Block.{Block}
 use Rattle.abc_tune_compiler.specs.Book.{is_tune, tunes_in}
 use Rattle.abc_live_text.specs.Origin.{BlocksRise}
@@ -119,14 +119,14 @@ keep_none line (block ∷ ys) all =
     let test : nat_lt block.from line ≡ false = grind (arith, nat_tests) in
     simp test (keep_none line ys (λ i d l. all (suc i) d (omega arith)))
 
-leave_all : (line : ℕ) (ys : List Block) → All (BeginsBefore line) ys → blocks_behind line ys ≡ []
+leave_all : (line : ℕ) (ys : List Block) → All (BeginsBefore line) ys → blocks_after line ys ≡ []
 leave_all line [] all = refl
 leave_all line (block ∷ ys) all =
     let own : block.from < line = all 0 block (omega arith) in
     let test : nat_le line block.from ≡ false = grind (arith, nat_tests) in
     simp test (leave_all line ys (λ i d l. all (suc i) d (omega arith)))
 
-leave_none : (line : ℕ) (ys : List Block) → All (BeginsFrom line) ys → blocks_behind line ys ≡ ys
+leave_none : (line : ℕ) (ys : List Block) → All (BeginsFrom line) ys → blocks_after line ys ≡ ys
 leave_none line [] all = refl
 leave_none line (block ∷ ys) all =
     let own : line ≤ block.from = all 0 block (omega arith) in
@@ -150,8 +150,8 @@ before_are xs ys last rise =
     filter_both (λ block. nat_lt block.from line) xs ys
     ∙ ((λ i. keep_all line xs (before_start xs ys last rise) i ++ keep_none line ys (from_start xs ys last rise) i) ∙ append_none xs)
 
-pub behind_are : (xs ys : List Block) (last : ℕ) → RiseFromTo 0 (xs ++ ys) last → blocks_behind (start_of ys last) (xs ++ ys) ≡ ys
-behind_are xs ys last rise =
+pub after_are : (xs ys : List Block) (last : ℕ) → RiseFromTo 0 (xs ++ ys) last → blocks_after (start_of ys last) (xs ++ ys) ≡ ys
+after_are xs ys last rise =
     let line = start_of ys last in
     filter_both (λ block. nat_le line block.from) xs ys
     ∙ (λ i. leave_all line xs (before_start xs ys last rise) i ++ leave_none line ys (from_start xs ys last rise) i)
@@ -176,8 +176,8 @@ filter_swap p q (x ∷ xs) = ⊎_elim
 pub tunes_before : (line : ℕ) (xs : List Block) → tunes_in (blocks_before line xs) ≡ blocks_before line (tunes_in xs)
 tunes_before line xs = filter_swap (λ block. is_tune block.kind) (λ block. nat_lt block.from line) xs
 
-pub tunes_behind : (line : ℕ) (xs : List Block) → tunes_in (blocks_behind line xs) ≡ blocks_behind line (tunes_in xs)
-tunes_behind line xs = filter_swap (λ block. is_tune block.kind) (λ block. nat_le line block.from) xs
+pub tunes_following : (line : ℕ) (xs : List Block) → tunes_in (blocks_after line xs) ≡ blocks_after line (tunes_in xs)
+tunes_following line xs = filter_swap (λ block. is_tune block.kind) (λ block. nat_le line block.from) xs
 
 pub tunes_moved : (n : ℕ) (xs : List Block) → tunes_in (map (moved n) xs) ≡ map (moved n) (tunes_in xs)
 tunes_moved n [] = refl

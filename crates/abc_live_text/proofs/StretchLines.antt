@@ -28,26 +28,26 @@ between_both rows at mid to h k =
     ∙ ap (λ l. take (mid - at) (drop at rows) ++ take (to - mid) l) (drop-drop (mid - at) at rows ∙ ap (λ n. drop n rows) here))
 
 -- Blocks that are none, or begin at a line or after it.
-abbrev pub BeginBehind : ℕ → List Block → Type 0
-BeginBehind to [] = Unit {0}
-BeginBehind to (block ∷ blocks) = to ≤ block.from
+abbrev pub BeginAfter : ℕ → List Block → Type 0
+BeginAfter to [] = Unit {0}
+BeginAfter to (block ∷ blocks) = to ≤ block.from
 
 -- What is placed on from a line is placed up to another one, and on from that.
-pub placed_both : {Cell : Type 0} (rows : List (CarriedRow Cell)) (at to source : ℕ) (xs ys : List Block) → BlocksRise at xs to → BeginBehind to ys
+pub placed_both : {Cell : Type 0} (rows : List (CarriedRow Cell)) (at to source : ℕ) (xs ys : List Block) → BlocksRise at xs to → BeginAfter to ys
     → placed_from rows at source (xs ++ ys) ≡ rows_until rows at to source xs ++ placed_from rows to (source + length xs) ys
-placed_both rows at to source [] [] rise behind = ap (map (at_origin None)) (split rows at to rise) ∙ map-append (at_origin None) (rows_between rows at to) (drop to rows)
-placed_both rows at to source [] (block ∷ blocks) rise behind =
+placed_both rows at to source [] [] rise following = ap (map (at_origin None)) (split rows at to rise) ∙ map-append (at_origin None) (rows_between rows at to) (drop to rows)
+placed_both rows at to source [] (block ∷ blocks) rise following =
     let rest : ℕ → List _ = λ n. rows_along n 0 (rows_between rows block.from block.to) ++ placed_from rows block.to (n + 1) blocks in
     let same : source ≡ source + 0 = omega arith in
-    (λ i. (ap (map (at_origin None)) (between_both rows at to block.from rise behind) ∙ map-append (at_origin None) (rows_between rows at to) (rows_between rows to block.from)) i ++ rest (same i))
+    (λ i. (ap (map (at_origin None)) (between_both rows at to block.from rise following) ∙ map-append (at_origin None) (rows_between rows at to) (rows_between rows to block.from)) i ++ rest (same i))
     ∙ append_assoc (map (at_origin None) (rows_between rows at to)) (map (at_origin None) (rows_between rows to block.from)) (rest (source + 0))
-placed_both rows at to source (block ∷ xs) ys rise behind =
+placed_both rows at to source (block ∷ xs) ys rise following =
     let a = map (at_origin None) (rows_between rows at block.from) in
     let b = rows_along source 0 (rows_between rows block.from block.to) in
     let c = rows_until rows block.to to (source + 1) xs in
     let next : source + 1 + length xs ≡ source + suc (length xs) = omega arith in
     let d : ℕ → List _ = λ n. placed_from rows to n ys in
-    (λ i. a ++ (b ++ (placed_both rows block.to to (source + 1) xs ys rise.2 behind ∙ ap (λ n. c ++ d n) next) i))
+    (λ i. a ++ (b ++ (placed_both rows block.to to (source + 1) xs ys rise.2 following ∙ ap (λ n. c ++ d n) next) i))
     ∙ (ap (λ l. a ++ l) (sym (append_assoc b c (d (source + suc (length xs))))) ∙ sym (append_assoc a (b ++ c) (d (source + suc (length xs)))))
 
 length-along : {Cell : Type 0} (source first : ℕ) (rows : List (CarriedRow Cell)) → length (rows_along source first rows) ≡ length rows

@@ -117,7 +117,7 @@ module _ {C State Cell Items Defaults : Type 0} (steps : C → Steps State Cell 
       let read = bare_read (rules on.compiler) on.lines.text on.rows.items stands.read in
       let all = settled_carried (steps on.compiler) (rules on.compiler) on.lines.text (map carried_row on.rows.items) on.chains.items read.cells stands.chains_are in
       let own = all_mid (IsCarried on.chains.items) parts.before
-      (old_run (rules on.compiler) on.lines.text (splice_at at removed []) on.rows.items span) parts.behind (subst (All (IsCarried on.chains.items)) parts.old_are all) in
+      (old_run (rules on.compiler) on.lines.text (splice_at at removed []) on.rows.items span) parts.following (subst (All (IsCarried on.chains.items)) parts.old_are all) in
       subst (λ (k : KeptTextView C State Cell Items). All (IsCarried k.chains.items) rows) view
       (subst (All (IsCarried on.chains.items)) (sym r)
       (edited_carried on.chains.items old new (at - span.lines.from) (at - span.lines.from + removed) (subst (All (IsCarried on.chains.items)) (sym (old_is tunes old e o ∙ own_is [])) own)))

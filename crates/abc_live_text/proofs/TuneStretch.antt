@@ -19,7 +19,7 @@ use Rattle.abc_live_text.specs.NewParts.{IsSpan, start_of}
 use Rattle.abc_live_text.specs.Row.{CarriedRow, Row, carried_row}
 use Rattle.abc_live_text.specs.KeptText.{AreRows}
 use Rattle.abc_live_text.specs.declared.stretch.Span.{Span}
-use Rattle.abc_live_text.proofs.StretchLines.{BeginBehind, length-until}
+use Rattle.abc_live_text.proofs.StretchLines.{BeginAfter, length-until}
 use Rattle.abc_live_text.proofs.Edits.{edit_of, fresh_row}
 use Rattle.abc_live_text.proofs.NewBlocks.{IsRun, begin_taken, header_after, run_begins, tunes_after}
 use Rattle.abc_live_text.proofs.OutsideStretch.{HeaderEnds, StartsFrom}
@@ -30,20 +30,20 @@ use Rattle.abc_live_text.proofs.Spans.{Ends, end_start, rise_amid, rise_back, ri
 use Rattle.abc_live_text.proofs.WholeRows.{AreRead, placed_from}
 
 -- A list in three parts.
-pub three_parts : {X : Type 0} (front behind : ℕ) (xs : List X) → front ≤ behind → xs ≡ take front xs ++ (take (behind - front) (drop front xs) ++ drop behind xs)
-three_parts front behind xs h =
-    let here : front + (behind - front) ≡ behind = omega arith in
+pub three_parts : {X : Type 0} (front following : ℕ) (xs : List X) → front ≤ following → xs ≡ take front xs ++ (take (following - front) (drop front xs) ++ drop following xs)
+three_parts front following xs h =
+    let here : front + (following - front) ≡ following = omega arith in
     sym (take-append-drop front xs) ∙ ap (λ l. take front xs ++ l)
-    (sym (take-append-drop (behind - front) (drop front xs)) ∙ ap (λ l. take (behind - front) (drop front xs) ++ l) (drop-drop (behind - front) front xs ∙ ap (λ n. drop n xs) here))
+    (sym (take-append-drop (following - front) (drop front xs)) ∙ ap (λ l. take (following - front) (drop front xs) ++ l) (drop-drop (following - front) front xs ∙ ap (λ n. drop n xs) here))
 
-two_parts : {X : Type 0} (front behind : ℕ) (xs : List X) → front ≤ behind → drop front xs ≡ take (behind - front) (drop front xs) ++ drop behind xs
-two_parts front behind xs h =
-    let here : front + (behind - front) ≡ behind = omega arith in
-    sym (take-append-drop (behind - front) (drop front xs)) ∙ ap (λ l. take (behind - front) (drop front xs) ++ l) (drop-drop (behind - front) front xs ∙ ap (λ n. drop n xs) here)
+two_parts : {X : Type 0} (front following : ℕ) (xs : List X) → front ≤ following → drop front xs ≡ take (following - front) (drop front xs) ++ drop following xs
+two_parts front following xs h =
+    let here : front + (following - front) ≡ following = omega arith in
+    sym (take-append-drop (following - front) (drop front xs)) ∙ ap (λ l. take (following - front) (drop front xs) ++ l) (drop-drop (following - front) front xs ∙ ap (λ n. drop n xs) here)
 
-pub begin_behind : (blocks : List Block) (last : ℕ) → BeginBehind (start_of blocks last) blocks
-begin_behind [] last = tt
-begin_behind (block ∷ blocks) last = omega arith
+pub begin_after : (blocks : List Block) (last : ℕ) → BeginAfter (start_of blocks last) blocks
+begin_after [] last = tt
+begin_after (block ∷ blocks) last = omega arith
 
 -- The places of the parts of rising blocks.
 pub among_parts : (front mid back : List Block) (count from to : ℕ) → BlocksRise 0 (front ++ (mid ++ back)) count
@@ -53,8 +53,8 @@ among_parts front mid back count from to rise f t =
     record {
       first = subst (BlocksRise 0 front) (sym f) (rise_front 0 front (mid ++ back) count rise);
       here = subst (λ n. BlocksRise n mid to) (sym f) (subst (BlocksRise (start_of (mid ++ back) count) mid) (sym t) (rise_front (start_of (mid ++ back) count) mid back count rest));
-      begins = subst (λ n. BeginBehind n (mid ++ back)) (sym f) (begin_behind (mid ++ back) count);
-      ends = subst (λ n. BeginBehind n back) (sym t) (begin_behind back count);
+      begins = subst (λ n. BeginAfter n (mid ++ back)) (sym f) (begin_after (mid ++ back) count);
+      ends = subst (λ n. BeginAfter n back) (sym t) (begin_after back count);
       inside = subst (λ n. n ≤ count) (sym t) (start_inside (start_of (mid ++ back) count) mid back count rest).1;
     }
 
@@ -133,15 +133,15 @@ module _ {State Cell Items Defaults : Type 0} (rules : Rules State Cell Items De
       let places : placed_from all 0 0 (places_of blocks) ≡ placed_from all 0 0 (front_places ++ (mid_tunes ++ back)) = ap (λ (l : List Block). placed_from all 0 0 (head ∷ l)) whole in
       let own : Parted rules s (placed_from all 0 0 (places_of blocks)) old_run span.lines.from = subst (λ x. Parted rules s x old_run span.lines.from) (sym places) cut in
       let run = stretch_rows rules s span.lines.from old_run in
-      let old_classes : map class_in own.before ++ (map class_in old_run ++ map class_in own.behind) ≡ map rules.class text =
-      part_classes _ own.before old_run own.behind _ own.old_are (placed_read rules text rows are).classes in
-      let new_classes : map class_in own.before ++ (map class_in run ++ map class_in own.behind) ≡ map rules.class (spliced text s) =
-      part_classes _ own.before run own.behind _ own.new_are new.classes in
+      let old_classes : map class_in own.before ++ (map class_in old_run ++ map class_in own.following) ≡ map rules.class text =
+      part_classes _ own.before old_run own.following _ own.old_are (placed_read rules text rows are).classes in
+      let new_classes : map class_in own.before ++ (map class_in run ++ map class_in own.following) ≡ map rules.class (spliced text s) =
+      part_classes _ own.before run own.following _ own.new_are new.classes in
       let count : length old_run ≡ span.lines.to - span.lines.from = length-until all span.lines.from span.lines.to (0 + length front_places) mid_tunes among.here among.inside in
       let long_old : length (map class_in old_run) ≡ span.lines.to - span.lines.from = length-map old_run class_in ∙ count in
       let long_before : length (map class_in own.before) ≡ span.lines.from = length-map own.before class_in ∙ sym own.count in
-      let long_all : length (map class_in own.before ++ (map class_in old_run ++ map class_in own.behind)) ≡ length text = ap length old_classes ∙ length-map text rules.class in
-      let is_run : IsRun (map class_in own.before) (map class_in old_run) (map class_in own.behind) front mid_tunes back = record {
+      let long_all : length (map class_in own.before ++ (map class_in old_run ++ map class_in own.following)) ≡ length text = ap length old_classes ∙ length-map text rules.class in
+      let is_run : IsRun (map class_in own.before) (map class_in old_run) (map class_in own.following) front mid_tunes back = record {
         tunes = ap (λ c. tunes_in (blocks_of c)) old_classes ∙ whole;
         from = long_before ∙ (from ∙ ap (start_of (mid_tunes ++ back)) (sym long_all));
         to = (let sum : length (map class_in own.before) + length (map class_in old_run)
@@ -155,10 +155,10 @@ module _ {State Cell Items Defaults : Type 0} (rules : Rules State Cell Items De
       let some_k : 1 ≤ k = omega (arith, is.begins) in
       let begins : BeginTune (map class_in run) = subst BeginTune (sym reused_tunes)
       (begin_taken k (map class_in old_run) (map class_in tail) some_k is_run.some
-      (run_begins (map class_in own.before) (map class_in old_run) (map class_in own.behind) front mid_tunes back is_run)) in
+      (run_begins (map class_in own.before) (map class_in old_run) (map class_in own.following) front mid_tunes back is_run)) in
       let some_new : 1 ≤ length (map class_in run) = subst (λ (l : List LineClass). 1 ≤ length l) (sym reused_tunes) (some_taken k (map class_in old_run) (map class_in tail) some_k is_run.some) in
-      let law = tunes_after (map class_in own.before) (map class_in old_run) (map class_in run) (map class_in own.behind) front mid_tunes back is_run begins in
-      let law_header = header_after (map class_in own.before) (map class_in old_run) (map class_in run) (map class_in own.behind) front mid_tunes back is_run some_new begins in
+      let law = tunes_after (map class_in own.before) (map class_in old_run) (map class_in run) (map class_in own.following) front mid_tunes back is_run begins in
+      let law_header = header_after (map class_in own.before) (map class_in old_run) (map class_in run) (map class_in own.following) front mid_tunes back is_run some_new begins in
       let strict_front : RiseFromTo 0 (front ++ (mid_tunes ++ back)) (length text) = subst (λ (l : List Block). RiseFromTo 0 l (length text)) whole laid.strict in
       let strict_back : RiseFromTo 0 ((front ++ mid_tunes) ++ back) (length text) = subst (λ (l : List Block). RiseFromTo 0 l (length text)) (sym (append_assoc front mid_tunes back)) strict_front in
       record {
@@ -167,7 +167,7 @@ module _ {State Cell Items Defaults : Type 0} (rules : Rules State Cell Items De
           tunes = sym (ap (λ c. tunes_in (blocks_of c)) new_classes) ∙ (law
               ∙ (λ i. front ++ (map (moved (long_before i)) (tunes_in (blocks_of (map class_in run))) ++ map (shifted (long_old i) (length-map run class_in i)) back)));
           before = subst (λ n. All (Ends n) front) (sym from) (end_start front (mid_tunes ++ back) (length text) strict_front);
-          behind = all_starts (start_of back (length text)) back (length text) span.lines.to (omega (arith, is.to)) (strict_rest 0 (front ++ mid_tunes) back (length text) strict_back);
+          following = all_starts (start_of back (length text)) back (length text) span.lines.to (omega (arith, is.to)) (strict_rest 0 (front ++ mid_tunes) back (length text) strict_back);
           amid = rise_amid span.lines.from span.lines.from mid_tunes span.lines.to (omega arith) among_text.here;
           order = order;
           most = is.most;

@@ -36,10 +36,10 @@ prefix (x ∷ xs) (y ∷ ys) same =
     let here : y ≡ x = let e = same 0 (omega arith) in cc in
     λ i. here i ∷ prefix xs ys (λ k h. same (suc k) (omega arith)) i
 
-get_behind : {A : Type 0} (n : ℕ) (xs : List A) (k : ℕ) → slice_get (drop n xs) k ≡ slice_get xs (n + k)
-get_behind zero xs k = let e : k ≡ 0 + k = omega arith in ap (slice_get xs) e
-get_behind (suc n) [] k = refl
-get_behind (suc n) (x ∷ xs) k = let e : suc (n + k) ≡ suc n + k = omega arith in get_behind n xs k ∙ ap (slice_get (x ∷ xs)) e
+get_after : {A : Type 0} (n : ℕ) (xs : List A) (k : ℕ) → slice_get (drop n xs) k ≡ slice_get xs (n + k)
+get_after zero xs k = let e : k ≡ 0 + k = omega arith in ap (slice_get xs) e
+get_after (suc n) [] k = refl
+get_after (suc n) (x ∷ xs) k = let e : suc (n + k) ≡ suc n + k = omega arith in get_after n xs k ∙ ap (slice_get (x ∷ xs)) e
 
 -- The cells of a line that continues an old chain are those that follow there.
 line_along : {Cell : Type 0} (all cells : List Cell) (source place : ℕ) (origin : Option Origin) → is_origin source place origin ≡ true
@@ -49,7 +49,7 @@ line_along all cells source place None e held = absurd (cc)
 line_along all cells source place (Some o) e held = λ k h.
     let both = and_parts (o.source == source) (o.first == place) e in
     let from : place ≡ o.first = sym (eqb-true o.first place both.1) in
-    get_behind place all k ∙ (ap (λ n. slice_get all (n + k)) from ∙ held o refl (eqb-true o.source source both.0) k h)
+    get_after place all k ∙ (ap (λ n. slice_get all (n + k)) from ∙ held o refl (eqb-true o.source source both.0) k h)
 
 held_own : {State Cell Items : Type 0} (chains : List (Chained State Cell Items)) (all cells : List Cell) (source : ℕ)
     (origin : Option Origin) → cells_at chains source ≡ all → IsCarriedAt chains cells origin

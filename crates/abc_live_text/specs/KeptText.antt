@@ -181,7 +181,7 @@ pub record IsStretch {C State Cell Items : Type 0} (s : Splice) (patch : KeptPat
       (drop patch.stretch.tunes.from patch.on.tunes))
   pub header_is : HoldsHeader patch ⊎ KeepsHeader patch
   pub lines_before : take patch.stretch.lines.from patch.text ≡ take patch.stretch.lines.from patch.on.lines.text
-  pub lines_behind : drop (patch.stretch.lines.from + patch.stretch.lines.came) patch.text
+  pub lines_after : drop (patch.stretch.lines.from + patch.stretch.lines.came) patch.text
       ≡ drop patch.stretch.lines.to patch.on.lines.text
 
 -- `count` numbers in order, each of an old tune that stays.

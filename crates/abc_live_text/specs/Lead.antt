@@ -58,10 +58,10 @@ pub record BeginAlike {C State Cell Items Defaults : Type 0} (steps : Steps Stat
   pub begins : IsKeptOpening rules on was
   pub alike : IsAlike steps was opening
 
--- There are no tunes from `behind` on, or tunes begin as before.
+-- There are no tunes from `following` on, or tunes begin as before.
 abbrev pub MayGoOn : {C State Cell Items Defaults : Type 0} → Steps State Cell Items → Rules State Cell Items Defaults
     → KeptTextView C State Cell Items → ℕ → State → Type 0
-MayGoOn steps rules on behind opening = (length on.tunes ≤ behind) ⊎ BeginAlike steps rules on opening
+MayGoOn steps rules on following opening = (length on.tunes ≤ following) ⊎ BeginAlike steps rules on opening
 
 -- An edit of the first lines of a text, and the rows of these lines after it.
 pub record IsLeadEdit {C State Cell Items Defaults : Type 0} (rules : Rules State Cell Items Defaults)

@@ -149,7 +149,7 @@ pub record AreNewParts {C State Cell Items Defaults : Type 0} (steps : Steps Sta
       (drop new.stretch.tunes.from on.tunes))
   pub keeps : HeaderStays new.first new.header on.header new.stretch ⊎ HeaderIsReplaced new.first new.header on.header new.stretch
   pub lines_before : take new.stretch.lines.from (spliced on.lines.text s) ≡ take new.stretch.lines.from on.lines.text
-  pub lines_behind : drop (new.stretch.lines.from + new.stretch.lines.came) (spliced on.lines.text s)
+  pub lines_after : drop (new.stretch.lines.from + new.stretch.lines.came) (spliced on.lines.text s)
       ≡ drop new.stretch.lines.to on.lines.text
   pub items : AllZip (HasItemsOf (drop 1 on.chains.items)) new.new_chains new.reused_tunes
   pub untouched : TakesUntouched steps rules on.lines.text s (reused_tunes_after new.stretch (length on.tunes) new.reused_tunes)

@@ -91,12 +91,12 @@ impl<C: Compiler> KeptText<C> {
         })
     }
 
-    /// Whether the tunes from `behind` on stay the same if tunes begin in this state.
-    fn may_go_on(&self, behind: usize, opening: &C::State) -> bool
+    /// Whether the tunes from `following` on stay the same if tunes begin in this state.
+    fn may_go_on(&self, following: usize, opening: &C::State) -> bool
         ensures { let c = self.now.compiler in
-            result ≡ true → MayGoOn (C.steps c) (C.rules c) self.now behind opening.now }
+            result ≡ true → MayGoOn (C.steps c) (C.rules c) self.now following opening.now }
     {
-        if self.tunes.len() <= behind {
+        if self.tunes.len() <= following {
             return true;
         }
         let was = self.kept_opening();

@@ -85,15 +85,15 @@ pub(crate) fn span_of(tunes: &[Block], count: usize, at: usize, removed: usize) 
     if begun == 0 {
         return None;
     }
-    let behind = begun_before(tunes, begun, at + removed);
+    let following = begun_before(tunes, begun, at + removed);
     Some(Span {
         tunes: ItemRange {
             from: begun - 1,
-            to: behind,
+            to: following,
         },
         lines: ItemRange {
             from: tunes[begun - 1].from,
-            to: start_at(tunes, behind, count),
+            to: start_at(tunes, following, count),
         },
     })
 }
@@ -104,6 +104,6 @@ pub(crate) fn lead_of(tunes: &[Block], count: usize, end: usize) -> Span
     requires { end ≤ count }
     ensures { IsLead tunes.now count end result }
 {
-    let behind = begun_before(tunes, 0, end);
-    span_to(behind, start_at(tunes, behind, count))
+    let following = begun_before(tunes, 0, end);
+    span_to(following, start_at(tunes, following, count))
 }

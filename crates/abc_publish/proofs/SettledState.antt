@@ -60,8 +60,8 @@ none_carried None idle = refl
 none_carried (Some job) idle = absurd (false≢true idle)
 
 picked : (b : Bool) (slot : SlotView) (rest : Option SlotView) → slot.job_bytes ≡ None → job_bytes_of rest ≡ None → job_bytes_of (cond b (Some slot) rest) ≡ None
-picked true slot rest here behind = here
-picked false slot rest here behind = behind
+picked true slot rest here following = here
+picked false slot rest here following = following
 
 pub idle_at : (test : ℕ → Bool) (slots : Slots) → list_all is_idle slots ≡ true → job_bytes_of (lookup test slots) ≡ None
 idle_at test [] all = refl

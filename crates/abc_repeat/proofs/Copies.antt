@@ -27,9 +27,9 @@ copies_long begin (suc n) xs items some is =
     omega (arith, ap length (is ∙ copies_front begin n xs), length-append xs (concat (replicate n (drop begin xs))))
 
 -- one copy more
-copy_behind : (n : ℕ) (end : List ℕ) → concat (replicate (suc n) end) ≡ concat (replicate n end) ++ end
-copy_behind zero end = append-nil end
-copy_behind (suc n) end = ap (λ l. end ++ l) (copy_behind n end) ∙ sym (append_assoc end (concat (replicate n end)) end)
+copy_after : (n : ℕ) (end : List ℕ) → concat (replicate (suc n) end) ≡ concat (replicate n end) ++ end
+copy_after zero end = append-nil end
+copy_after (suc n) end = ap (λ l. end ++ l) (copy_after n end) ∙ sym (append_assoc end (concat (replicate n end)) end)
 
 end_range : (begin : ℕ) (xs more : List ℕ) → begin ≤ length xs → slice_range (xs ++ more) begin (length xs) ≡ drop begin xs
 end_range begin xs more inside =
@@ -46,4 +46,4 @@ copies_more begin end (suc n) xs items inside ends some is =
     ap (λ l. items ++ l) range
     ∙ ap (λ l. l ++ drop begin xs) is
     ∙ append_assoc (take begin xs) (concat (replicate (suc n) (drop begin xs))) (drop begin xs)
-    ∙ ap (λ l. take begin xs ++ l) (sym (copy_behind (suc n) (drop begin xs)) ∙ ap (λ k. concat (replicate k (drop begin xs))) one)
+    ∙ ap (λ l. take begin xs ++ l) (sym (copy_after (suc n) (drop begin xs)) ∙ ap (λ k. concat (replicate k (drop begin xs))) one)

@@ -33,27 +33,27 @@ sign_inner : (numbers : ℕ) (ms : List Mark) (strains : List Strain) → IsInsi
 sign_inner numbers ms strains (last_run body h) =
     subst (λ l. IsInside (marks.Ending numbers ∷ l) (record { common = []; endings = record { numbers = numbers; run = body } ∷ [] } ∷ [])) (append-nil body)
     (run_to_end [] (record { numbers = numbers; run = body } ∷ []) (straight [] (All-nil (λ m. in_ending m ≡ true))) (to_the_end numbers body h))
-sign_inner numbers ms strains (closed_run body rest bar later h closes stops behind) =
+sign_inner numbers ms strains (closed_run body rest bar later h closes stops following) =
     subst (λ l. IsInside (marks.Ending numbers ∷ l) (record { common = []; endings = record { numbers = numbers; run = body ++ bar ∷ [] } ∷ [] } ∷ later))
     (let e : ((body ++ bar ∷ []) ++ []) ++ rest ≡ body ++ bar ∷ rest = simp (append_assoc, append-nil) in e)
-    (run_to_bar [] rest (record { numbers = numbers; run = body ++ bar ∷ [] } ∷ []) bar later (straight [] (All-nil (λ m. in_ending m ≡ true))) (to_a_bar numbers body bar h closes) stops behind)
+    (run_to_bar [] rest (record { numbers = numbers; run = body ++ bar ∷ [] } ∷ []) bar later (straight [] (All-nil (λ m. in_ending m ≡ true))) (to_a_bar numbers body bar h closes) stops following)
 sign_inner numbers ms strains (run_to_end run endings inner are) =
     run_to_end [] (record { numbers = numbers; run = run } ∷ endings) (straight [] (All-nil (λ m. in_ending m ≡ true))) (another numbers run endings None inner are)
-sign_inner numbers ms strains (run_to_bar run rest endings bar later inner are stops behind) =
-    run_to_bar [] rest (record { numbers = numbers; run = run } ∷ endings) bar later (straight [] (All-nil (λ m. in_ending m ≡ true))) (another numbers run endings (Some bar) inner are) stops behind
+sign_inner numbers ms strains (run_to_bar run rest endings bar later inner are stops following) =
+    run_to_bar [] rest (record { numbers = numbers; run = run } ∷ endings) bar later (straight [] (All-nil (λ m. in_ending m ≡ true))) (another numbers run endings (Some bar) inner are) stops following
 
 sign_outer : (opened : Bool) (numbers : ℕ) (ms : List Mark) (strains : List Strain) → IsInside ms strains → IsStrains opened (marks.Ending numbers ∷ ms) (on_first (marks.Ending numbers) strains)
 sign_outer opened numbers ms strains (last_run body h) =
     subst (λ l. IsStrains opened (marks.Ending numbers ∷ l) (record { common = []; endings = record { numbers = numbers; run = body } ∷ [] } ∷ [])) (append-nil body)
     (last_endings opened [] (record { numbers = numbers; run = body } ∷ []) (All-nil (λ m. in_common opened m ≡ true)) (to_the_end numbers body h))
-sign_outer opened numbers ms strains (closed_run body rest bar later h closes stops behind) =
+sign_outer opened numbers ms strains (closed_run body rest bar later h closes stops following) =
     subst (λ l. IsStrains opened (marks.Ending numbers ∷ l) (record { common = []; endings = record { numbers = numbers; run = body ++ bar ∷ [] } ∷ [] } ∷ later))
     (let e : ((body ++ bar ∷ []) ++ []) ++ rest ≡ body ++ bar ∷ rest = simp (append_assoc, append-nil) in e)
-    (with_endings opened [] rest (record { numbers = numbers; run = body ++ bar ∷ [] } ∷ []) bar later (All-nil (λ m. in_common opened m ≡ true)) (to_a_bar numbers body bar h closes) stops behind)
+    (with_endings opened [] rest (record { numbers = numbers; run = body ++ bar ∷ [] } ∷ []) bar later (All-nil (λ m. in_common opened m ≡ true)) (to_a_bar numbers body bar h closes) stops following)
 sign_outer opened numbers ms strains (run_to_end run endings inner are) =
     last_endings opened [] (record { numbers = numbers; run = run } ∷ endings) (All-nil (λ m. in_common opened m ≡ true)) (another numbers run endings None inner are)
-sign_outer opened numbers ms strains (run_to_bar run rest endings bar later inner are stops behind) =
-    with_endings opened [] rest (record { numbers = numbers; run = run } ∷ endings) bar later (All-nil (λ m. in_common opened m ≡ true)) (another numbers run endings (Some bar) inner are) stops behind
+sign_outer opened numbers ms strains (run_to_bar run rest endings bar later inner are stops following) =
+    with_endings opened [] rest (record { numbers = numbers; run = run } ∷ endings) bar later (All-nil (λ m. in_common opened m ≡ true)) (another numbers run endings (Some bar) inner are) stops following
 
 pub with_plain : (m : Mark) (strain : Strain) → is_ending m ≡ false → with_mark m strain ≡ record strain { common = m ∷ strain.common }
 with_plain (marks.Ending numbers) strain e = cc
@@ -67,15 +67,15 @@ run_more m run e (barred body gap bar h closes opens singles) = barred (m ∷ bo
 inside_more : (m : Mark) (ms : List Mark) (strains : List Strain) → in_ending m ≡ true → is_ending m ≡ false → IsInside ms strains → IsInside (m ∷ ms) (on_first m strains)
 inside_more m ms strains e plain (last_run body h) =
     subst (λ s. IsInside (m ∷ body) (s ∷ [])) (sym (with_plain m (without_endings body) plain)) (last_run (m ∷ body) (All-cons (λ x. in_ending x ≡ true) m body e h))
-inside_more m ms strains e plain (closed_run body rest bar later h closes stops behind) =
+inside_more m ms strains e plain (closed_run body rest bar later h closes stops following) =
     subst (λ s. IsInside (m ∷ (body ++ bar ∷ rest)) (s ∷ later)) (sym (with_plain m (without_endings (body ++ bar ∷ [])) plain))
-    (closed_run (m ∷ body) rest bar later (All-cons (λ x. in_ending x ≡ true) m body e h) closes stops behind)
+    (closed_run (m ∷ body) rest bar later (All-cons (λ x. in_ending x ≡ true) m body e h) closes stops following)
 inside_more m ms strains e plain (run_to_end run endings inner are) =
     subst (λ s. IsInside (m ∷ (run ++ endings_text endings)) (s ∷ []))
     (sym (with_plain m (record { common = run; endings = endings }) plain)) (run_to_end (m ∷ run) endings (run_more m run e inner) are)
-inside_more m ms strains e plain (run_to_bar run rest endings bar later inner are stops behind) =
+inside_more m ms strains e plain (run_to_bar run rest endings bar later inner are stops following) =
     subst (λ s. IsInside (m ∷ ((run ++ endings_text endings) ++ rest)) (s ∷ later)) (sym (with_plain m (record { common = run; endings = endings }) plain))
-    (run_to_bar (m ∷ run) rest endings bar later (run_more m run e inner) are stops behind)
+    (run_to_bar (m ∷ run) rest endings bar later (run_more m run e inner) are stops following)
 
 outside_more : (opened : Bool) (m : Mark) (ms : List Mark) (strains : List Strain) → in_common opened m ≡ true → is_ending m ≡ false
     → IsStrains opened ms strains → IsStrains opened (m ∷ ms) (on_first m strains)
@@ -84,12 +84,12 @@ outside_more o m ms strains e plain (last_common same common h) =
 outside_more o m ms strains e plain (last_endings same common endings h are) =
     subst (λ s. IsStrains same (m ∷ (common ++ endings_text endings)) (s ∷ [])) (sym (with_plain m (record { common = common; endings = endings }) plain))
     (last_endings same (m ∷ common) endings (All-cons (λ x. in_common same x ≡ true) m common e h) are)
-outside_more o m ms strains e plain (common_part same body rest bar later h closes behind) =
+outside_more o m ms strains e plain (common_part same body rest bar later h closes following) =
     subst (λ s. IsStrains same (m ∷ (body ++ bar ∷ rest)) (s ∷ later)) (sym (with_plain m (without_endings (body ++ bar ∷ [])) plain))
-    (common_part same (m ∷ body) rest bar later (All-cons (λ x. in_common same x ≡ true) m body e h) closes behind)
-outside_more o m ms strains e plain (with_endings same common rest endings bar later h are stops behind) =
+    (common_part same (m ∷ body) rest bar later (All-cons (λ x. in_common same x ≡ true) m body e h) closes following)
+outside_more o m ms strains e plain (with_endings same common rest endings bar later h are stops following) =
     subst (λ s. IsStrains same (m ∷ ((common ++ endings_text endings) ++ rest)) (s ∷ later)) (sym (with_plain m (record { common = common; endings = endings }) plain))
-    (with_endings same (m ∷ common) rest endings bar later (All-cons (λ x. in_common same x ≡ true) m common e h) are stops behind)
+    (with_endings same (m ∷ common) rest endings bar later (All-cons (λ x. in_common same x ≡ true) m common e h) are stops following)
 
 -- the marks between endings: no signs, and only single bars
 leads_single : (m : Mark) (rest : List Mark) → in_ending m ≡ true → leads_to_ending (m ∷ rest) ≡ true → (is_single m && leads_to_ending rest) ≡ true
@@ -101,8 +101,8 @@ body_gap : (body rest : List Mark) → AllPass in_ending body → leads_to_endin
 body_gap [] rest h e = (All-nil (λ m. is_single m ≡ true), e)
 body_gap (m ∷ body) rest h e =
     let here = and_parts (is_single m) (leads_to_ending (body ++ rest)) (leads_single m (body ++ rest) (All-head (λ x. in_ending x ≡ true) m body h) e) in
-    let behind = body_gap body rest (All-tail (λ x. in_ending x ≡ true) m body h) here.1 in
-    (All-cons (λ x. is_single x ≡ true) m body here.0 behind.0, behind.1)
+    let following = body_gap body rest (All-tail (λ x. in_ending x ≡ true) m body h) here.1 in
+    (All-cons (λ x. is_single x ≡ true) m body here.0 following.0, following.1)
 
 closing_single : (m : Mark) → closes_ending m ≡ true → is_single m ≡ false
 closing_single (marks.Bar closes opens double) e = elim (is_single (marks.Bar closes opens double)) as (λ b. is_single (marks.Bar closes opens double) ≡ b → b ≡ false) [
@@ -130,16 +130,16 @@ bar_more : (bar : Mark) (ms : List Mark) (strains : List Strain) → closes_endi
     → is_ending bar ≡ false → leads_to_ending ms ≡ true → IsInside ms strains → IsInside (bar ∷ ms) (on_first bar strains)
 bar_more bar ms strains closes opens plain leads (last_run body h) =
     let none = body_gap body [] h (subst (λ l. leads_to_ending l ≡ true) (sym (append-nil body)) leads) in cc
-bar_more bar ms strains closes opens plain leads (closed_run body rest end later h ends stops behind) = absurd (closing_leads end rest ends (body_gap body (end ∷ rest) h leads).1)
+bar_more bar ms strains closes opens plain leads (closed_run body rest end later h ends stops following) = absurd (closing_leads end rest ends (body_gap body (end ∷ rest) h leads).1)
 bar_more bar ms strains closes opens plain leads (run_to_end run endings inner are) =
     subst (λ s. IsInside (bar ∷ (run ++ endings_text endings)) (s ∷ [])) (sym (with_plain bar (record { common = run; endings = endings }) plain))
     (run_to_end (bar ∷ run) endings (barred [] run bar (All-nil (λ m. in_ending m ≡ true)) closes opens (inner_gap run (endings_text endings) inner leads)) are)
-bar_more bar ms strains closes opens plain leads (run_to_bar run rest endings end later inner are stops behind) =
+bar_more bar ms strains closes opens plain leads (run_to_bar run rest endings end later inner are stops following) =
     subst (λ s. IsInside (bar ∷ ((run ++ endings_text endings) ++ rest)) (s ∷ later)) (sym (with_plain bar (record { common = run; endings = endings }) plain))
     (run_to_bar (bar ∷ run) rest endings end later
     (barred [] run bar (All-nil (λ m. in_ending m ≡ true)) closes opens
     (inner_gap run (endings_text endings ++ rest) inner (subst (λ l. leads_to_ending l ≡ true) (append_assoc run (endings_text endings) rest) leads)))
-    are stops behind)
+    are stops following)
 
 map_first : (m : Mark) (opened inside : Bool) (ms : List Mark) → map strain_of (put_first m (texts_of opened inside ms)) ≡ on_first m (map strain_of (texts_of opened inside ms))
 map_first m opened inside ms = ⊎_elim

@@ -1,8 +1,8 @@
-pub mod Behind
 pub mod Bounds
 pub mod Copies
 pub mod Cuts
 pub mod Existence
+pub mod Following
 pub mod Greatest
 pub mod Lying
 pub mod Numbers

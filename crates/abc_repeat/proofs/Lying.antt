@@ -48,10 +48,10 @@ places_played whole at (marks.Ending numbers ∷ ms) h = places_played whole (at
 ending_played : (whole : List Mark) (pass at : ℕ) (endings : List Ending) → Lies whole at (endings_text endings) → All (IsPlayed whole) (first_ending pass at endings)
 ending_played whole pass at [] h = All-nil (IsPlayed whole)
 ending_played whole pass at (ending ∷ endings) h =
-    let behind : Lies whole (at + 1) (ending.run ++ endings_text endings) = back_lies (marks.Ending ending.numbers ∷ []) (ending.run ++ endings_text endings) h in
+    let following : Lies whole (at + 1) (ending.run ++ endings_text endings) = back_lies (marks.Ending ending.numbers ∷ []) (ending.run ++ endings_text endings) h in
     elim (has_number ending.numbers pass) as (λ b. All (IsPlayed whole) (cond b (places_from (at + 1) ending.run) (first_ending pass (at + 1 + length ending.run) endings))) [
-      | true ↦ places_played whole (at + 1) ending.run (front_lies ending.run (endings_text endings) behind)
-      | false ↦ ending_played whole pass (at + 1 + length ending.run) endings (back_lies ending.run (endings_text endings) behind)
+      | true ↦ places_played whole (at + 1) ending.run (front_lies ending.run (endings_text endings) following)
+      | false ↦ ending_played whole pass (at + 1 + length ending.run) endings (back_lies ending.run (endings_text endings) following)
     ]
 
 pass_played : (whole : List Mark) (at : ℕ) (strain : Strain) (pass : ℕ) → Lies whole at (text_of strain) → All (IsPlayed whole) (pass_of at strain pass)

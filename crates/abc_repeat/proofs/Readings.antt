@@ -105,17 +105,17 @@ inner_front : (opened : Bool) (run rest : List Mark) (numbers : ℕ) → IsInner
     → texts_of opened true (run ++ marks.Ending numbers ∷ rest) ≡ put_front run (texts_of opened true (marks.Ending numbers ∷ rest))
 inner_front opened run rest numbers (straight body h) = run_front opened body (marks.Ending numbers ∷ rest) h
 inner_front opened run rest numbers (barred body gap bar h closes opens singles) =
-    let behind = marks.Ending numbers ∷ rest in
-    ap (texts_of opened true) (append_assoc body (bar ∷ gap) behind)
-    ∙ run_front opened body (bar ∷ (gap ++ behind)) h
-    ∙ ap (put_front body) (bar_stays opened bar (gap ++ behind) (going_on bar (gap ++ behind) opens (gap_leads gap rest numbers singles)))
-    ∙ ap (λ l. put_front body (put_first bar l)) (gap_front opened gap behind singles)
-    ∙ sym (put_front-append body (bar ∷ gap) (texts_of opened true behind))
+    let following = marks.Ending numbers ∷ rest in
+    ap (texts_of opened true) (append_assoc body (bar ∷ gap) following)
+    ∙ run_front opened body (bar ∷ (gap ++ following)) h
+    ∙ ap (put_front body) (bar_stays opened bar (gap ++ following) (going_on bar (gap ++ following) opens (gap_leads gap rest numbers singles)))
+    ∙ ap (λ l. put_front body (put_first bar l)) (gap_front opened gap following singles)
+    ∙ sym (put_front-append body (bar ∷ gap) (texts_of opened true following))
 
 -- the marks that may follow endings that such a bar ends
-abbrev Behind : Option Mark → List Mark → Type 0
-Behind None rest = rest ≡ []
-Behind (Some bar) rest = goes_on bar rest ≡ false
+abbrev Following : Option Mark → List Mark → Type 0
+Following None rest = rest ≡ []
+Following (Some bar) rest = goes_on bar rest ≡ false
 
 -- the texts after such endings
 abbrev later : Option Mark → List Mark → List (List Mark)
@@ -136,7 +136,7 @@ bar_seam : (body rest : List Mark) (bar : Mark) → ((body ++ bar ∷ []) ++ [])
 bar_seam body rest bar = simp (append_assoc, append-nil)
 
 -- endings are cut off with their last bar
-endings_cut : (opened inside : Bool) {endings : List Ending} {closing : Option Mark} → AreEndings endings closing → (rest : List Mark) → Behind closing rest
+endings_cut : (opened inside : Bool) {endings : List Ending} {closing : Option Mark} → AreEndings endings closing → (rest : List Mark) → Following closing rest
     → texts_of opened inside (endings_text endings ++ rest) ≡ endings_text endings ∷ later closing rest
 endings_cut opened inside (to_the_end numbers body h) rest none =
     sign_stays opened inside numbers ((body ++ []) ++ rest)
@@ -148,7 +148,7 @@ endings_cut opened inside (to_a_bar numbers body bar h closes) rest stops =
     (ap (texts_of opened true) (bar_seam body rest bar) ∙ run_front opened body (bar ∷ rest) h
     ∙ ap (put_front body) (bar_ends opened bar rest closes stops) ∙ put_front-cons body (bar ∷ []) (texts_of (opens_next bar) false rest)
     ∙ ap (λ l. l ∷ texts_of (opens_next bar) false rest) (sym (append-nil (body ++ bar ∷ []))))
-endings_cut opened inside (another numbers run endings closing inner are) rest behind =
+endings_cut opened inside (another numbers run endings closing inner are) rest following =
     let s = signed are in
     let seam : endings_text endings ++ rest ≡ marks.Ending s.numbers ∷ (s.rest ++ rest) = ap (λ l. l ++ rest) s.is in
     sign_stays opened inside numbers ((run ++ endings_text endings) ++ rest)
@@ -156,7 +156,7 @@ endings_cut opened inside (another numbers run endings closing inner are) rest b
     (ap (texts_of opened true) (append_assoc run (endings_text endings) rest ∙ ap (λ l. run ++ l) seam)
     ∙ inner_front opened run (s.rest ++ rest) s.numbers inner
     ∙ ap (λ l. put_front run (texts_of opened true l)) (sym seam)
-    ∙ ap (put_front run) (endings_cut opened true are rest behind)
+    ∙ ap (put_front run) (endings_cut opened true are rest following)
     ∙ put_front-cons run (endings_text endings) (later closing rest))
 
 -- a text is its strain again
@@ -241,15 +241,15 @@ reading_computed (last_endings opened common endings h are) =
     ∙ ap (put_front common) (ap (texts_of opened false) (sym (append-nil (endings_text endings))) ∙ endings_cut opened false are [] refl)
     ∙ put_front-cons common (endings_text endings) [])
     ∙ ap (λ s. s ∷ []) (whole_strain opened common h are)
-reading_computed (common_part opened body rest bar strains h closes behind) =
+reading_computed (common_part opened body rest bar strains h closes following) =
     ap (map strain_of) (common_front opened body (bar ∷ rest) h ∙ ap (put_front body) (ends opened false bar rest closes) ∙ put_front-cons body (bar ∷ []) (texts_of (opens_next bar) false rest))
     ∙ ap (λ s. s ∷ strains_from (opens_next bar) rest)
     (common_strain (body ++ bar ∷ []) (join_plain body (bar ∷ []) (plain_passes (in_common opened) body (common_plain opened) h) (one_plain bar (common_bar_plain opened bar closes))))
-    ∙ ap (λ l. without_endings (body ++ bar ∷ []) ∷ l) (reading_computed behind)
-reading_computed (with_endings opened common rest endings bar strains h are stops behind) =
+    ∙ ap (λ l. without_endings (body ++ bar ∷ []) ∷ l) (reading_computed following)
+reading_computed (with_endings opened common rest endings bar strains h are stops following) =
     ap (λ l. map strain_of (texts_of opened false l)) (append_assoc common (endings_text endings) rest)
     ∙ ap (map strain_of) (common_front opened common (endings_text endings ++ rest) h
     ∙ ap (put_front common) (endings_cut opened false are rest stops)
     ∙ put_front-cons common (endings_text endings) (texts_of (opens_next bar) false rest))
     ∙ ap (λ s. s ∷ strains_from (opens_next bar) rest) (whole_strain opened common h are)
-    ∙ ap (λ l. record { common = common; endings = endings } ∷ l) (reading_computed behind)
+    ∙ ap (λ l. record { common = common; endings = endings } ∷ l) (reading_computed following)

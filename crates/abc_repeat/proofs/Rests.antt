@@ -30,21 +30,21 @@ strain_short at opened ms text most is small =
     omega arith
 
 -- the marks after a strain are no longer than before
-pub rest_short : (at : ℕ) (opened behind : Bool) (ms text : List Mark) (most : ℕ) → text ≡ first_text opened (take (length ms - at) (drop at ms)) → behind ≡ opens_after false text
-    → length (plays_from at (strains_from opened (drop at ms))) ≤ most → length (plays_from (at + length text) (strains_from behind (drop (at + length text) ms))) ≤ most
-rest_short at opened behind ms text most is opens small =
+pub rest_short : (at : ℕ) (opened following : Bool) (ms text : List Mark) (most : ℕ) → text ≡ first_text opened (take (length ms - at) (drop at ms)) → following ≡ opens_after false text
+    → length (plays_from at (strains_from opened (drop at ms))) ≤ most → length (plays_from (at + length text) (strains_from following (drop (at + length text) ms))) ≤ most
+rest_short at opened following ms text most is opens small =
     let rest = plays_from (at + length text) (strains_from (opens_after false text) (drop (at + length text) ms)) in
     let whole : length (plays_from at (strains_from opened (drop at ms))) ≡ length (strain_play at (strain_of text)) + length rest =
     ap length (rest_more at opened ms text is) ∙ length-append (strain_play at (strain_of text)) rest in
-    let same : length (plays_from (at + length text) (strains_from behind (drop (at + length text) ms))) ≡ length rest =
+    let same : length (plays_from (at + length text) (strains_from following (drop (at + length text) ms))) ≡ length rest =
     ap (λ o. length (plays_from (at + length text) (strains_from o (drop (at + length text) ms)))) opens in
     omega arith
 
 -- one more strain is appended
-pub put_strain_more : (items put : List ℕ) (at : ℕ) (opened behind : Bool) (ms text : List Mark) → text ≡ first_text opened (take (length ms - at) (drop at ms)) → behind ≡ opens_after false text
+pub put_strain_more : (items put : List ℕ) (at : ℕ) (opened following : Bool) (ms text : List Mark) → text ≡ first_text opened (take (length ms - at) (drop at ms)) → following ≡ opens_after false text
     → put ≡ items ++ strain_play at (strain_of text)
-    → put ++ plays_from (at + length text) (strains_from behind (drop (at + length text) ms)) ≡ items ++ plays_from at (strains_from opened (drop at ms))
-put_strain_more items put at opened behind ms text is opens more =
+    → put ++ plays_from (at + length text) (strains_from following (drop (at + length text) ms)) ≡ items ++ plays_from at (strains_from opened (drop at ms))
+put_strain_more items put at opened following ms text is opens more =
     ap (λ o. put ++ plays_from (at + length text) (strains_from o (drop (at + length text) ms))) opens
     ∙ ap (λ l. l ++ plays_from (at + length text) (strains_from (opens_after false text) (drop (at + length text) ms))) more
     ∙ append_assoc items (strain_play at (strain_of text)) (plays_from (at + length text) (strains_from (opens_after false text) (drop (at + length text) ms)))

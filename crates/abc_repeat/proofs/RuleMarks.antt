@@ -123,8 +123,8 @@ leads_told (marks.Play ∷ rest) e = cc
 leads_told (marks.Bar closes opens double ∷ rest) e =
     let bar = marks.Bar closes opens double in
     let parts = and_parts (is_single bar) (leads_to_ending rest) e in
-    let behind = leads_told rest parts.1 in
-    (bar ∷ behind.0, behind.1, behind.2, All-cons IsBetween bar behind.0 (between_told bar parts.0) behind.3, ap (λ l. bar ∷ l) behind.4)
+    let following = leads_told rest parts.1 in
+    (bar ∷ following.0, following.1, following.2, All-cons IsBetween bar following.0 (between_told bar parts.0) following.3, ap (λ l. bar ∷ l) following.4)
 leads_told (marks.Ending numbers ∷ rest) e = ([], numbers, rest, All-nil IsBetween, refl)
 
 gap_leads : (gap rest : List Mark) (numbers : ℕ) → All IsBetween gap → leads_to_ending (gap ++ marks.Ending numbers ∷ rest) ≡ true

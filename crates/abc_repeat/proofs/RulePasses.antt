@@ -91,10 +91,10 @@ has_head m ms = (0, omega arith, refl)
 has_tail : (m x : Mark) (ms : List Mark) → Contains ms x → Contains (m ∷ ms) x
 has_tail m x ms h = let inside = h.1 in (suc h.0, omega arith, h.2)
 
-asked_behind : (m : Mark) (ms : List Mark) (i : ℕ) → AsksFor ms i → AsksFor (m ∷ ms) i
-asked_behind m ms _ once = once
-asked_behind m ms _ (by_bar closes opens double has) = by_bar closes opens double (has_tail m (marks.Bar closes opens double) ms has)
-asked_behind m ms _ (by_ending numbers i has number) = by_ending numbers i (has_tail m (marks.Ending numbers) ms has) number
+asked_after : (m : Mark) (ms : List Mark) (i : ℕ) → AsksFor ms i → AsksFor (m ∷ ms) i
+asked_after m ms _ once = once
+asked_after m ms _ (by_bar closes opens double has) = by_bar closes opens double (has_tail m (marks.Bar closes opens double) ms has)
+asked_after m ms _ (by_ending numbers i has number) = by_ending numbers i (has_tail m (marks.Ending numbers) ms has) number
 
 asked_here : (m : Mark) (ms : List Mark) → 1 < passes_of m → AsksFor (m ∷ ms) (passes_of m)
 asked_here marks.Play ms h = once
@@ -108,7 +108,7 @@ most_asked (m ∷ ms) = ⊎_elim
     let e : passes_of m ≡ max (passes_of m) (most_passes ms) = omega arith in
     let some = most_passes-some ms in
     subst (AsksFor (m ∷ ms)) e (asked_here m ms (omega arith)))
-    (λ more. let e : most_passes ms ≡ max (passes_of m) (most_passes ms) = omega arith in subst (AsksFor (m ∷ ms)) e (asked_behind m ms (most_passes ms) (most_asked ms)))
+    (λ more. let e : most_passes ms ≡ max (passes_of m) (most_passes ms) = omega arith in subst (AsksFor (m ∷ ms)) e (asked_after m ms (most_passes ms) (most_asked ms)))
     (cases_lt (most_passes ms) (passes_of m))
 
 pub most_is_count : (ms : List Mark) → IsPassCount ms (most_passes ms)
@@ -146,17 +146,17 @@ ending_one : (pass at : ℕ) (endings : List Ending) (others : List PlacedEnding
     → others ≡ all_placed at endings → PlaysEnding pass others play → play ≡ first_ending pass at endings
 ending_one pass at [] _ _ some is none = refl
 ending_one pass at [] _ _ some is (first ending endings has) = cc
-ending_one pass at [] _ _ some is (later ending endings play not behind) = cc
+ending_one pass at [] _ _ some is (later ending endings play not following) = cc
 ending_one pass at (own ∷ rest) _ _ some is none = cc
 ending_one pass at (own ∷ rest) _ _ some is (first ending endings has) =
     let same : ending ≡ placed_ending at own.numbers own.run = cc in
     ap (λ (e : PlacedEnding). turns_from e.from e.run) same
     ∙ turns_are (at + 1) own.run
     ∙ sym (cond-true (has_number own.numbers pass) _ _ (number_tested own.numbers pass (subst (λ (e : PlacedEnding). HasNumber e.numbers pass) same has)))
-ending_one pass at (own ∷ rest) _ _ some is (later ending endings play not behind) =
+ending_one pass at (own ∷ rest) _ _ some is (later ending endings play not following) =
     let same : ending ≡ placed_ending at own.numbers own.run = cc in
     let more : endings ≡ all_placed (at + 1 + length own.run) rest = cc in
-    ending_one pass (at + 1 + length own.run) rest endings play some more behind
+    ending_one pass (at + 1 + length own.run) rest endings play some more following
     ∙ sym (cond-false (has_number own.numbers pass) _ _ (unnamed own.numbers pass (subst (λ (e : PlacedEnding). ¬ HasNumber e.numbers pass) same not) some))
 
 -- passes

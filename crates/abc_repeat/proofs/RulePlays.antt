@@ -24,24 +24,24 @@ past : (at numbers : ℕ) (body gap : List Mark) (bar : Mark) (endings : List En
     → AllPass in_ending body → closes_ending bar ≡ true → opens_next bar ≡ false → AllPass is_single gap
     → AreEndingsFrom (at + 1 + length (body ++ bar ∷ gap)) (all_placed (at + 1 + length (body ++ bar ∷ gap)) endings) (endings_text endings) closing
     → AreEndingsFrom at (all_placed at (ended numbers (body ++ bar ∷ gap) ∷ endings)) (endings_text (ended numbers (body ++ bar ∷ gap) ∷ endings)) closing
-past at numbers body gap (marks.Bar c o double) endings closing h closes opens singles behind =
+past at numbers body gap (marks.Bar c o double) endings closing h closes opens singles following =
     let none : 0 ≡ o = sym (test_none o opens) in
     let Past : ℕ → Type 0 = λ k. IsEndBar (marks.Bar c k double)
     → AreEndingsFrom (at + 1 + length (body ++ marks.Bar c k double ∷ gap)) (all_placed (at + 1 + length (body ++ marks.Bar c k double ∷ gap)) endings) (endings_text endings) closing
     → AreEndingsFrom at (all_placed at (ended numbers (body ++ marks.Bar c k double ∷ gap) ∷ endings)) (endings_text (ended numbers (body ++ marks.Bar c k double ∷ gap) ∷ endings)) closing in
     let zero : Past 0 = λ is more. past_bar at numbers c double body gap (endings_text endings) (all_placed (at + 1 + length (body ++ marks.Bar c 0 double ∷ gap)) endings) closing
     (all_inside_told body h) is (all_between_told gap singles) more in
-    subst Past none zero (end_told (marks.Bar c o double) closes) behind
-past at numbers body gap _ endings closing h closes opens singles behind = cc
+    subst Past none zero (end_told (marks.Bar c o double) closes) following
+past at numbers body gap _ endings closing h closes opens singles following = cc
 
 -- an ending with another one after it
 inner_placed : (at numbers : ℕ) {run : List Mark} (endings : List Ending) (closing : Option Mark) → IsInnerRun run
     → ((k : ℕ) → AreEndingsFrom k (all_placed k endings) (endings_text endings) closing)
     → AreEndingsFrom at (all_placed at (ended numbers run ∷ endings)) (endings_text (ended numbers run ∷ endings)) closing
-inner_placed at numbers endings closing (straight body h) behind =
-    until_sign at numbers body (endings_text endings) (all_placed (at + 1 + length body) endings) closing (all_inside_told body h) (behind (at + 1 + length body))
-inner_placed at numbers endings closing (barred body gap bar h closes opens singles) behind =
-    past at numbers body gap bar endings closing h closes opens singles (behind (at + 1 + length (body ++ bar ∷ gap)))
+inner_placed at numbers endings closing (straight body h) following =
+    until_sign at numbers body (endings_text endings) (all_placed (at + 1 + length body) endings) closing (all_inside_told body h) (following (at + 1 + length body))
+inner_placed at numbers endings closing (barred body gap bar h closes opens singles) following =
+    past at numbers body gap bar endings closing h closes opens singles (following (at + 1 + length (body ++ bar ∷ gap)))
 
 -- endings have the rules
 endings_placed : {endings : List Ending} {closing : Option Mark} → AreEndings endings closing → (at : ℕ) → AreEndingsFrom at (all_placed at endings) (endings_text endings) closing
@@ -74,9 +74,9 @@ plays_ruled (last_endings opened common endings h are) before at is =
     (ends_in_ending before at common (endings_text endings) (all_placed (at + length common) endings) (strain_play at strain)
     (all_common_told before common (subst (λ b. AllPass (in_common b) common) is h))
     (endings_placed are (at + length common)) (strain_played at (common ++ endings_text endings) strain refl))
-plays_ruled (common_part opened body rest marks.Play strains h closes behind) before at is = cc
-plays_ruled (common_part opened body rest (marks.Ending numbers) strains h closes behind) before at is = cc
-plays_ruled (common_part opened body rest (marks.Bar c o double) strains h closes behind) before at is =
+plays_ruled (common_part opened body rest marks.Play strains h closes following) before at is = cc
+plays_ruled (common_part opened body rest (marks.Ending numbers) strains h closes following) before at is = cc
+plays_ruled (common_part opened body rest (marks.Bar c o double) strains h closes following) before at is =
     let bar = marks.Bar c o double in
     let common = body ++ bar ∷ [] in
     let strain = without_endings common in
@@ -85,17 +85,17 @@ plays_ruled (common_part opened body rest (marks.Bar c o double) strains h close
     (all_common_told before body (subst (λ b. AllPass (in_common b) body) is h))
     (common_told before bar (subst (λ b. closes_common b bar ≡ true) is closes))
     (strain_played at common strain (sym (append-nil common)))
-    (plays_ruled behind o (at + length common) refl))
-plays_ruled (with_endings opened common rest endings marks.Play strains h are stops behind) before at is = let no = closing_bar are marks.Play refl in cc
-plays_ruled (with_endings opened common rest endings (marks.Ending numbers) strains h are stops behind) before at is = let no = closing_bar are (marks.Ending numbers) refl in cc
-plays_ruled (with_endings opened common rest endings (marks.Bar c o double) strains h are stops behind) before at is =
+    (plays_ruled following o (at + length common) refl))
+plays_ruled (with_endings opened common rest endings marks.Play strains h are stops following) before at is = let no = closing_bar are marks.Play refl in cc
+plays_ruled (with_endings opened common rest endings (marks.Ending numbers) strains h are stops following) before at is = let no = closing_bar are (marks.Ending numbers) refl in cc
+plays_ruled (with_endings opened common rest endings (marks.Bar c o double) strains h are stops following) before at is =
     let strain = strain_with common endings in
     after_endings before at c o double common (endings_text endings) rest (all_placed (at + length common) endings) (strain_play at strain) (plays_from (at + length (text_of strain)) strains)
     (all_common_told before common (subst (λ b. AllPass (in_common b) common) is h))
     (endings_placed are (at + length common))
     (last_told c o double rest stops)
     (strain_played at (common ++ endings_text endings) strain refl)
-    (plays_ruled behind o (at + length (text_of strain)) refl)
+    (plays_ruled following o (at + length (text_of strain)) refl)
 
 pub by_the_rules : IsByTheRules
 unfolding play_of
@@ -121,16 +121,16 @@ read_endings (until_bar at numbers body bar h closes) = record {
   places = refl;
   whole = ap (λ l. marks.Ending numbers ∷ l) (sym (append-nil (body ++ bar ∷ [])));
 }
-read_endings (until_sign at numbers body text endings closing h behind) =
-    let rest = read_endings behind in
+read_endings (until_sign at numbers body text endings closing h following) =
+    let rest = read_endings following in
     record {
       endings = ended numbers body ∷ rest.endings;
       are = another numbers body rest.endings closing (straight body (all_inside_tested body h)) rest.are;
       places = ap (λ l. placed_ending at numbers body ∷ l) rest.places;
       whole = ap (λ l. marks.Ending numbers ∷ (body ++ l)) rest.whole;
     }
-read_endings (past_bar at numbers closes double body gap text endings closing h is singles behind) =
-    let rest = read_endings behind in
+read_endings (past_bar at numbers closes double body gap text endings closing h is singles following) =
+    let rest = read_endings following in
     let bar = marks.Bar closes 0 double in
     let run = body ++ bar ∷ gap in
     record {
@@ -161,8 +161,8 @@ read_play (ends_in_ending before at common text endings play h ends played) =
       are = subst (λ l. IsStrains (ltb 0 before) l (strain ∷ [])) (sym whole) (last_endings (ltb 0 before) common own.endings (all_common_tested before common h) own.are);
       is = strain_one at (common ++ text) strain play whole (subst (λ l. IsStrainPlay at (common ++ text) common l play) own.places played) ∙ sym (append-nil (strain_play at strain));
     }
-read_play (after_common before at c o double body rest play others h closes played behind) =
-    let more = read_play behind in
+read_play (after_common before at c o double body rest play others h closes played following) =
+    let more = read_play following in
     let bar = marks.Bar c o double in
     let common = body ++ bar ∷ [] in
     record {
@@ -172,9 +172,9 @@ read_play (after_common before at c o double body rest play others h closes play
           ∙ ap (λ l. strain_play at (without_endings common) ++ l) more.is
           ∙ ap (λ l. strain_play at (without_endings common) ++ plays_from (at + length l) more.strains) (sym (append-nil common));
     }
-read_play (after_endings before at c o double common text rest endings play others h ends stops played behind) =
+read_play (after_endings before at c o double common text rest endings play others h ends stops played following) =
     let own = read_endings ends in
-    let more = read_play behind in
+    let more = read_play following in
     let strain = strain_with common own.endings in
     let whole = ap (λ l. common ++ l) own.whole in
     record {

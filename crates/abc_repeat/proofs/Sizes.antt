@@ -63,10 +63,10 @@ sums_join : (size one next a b z top : ℕ) → one ≡ min a top → next ≡ m
 sums_join size one next a b z top e f g = omega arith
 
 -- one more strain
-pub total_more : (at size one next top : ℕ) (opened behind : Bool) (ms text : List Mark) → text ≡ first_text opened (take (length ms - at) (drop at ms)) → behind ≡ opens_after false text
+pub total_more : (at size one next top : ℕ) (opened following : Bool) (ms text : List Mark) → text ≡ first_text opened (take (length ms - at) (drop at ms)) → following ≡ opens_after false text
     → one ≡ min (length (strain_play 0 (strain_of text))) top → next ≡ min (size + one) top
-    → min (next + length (plays_from (at + length text) (strains_from behind (drop (at + length text) ms)))) top ≡ min (size + length (plays_from at (strains_from opened (drop at ms)))) top
-total_more at size one next top opened behind ms text is opens single added =
+    → min (next + length (plays_from (at + length text) (strains_from following (drop (at + length text) ms)))) top ≡ min (size + length (plays_from at (strains_from opened (drop at ms)))) top
+total_more at size one next top opened following ms text is opens single added =
     let rest = plays_from (at + length text) (strains_from (opens_after false text) (drop (at + length text) ms)) in
     let whole : length (plays_from at (strains_from opened (drop at ms))) ≡ length (strain_play 0 (strain_of text)) + length rest =
     ap length (rest_more at opened ms text is) ∙ length-append (strain_play at (strain_of text)) rest ∙ ap (λ k. k + length rest) (length-play_at at text) in

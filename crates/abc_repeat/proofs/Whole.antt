@@ -49,20 +49,20 @@ two_first : {A : Type 0} (first second : List A) (strains : List (Told A))
 two_first first second [] = ap (λ told. told ∷ []) (two_told first second nothing)
 two_first first second (told ∷ others) = ap (λ one. one ∷ others) (two_told first second told)
 
-joined_alike : {A : Type 0} (first second : List A) (behind : List (Run A))
-    → AreAlike (turn first ∷ turn second ∷ behind) (turn (first ++ second) ∷ behind)
-joined_alike first second behind = record {
+joined_alike : {A : Type 0} (first second : List A) (following : List (Run A))
+    → AreAlike (turn first ∷ turn second ∷ following) (turn (first ++ second) ∷ following)
+joined_alike first second following = record {
   leads = refl;
   strains = strains;
 }
   where
-    strains : (opened inside : Bool) → tolds opened inside (turn first ∷ turn second ∷ behind) ≡ tolds opened inside (turn (first ++ second) ∷ behind)
-    strains opened true = two_first first second (tolds opened true behind)
-    strains opened false = two_first first second (tolds opened false behind)
+    strains : (opened inside : Bool) → tolds opened inside (turn first ∷ turn second ∷ following) ≡ tolds opened inside (turn (first ++ second) ∷ following)
+    strains opened true = two_first first second (tolds opened true following)
+    strains opened false = two_first first second (tolds opened false following)
 
 pub joined : {A : Type 0} → AreJoined A
-joined before behind first second =
-    played_alike before (turn first ∷ turn second ∷ behind) (turn (first ++ second) ∷ behind) (joined_alike first second behind)
+joined before following first second =
+    played_alike before (turn first ∷ turn second ∷ following) (turn (first ++ second) ∷ following) (joined_alike first second following)
 
 -- a single bar has no colons and is not double
 plain : (mark : Mark) → is_single mark ≡ true → mark ≡ marks.Bar 0 0 false
@@ -89,8 +89,8 @@ bar_first : {A : Type 0} (items : List A) (run : Run A) (strains : List (Told A)
 bar_first items run [] = ap (λ told. told ∷ []) (bar_told items run.items run.mark nothing)
 bar_first items run (told ∷ others) = ap (λ one. one ∷ others) (bar_told items run.items run.mark told)
 
-bar_passed : {A : Type 0} (items : List A) (opened inside : Bool) (behind : List (Run A))
-    → told_first (record { mark = marks.Bar 0 0 false; items = items }) (tolds opened inside behind) ≡ tolds opened inside behind
+bar_passed : {A : Type 0} (items : List A) (opened inside : Bool) (following : List (Run A))
+    → told_first (record { mark = marks.Bar 0 0 false; items = items }) (tolds opened inside following) ≡ tolds opened inside following
 bar_passed items opened inside [] = refl
 bar_passed {A} items opened inside (run ∷ rest) =
     let bar : Run A = record { mark = marks.Bar 0 0 false; items = items } in
@@ -101,19 +101,19 @@ bar_passed {A} items opened inside (run ∷ rest) =
       | false ↦ bar_first items run (tolds opened (inside || is_ending run.mark) rest)
     ]
 
-bar_alike : {A : Type 0} (items : List A) (behind : List (Run A)) → AreAlike (record { mark = marks.Bar 0 0 false; items = items } ∷ behind) behind
-bar_alike items behind = record {
+bar_alike : {A : Type 0} (items : List A) (following : List (Run A)) → AreAlike (record { mark = marks.Bar 0 0 false; items = items } ∷ following) following
+bar_alike items following = record {
   leads = refl;
   strains = strains;
 }
   where
-    strains : (opened inside : Bool) → tolds opened inside (record { mark = marks.Bar 0 0 false; items = items } ∷ behind) ≡ tolds opened inside behind
-    strains true true = bar_passed items true true behind
-    strains true false = bar_passed items true false behind
-    strains false true = bar_passed items false true behind
-    strains false false = bar_passed items false false behind
+    strains : (opened inside : Bool) → tolds opened inside (record { mark = marks.Bar 0 0 false; items = items } ∷ following) ≡ tolds opened inside following
+    strains true true = bar_passed items true true following
+    strains true false = bar_passed items true false following
+    strains false true = bar_passed items false true following
+    strains false false = bar_passed items false false following
 
 pub bars_passed : {A : Type 0} → PassesSingleBars A
-bars_passed before behind bar h =
-    ap (λ mark. items_played (before ++ record { mark = mark; items = bar.items } ∷ behind)) (plain bar.mark h)
-    ∙ played_alike before _ behind (bar_alike bar.items behind)
+bars_passed before following bar h =
+    ap (λ mark. items_played (before ++ record { mark = mark; items = bar.items } ∷ following)) (plain bar.mark h)
+    ∙ played_alike before _ following (bar_alike bar.items following)

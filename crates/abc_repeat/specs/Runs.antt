@@ -29,10 +29,10 @@ items_played runs = flat_map (items_at runs) (play_of (marks_in runs))
 
 -- Two runs with no mark between them are played as one.
 abbrev pub AreJoined : Type 0 → Type 0
-AreJoined A = (before behind : List (Run A)) (first second : List A)
-    → items_played (before ++ turn first ∷ turn second ∷ behind) ≡ items_played (before ++ turn (first ++ second) ∷ behind)
+AreJoined A = (before following : List (Run A)) (first second : List A)
+    → items_played (before ++ turn first ∷ turn second ∷ following) ≡ items_played (before ++ turn (first ++ second) ∷ following)
 
 -- A bar line that neither repeats nor is double changes nothing.
 abbrev pub PassesSingleBars : Type 0 → Type 0
-PassesSingleBars A = (before behind : List (Run A)) (bar : Run A)
-    → is_single bar.mark ≡ true → items_played (before ++ bar ∷ behind) ≡ items_played (before ++ behind)
+PassesSingleBars A = (before following : List (Run A)) (bar : Run A)
+    → is_single bar.mark ≡ true → items_played (before ++ bar ∷ following) ≡ items_played (before ++ following)

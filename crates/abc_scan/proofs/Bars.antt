@@ -9,7 +9,7 @@ use Rattle.std.proofs.lemmas.List.Sums.{prefix_len-le-length}
 use Rattle.abc_scan.specs.declared.bar.BarLine.{BarLine}
 use Rattle.abc_scan.specs.Byte.{colon}
 use Rattle.abc_scan.specs.Note.{begins_with_byte}
-use Rattle.abc_scan.specs.Bar.{Strokes, strokes_text, middle_text, is_double, HasStrokes, HasColons, IsBar, colons, goes_on, middle_from, middle_size, bar_of_colons, with_middle, bar_behind, bar_at}
+use Rattle.abc_scan.specs.Bar.{Strokes, strokes_text, middle_text, is_double, HasStrokes, HasColons, IsBar, colons, goes_on, middle_from, middle_size, bar_of_colons, with_middle, bar_after, bar_at}
 use Rattle.abc_scan.proofs.Marks.{take_one_more, cut_in_three, same_text, same_pass, same_covers}
 use Rattle.abc_text.proofs.Fronts.{front_append, front_exact, take_exact, drop_exact}
 use Rattle.abc_scan.proofs.Readings.{Finds, Covers, IsSpelled, covers_both}
@@ -70,12 +70,12 @@ middle_first (g ∷ gs) rest some =
     (ap colons whole ∙ first.0, omega (arith, size, length-append (strokes_text g) (middle_text gs)))
 
 -- the bar line read after the colons that close
-bar_from : (text behind : List ℕ) (closes : ℕ) → colons text ≡ closes → drop closes text ≡ behind → bar_at text ≡ bar_behind closes behind
+bar_from : (text following : List ℕ) (closes : ℕ) → colons text ≡ closes → drop closes text ≡ following → bar_at text ≡ bar_after closes following
 unfolding bar_at
-bar_from text behind closes count cut = let e : drop (colons text) text ≡ behind = ap (λ k. drop k text) count ∙ cut in λ i. bar_behind (count i) (e i)
+bar_from text following closes count cut = let e : drop (colons text) text ≡ following = ap (λ k. drop k text) count ∙ cut in λ i. bar_after (count i) (e i)
 
-bar_some : (closes : ℕ) (behind : List ℕ) → 0 < middle_size behind → bar_behind closes behind ≡ Some (with_middle closes (middle_size behind) behind)
-bar_some closes behind some = cond-false _ _ _ (ne_eqb (middle_size behind) 0 (λ e. absurd (omega arith)))
+bar_some : (closes : ℕ) (following : List ℕ) → 0 < middle_size following → bar_after closes following ≡ Some (with_middle closes (middle_size following) following)
+bar_some closes following some = cond-false _ _ _ (ne_eqb (middle_size following) 0 (λ e. absurd (omega arith)))
 
 -- a middle ends before the colons that open
 middle_ends : (opens last : ℕ) (rest : List ℕ) → 0 < length {A = ℕ} (replicate opens 58) → middle_from last (replicate opens 58 ++ rest) ≡ 0
@@ -87,31 +87,31 @@ strokes_longest front rest bar is =
     let middle = middle_text is.groups in
     let closing_colons = replicate bar.closes 58 in
     let opening_colons = replicate bar.opens 58 in
-    let behind = middle ++ (opening_colons ++ rest) in
-    let size = middle_size behind in
-    let after = drop size behind in
+    let following = middle ++ (opening_colons ++ rest) in
+    let size = middle_size following in
+    let after = drop size following in
     let first = middle_first is.groups (opening_colons ++ rest) is.some in
     let whole = append_assoc closing_colons (middle ++ opening_colons) rest ∙ ap (λ l. closing_colons ++ l) (append_assoc middle opening_colons rest) in
-    let text = closing_colons ++ behind in
+    let text = closing_colons ++ following in
     let parts : front ++ rest ≡ text = ap (λ l. l ++ rest) is.spelling ∙ whole in
-    let count : colons text ≡ bar.closes = front_exact (λ b. b == colon) closing_colons behind (same_pass bar.closes 58) first.0 ∙ length-replicate bar.closes 58 in
-    let cut : drop bar.closes text ≡ behind = drop_exact bar.closes closing_colons behind (sym (length-replicate bar.closes 58)) in
+    let count : colons text ≡ bar.closes = front_exact (λ b. b == colon) closing_colons following (same_pass bar.closes 58) first.0 ∙ length-replicate bar.closes 58 in
+    let cut : drop bar.closes text ≡ following = drop_exact bar.closes closing_colons following (sym (length-replicate bar.closes 58)) in
     let (last, counts) = counts_middle is.groups 32 (opening_colons ++ rest) in
-    let covers = covers_both (take size behind, size) (colons after, colons after) middle opening_colons middle bar.opens
+    let covers = covers_both (take size following, size) (colons after, colons after) middle opening_colons middle bar.opens
     (omega (arith, counts), λ e. sym (take_exact size middle (opening_colons ++ rest) (sym e)))
     (λ exact. subst (λ l. Covers (colons l, colons l) opening_colons bar.opens) (sym (drop_exact size middle (opening_colons ++ rest) (sym exact))) (same_covers 58 bar.opens rest))
     (λ some. omega (arith, counts, middle_ends bar.opens last rest some)) in
-    let found : BarLine × ℕ = with_middle bar.closes size behind in
+    let found : BarLine × ℕ = with_middle bar.closes size following in
     let long = ap length is.spelling ∙ length-append closing_colons (middle ++ opening_colons) in
     let closes : length closing_colons ≡ bar.closes = length-replicate bar.closes 58 in
     record {
       found = found.0;
       size = found.1;
-      is_read = ap bar_at parts ∙ bar_from text behind bar.closes count cut ∙ bar_some bar.closes behind (omega (arith, counts, first.1));
+      is_read = ap bar_at parts ∙ bar_from text following bar.closes count cut ∙ bar_some bar.closes following (omega (arith, counts, first.1));
       long = omega (arith, long, closes, covers.0);
       same = λ e.
           let same = covers.1 (omega (arith, long, closes, e)) in
-          let double : bar.double ≡ is_double (take size behind) = is.double_is ∙ (λ i. is_double (same i).0) in
+          let double : bar.double ≡ is_double (take size following) = is.double_is ∙ (λ i. is_double (same i).0) in
           λ i. record { closes = bar.closes; opens = (same i).1; double = double i };
     }
 
@@ -123,28 +123,28 @@ colons_longest : (front rest : List ℕ) (bar : BarLine) → HasColons front bar
 colons_longest front rest bar is =
     let text = front ++ rest in
     let count = colons text in
-    let behind = drop count text in
+    let following = drop count text in
     let size : length front ≡ is.count = ap length is.spelling ∙ length-replicate is.count 58 in
     let long : count ≡ length front + colons rest = front_append (λ b. b == colon) front rest (subst (AllPass (λ b. b == colon)) (sym is.spelling) (same_pass is.count 58)) in
-    let read = bar_from text behind count refl refl in
+    let read = bar_from text following count refl refl in
     ⊎_elim
     (λ some. record {
-      found = (with_middle count (middle_size behind) behind).0;
-      size = (with_middle count (middle_size behind) behind).1;
-      is_read = read ∙ bar_some count behind some;
+      found = (with_middle count (middle_size following) following).0;
+      size = (with_middle count (middle_size following) following).1;
+      is_read = read ∙ bar_some count following some;
       long = omega (arith, long);
       same = λ e. absurd (omega (arith, long, e, some));
     })
     (λ none. record {
       found = record { closes = count - 1; opens = count - 1; double = true };
       size = count;
-      is_read = read ∙ cond-true _ _ _ (eq-eqb (middle_size behind) 0 (omega arith)) ∙ alone_some count (omega (arith, size, long, is.several));
+      is_read = read ∙ cond-true _ _ _ (eq-eqb (middle_size following) 0 (omega arith)) ∙ alone_some count (omega (arith, size, long, is.several));
       long = omega (arith, long);
       same = λ e.
           let k : is.count ≡ count = sym size ∙ e in
           λ i. record { closes = (is.closes_is ∙ ap (λ n. n - 1) k) i; opens = (is.opens_is ∙ ap (λ n. n - 1) k) i; double = is.double_is i };
     })
-    (cases_lt 0 (middle_size behind))
+    (cases_lt 0 (middle_size following))
 
 pub bar_longest : (front rest : List ℕ) (bar : BarLine) → IsBar front bar → Finds (bar_at (front ++ rest)) front bar
 bar_longest front rest bar is = ⊎_elim (λ strokes. strokes_longest front rest bar strokes) (λ alone. colons_longest front rest bar alone) is
@@ -253,17 +253,17 @@ groups_some : (groups : List Strokes) → 0 < length (middle_text groups) → 0 
 groups_some [] some = absurd (omega arith)
 groups_some (g ∷ gs) some = omega arith
 
-strokes_sound : (text behind : List ℕ) → behind ≡ drop (colons text) text → 0 < middle_size behind → IsSpelled IsBar text (with_middle (colons text) (middle_size behind) behind)
-strokes_sound text behind cut some =
-    let middle = middle_size behind in
-    let after = drop middle behind in
+strokes_sound : (text following : List ℕ) → following ≡ drop (colons text) text → 0 < middle_size following → IsSpelled IsBar text (with_middle (colons text) (middle_size following) following)
+strokes_sound text following cut some =
+    let middle = middle_size following in
+    let after = drop middle following in
     let closes_in = prefix_len-le-length (λ b. b == colon) text in
     let opens_in = prefix_len-le-length (λ b. b == colon) after in
-    let middle_in = middle_from-le 32 behind in
-    let groups = (middle_is behind).1 32 (λ e. absurd (omega arith)) in
-    let size : length (middle_text groups.groups) ≡ middle = ap length (sym groups.spelling) ∙ length-take-le middle behind middle_in in
+    let middle_in = middle_from-le 32 following in
+    let groups = (middle_is following).1 32 (λ e. absurd (omega arith)) in
+    let size : length (middle_text groups.groups) ≡ middle = ap length (sym groups.spelling) ∙ length-take-le middle following middle_in in
     let whole = cut_in_three (colons text) middle (colons after) text ∙ (λ i. take (colons text) text ++ (take middle (sym cut i) ++ take (colons after) (drop middle (sym cut i)))) in (
-      record { some = omega (arith, some); inside = omega (arith, closes_in, opens_in, middle_in, ap length cut, length-drop (colons text) text, length-drop middle behind) },
+      record { some = omega (arith, some); inside = omega (arith, closes_in, opens_in, middle_in, ap length cut, length-drop (colons text) text, length-drop middle following) },
       inl (record {
         groups = groups.groups;
         some = groups_some groups.groups (omega (arith, size, some));
@@ -286,7 +286,7 @@ alone_sound text =
 pub bar_sound : (text : List ℕ) → IfSome (bar_at text) (IsSpelled IsBar text)
 unfolding bar_at
 bar_sound text =
-    let behind = drop (colons text) text in
-    cond_both (middle_size behind == 0) _ _ (λ o. IfSome o (IsSpelled IsBar text))
+    let following = drop (colons text) text in
+    cond_both (middle_size following == 0) _ _ (λ o. IfSome o (IsSpelled IsBar text))
     (λ _. alone_sound text)
-    (λ fails. let some = eqb-false (middle_size behind) 0 fails in strokes_sound text behind refl (omega (arith, some)))
+    (λ fails. let some = eqb-false (middle_size following) 0 fails in strokes_sound text following refl (omega (arith, some)))

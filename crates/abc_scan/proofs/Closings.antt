@@ -37,8 +37,8 @@ place-first closing inside rest lacks =
 
 -- the byte at the place that is found
 pub record IsFirst (closing : ℕ) (text : List ℕ) (place : ℕ) : Type 0 where
-  pub behind : List ℕ
-  pub cut : text ≡ take place text ++ closing ∷ behind
+  pub following : List ℕ
+  pub cut : text ≡ take place text ++ closing ∷ following
   pub lacks : HasNoByte closing (take place text)
 
 pub place-sound : (closing : ℕ) (text : List ℕ) → IfSome (place_of closing text) (IsFirst closing text)
@@ -50,7 +50,7 @@ place-sound closing text =
     ⊎_elim
     (λ (none : drop size text ≡ []). absurd (omega (arith, inside, ap length none, length-drop size text)))
     (λ (stop : (y : ℕ) × (ys : List ℕ) × (drop size text ≡ y ∷ ys) × (is_other closing y ≡ false)). record {
-      behind = stop.1;
+      following = stop.1;
       cut = sym (take-append-drop size text) ∙ ap (λ l. take size text ++ l) (stop.2 ∙ ap (λ x. x ∷ stop.1) (eqb-true stop.0 closing (not-false _ stop.3)));
       lacks = front_passes (is_other closing) text;
     })
@@ -61,12 +61,12 @@ place-sound closing text =
 pub closed_front : (closing : ℕ) (text : List ℕ) (place : ℕ) → IsFirst closing text place → (place < length text) × (take (place + 1) text ≡ take place text ++ closing ∷ [])
 closed_front closing text place first =
     let sizes = ap length first.cut in
-    let long = length-append (take place text) (closing ∷ first.behind) in
+    let long = length-append (take place text) (closing ∷ first.following) in
     let size = length-take place text in
     let inside : place < length text = omega (arith, sizes, long, size) in
     let exact : length (take place text) ≡ place = omega (arith, size, inside) in (
       inside,
-      (λ i. take (sym exact i + 1) (first.cut i)) ∙ take-append-add (take place text) (closing ∷ first.behind) 1,
+      (λ i. take (sym exact i + 1) (first.cut i)) ∙ take-append-add (take place text) (closing ∷ first.following) 1,
     )
 
 -- a text without a place of the byte is without the byte
@@ -93,9 +93,9 @@ absent-drop n absent text is = record {
 pub absent_next : (absent : KnownAbsent) (text : List ℕ) (at : ℕ) → IsKnownAbsent absent (drop at text) → IsKnownAbsent absent (drop 1 (take (length text - at) (drop at text)))
 absent_next absent text at is = subst (λ l. IsKnownAbsent absent (drop 1 l)) (sym (take_rest text at)) (absent-drop 1 absent (drop at text) is)
 
-pub absent_behind : (absent : KnownAbsent) (text : List ℕ) (at size : ℕ) → IsFront (take (length text - at) (drop at text)) size
+pub absent_after : (absent : KnownAbsent) (text : List ℕ) (at size : ℕ) → IsFront (take (length text - at) (drop at text)) size
     → IsKnownAbsent absent (drop 1 (take (length text - at) (drop at text))) → IsKnownAbsent absent (drop (at + size) text)
-absent_behind absent text at size front is =
+absent_after absent text at size front is =
     let sum : at + 1 + (size - 1) ≡ at + size = omega (arith, front.some) in
     let cut : drop (size - 1) (drop 1 (take (length text - at) (drop at text))) ≡ drop (at + size) text =
     ap (λ l. drop (size - 1) (drop 1 l)) (take_rest text at) ∙ ap (drop (size - 1)) (drop-drop 1 at text) ∙ drop-drop (size - 1) (at + 1) text ∙ ap (λ n. drop n text) sum in

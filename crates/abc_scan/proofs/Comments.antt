@@ -28,8 +28,8 @@ escaped_later before b read test later [] rest e =
     ⊎_elim (λ other. absurd (eqb-false b 37 other percent)) (λ slash. eqb-true before 92 (not-false _ slash)) (and_cases _ _ test)
 escaped_later before b read test later (f ∷ fs) rest e =
     let same : b ≡ f = cc in
-    let behind : read ≡ fs ++ 37 ∷ rest = cc in
-    sym (ap (λ x. last_or x fs) same) ∙ later fs rest behind
+    let following : read ≡ fs ++ 37 ∷ rest = cc in
+    sym (ap (λ x. last_or x fs) same) ∙ later fs rest following
 
 comment_later : (before b : ℕ) (bs read : List ℕ) → ((b == 37) && not (before == 92)) ≡ false → IsRead b bs read → IsRead before (b ∷ bs) (b ∷ read)
 comment_later before b bs read test later = record {

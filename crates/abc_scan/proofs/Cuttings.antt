@@ -34,33 +34,33 @@ cutting_from-rest reader after_bar at (suc k) b bs some =
     ap (λ n. cutting_from reader after_bar (at + 1) n bs) e ∙ cutting_from-inside reader after_bar (at + 1) k bs ∙ ap (λ n. cutting_from reader after_bar n 0 (drop k bs)) f
 
 -- the parts after a first part
-abbrev pub behind : {K : Type 0} → Reader K → ℕ → List ℕ → K × ℕ → List (Spanned K)
-behind reader at text first = cutting_from reader (reader.kinds.is_bar first.0) (at + first.1) 0 (drop first.1 text)
+abbrev pub following : {K : Type 0} → Reader K → ℕ → List ℕ → K × ℕ → List (Spanned K)
+following reader at text first = cutting_from reader (reader.kinds.is_bar first.0) (at + first.1) 0 (drop first.1 text)
 
 -- the first part, and the parts after it
 pub cutting_from-first : {K : Type 0} (reader : Reader K) (after_bar : Bool) (at : ℕ) (text : List ℕ) → 0 < length text → 0 < (next reader after_bar text).1
-    → cutting_from reader after_bar at 0 text ≡ part_at at (next reader after_bar text) ∷ behind reader at text (next reader after_bar text)
+    → cutting_from reader after_bar at 0 text ≡ part_at at (next reader after_bar text) ∷ following reader at text (next reader after_bar text)
 cutting_from-first reader after_bar at [] some size = absurd (omega arith)
 cutting_from-first reader after_bar at (b ∷ bs) some size =
     let first = next reader after_bar (b ∷ bs) in
     ap (λ ts. part_at at first ∷ ts) (cutting_from-rest reader (reader.kinds.is_bar first.0) at first.1 b bs size)
 
 -- one turn of a loop that cuts
-pub cut_more : {K : Type 0} (reader : Reader K) (after_bar : Bool) (line : List ℕ) (items pushed all : List (Spanned K)) (place behind_it at : ℕ) (r : K × ℕ) → behind_it ≡ place + r.1
+pub cut_more : {K : Type 0} (reader : Reader K) (after_bar : Bool) (line : List ℕ) (items pushed all : List (Spanned K)) (place after_it at : ℕ) (r : K × ℕ) → after_it ≡ place + r.1
     → at < length line → IsFront (take (length line - at) (drop at line)) r.1 → r ≡ next reader after_bar (take (length line - at) (drop at line)) → pushed ≡ items ++ part_at place r ∷ []
     → items ++ cutting_from reader after_bar place 0 (drop at line) ≡ all
-    → pushed ++ cutting_from reader (reader.kinds.is_bar r.0) behind_it 0 (drop (at + r.1) line) ≡ all
-cut_more {K} reader after_bar line items pushed all place behind_it at r sum inside front is_read push before =
+    → pushed ++ cutting_from reader (reader.kinds.is_bar r.0) after_it 0 (drop (at + r.1) line) ≡ all
+cut_more {K} reader after_bar line items pushed all place after_it at r sum inside front is_read push before =
     let rest = drop at line in
     let read : r ≡ next reader after_bar rest = is_read ∙ ap (next reader after_bar) (take_rest line at) in
     let left : 0 < length rest = omega (arith, length-drop at line) in
     let some : 0 < (next reader after_bar rest).1 = subst (λ (x : K × ℕ). 0 < x.1) read front.some in
     let first = cutting_from-first reader after_bar place rest left some in
-    let now : cutting_from reader after_bar place 0 rest ≡ part_at place r ∷ behind reader place rest r =
-    first ∙ sym (ap (λ (x : K × ℕ). part_at place x ∷ behind reader place rest x) read) in
-    let later : behind reader place rest r ≡ cutting_from reader (reader.kinds.is_bar r.0) behind_it 0 (drop (at + r.1) line) =
+    let now : cutting_from reader after_bar place 0 rest ≡ part_at place r ∷ following reader place rest r =
+    first ∙ sym (ap (λ (x : K × ℕ). part_at place x ∷ following reader place rest x) read) in
+    let later : following reader place rest r ≡ cutting_from reader (reader.kinds.is_bar r.0) after_it 0 (drop (at + r.1) line) =
     (λ i. cutting_from reader (reader.kinds.is_bar r.0) (sym sum i) 0 (drop-drop r.1 at line i)) in
-    let whole = cutting_from reader (reader.kinds.is_bar r.0) behind_it 0 (drop (at + r.1) line) in
+    let whole = cutting_from reader (reader.kinds.is_bar r.0) after_it 0 (drop (at + r.1) line) in
     ap (λ l. l ++ whole) push ∙ append_assoc items _ _ ∙ ap (λ l. items ++ (part_at place r ∷ l)) (sym later) ∙ ap (λ l. items ++ l) (sym now) ∙ before
 
 -- a reading, with the bytes that begin no part
@@ -167,9 +167,9 @@ module _ {K : Type 0} (kinds : Kinds K) (spells : Bool → List ℕ → K → Ty
       let some = next_size after_bar text in
       let left : 0 < length text = omega (arith, size, some, ap length cut, length-append front rest) in
       let end : t.to ≡ at + found.1 = to ∙ ap (λ k. at + k) (sym size) in
-      let behind_it : drop found.1 text ≡ rest = ap (λ l. drop found.1 l) cut ∙ drop_exact found.1 front rest size in
-      let later : ts ≡ behind (read_by kinds reading) at text found =
-      only_cutting (kinds.is_bar t.kind) t.to rest ts more ∙ (λ i. cutting_from (read_by kinds reading) (kinds.is_bar (sym kind i)) (end i) 0 (sym behind_it i)) in
+      let after_it : drop found.1 text ≡ rest = ap (λ l. drop found.1 l) cut ∙ drop_exact found.1 front rest size in
+      let later : ts ≡ following (read_by kinds reading) at text found =
+      only_cutting (kinds.is_bar t.kind) t.to rest ts more ∙ (λ i. cutting_from (read_by kinds reading) (kinds.is_bar (sym kind i)) (end i) 0 (sym after_it i)) in
       let token : t ≡ part_at at found = λ i. record { kind = sym kind i; from = from i; to = end i } in
       (λ i. token i ∷ later i) ∙ sym (cutting_from-first (read_by kinds reading) after_bar at text left some)
 

@@ -72,30 +72,30 @@ delimited_sound (b ∷ rest) =
 letter_other : (letter : ℕ) → is_ascii_alphabetic letter ≡ true → is_other closing_bracket letter ≡ true
 letter_other letter h = not_from_false _ (ne_eqb letter closing_bracket (λ e. false≢true (sym (ap is_ascii_alphabetic e) ∙ h)))
 
-field_lacks : (letter : ℕ) (behind : List ℕ) → is_ascii_alphabetic letter ≡ true → HasNoByte closing_bracket behind → HasNoByte closing_bracket (letter ∷ colon ∷ behind)
-field_lacks letter behind h lacks =
-    All-cons (λ b. is_other closing_bracket b ≡ true) letter (colon ∷ behind) (letter_other letter h) (All-cons (λ b. is_other closing_bracket b ≡ true) colon behind refl lacks)
+field_lacks : (letter : ℕ) (following : List ℕ) → is_ascii_alphabetic letter ≡ true → HasNoByte closing_bracket following → HasNoByte closing_bracket (letter ∷ colon ∷ following)
+field_lacks letter following h lacks =
+    All-cons (λ b. is_other closing_bracket b ≡ true) letter (colon ∷ following) (letter_other letter h) (All-cons (λ b. is_other closing_bracket b ≡ true) colon following refl lacks)
 
-inline_read : (letter : ℕ) (behind rest : List ℕ) → is_ascii_alphabetic letter ≡ true → HasNoByte closing_bracket behind
-    → inline_field_at (opening_bracket ∷ letter ∷ colon ∷ (behind ++ closing_bracket ∷ rest)) ≡ Some (field_of (letter ∷ colon ∷ behind), length behind + 4)
+inline_read : (letter : ℕ) (following rest : List ℕ) → is_ascii_alphabetic letter ≡ true → HasNoByte closing_bracket following
+    → inline_field_at (opening_bracket ∷ letter ∷ colon ∷ (following ++ closing_bracket ∷ rest)) ≡ Some (field_of (letter ∷ colon ∷ following), length following + 4)
 unfolding inline_field_at
-inline_read letter behind rest h lacks =
-    let own = letter ∷ colon ∷ behind in
-    let found : place_of closing_bracket (own ++ closing_bracket ∷ rest) ≡ Some (length own) = place-first closing_bracket own rest (field_lacks letter behind h lacks) in
+inline_read letter following rest h lacks =
+    let own = letter ∷ colon ∷ following in
+    let found : place_of closing_bracket (own ++ closing_bracket ∷ rest) ≡ Some (length own) = place-first closing_bracket own rest (field_lacks letter following h lacks) in
     let text : take (length own) (own ++ closing_bracket ∷ rest) ≡ own = take_exact (length own) own (closing_bracket ∷ rest) refl in
-    let size : length own + 2 ≡ length behind + 4 = omega arith in
+    let size : length own + 2 ≡ length following + 4 = omega arith in
     cond-true _ _ _ (and_from _ _ refl (and_from _ _ h refl))
     ∙ ap (option_map (λ place. (field_of (take place (own ++ closing_bracket ∷ rest)), place + 2))) found
     ∙ (λ i. Some (field_of (text i), size i))
 
 pub inline_field_longest : (front rest : List ℕ) (field : Field) → IsInlineField front field → Finds (inline_field_at (front ++ rest)) front field
 inline_field_longest front rest field is =
-    let parts = ap (λ l. l ++ rest) is.spelling ∙ ap (λ l. opening_bracket ∷ field.letter ∷ colon ∷ l) (append_assoc is.behind (closing_bracket ∷ []) rest) in
+    let parts = ap (λ l. l ++ rest) is.spelling ∙ ap (λ l. opening_bracket ∷ field.letter ∷ colon ∷ l) (append_assoc is.following (closing_bracket ∷ []) rest) in
     record {
-      found = field_of (field.letter ∷ colon ∷ is.behind);
-      size = length is.behind + 4;
-      is_read = ap inline_field_at parts ∙ inline_read field.letter is.behind rest is.letter_is is.first_closing;
-      long = omega (arith, ap length is.spelling, length-append is.behind (closing_bracket ∷ []));
+      found = field_of (field.letter ∷ colon ∷ is.following);
+      size = length is.following + 4;
+      is_read = ap inline_field_at parts ∙ inline_read field.letter is.following rest is.letter_is is.first_closing;
+      long = omega (arith, ap length is.spelling, length-append is.following (closing_bracket ∷ []));
       same = λ _. (λ i. record { letter = field.letter; value = is.value_is i });
     }
 
@@ -103,10 +103,10 @@ inline_field_longest front rest field is =
 inline_here : (letter sign : ℕ) (rest : List ℕ) (place : ℕ) → is_ascii_alphabetic letter ≡ true → sign ≡ colon → IsFirst closing_bracket (letter ∷ sign ∷ rest) place
     → IsSpelled IsInlineField (opening_bracket ∷ letter ∷ sign ∷ rest) (field_of (take place (letter ∷ sign ∷ rest)), place + 2)
 inline_here letter sign rest zero alphabetic is_colon first =
-    let e : letter ≡ closing_bracket = (let cut : letter ∷ sign ∷ rest ≡ closing_bracket ∷ first.behind = first.cut in cc) in
+    let e : letter ≡ closing_bracket = (let cut : letter ∷ sign ∷ rest ≡ closing_bracket ∷ first.following = first.cut in cc) in
     absurd (false≢true (sym (ap is_ascii_alphabetic e) ∙ alphabetic))
 inline_here letter sign rest (suc zero) alphabetic is_colon first =
-    let e : sign ≡ closing_bracket = (let cut : letter ∷ sign ∷ rest ≡ letter ∷ closing_bracket ∷ first.behind = first.cut in cc) in
+    let e : sign ≡ closing_bracket = (let cut : letter ∷ sign ∷ rest ≡ letter ∷ closing_bracket ∷ first.following = first.cut in cc) in
     absurd (omega arith)
 inline_here letter sign rest (suc (suc k)) alphabetic is_colon first =
     let text = letter ∷ sign ∷ rest in
@@ -114,7 +114,7 @@ inline_here letter sign rest (suc (suc k)) alphabetic is_colon first =
     let sum : suc (suc k) + 2 ≡ suc (suc (suc k) + 1) = omega arith in (
       record { some = omega arith; inside = omega (arith, closed.0) },
       record {
-        behind = take k rest;
+        following = take k rest;
         spelling = ap (λ n. take n (opening_bracket ∷ text)) sum ∙ ap (λ l. opening_bracket ∷ l) closed.1 ∙ ap (λ x. opening_bracket ∷ letter ∷ x ∷ (take k rest ++ closing_bracket ∷ [])) is_colon;
         letter_is = alphabetic;
         first_closing = All-tail (λ b. is_other closing_bracket b ≡ true) sign (take k rest) (All-tail (λ b. is_other closing_bracket b ≡ true) letter (sign ∷ take k rest) first.lacks);

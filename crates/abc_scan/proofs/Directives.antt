@@ -159,22 +159,22 @@ number-sound : (P : Directive → Type 0) (text : List ℕ) (o : Option (ℕ × 
 number-sound P text None is later = tt
 number-sound P text (Some number) is later = end-sound P (directives.Program number.0) (drop number.1 text) (λ end. later number is.1 end)
 
-program-sound : (text behind : List ℕ) → text ≡ codes "%%MIDI" ++ behind → IfSome (after_gap midi_directive behind) (IsDirective text)
-program-sound text behind cut =
-    let n = leading_blanks behind in
-    let after = drop n behind in
+program-sound : (text following : List ℕ) → text ≡ codes "%%MIDI" ++ following → IfSome (after_gap midi_directive following) (IsDirective text)
+program-sound text following cut =
+    let n = leading_blanks following in
+    let after = drop n following in
     let later = drop 7 after in
     let m = leading_blanks later in
     let digits = drop m later in
-    gap-sound midi_directive (IsDirective text) behind
+    gap-sound midi_directive (IsDirective text) following
     (λ gap. word-sound (codes "program") (IsDirective text) after (after_gap program_directive later) None
     (λ word. gap-sound program_directive (IsDirective text) later
     (λ second. number-sound (IsDirective text) digits (number_at digits) (number_sound digits) (λ number number_is end. record {
-      gap = take n behind;
+      gap = take n following;
       second_gap = take m later;
       digits = take number.1 digits;
       end = drop number.1 digits;
-      spelling = cut ∙ ap (λ l. codes "%%MIDI" ++ l) (sym (take-append-drop n behind) ∙ ap (λ l. take n behind ++ l)
+      spelling = cut ∙ ap (λ l. codes "%%MIDI" ++ l) (sym (take-append-drop n following) ∙ ap (λ l. take n following ++ l)
           (word ∙ ap (λ l. codes "program" ++ l) (sym (take-append-drop m later) ∙ ap (λ l. take m later ++ l) (sym (take-append-drop number.1 digits)))));
       gap_is = gap;
       second_gap_is = second;
@@ -191,19 +191,19 @@ name-sound P reach text other later more =
     let end = drop (length (name_of reach)) text in
     word-sound (name_of reach) P text (directive_at_end (directives.Reach reach) end) other (λ word. end-sound P (directives.Reach reach) end (λ is. later reach end word is)) more
 
-reach-sound : (text behind : List ℕ) → text ≡ codes "%%propagate-accidentals" ++ behind → IfSome (after_gap reach_directive behind) (IsDirective text)
-reach-sound text behind cut =
-    let n = leading_blanks behind in
+reach-sound : (text following : List ℕ) → text ≡ codes "%%propagate-accidentals" ++ following → IfSome (after_gap reach_directive following) (IsDirective text)
+reach-sound text following cut =
+    let n = leading_blanks following in
     let P = IsDirective text in
-    gap-sound reach_directive P behind (λ gap.
-    let later : (reach : Reach) (end : List ℕ) → drop n behind ≡ name_of reach ++ end → IsEnd end → IsDirective text (directives.Reach reach) = λ reach end word is. record {
-      gap = take n behind;
+    gap-sound reach_directive P following (λ gap.
+    let later : (reach : Reach) (end : List ℕ) → drop n following ≡ name_of reach ++ end → IsEnd end → IsDirective text (directives.Reach reach) = λ reach end word is. record {
+      gap = take n following;
       end = end;
-      spelling = cut ∙ ap (λ l. codes "%%propagate-accidentals" ++ l) (sym (take-append-drop n behind) ∙ ap (λ l. take n behind ++ l) word);
+      spelling = cut ∙ ap (λ l. codes "%%propagate-accidentals" ++ l) (sym (take-append-drop n following) ∙ ap (λ l. take n following ++ l) word);
       gap_is = gap;
       end_is = is;
     } in
-    name-sound P Not (drop n behind) _ later (name-sound P Octave (drop n behind) _ later (name-sound P Pitch (drop n behind) None later tt)))
+    name-sound P Not (drop n following) _ later (name-sound P Octave (drop n following) _ later (name-sound P Pitch (drop n following) None later tt)))
 
 pub directive-sound : (text : List ℕ) → IfSome (directive_of text) (IsDirective text)
 unfolding directive_of

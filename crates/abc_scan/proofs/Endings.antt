@@ -11,7 +11,7 @@ use Rattle.abc_text.specs.Number.{IsNumber}
 use Rattle.abc_text.proofs.Decimals.{digit_range}
 use Rattle.abc_scan.specs.declared.ending.PassRange.{PassRange}
 use Rattle.abc_scan.specs.Front.{IsFront, after_byte}
-use Rattle.abc_scan.specs.Ending.{IsOnePass, IsFromTo, IsRange, IsRanges, ArePasses, with_range, passes_of, IsEnding, range_at, next_range, and_more, more_from, ranges_behind, ranges_at, as_passes}
+use Rattle.abc_scan.specs.Ending.{IsOnePass, IsFromTo, IsRange, IsRanges, ArePasses, with_range, passes_of, IsEnding, range_at, next_range, and_more, more_from, ranges_after, ranges_at, as_passes}
 use Rattle.abc_scan.specs.Ending.{passes_at, ending_at}
 use Rattle.abc_scan.proofs.Marks.{take_one_more}
 use Rattle.abc_scan.proofs.Readings.{Finds, IsSpelled, front_more, mapped, weaker, byte_first}
@@ -28,15 +28,15 @@ pub passes_next : (text : List ℕ) (size : ℕ) (passes : Option ℕ) (range : 
     → passes_at text ≡ Some (fold with_range passes (more_from 0 (drop size text)).0, size + (more_from 0 (drop size text)).1)
     → passes_at text ≡ Some (fold with_range (with_range passes range) (more_from 0 (drop (size + more) text)).0, size + more + (more_from 0 (drop (size + more) text)).1)
 passes_next text size passes range more read before =
-    let behind = drop size text in
-    let next : more_from 0 behind ≡ and_more (Some (range, more)) (more_from 0 (drop (size + more) text)) = more_at behind (Some (range, more)) read ∙ ap (λ l. and_more (Some (range, more))
+    let following = drop size text in
+    let next : more_from 0 following ≡ and_more (Some (range, more)) (more_from 0 (drop (size + more) text)) = more_at following (Some (range, more)) read ∙ ap (λ l. and_more (Some (range, more))
     (more_from 0 l)) (drop-drop more size text) in
     let sum : size + (more + (more_from 0 (drop (size + more) text)).1) ≡ size + more + (more_from 0 (drop (size + more) text)).1 = omega arith in
     before ∙ (λ i. Some (fold with_range passes (next i).0, size + (next i).1)) ∙ ap (λ n. Some (fold with_range (with_range passes range) (more_from 0 (drop (size + more) text)).0, n)) sum
 
 pub passes_none : (text : List ℕ) → range_at text ≡ None → passes_at text ≡ None
 unfolding passes_at ranges_at
-passes_none text read = ap (λ o. option_map as_passes (option_map (ranges_behind text) o)) read
+passes_none text read = ap (λ o. option_map as_passes (option_map (ranges_after text) o)) read
 
 -- passes, at least as long as any ranges there
 passes_longest : (front rest : List ℕ) (ranges : List PassRange) → IsRanges front ranges → Finds (passes_at (front ++ rest)) front (passes_of ranges)

@@ -39,11 +39,11 @@ under_covers s [] rest digits one exact =
     (omega arith, λ e. ap (λ n. take n (drop (slashes_size text) text)) e)
 under_covers s (d ∷ ds) rest digits one exact =
     let text = replicate s 47 ++ ((d ∷ ds) ++ rest) in
-    let behind : drop (slashes_size text) text ≡ (d ∷ ds) ++ rest =
+    let following : drop (slashes_size text) text ≡ (d ∷ ds) ++ rest =
     drop_exact (slashes_size text) (replicate s 47) ((d ∷ ds) ++ rest) (sym exact ∙ sym (length-replicate s 47)) in
     let count : under_size text ≡ prefix_len is_digit ((d ∷ ds) ++ rest) =
-    cond-true _ _ _ (eq-eqb (slashes_size text) 1 (sym exact ∙ one (omega arith))) ∙ ap (prefix_len is_digit) behind in
-    subst (λ (r : List ℕ × ℕ). Covers r (d ∷ ds) (d ∷ ds)) (λ i. (take (sym count i) (sym behind i), sym count i)) (run_covers is_digit (d ∷ ds) rest digits)
+    cond-true _ _ _ (eq-eqb (slashes_size text) 1 (sym exact ∙ one (omega arith))) ∙ ap (prefix_len is_digit) following in
+    subst (λ (r : List ℕ × ℕ). Covers r (d ∷ ds) (d ∷ ds)) (λ i. (take (sym count i) (sym following i), sym count i)) (run_covers is_digit (d ∷ ds) rest digits)
 
 -- slashes, and the digits after them
 abbrev read_tail : List ℕ → (ℕ × List ℕ) × ℕ
@@ -81,20 +81,20 @@ length_longest front rest value is =
     let text = is.over ++ own in
     let parts : front ++ rest ≡ text =
     ap (λ l. l ++ rest) is.spelling ∙ append_assoc is.over tail rest ∙ ap (λ l. is.over ++ l) (append_assoc (replicate is.slashes 47) is.under rest) in
-    let behind = drop (over_size text) text in
+    let following = drop (over_size text) text in
     let count = front_append is_digit is.over own is.over_digits in
-    let covers = covers_both (take (over_size text) text, over_size text) (read_tail behind) is.over tail is.over (is.slashes, is.under)
+    let covers = covers_both (take (over_size text) text, over_size text) (read_tail following) is.over tail is.over (is.slashes, is.under)
     (run_covers is_digit is.over own is.over_digits)
     (λ exact. subst (λ l. Covers (read_tail l) tail (is.slashes, is.under)) (sym (drop_exact (over_size text) is.over own (sym exact)))
     (tail_covers is.slashes is.under rest is.under_digits is.one_slash))
     (λ some. omega (arith, count, no_digits is.slashes is.under rest is.one_slash some)) in
-    let size = size_from text behind (over_size text) refl refl in
+    let size = size_from text following (over_size text) refl refl in
     let long = ap length is.spelling in
     let whole = ap length_size parts in (
       omega (arith, long, whole, size, covers.0),
       λ e.
           let same = covers.1 (omega (arith, long, whole, size, e)) in
-          is.value_is ∙ (λ i. written_length (same i).0 (same i).1.0 (same i).1.1) ∙ sym (ap length_at parts ∙ value_from text behind (over_size text) refl refl),
+          is.value_is ∙ (λ i. written_length (same i).0 (same i).1.0 (same i).1.1) ∙ sym (ap length_at parts ∙ value_from text following (over_size text) refl refl),
     )
 
 under_digits_of : (rest : List ℕ) → AllPass is_digit (take (under_size rest) (drop (slashes_size rest) rest))
@@ -113,12 +113,12 @@ pub length_sound : (text : List ℕ) → IsLength (take (length_size text) text)
 unfolding length_size length_at
 length_sound text =
     let rest = drop (over_size text) text in
-    let behind = drop (slashes_size rest) rest in
+    let following = drop (slashes_size rest) rest in
     record {
       over = take (over_size text) text;
       slashes = slashes_size rest;
-      under = take (under_size rest) behind;
-      spelling = cut_in_three (over_size text) (slashes_size rest) (under_size rest) text ∙ ap (λ l. take (over_size text) text ++ (l ++ take (under_size rest) behind)) (same_text 47 rest);
+      under = take (under_size rest) following;
+      spelling = cut_in_three (over_size text) (slashes_size rest) (under_size rest) text ∙ ap (λ l. take (over_size text) text ++ (l ++ take (under_size rest) following)) (same_text 47 rest);
       over_digits = front_passes is_digit text;
       under_digits = under_digits_of rest;
       one_slash = one_slash_of rest;
@@ -139,14 +139,14 @@ length_size-le text =
     omega (arith, size, over, slashes, under, length-drop (over_size text) text, length-drop (slashes_size rest) rest)
 
 -- no length is written without a digit or a slash
-record NoneBehind (rest : List ℕ) : Type 0 where
+record NoneAfter (rest : List ℕ) : Type 0 where
   pub over : over_size rest ≡ 0
   pub slashes : slashes_size rest ≡ 0
   pub under : under_size rest ≡ 0
 
-none_behind : (rest : List ℕ) → begins_length rest ≡ false → NoneBehind rest
-none_behind [] none = record { over = refl; slashes = refl; under = refl }
-none_behind (b ∷ bs) none =
+none_after : (rest : List ℕ) → begins_length rest ≡ false → NoneAfter rest
+none_after [] none = record { over = refl; slashes = refl; under = refl }
+none_after (b ∷ bs) none =
     let parts = or_parts (is_digit b) (is_slash b) none in
     let slashes : slashes_size (b ∷ bs) ≡ 0 = front_none is_slash b bs parts.1 in
     record {
@@ -158,9 +158,9 @@ none_behind (b ∷ bs) none =
 pub unwritten : (b : ℕ) (bs : List ℕ) → begins_length (b ∷ bs) ≡ false → (length_size (b ∷ bs) ≡ 0) × (length_at (b ∷ bs) ≡ Factor 1 1)
 unwritten b bs none =
     let text = b ∷ bs in
-    let behind = none_behind text none in (
-      size_from text text 0 behind.over refl ∙ (λ i. 0 + behind.slashes i + behind.under i),
-      value_from text text 0 behind.over refl ∙ (λ i. written_length (take 0 text) (behind.slashes i) (take (behind.under i) (drop (behind.slashes i) text))),
+    let following = none_after text none in (
+      size_from text text 0 following.over refl ∙ (λ i. 0 + following.slashes i + following.under i),
+      value_from text text 0 following.over refl ∙ (λ i. written_length (take 0 text) (following.slashes i) (take (following.under i) (drop (following.slashes i) text))),
     )
 
 -- one digit with no length after it
@@ -172,10 +172,10 @@ one_digit_number d more =
 pub one_digit : (d : ℕ) (rest : List ℕ) → 49 ≤ d → is_digit d ≡ true → begins_length rest ≡ false → (length_size (d ∷ rest) ≡ 1) × (length_at (d ∷ rest) ≡ Factor (d - 48) 1)
 one_digit d rest more digit none =
     let text = d ∷ rest in
-    let behind = none_behind rest none in
-    let over : over_size text ≡ 1 = cond-true _ _ _ digit ∙ ap (λ n. 1 + n) behind.over in (
-      size_from text rest 1 over refl ∙ (λ i. 1 + behind.slashes i + behind.under i),
+    let following = none_after rest none in
+    let over : over_size text ≡ 1 = cond-true _ _ _ digit ∙ ap (λ n. 1 + n) following.over in (
+      size_from text rest 1 over refl ∙ (λ i. 1 + following.slashes i + following.under i),
       value_from text rest 1 over refl
-          ∙ (λ i. written_length (take 1 text) (behind.slashes i) (take (behind.under i) (drop (behind.slashes i) rest)))
+          ∙ (λ i. written_length (take 1 text) (following.slashes i) (take (following.under i) (drop (following.slashes i) rest)))
           ∙ ap (λ o. factor o (Some 1)) (one_digit_number d more),
     )

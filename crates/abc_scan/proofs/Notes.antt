@@ -22,7 +22,7 @@ use Rattle.abc_text.proofs.Letters.{letter_of-is, letter_exact}
 use Rattle.abc_scan.specs.declared.note.Note.{Note}
 use Rattle.abc_scan.specs.Length.{IsLength, is_slash, begins_length, length_at, length_size}
 use Rattle.abc_scan.specs.Note.{accidental_text, is_octave_mark, letter_octave, octave, ends_letter, is_factor, plain_note, IsPlain, IsShort, IsNote, begins_with_byte, accidental_at, accidental_size}
-use Rattle.abc_scan.specs.Note.{marks_size, note_of, note_behind, note_at}
+use Rattle.abc_scan.specs.Note.{marks_size, note_of, note_after, note_at}
 use Rattle.abc_text.proofs.Fronts.{front_passes, front_append, drop_exact, front_none}
 use Rattle.abc_scan.proofs.Lengths.{read_length, length_longest, length_sound, length_size-le, unwritten, one_digit}
 use Rattle.abc_scan.proofs.Marks.{run_covers}
@@ -86,9 +86,9 @@ unfolding note_at
 note_read rest note b letter =
     let text = accidental_text note.accidental ++ (b ∷ rest) in
     let sign : accidental_at text ≡ note.accidental = accidental_read note.accidental b rest (letter_no_sign b note.letter letter) in
-    let behind : drop (accidental_size (accidental_at text)) text ≡ b ∷ rest =
+    let following : drop (accidental_size (accidental_at text)) text ≡ b ∷ rest =
     (λ i. drop (accidental_size (sign i)) text) ∙ drop_exact (accidental_size note.accidental) (accidental_text note.accidental) (b ∷ rest) refl in
-    (λ i. note_behind (sign i) (behind i)) ∙ ap (option_map (note_of note.accidental b rest)) ((letter_exact b note.letter).1 letter)
+    (λ i. note_after (sign i) (following i)) ∙ ap (option_map (note_of note.accidental b rest)) ((letter_exact b note.letter).1 letter)
 
 -- a letter is read alone if neither an octave mark nor a length follows it
 record Alone (rest : List ℕ) : Type 0 where
@@ -137,47 +137,47 @@ letter_digit b d rest note is factor none =
 pub note_longest : (front rest : List ℕ) (note : Note) → IsNote front note → Finds (note_at (front ++ rest)) front note
 note_longest front rest note is =
     let sign = accidental_text note.accidental in
-    let behind = is.marks ++ (is.written ++ rest) in
-    let found : Note × ℕ = note_of note.accidental is.letter behind note.letter in
-    let parts : front ++ rest ≡ sign ++ (is.letter ∷ behind) =
+    let following = is.marks ++ (is.written ++ rest) in
+    let found : Note × ℕ = note_of note.accidental is.letter following note.letter in
+    let parts : front ++ rest ≡ sign ++ (is.letter ∷ following) =
     ap (λ l. l ++ rest) is.spelling ∙ append_assoc sign (is.letter ∷ (is.marks ++ is.written)) rest ∙ ap (λ l. sign ++ (is.letter ∷ l)) (append_assoc is.marks is.written rest) in
     let long : length front ≡ length sign + suc (length (is.marks ++ is.written)) = ap length is.spelling ∙ length-append sign (is.letter ∷ (is.marks ++ is.written)) in
     let count = front_append is_octave_mark is.marks (is.written ++ rest) is.octave_marks in
-    let covers = covers_both (take (marks_size behind) behind, marks_size behind) (read_length (drop (marks_size behind) behind)) is.marks is.written is.marks note.length
+    let covers = covers_both (take (marks_size following) following, marks_size following) (read_length (drop (marks_size following) following)) is.marks is.written is.marks note.length
     (run_covers is_octave_mark is.marks (is.written ++ rest) is.octave_marks)
-    (λ exact. subst (λ l. Covers (read_length l) is.written note.length) (sym (drop_exact (marks_size behind) is.marks (is.written ++ rest) (sym exact)))
+    (λ exact. subst (λ l. Covers (read_length l) is.written note.length) (sym (drop_exact (marks_size following) is.marks (is.written ++ rest) (sym exact)))
     (length_longest is.written rest note.length is.length_is))
     (λ some. omega (arith, count, marks_end is.written rest note.length is.length_is some)) in
     record {
       found = found.0;
       size = found.1;
-      is_read = ap note_at parts ∙ note_read behind note is.letter is.letter_is;
+      is_read = ap note_at parts ∙ note_read following note is.letter is.letter_is;
       long = omega (arith, long, covers.0);
       same = λ e.
           let same = covers.1 (omega (arith, long, e)) in
-          let octaves : note.octave ≡ octave is.letter (take (marks_size behind) behind) = is.octave_is ∙ (λ i. octave is.letter (same i).0) in
+          let octaves : note.octave ≡ octave is.letter (take (marks_size following) following) = is.octave_is ∙ (λ i. octave is.letter (same i).0) in
           λ i. record { accidental = note.accidental; letter = note.letter; octave = octaves i; length = (same i).1 };
     }
 
 -- the note read is one of the grammar
 note_here : (a : Option Accidental) (b : ℕ) (rest : List ℕ) (letter : Letter) → IsLetter b letter → IsSpelled IsNote (accidental_text a ++ (b ∷ rest)) (note_of a b rest letter)
 note_here a b rest letter is =
-    let behind = drop (marks_size rest) rest in
+    let following = drop (marks_size rest) rest in
     let total = length-append (accidental_text a) (b ∷ rest) in
     let marks = prefix_len-le-length is_octave_mark rest in
-    let written = length_size-le behind in
-    let sum : (note_of a b rest letter).1 ≡ length (accidental_text a) + suc (marks_size rest + length_size behind) = omega arith in (
+    let written = length_size-le following in
+    let sum : (note_of a b rest letter).1 ≡ length (accidental_text a) + suc (marks_size rest + length_size following) = omega arith in (
       record { some = omega arith; inside = omega (arith, total, marks, written, sum, length-drop (marks_size rest) rest) },
       record {
         letter = b;
         marks = take (marks_size rest) rest;
-        written = take (length_size behind) behind;
-        spelling = (λ i. take (sum i) (accidental_text a ++ (b ∷ rest))) ∙ take-append-add (accidental_text a) (b ∷ rest) (suc (marks_size rest + length_size behind))
-            ∙ ap (λ l. accidental_text a ++ (b ∷ l)) (take-add (marks_size rest) (length_size behind) rest);
+        written = take (length_size following) following;
+        spelling = (λ i. take (sum i) (accidental_text a ++ (b ∷ rest))) ∙ take-append-add (accidental_text a) (b ∷ rest) (suc (marks_size rest + length_size following))
+            ∙ ap (λ l. accidental_text a ++ (b ∷ l)) (take-add (marks_size rest) (length_size following) rest);
         letter_is = is;
         octave_marks = front_passes is_octave_mark rest;
         octave_is = refl;
-        length_is = length_sound behind;
+        length_is = length_sound following;
       },
     )
 
@@ -185,14 +185,14 @@ letter_found : (b : ℕ) (o : Option Letter) → letter_of b ≡ o → IfSome o 
 letter_found b None e = tt
 letter_found b (Some letter) e = letter_of-is b letter e
 
-behind_sound : (a : Option Accidental) (behind : List ℕ) → IfSome (note_behind a behind) (IsSpelled IsNote (accidental_text a ++ behind))
-behind_sound a [] = tt
-behind_sound a (b ∷ rest) =
+following_sound : (a : Option Accidental) (following : List ℕ) → IfSome (note_after a following) (IsSpelled IsNote (accidental_text a ++ following))
+following_sound a [] = tt
+following_sound a (b ∷ rest) =
     mapped (IsLetter b) (IsSpelled IsNote (accidental_text a ++ (b ∷ rest))) (note_of a b rest) (letter_of b) (λ letter is. note_here a b rest letter is) (letter_found b (letter_of b) refl)
 
 pub note_sound : (text : List ℕ) → IfSome (note_at text) (IsSpelled IsNote text)
 unfolding note_at
 note_sound text =
     let a = accidental_at text in
-    let behind = drop (accidental_size a) text in
-    subst (λ l. IfSome (note_behind a behind) (IsSpelled IsNote l)) (sym (accidental_sound text)) (behind_sound a behind)
+    let following = drop (accidental_size a) text in
+    subst (λ l. IfSome (note_after a following) (IsSpelled IsNote l)) (sym (accidental_sound text)) (following_sound a following)

@@ -8,14 +8,14 @@ use Rattle.abc_text.proofs.Fronts.{drop_exact}
 use Rattle.abc_scan.specs.declared.ending.PassRange.{PassRange}
 use Rattle.abc_scan.specs.Front.{IsFront, after_byte}
 use Rattle.abc_scan.specs.Number.{number_at}
-use Rattle.abc_scan.specs.Ending.{IsOnePass, IsFromTo, IsRange, IsRanges, last_at, range_of, range_behind, range_at, next_range, range_size, and_more, more_from, ranges_behind, ranges_at}
+use Rattle.abc_scan.specs.Ending.{IsOnePass, IsFromTo, IsRange, IsRanges, last_at, range_of, range_after, range_at, next_range, range_size, and_more, more_from, ranges_after, ranges_at}
 use Rattle.abc_scan.proofs.Marks.{take_one_more}
 use Rattle.abc_scan.proofs.Readings.{Finds, IsSpelled, mapped, weaker, byte_first}
 use Rattle.abc_scan.proofs.Numbers.{number_longest, number_exact, number_sound}
 
 range_from : (text : List ℕ) (first size : ℕ) → number_at text ≡ Some (first, size) → range_at text ≡ Some (range_of first size (last_at (drop size text)))
 unfolding range_at
-range_from text first size read = ap (option_map (range_behind text)) read
+range_from text first size read = ap (option_map (range_after text)) read
 
 -- one number
 one_or_more : (first size : ℕ) (o : Option (ℕ × ℕ))
@@ -114,7 +114,7 @@ range_here text first size (Some last) front first_is dashed =
 pub range_sound : (text : List ℕ) → IfSome (range_at text) (IsSpelled IsRange text)
 unfolding range_at
 range_sound text =
-    mapped (IsSpelled IsNumber text) (IsSpelled IsRange text) (range_behind text) (number_at text)
+    mapped (IsSpelled IsNumber text) (IsSpelled IsRange text) (range_after text) (number_at text)
     (λ first is. range_here text first.0 first.1 (last_at (drop first.1 text)) is.0 is.1 (last_sound (drop first.1 text)))
     (number_sound text)
 
@@ -160,16 +160,16 @@ none_more : (text : List ℕ) → (more_from 0 text).1 ≡ 0 → (more_from 0 te
 none_more text e =
     subst (λ (more : List PassRange × ℕ). more.1 ≡ 0 → more.0 ≡ []) (sym (more_first text)) (none_by text (next_range text) (next_sound text)) e
 
-pub ranges_from : (text : List ℕ) (first : PassRange × ℕ) → range_at text ≡ Some first → ranges_at text ≡ Some (ranges_behind text first)
+pub ranges_from : (text : List ℕ) (first : PassRange × ℕ) → range_at text ≡ Some first → ranges_at text ≡ Some (ranges_after text first)
 unfolding ranges_at
-ranges_from text first read = ap (option_map (ranges_behind text)) read
+ranges_from text first read = ap (option_map (ranges_after text)) read
 
 -- a comma, and the list read after it
-list_behind : (bs : List ℕ) (o : Option (PassRange × ℕ)) (ranges : List PassRange) (size : ℕ) → range_at bs ≡ o → option_map (ranges_behind bs) o ≡ Some (ranges, size)
+list_after : (bs : List ℕ) (o : Option (PassRange × ℕ)) (ranges : List PassRange) (size : ℕ) → range_at bs ≡ o → option_map (ranges_after bs) o ≡ Some (ranges, size)
     → more_from 0 (44 ∷ bs) ≡ (ranges, 1 + size)
-list_behind bs None ranges size read e = cc
-list_behind bs (Some first) ranges size read e =
-    let same : ranges_behind bs first ≡ (ranges, size) = cc in
+list_after bs None ranges size read e = cc
+list_after bs (Some first) ranges size read e =
+    let same : ranges_after bs first ≡ (ranges, size) = cc in
     let next : next_range (44 ∷ bs) ≡ Some (first.0, 1 + first.1) = ap (option_map after_byte) read in
     let sum : 1 + first.1 ≡ suc first.1 = omega arith in
     let after : drop (1 + first.1) (44 ∷ bs) ≡ drop first.1 bs = ap (λ n. drop n (44 ∷ bs)) sum in
@@ -178,17 +178,17 @@ list_behind bs (Some first) ranges size read e =
     ∙ ap (λ l. and_more (Some (first.0, 1 + first.1)) (more_from 0 l)) after
     ∙ (λ i. ((same i).0, total i))
 
-more_behind : (bs : List ℕ) (ranges : List PassRange) (size : ℕ) → ranges_at bs ≡ Some (ranges, size) → more_from 0 (44 ∷ bs) ≡ (ranges, 1 + size)
+more_after : (bs : List ℕ) (ranges : List PassRange) (size : ℕ) → ranges_at bs ≡ Some (ranges, size) → more_from 0 (44 ∷ bs) ≡ (ranges, 1 + size)
 unfolding ranges_at
-more_behind bs ranges size read = list_behind bs (range_at bs) ranges size refl read
+more_after bs ranges size read = list_after bs (range_at bs) ranges size refl read
 
 pub ranges_longest : (ranges : List PassRange) (front rest : List ℕ) → IsRanges front ranges → Finds (ranges_at (front ++ rest)) front ranges
 ranges_longest [] front rest is = absurd is
 ranges_longest (range ∷ []) front rest is =
     let text = front ++ rest in
     let first = range_longest front rest range is in
-    let behind = drop first.size text in
-    let more = more_from 0 behind in
+    let following = drop first.size text in
+    let more = more_from 0 following in
     record {
       found = first.found ∷ more.0;
       size = first.size + more.1;
@@ -196,7 +196,7 @@ ranges_longest (range ∷ []) front rest is =
       long = omega (arith, first.long);
       same = λ e.
           let value : range ≡ first.found = first.same (omega (arith, first.long, e)) in
-          let none : more.0 ≡ [] = none_more behind (omega (arith, first.long, e)) in
+          let none : more.0 ≡ [] = none_more following (omega (arith, first.long, e)) in
           λ i. value i ∷ sym none i;
     }
 ranges_longest (range ∷ next ∷ others) front rest (one, several, spelling, one_is, several_are) =
@@ -205,8 +205,8 @@ ranges_longest (range ∷ next ∷ others) front rest (one, several, spelling, o
     let parts : text ≡ one ++ (44 ∷ tail) = ap (λ l. l ++ rest) spelling ∙ append_assoc one (44 ∷ several) rest in
     let later = ranges_longest (next ∷ others) several rest several_are in
     let read : range_at text ≡ Some (range, length one) = ap range_at parts ∙ range_exact one tail range one_is in
-    let behind : drop (length one) text ≡ 44 ∷ tail = ap (drop (length one)) parts ∙ drop_exact (length one) one (44 ∷ tail) refl in
-    let more : more_from 0 (drop (length one) text) ≡ (later.found, 1 + later.size) = ap (more_from 0) behind ∙ more_behind tail later.found later.size later.is_read in
+    let following : drop (length one) text ≡ 44 ∷ tail = ap (drop (length one)) parts ∙ drop_exact (length one) one (44 ∷ tail) refl in
+    let more : more_from 0 (drop (length one) text) ≡ (later.found, 1 + later.size) = ap (more_from 0) following ∙ more_after tail later.found later.size later.is_read in
     let long : length front ≡ length one + (1 + length several) = (let l = length-append one (44 ∷ several) in omega (arith, ap length spelling, l)) in
     record {
       found = range ∷ later.found;
@@ -248,16 +248,16 @@ more_is : (fuel : ℕ) (text : List ℕ) (o : Option (PassRange × ℕ)) → nex
 more_is fuel text None read next enough = subst (IsMore text) (sym (more_at text None read)) (omega arith, inl (refl, refl))
 more_is zero text (Some range) read next enough = absurd (omega (arith, ap length next.2))
 more_is (suc fuel) text (Some range) read next enough =
-    let behind = drop range.1 text in
-    let less : length behind ≤ fuel = omega (arith, length-drop range.1 text, next.1, ap length next.2) in
-    subst (IsMore text) (sym (more_at text (Some range) read)) (comma_more text range (more_from 0 behind) next (more_is fuel behind (next_range behind) refl (next_sound behind) less))
+    let following = drop range.1 text in
+    let less : length following ≤ fuel = omega (arith, length-drop range.1 text, next.1, ap length next.2) in
+    subst (IsMore text) (sym (more_at text (Some range) read)) (comma_more text range (more_from 0 following) next (more_is fuel following (next_range following) refl (next_sound following) less))
 
 pub ranges_sound : (text : List ℕ) → IfSome (ranges_at text) (IsSpelled IsRanges text)
 unfolding ranges_at
 ranges_sound text =
-    mapped (IsSpelled IsRange text) (IsSpelled IsRanges text) (ranges_behind text) (range_at text)
+    mapped (IsSpelled IsRange text) (IsSpelled IsRanges text) (ranges_after text) (range_at text)
     (λ first is.
-    let behind = drop first.1 text in
-    let more = more_from 0 behind in
-    with_more text first.0 first.1 more.0 more.1 is (more_is (length behind) behind (next_range behind) refl (next_sound behind) (omega arith)))
+    let following = drop first.1 text in
+    let more = more_from 0 following in
+    with_more text first.0 first.1 more.0 more.1 is (more_is (length following) following (next_range following) refl (next_sound following) (omega arith)))
     (range_sound text)

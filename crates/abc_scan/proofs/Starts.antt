@@ -106,22 +106,22 @@ unfolding bracket_start
 stroke_starts [] = refl
 stroke_starts (b ∷ bs) = refl
 
-group_starts : (opened : Bool) (more : ℕ) (closed : Bool) (groups behind : List ℕ)
-    → start_of ((strokes_text (record { opened = opened; more = more; closed = closed }) ++ groups) ++ behind) ≡ starts.BarLine
+group_starts : (opened : Bool) (more : ℕ) (closed : Bool) (groups following : List ℕ)
+    → start_of ((strokes_text (record { opened = opened; more = more; closed = closed }) ++ groups) ++ following) ≡ starts.BarLine
 unfolding byte_start
-group_starts true more closed groups behind = stroke_starts _
-group_starts false more closed groups behind = refl
+group_starts true more closed groups following = stroke_starts _
+group_starts false more closed groups following = refl
 
-strokes_start : (closes : ℕ) (groups : List Strokes) (behind : List ℕ) → 0 < length groups → start_of (replicate closes 58 ++ (middle_text groups ++ behind)) ≡ starts.BarLine
+strokes_start : (closes : ℕ) (groups : List Strokes) (following : List ℕ) → 0 < length groups → start_of (replicate closes 58 ++ (middle_text groups ++ following)) ≡ starts.BarLine
 unfolding byte_start
-strokes_start zero [] behind some = absurd (omega arith)
-strokes_start zero (g ∷ gs) behind some = group_starts g.opened g.more g.closed (middle_text gs) behind
-strokes_start (suc n) groups behind some = refl
+strokes_start zero [] following some = absurd (omega arith)
+strokes_start zero (g ∷ gs) following some = group_starts g.opened g.more g.closed (middle_text gs) following
+strokes_start (suc n) groups following some = refl
 
-colons_start : (count : ℕ) (behind : List ℕ) → 2 ≤ count → start_of (replicate count 58 ++ behind) ≡ starts.BarLine
+colons_start : (count : ℕ) (following : List ℕ) → 2 ≤ count → start_of (replicate count 58 ++ following) ≡ starts.BarLine
 unfolding byte_start
-colons_start zero behind several = absurd (omega arith)
-colons_start (suc n) behind several = refl
+colons_start zero following several = absurd (omega arith)
+colons_start (suc n) following several = refl
 
 pub bar_starts : (front rest : List ℕ) (bar : BarLine) → IsBar front bar → start_of (front ++ rest) ≡ starts.BarLine
 bar_starts front rest bar is = ⊎_elim
@@ -141,7 +141,7 @@ letter_bracket letter rest is =
     cond-false _ _ _ no_stroke ∙ cond-true _ _ _ (and_from (is_ascii_alphabetic letter) true is refl)
 
 pub field_starts : (front rest : List ℕ) (field : Field) → IsInlineField front field → start_of (front ++ rest) ≡ starts.InlineField
-field_starts front rest field is = ap (λ l. start_of (l ++ rest)) is.spelling ∙ letter_bracket field.letter ((is.behind ++ 93 ∷ []) ++ rest) is.letter_is
+field_starts front rest field is = ap (λ l. start_of (l ++ rest)) is.spelling ∙ letter_bracket field.letter ((is.following ++ 93 ∷ []) ++ rest) is.letter_is
 
 inside_other : (b : ℕ) → is_inside b ≡ true → (b == 124) ≡ false
 inside_other b is = let parts = and_parts _ _ is in let more = and_parts _ _ parts.1 in not-true _ more.1
@@ -206,9 +206,9 @@ blank_starts front rest is = two_start front rest [] is.byte 32 9 starts.Blank i
 pub delimited_starts : (front rest : List ℕ) → IsDelimited front → start_of (front ++ rest) ≡ starts.Delimited
 unfolding byte_start
 delimited_starts front rest is =
-    let behind = (is.inside ++ is.closing ∷ []) ++ rest in
+    let following = (is.inside ++ is.closing ∷ []) ++ rest in
     ap (λ l. start_of (l ++ rest)) is.spelling
-    ∙ ⊎_elim (λ e. ap (λ x. start_of (x ∷ behind)) e.0) (λ other. ⊎_elim (λ e. ap (λ x. start_of (x ∷ behind)) e.0) (λ e. ap (λ x. start_of (x ∷ behind)) e.0) other) is.delimiters
+    ∙ ⊎_elim (λ e. ap (λ x. start_of (x ∷ following)) e.0) (λ other. ⊎_elim (λ e. ap (λ x. start_of (x ∷ following)) e.0) (λ e. ap (λ x. start_of (x ∷ following)) e.0) other) is.delimiters
 
 space_starts : (front rest : List ℕ) → IsExtraSpace front → start_of (front ++ rest) ≡ starts.Space
 unfolding byte_start

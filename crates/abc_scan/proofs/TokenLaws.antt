@@ -50,17 +50,17 @@ finds-first : (o other : Option (TokenKind × ℕ)) (front : List ℕ) (kind : T
 finds-first o other front kind f = record { found = f.found; size = f.size; is_read = ap (λ x. or_else x other) f.is_read; long = f.long; same = f.same }
 
 -- a chord that begins as an ending is longer
-behind_first : (size : ℕ) (written : List ℕ) → AllPass is_range_byte written → AllPass is_range_byte (drop 1 (take size (91 ∷ written)))
-behind_first zero written all = All-nil _
-behind_first (suc n) written all = All-take (λ b. is_range_byte b ≡ true) n written all
+following_first : (size : ℕ) (written : List ℕ) → AllPass is_range_byte written → AllPass is_range_byte (drop 1 (take size (91 ∷ written)))
+following_first zero written all = All-nil _
+following_first (suc n) written all = All-take (λ b. is_range_byte b ≡ true) n written all
 
-too_short : (written rest inside behind : List ℕ) (size : ℕ) → AllPass is_range_byte written → size ≤ length (91 ∷ written) → take size ((91 ∷ written) ++ rest) ≡ 91 ∷ (inside ++ 93 ∷ behind) → ⊥
-too_short written rest inside behind size bytes short spelled =
-    let whole : take size (91 ∷ written) ≡ 91 ∷ (inside ++ 93 ∷ behind) = sym (take-append-le size (91 ∷ written) rest short) ∙ spelled in
-    let all : AllPass is_range_byte (inside ++ 93 ∷ behind) = subst (λ l. AllPass is_range_byte (drop 1 l)) whole (behind_first size written bytes) in
-    let last : AllPass is_range_byte (93 ∷ behind) = subst (AllPass is_range_byte) (drop-append_seam inside (93 ∷ behind)) (All-drop (λ b. is_range_byte b ≡ true) (length inside)
-    (inside ++ 93 ∷ behind) all) in
-    false≢true (All-head (λ b. is_range_byte b ≡ true) 93 behind last)
+too_short : (written rest inside following : List ℕ) (size : ℕ) → AllPass is_range_byte written → size ≤ length (91 ∷ written) → take size ((91 ∷ written) ++ rest) ≡ 91 ∷ (inside ++ 93 ∷ following) → ⊥
+too_short written rest inside following size bytes short spelled =
+    let whole : take size (91 ∷ written) ≡ 91 ∷ (inside ++ 93 ∷ following) = sym (take-append-le size (91 ∷ written) rest short) ∙ spelled in
+    let all : AllPass is_range_byte (inside ++ 93 ∷ following) = subst (λ l. AllPass is_range_byte (drop 1 l)) whole (following_first size written bytes) in
+    let last : AllPass is_range_byte (93 ∷ following) = subst (AllPass is_range_byte) (drop-append_seam inside (93 ∷ following)) (All-drop (λ b. is_range_byte b ≡ true) (length inside)
+    (inside ++ 93 ∷ following) all) in
+    false≢true (All-head (λ b. is_range_byte b ≡ true) 93 following last)
 
 chord_longer : (front rest written : List ℕ) (chord : Chord) (size : ℕ) → front ≡ 91 ∷ written → AllPass is_range_byte written → IsChord (take size (front ++ rest)) chord → length front < size
 chord_longer front rest written chord size spelled bytes is = ⊎_elim

@@ -12,7 +12,7 @@ use Rattle.abc_text.proofs.Fronts.{drop_exact}
 use Rattle.abc_scan.specs.declared.tuplet.Tuplet.{Tuplet}
 use Rattle.abc_scan.specs.Front.{after_byte}
 use Rattle.abc_scan.specs.Number.{number_at, optional, optional_number_at}
-use Rattle.abc_scan.specs.Tuplet.{HasColon, IsFurther, IsTuplet, further_at, tuplet_behind, tuplet_at}
+use Rattle.abc_scan.specs.Tuplet.{HasColon, IsFurther, IsTuplet, further_at, tuplet_after, tuplet_at}
 use Rattle.abc_scan.proofs.Marks.{take_one_more, cut_in_three}
 use Rattle.abc_scan.proofs.Readings.{Finds, Covers, IsSpelled, mapped, covers_both, byte_first}
 use Rattle.abc_scan.proofs.Numbers.{number_longest, number_exact, number_sound, number_none, optional_number_longest, optional_number_sound}
@@ -87,8 +87,8 @@ tuplet_longest front rest tuplet is =
     let parts : front ++ rest ≡ 40 ∷ text =
     ap (λ l. l ++ rest) is.spelling ∙ ap (λ l. 40 ∷ l) (append_assoc is.p_text further rest ∙ ap (λ l. is.p_text ++ l) (append_assoc is.q_text is.r_text rest)) in
     let p = number_longest is.p_text tail tuplet.p is.p_is in
-    let behind = drop p.size text in
-    let covers = covers_both (p.found, p.size) (read_further behind) is.p_text further tuplet.p (tuplet.q, tuplet.r) (p.long, p.same)
+    let following = drop p.size text in
+    let covers = covers_both (p.found, p.size) (read_further following) is.p_text further tuplet.p (tuplet.q, tuplet.r) (p.long, p.same)
     (λ exact. subst (λ l. Covers (read_further l) further (tuplet.q, tuplet.r)) (sym (drop_exact p.size is.p_text tail (sym exact)))
     (both_cover is.q_text is.r_text rest tuplet.q tuplet.r is.q_is is.r_is is.q_first))
     (λ some.
@@ -97,9 +97,9 @@ tuplet_longest front rest tuplet is =
     omega (arith, parts.1)) in
     let long = ap length is.spelling in
     record {
-      found = (tuplet_behind text (p.found, p.size)).0;
-      size = (tuplet_behind text (p.found, p.size)).1;
-      is_read = ap tuplet_at parts ∙ ap (option_map (tuplet_behind text)) p.is_read;
+      found = (tuplet_after text (p.found, p.size)).0;
+      size = (tuplet_after text (p.found, p.size)).1;
+      is_read = ap tuplet_at parts ∙ ap (option_map (tuplet_after text)) p.is_read;
       long = omega (arith, long, covers.0);
       same = λ e. let same = covers.1 (omega (arith, long, e)) in λ i. record { p = (same i).0; q = (same i).1.0; r = (same i).1.1 };
     }
@@ -124,24 +124,24 @@ further_twice text empty =
     let none : (further_at text).1 ≡ 0 = omega (arith, ap length empty, length-take-le (further_at text).1 text inside) in
     ap (λ n. take (further_at (drop n text)).1 (drop n text)) none ∙ empty
 
-tuplet_here : (rest : List ℕ) (p : ℕ × ℕ) → IsSpelled IsNumber rest p → IsSpelled IsTuplet (40 ∷ rest) (tuplet_behind rest p)
+tuplet_here : (rest : List ℕ) (p : ℕ × ℕ) → IsSpelled IsNumber rest p → IsSpelled IsTuplet (40 ∷ rest) (tuplet_after rest p)
 tuplet_here rest p is =
-    let behind = drop p.1 rest in
-    let q = further_at behind in
-    let r = further_at (drop q.1 behind) in
-    let q_sound = further_sound behind in
-    let r_sound = further_sound (drop q.1 behind) in
+    let following = drop p.1 rest in
+    let q = further_at following in
+    let r = further_at (drop q.1 following) in
+    let q_sound = further_sound following in
+    let r_sound = further_sound (drop q.1 following) in
     let sum : 1 + p.1 + q.1 + r.1 ≡ suc (p.1 + q.1 + r.1) = omega arith in (
-      record { some = omega arith; inside = omega (arith, is.0.inside, q_sound.0, r_sound.0, length-drop p.1 rest, length-drop q.1 behind) },
+      record { some = omega arith; inside = omega (arith, is.0.inside, q_sound.0, r_sound.0, length-drop p.1 rest, length-drop q.1 following) },
       record {
         p_text = take p.1 rest;
-        q_text = take q.1 behind;
-        r_text = take r.1 (drop q.1 behind);
+        q_text = take q.1 following;
+        r_text = take r.1 (drop q.1 following);
         spelling = ap (λ n. take n (40 ∷ rest)) sum ∙ ap (λ l. 40 ∷ l) (cut_in_three p.1 q.1 r.1 rest);
         p_is = is.1;
         q_is = q_sound.1;
         r_is = r_sound.1;
-        q_first = further_twice behind;
+        q_first = further_twice following;
       },
     )
 
@@ -149,5 +149,5 @@ pub tuplet_sound : (text : List ℕ) → IfSome (tuplet_at text) (IsSpelled IsTu
 unfolding tuplet_at
 tuplet_sound [] = tt
 tuplet_sound (b ∷ rest) =
-    byte_first (IsSpelled IsTuplet) 40 b rest (option_map (tuplet_behind rest) (number_at rest)) None
-    (mapped (IsSpelled IsNumber rest) (IsSpelled IsTuplet (40 ∷ rest)) (tuplet_behind rest) (number_at rest) (λ p is. tuplet_here rest p is) (number_sound rest)) tt
+    byte_first (IsSpelled IsTuplet) 40 b rest (option_map (tuplet_after rest) (number_at rest)) None
+    (mapped (IsSpelled IsNumber rest) (IsSpelled IsTuplet (40 ∷ rest)) (tuplet_after rest) (number_at rest) (λ p is. tuplet_here rest p is) (number_sound rest)) tt

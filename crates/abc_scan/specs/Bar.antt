@@ -73,16 +73,16 @@ bar_of_colons count =
 
 -- The bar line of colons, a middle of `middle` bytes and the text after it, and its size in bytes.
 abbrev pub with_middle : ℕ → ℕ → List ℕ → BarLine × ℕ
-with_middle closes middle behind = (
-  record { closes = closes; opens = colons (drop middle behind); double = is_double (take middle behind) },
-  closes + middle + colons (drop middle behind),
+with_middle closes middle following = (
+  record { closes = closes; opens = colons (drop middle following); double = is_double (take middle following) },
+  closes + middle + colons (drop middle following),
 )
 
 -- The bar line of colons and the text after them.
-abbrev pub bar_behind : ℕ → List ℕ → Option (BarLine × ℕ)
-bar_behind closes behind =
-    if middle_size behind == 0 then bar_of_colons closes else Some (with_middle closes (middle_size behind) behind)
+abbrev pub bar_after : ℕ → List ℕ → Option (BarLine × ℕ)
+bar_after closes following =
+    if middle_size following == 0 then bar_of_colons closes else Some (with_middle closes (middle_size following) following)
 
 -- The longest bar line at the front of a text, and its size in bytes.
 unfoldable pub bar_at : List ℕ → Option (BarLine × ℕ)
-bar_at text = bar_behind (colons text) (drop (colons text) text)
+bar_at text = bar_after (colons text) (drop (colons text) text)

@@ -97,12 +97,12 @@ range_of first size None = (record { first = first; last = first }, size)
 range_of first size (Some last) = (record { first = first; last = last.0 }, size + 1 + last.1)
 
 -- The longest range at the front of a text that begins with its first number.
-abbrev pub range_behind : List ℕ → ℕ × ℕ → PassRange × ℕ
-range_behind text first = range_of first.0 first.1 (last_at (drop first.1 text))
+abbrev pub range_after : List ℕ → ℕ × ℕ → PassRange × ℕ
+range_after text first = range_of first.0 first.1 (last_at (drop first.1 text))
 
 -- The longest range at the front of a text, and its size in bytes.
 unfoldable pub range_at : List ℕ → Option (PassRange × ℕ)
-range_at text = option_map (range_behind text) (number_at text)
+range_at text = option_map (range_after text) (number_at text)
 
 -- A comma and the longest range after it at the front of a text, and the size of both in bytes.
 abbrev pub next_range : List ℕ → Option (PassRange × ℕ)
@@ -127,13 +127,13 @@ more_from zero (b ∷ bs) = and_more (next_range (b ∷ bs)) (more_from (range_s
 more_from (suc inside) (b ∷ bs) = more_from inside bs
 
 -- The longest list of ranges at the front of a text that begins with this one.
-abbrev pub ranges_behind : List ℕ → PassRange × ℕ → List PassRange × ℕ
-ranges_behind text first =
+abbrev pub ranges_after : List ℕ → PassRange × ℕ → List PassRange × ℕ
+ranges_after text first =
     let more = more_from 0 (drop first.1 text) in (first.0 ∷ more.0, first.1 + more.1)
 
 -- The longest list of ranges at the front of a text, and its size in bytes.
 unfoldable pub ranges_at : List ℕ → Option (List PassRange × ℕ)
-ranges_at text = option_map (ranges_behind text) (range_at text)
+ranges_at text = option_map (ranges_after text) (range_at text)
 
 -- Ranges as passes.
 abbrev pub as_passes : List PassRange × ℕ → Option ℕ × ℕ

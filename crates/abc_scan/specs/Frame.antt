@@ -24,8 +24,8 @@ pub record IsFrame (text : List ℕ) (frame : Frame) : Type 0 where
 -- The frame with `size` bytes inside that this text follows, and its size in bytes.
 abbrev pub closed_frame : ℕ → List ℕ → Option (Frame × ℕ)
 closed_frame size [] = None
-closed_frame size (b ∷ behind) =
-    if b == closing_bracket then Some (record { inside = size; length = length_at behind }, size + 2 + length_size behind) else None
+closed_frame size (b ∷ following) =
+    if b == closing_bracket then Some (record { inside = size; length = length_at following }, size + 2 + length_size following) else None
 
 -- The number of bytes at the front of a text that may be inside a chord.
 abbrev pub inside_size : List ℕ → ℕ

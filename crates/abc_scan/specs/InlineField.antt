@@ -12,11 +12,11 @@ use Rattle.abc_scan.specs.Field.{begins_field, field_of}
 -- `[`, a letter, a colon, bytes other than `]`, and `]`. The value is the bytes without the blanks at
 -- their ends.
 pub record IsInlineField (text : List ℕ) (field : Field) : Type 0 where
-  pub behind : List ℕ
-  pub spelling : text ≡ opening_bracket ∷ field.letter ∷ colon ∷ (behind ++ closing_bracket ∷ [])
+  pub following : List ℕ
+  pub spelling : text ≡ opening_bracket ∷ field.letter ∷ colon ∷ (following ++ closing_bracket ∷ [])
   pub letter_is : IsTrue (is_ascii_alphabetic field.letter)
-  pub first_closing : HasNoByte closing_bracket behind
-  pub value_is : field.value ≡ trim_blanks behind
+  pub first_closing : HasNoByte closing_bracket following
+  pub value_is : field.value ≡ trim_blanks following
 
 -- The text begins with a bracket, a letter and a colon.
 abbrev pub opens_field : List ℕ → Bool

@@ -86,13 +86,13 @@ note_of accidental byte rest letter = (
 )
 
 -- The longest note of an accidental and the text after it, and its size in bytes.
-abbrev pub note_behind : Option Accidental → List ℕ → Option (Note × ℕ)
-note_behind accidental [] = None
-note_behind accidental (b ∷ rest) = option_map (note_of accidental b rest) (letter_of b)
+abbrev pub note_after : Option Accidental → List ℕ → Option (Note × ℕ)
+note_after accidental [] = None
+note_after accidental (b ∷ rest) = option_map (note_of accidental b rest) (letter_of b)
 
 -- The longest note at the front of a text, and its size in bytes.
 unfoldable pub note_at : List ℕ → Option (Note × ℕ)
-note_at text = note_behind (accidental_at text) (drop (accidental_size (accidental_at text)) text)
+note_at text = note_after (accidental_at text) (drop (accidental_size (accidental_at text)) text)
 
 -- Whether a note that is a letter alone ends before a text: it begins with neither an octave mark nor a length.
 abbrev pub ends_letter : List ℕ → Bool

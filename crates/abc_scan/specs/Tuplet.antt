@@ -35,8 +35,8 @@ further_at [] = (None, 0)
 further_at (b ∷ bs) = if b == colon then after_byte (optional_number_at bs) else (None, 0)
 
 -- The longest mark of the text after its parenthesis, which begins with p, and its size in bytes.
-abbrev pub tuplet_behind : List ℕ → ℕ × ℕ → Tuplet × ℕ
-tuplet_behind rest p =
+abbrev pub tuplet_after : List ℕ → ℕ × ℕ → Tuplet × ℕ
+tuplet_after rest p =
     let q = further_at (drop p.1 rest) in
     let r = further_at (drop q.1 (drop p.1 rest)) in
     (record { p = p.0; q = q.0; r = r.0 }, 1 + p.1 + q.1 + r.1)
@@ -44,4 +44,4 @@ tuplet_behind rest p =
 -- The longest tuplet mark at the front of a text, and its size in bytes.
 unfoldable pub tuplet_at : List ℕ → Option (Tuplet × ℕ)
 tuplet_at [] = None
-tuplet_at (b ∷ rest) = if b == open_parenthesis then option_map (tuplet_behind rest) (number_at rest) else None
+tuplet_at (b ∷ rest) = if b == open_parenthesis then option_map (tuplet_after rest) (number_at rest) else None

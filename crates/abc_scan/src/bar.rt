@@ -76,16 +76,16 @@ pub(crate) fn bar_at(text: &[u8]) -> Option<(BarLine, usize)>
     ensures front { IfSome result (λ r. IsFront text.now r.1) }
 {
     let closes = run_of(b':', text);
-    let behind = &text[closes..];
-    let middle = middle_size(behind);
+    let following = &text[closes..];
+    let middle = middle_size(following);
     if middle == 0 {
         return bar_of_colons(closes);
     }
-    let opens = run_of(b':', &behind[middle..]);
+    let opens = run_of(b':', &following[middle..]);
     let bar = BarLine {
         closes: closes as u32,
         opens: opens as u32,
-        double: is_double(&behind[..middle]),
+        double: is_double(&following[..middle]),
     };
     Some((bar, closes + middle + opens))
 }

@@ -13,8 +13,8 @@ pub(crate) fn bar_rest_at(text: &[u8]) -> Option<(Option<u32>, usize)>
     ensures front { IfSome result (λ r. IsFront text.now r.1) }
 {
     match text {
-        [b'Z' | b'X', behind @ ..] => {
-            let (bars, size) = optional_number_at(behind);
+        [b'Z' | b'X', following @ ..] => {
+            let (bars, size) = optional_number_at(following);
             Some((bars, 1 + size))
         }
         _ => None,

@@ -90,9 +90,9 @@ pub fn cells(alloc: Global, tokens: &[Token]) -> Result<Vec<Cell>, AllocError>
     let mut cells = Vec::new(alloc);
     let mut rest = tokens;
     while !rest.is_empty() {
-        let (first, behind) = rest.split_at(first_size(rest));
+        let (first, following) = rest.split_at(first_size(rest));
         cells.push(cell_of(alloc, first)?)?;
-        rest = behind;
+        rest = following;
     }
     Ok(cells)
 }

@@ -48,7 +48,7 @@ fn last_at(text: &[u8]) -> Option<(u32, usize)>
     ensures inside { IfSome result (λ r. 1 + r.1 ≤ length text.now) }
 {
     match text {
-        [b'-', behind @ ..] => number_at(behind),
+        [b'-', following @ ..] => number_at(following),
         _ => None,
     }
 }
@@ -72,8 +72,8 @@ fn next_range(text: &[u8]) -> Option<(PassRange, usize)>
     ensures front { IfSome result (λ r. IsFront text.now r.1) }
 {
     match text {
-        [b',', behind @ ..] => {
-            let (range, size) = range_at(behind)?;
+        [b',', following @ ..] => {
+            let (range, size) = range_at(following)?;
             Some((range, 1 + size))
         }
         _ => None,
@@ -102,8 +102,8 @@ pub(crate) fn ending_at(after_bar: bool, text: &[u8]) -> Option<(Option<u32>, us
     ensures front { IfSome result (λ r. IsFront text.now r.1) }
 {
     match text {
-        [b'[', behind @ ..] => {
-            let (passes, size) = passes_at(behind)?;
+        [b'[', following @ ..] => {
+            let (passes, size) = passes_at(following)?;
             Some((passes, 1 + size))
         }
         [_, ..] if after_bar => passes_at(text),

@@ -30,7 +30,7 @@ pub(crate) fn field_of(alloc: Global, text: &[u8]) -> Result<Field, AllocError>
     ensures { IfOk result (λ field. field ≡ field_of text.now) }
 {
     let letter = text.first().copied().unwrap_or(0);
-    let behind = if text.len() < 2 { &[] } else { &text[2..] };
-    let value = Sequence::from_slice(alloc, trim_blanks(behind))?;
+    let following = if text.len() < 2 { &[] } else { &text[2..] };
+    let value = Sequence::from_slice(alloc, trim_blanks(following))?;
     Ok(Field { letter, value })
 }

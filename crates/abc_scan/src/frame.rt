@@ -43,8 +43,8 @@ pub(crate) fn frame_at(text: &[u8]) -> Option<(Frame, usize)>
         [b'[', rest @ ..] if !begins_field(rest) => {
             let inside = inside_size(rest);
             match &rest[inside..] {
-                [b']', behind @ ..] => {
-                    let (length, size) = length_at(behind);
+                [b']', following @ ..] => {
+                    let (length, size) = length_at(following);
                     Some((Frame { inside, length }, inside + 2 + size))
                 }
                 _ => None,

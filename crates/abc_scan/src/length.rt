@@ -26,7 +26,7 @@ fn slashes(text: &[u8]) -> usize
 }
 
 /// Returns the number of digits after the slashes: only a single slash has any.
-fn digits_behind(slashes: usize, text: &[u8]) -> usize
+fn digits_after(slashes: usize, text: &[u8]) -> usize
     ensures value { result ≡ (if slashes == 1 then prefix_len is_digit text.now else 0) }
     ensures inside { result ≤ length text.now }
     ensures digits { AllPass is_digit (take result text.now) }
@@ -86,9 +86,9 @@ fn some_length_at(text: &[u8]) -> (WrittenLength, usize)
     let over = digits(text);
     let rest = &text[over..];
     let slashes = slashes(rest);
-    let behind = &rest[slashes..];
-    let under = digits_behind(slashes, behind);
-    let value = written_length(&text[..over], slashes, &behind[..under]);
+    let following = &rest[slashes..];
+    let under = digits_after(slashes, following);
+    let value = written_length(&text[..over], slashes, &following[..under]);
     (value, over + slashes + under)
 }
 

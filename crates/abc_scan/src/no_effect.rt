@@ -13,8 +13,8 @@ pub(crate) fn extra_space_at(text: &[u8]) -> Option<usize>
     ensures front { IfSome result (λ size. IsFront text.now size) }
 {
     match text {
-        [b'y', behind @ ..] => {
-            let (_, size) = optional_number_at(behind);
+        [b'y', following @ ..] => {
+            let (_, size) = optional_number_at(following);
             Some(1 + size)
         }
         _ => None,

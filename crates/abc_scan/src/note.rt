@@ -158,8 +158,8 @@ pub(crate) fn rest_at(text: &[u8]) -> Option<(WrittenLength, usize)>
     ensures front { IfSome result (λ r. IsFront text.now r.1) }
 {
     match text {
-        [b'z' | b'x', behind @ ..] => {
-            let (length, size) = length_at(behind);
+        [b'z' | b'x', following @ ..] => {
+            let (length, size) = length_at(following);
             Some((length, 1 + size))
         }
         _ => None,

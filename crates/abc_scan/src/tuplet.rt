@@ -23,8 +23,8 @@ fn further_at(text: &[u8]) -> (Option<u32>, usize)
     ensures inside { result.1 ≤ length text.now }
 {
     match text {
-        [b':', behind @ ..] => {
-            let (number, size) = optional_number_at(behind);
+        [b':', following @ ..] => {
+            let (number, size) = optional_number_at(following);
             (number, 1 + size)
         }
         _ => (None, 0),
@@ -40,9 +40,9 @@ pub(crate) fn tuplet_at(text: &[u8]) -> Option<(Tuplet, usize)>
     match text {
         [b'(', rest @ ..] => {
             let (p, p_size) = number_at(rest)?;
-            let behind = &rest[p_size..];
-            let (q, q_size) = further_at(behind);
-            let (r, r_size) = further_at(&behind[q_size..]);
+            let following = &rest[p_size..];
+            let (q, q_size) = further_at(following);
+            let (r, r_size) = further_at(&following[q_size..]);
             Some((Tuplet { p, q, r }, 1 + p_size + q_size + r_size))
         }
         _ => None,

@@ -23,9 +23,9 @@ cut_at-found byte front rest h =
     let inside : position_or_len (λ b. b == byte) text < length text = omega (arith, at, long) in
     let before : before_first (λ b. b == byte) text ≡ front = take_exact _ front (byte ∷ rest) at in
     let size : position_or_len (λ b. b == byte) text + 1 ≡ length (front ++ byte ∷ []) = omega (arith, at, length-append front (byte ∷ [])) in
-    let behind : after_first (λ b. b == byte) text ≡ rest = ap (λ t. drop (position_or_len (λ b. b == byte) text + 1) t) (sym (append_assoc front (byte ∷ []) rest)) ∙ drop_exact _ (front ++ byte ∷
+    let following : after_first (λ b. b == byte) text ≡ rest = ap (λ t. drop (position_or_len (λ b. b == byte) text + 1) t) (sym (append_assoc front (byte ∷ []) rest)) ∙ drop_exact _ (front ++ byte ∷
     []) rest size in
-    cond-true _ _ _ (lt-ltb _ _ inside) ∙ ap (λ x. Some (x, after_first (λ b. b == byte) text)) before ∙ ap (λ x. Some (front, x)) behind
+    cond-true _ _ _ (lt-ltb _ _ inside) ∙ ap (λ x. Some (x, after_first (λ b. b == byte) text)) before ∙ ap (λ x. Some (front, x)) following
 
 pub cut_at-none : (byte : ℕ) (text : List ℕ) → HasNoByte byte text → cut_at byte text ≡ None
 unfolding cut_at

@@ -26,22 +26,22 @@ ink (b ∷ bs) = ⊎_elim
     (cases_Bool (is_blank b))
 
 -- blanks make no word
-behind_blank : (b : ℕ) (bs : List ℕ) → is_blank b ≡ true → words_of (b ∷ bs) ≡ words_of bs
+following_blank : (b : ℕ) (bs : List ℕ) → is_blank b ≡ true → words_of (b ∷ bs) ≡ words_of bs
 unfolding words_of
-behind_blank b bs is = ap (filter is_word) (slice_split-cons_yes is_blank b bs is)
+following_blank b bs is = ap (filter is_word) (slice_split-cons_yes is_blank b bs is)
 
-behind_blanks : (text : List ℕ) → words_of text ≡ words_of (drop (leading_blanks text) text)
-behind_blanks [] = refl
-behind_blanks (b ∷ bs) = ⊎_elim
+after_blanks : (text : List ℕ) → words_of text ≡ words_of (drop (leading_blanks text) text)
+after_blanks [] = refl
+after_blanks (b ∷ bs) = ⊎_elim
     (λ yes.
     let n : leading_blanks (b ∷ bs) ≡ suc (leading_blanks bs) = cond-true (is_blank b) (1 + leading_blanks bs) 0 yes ∙ omega arith in
-    behind_blank b bs yes ∙ behind_blanks bs ∙ ap (λ n. words_of (drop n (b ∷ bs))) (sym n))
+    following_blank b bs yes ∙ after_blanks bs ∙ ap (λ n. words_of (drop n (b ∷ bs))) (sym n))
     (λ no. ap (λ n. words_of (drop n (b ∷ bs))) (sym (cond-false (is_blank b) (1 + leading_blanks bs) 0 no)))
     (cases_Bool (is_blank b))
 
 pub no_words : (text : List ℕ) → length text ≤ leading_blanks text → words_of text ≡ []
 unfolding words_of
-no_words text none = behind_blanks text ∙ ap words_of (drop_all (leading_blanks text) text none)
+no_words text none = after_blanks text ∙ ap words_of (drop_all (leading_blanks text) text none)
 
 -- a text that begins with a word
 a_word : (word : List ℕ) (parts : List (List ℕ)) → 0 < length word → filter is_word (word ∷ parts) ≡ word ∷ filter is_word parts
@@ -54,9 +54,9 @@ word_inside text some inside =
     let n = bytes_before_blank text in
     let cut : slice_split is_blank text ≡ take n text ∷ slice_split is_blank (drop (n + 1) text) = slice_split_first is_blank text 0 inside in
     let next : drop n text ≡ get_or text n 0 ∷ drop (n + 1) text = rw (add-one, drop-cons text n 0) in
-    let behind : words_of (drop n text) ≡ words_of (drop (n + 1) text) = ap words_of next ∙ behind_blank (get_or text n 0) (drop (n + 1) text) (passes_at_first is_blank text 0 inside) in
+    let following : words_of (drop n text) ≡ words_of (drop (n + 1) text) = ap words_of next ∙ following_blank (get_or text n 0) (drop (n + 1) text) (passes_at_first is_blank text 0 inside) in
     let long : 0 < length (take n text) = omega (arith, length-take n text) in
-    ap (filter is_word) cut ∙ a_word (take n text) (slice_split is_blank (drop (n + 1) text)) long ∙ ap (λ w. take n text ∷ w) (sym behind)
+    ap (filter is_word) cut ∙ a_word (take n text) (slice_split is_blank (drop (n + 1) text)) long ∙ ap (λ w. take n text ∷ w) (sym following)
 
 word_alone : (text : List ℕ) → 0 < length text → length text ≤ bytes_before_blank text → words_of text ≡ take (bytes_before_blank text) text ∷ words_of (drop (bytes_before_blank text) text)
 unfolding words_of
@@ -65,8 +65,8 @@ word_alone text some all =
     let same : take n text ≡ text = take_all n text all in
     let cut : slice_split is_blank text ≡ text ∷ [] = slice_split_none is_blank text (subst (All IsInk) same (ink text)) in
     let front : words_of text ≡ text ∷ [] = ap (filter is_word) cut ∙ a_word text [] some in
-    let behind : words_of (drop n text) ≡ [] = ap words_of (drop_all n text all) in
-    front ∙ (λ i. sym same i ∷ sym behind i)
+    let following : words_of (drop n text) ≡ [] = ap words_of (drop_all n text all) in
+    front ∙ (λ i. sym same i ∷ sym following i)
 
 front_word : (text : List ℕ) → 0 < bytes_before_blank text → words_of text ≡ take (bytes_before_blank text) text ∷ words_of (drop (bytes_before_blank text) text)
 front_word text some = ⊎_elim
@@ -95,7 +95,7 @@ place text inside =
     let same : size ≡ from + size - from = omega arith in
     record {
       some = omega arith;
-      words = behind_blanks text ∙ front_word (drop from text) some ∙ (λ i. take (same i) (drop from text) ∷ words_of (drop-drop size from text i));
+      words = after_blanks text ∙ front_word (drop from text) some ∙ (λ i. take (same i) (drop from text) ∷ words_of (drop-drop size from text i));
     }
 
 -- a law of the word after the blanks of a text is one of its first word
@@ -145,7 +145,7 @@ are_blanks (b ∷ bs) = ⊎_elim
     (cases_Bool (is_blank b))
 
 abbrev Ends : List ℕ → Type 0
-Ends behind = (behind ≡ []) ⊎ ((b : ℕ) × (rest : List ℕ) × (behind ≡ b ∷ rest) × (is_blank b ≡ true))
+Ends following = (following ≡ []) ⊎ ((b : ℕ) × (rest : List ℕ) × (following ≡ b ∷ rest) × (is_blank b ≡ true))
 
 ink_ends : (text : List ℕ) → Ends (drop (bytes_before_blank text) text)
 ink_ends text = ⊎_elim
@@ -168,16 +168,16 @@ first_at_blanks text inside =
     let long : size ≤ length rest = prefix_len-le-length (λ b. not (is_blank b)) rest in
     let same : size ≡ from + size - from = omega arith in
     let word : take size rest ≡ slice_range text from (from + size) = ap (λ n. take n rest) same in
-    let behind : drop size rest ≡ drop (from + size) text = drop-drop size from text in
+    let following : drop size rest ≡ drop (from + size) text = drop-drop size from text in
     let length_is : length (slice_range text from (from + size)) ≡ size = sym (ap length word) ∙ length-take-le size rest long in
     record {
       first = record {
         blanks = take from text;
-        spelling = sym ((λ i. take from text ++ (sym word i ++ sym behind i)) ∙ ap (λ l. take from text ++ l) (take-append-drop size rest) ∙ take-append-drop from text);
+        spelling = sym ((λ i. take from text ++ (sym word i ++ sym following i)) ∙ ap (λ l. take from text ++ l) (take-append-drop size rest) ∙ take-append-drop from text);
         are_blanks = are_blanks text;
         some = omega (arith, length_is);
         no_blank = subst (All IsInk) word (ink rest);
-        ends = subst Ends behind (ink_ends rest);
+        ends = subst Ends following (ink_ends rest);
       };
       from_is = sym (length-take-le from text (omega arith));
       to_is = ap (λ n. from + n) (sym length_is);
@@ -202,38 +202,38 @@ no_blank_first : (word rest : List ℕ) → 0 < length word → All IsInk word �
 no_blank_first [] rest some are = absurd (omega arith)
 no_blank_first (b ∷ bs) rest some are = cond-false (is_blank b) (1 + leading_blanks (bs ++ rest)) 0 (All-head IsInk b bs are)
 
-front_ink : (word behind : List ℕ) → All IsInk word → Ends behind → bytes_before_blank (word ++ behind) ≡ length word
-front_ink [] behind are ends = ⊎_elim
+front_ink : (word following : List ℕ) → All IsInk word → Ends following → bytes_before_blank (word ++ following) ≡ length word
+front_ink [] following are ends = ⊎_elim
     (λ e. ap bytes_before_blank e)
     (λ h. ap bytes_before_blank h.2 ∙ cond-false (not (is_blank h.0)) (1 + bytes_before_blank h.1) 0 (not_from_true _ h.3))
     ends
-front_ink (b ∷ bs) behind are ends =
-    let more = front_ink bs behind (All-tail IsInk b bs are) ends in
-    cond-true (not (is_blank b)) (1 + bytes_before_blank (bs ++ behind)) 0 (not_from_false _ (All-head IsInk b bs are)) ∙ omega (arith, more)
+front_ink (b ∷ bs) following are ends =
+    let more = front_ink bs following (All-tail IsInk b bs are) ends in
+    cond-true (not (is_blank b)) (1 + bytes_before_blank (bs ++ following)) 0 (not_from_false _ (All-head IsInk b bs are)) ∙ omega (arith, more)
 
 -- and at no other place
-pub record FirstKnown (text word behind : List ℕ) (from : ℕ) : Type 0 where
+pub record FirstKnown (text word following : List ℕ) (from : ℕ) : Type 0 where
   pub known : Some (from, from + length word) ≡ first_word text
   pub word_is : slice_range text from (from + length word) ≡ word
-  pub behind_is : drop (from + length word) text ≡ behind
+  pub after_is : drop (from + length word) text ≡ following
 
-pub first_known : (text word behind : List ℕ) (is : IsFirstWord text word behind) → FirstKnown text word behind (length is.blanks)
+pub first_known : (text word following : List ℕ) (is : IsFirstWord text word following) → FirstKnown text word following (length is.blanks)
 unfolding first_word
-first_known text word behind is =
+first_known text word following is =
     let from = length is.blanks in
     let some : 0 < length word = is.some in
-    let count : leading_blanks text ≡ from = ap leading_blanks is.spelling ∙ front_blanks is.blanks (word ++ behind) is.are_blanks ∙ (let none = no_blank_first word behind some is.no_blank in omega
+    let count : leading_blanks text ≡ from = ap leading_blanks is.spelling ∙ front_blanks is.blanks (word ++ following) is.are_blanks ∙ (let none = no_blank_first word following some is.no_blank in omega
     (arith, none)) in
-    let long : length text ≡ from + (length word + length behind) = ap length is.spelling ∙ length-append is.blanks (word ++ behind) ∙ ap (λ n. from + n) (length-append word behind) in
-    let rest : drop from text ≡ word ++ behind = ap (drop from) is.spelling ∙ drop-append_seam is.blanks (word ++ behind) in
+    let long : length text ≡ from + (length word + length following) = ap length is.spelling ∙ length-append is.blanks (word ++ following) ∙ ap (λ n. from + n) (length-append word following) in
+    let rest : drop from text ≡ word ++ following = ap (drop from) is.spelling ∙ drop-append_seam is.blanks (word ++ following) in
     let size : bytes_before_blank (drop (leading_blanks text) text) ≡ length word = ap (λ n. bytes_before_blank
-    (drop n text)) count ∙ ap bytes_before_blank rest ∙ front_ink word behind is.no_blank is.ends in
+    (drop n text)) count ∙ ap bytes_before_blank rest ∙ front_ink word following is.no_blank is.ends in
     let inside : leading_blanks text < length text = omega (arith, count, long, some) in
     let same : from + length word - from ≡ length word = omega arith in
     record {
       known = (λ i. Some (sym count i, sym count i + sym size i)) ∙ sym (cond-true _ _ _ (lt-ltb _ _ inside));
-      word_is = (λ i. take (same i) (rest i)) ∙ take-append_seam word behind;
-      behind_is = sym (drop-drop (length word) from text) ∙ ap (drop (length word)) rest ∙ drop-append_seam word behind;
+      word_is = (λ i. take (same i) (rest i)) ∙ take-append_seam word following;
+      after_is = sym (drop-drop (length word) from text) ∙ ap (drop (length word)) rest ∙ drop-append_seam word following;
     }
 
 -- the words of a text are those of the grammar
@@ -265,7 +265,7 @@ words_known [] text are = blank_words text are
 words_known (word ∷ words) text are =
     let known = first_known text word are.0 are.1 in
     let from = length are.1.blanks in
-    (first_word_is text from (from + length word) known.known).words ∙ (λ i. known.word_is i ∷ words_of (known.behind_is i)) ∙ ap (λ more. word ∷ more) (words_known words are.0 are.2)
+    (first_word_is text from (from + length word) known.known).words ∙ (λ i. known.word_is i ∷ words_of (known.after_is i)) ∙ ap (λ more. word ∷ more) (words_known words are.0 are.2)
 
 pub words_exact : (text : List ℕ) (words : List (List ℕ)) → (words_of text ≡ words) ↔ AreWords text words
 words_exact text words = (words_read words text (first_word text) refl, words_known words text)

@@ -13,18 +13,18 @@ unfoldable pub words_of : List ℕ → List (List ℕ)
 words_of text = filter is_word (slice_split is_blank text)
 
 -- The first word of a text: the longest run of nonblank bytes after the leading blanks.
-pub record IsFirstWord (text word behind : List ℕ) : Type 0 where
+pub record IsFirstWord (text word following : List ℕ) : Type 0 where
   pub blanks : List ℕ
-  pub spelling : text ≡ blanks ++ (word ++ behind)
+  pub spelling : text ≡ blanks ++ (word ++ following)
   pub are_blanks : AllPass is_blank blanks
   pub some : 0 < length word
   pub no_blank : All (λ b. is_blank b ≡ false) word
-  pub ends : (behind ≡ []) ⊎ ((b : ℕ) × (rest : List ℕ) × (behind ≡ b ∷ rest) × (is_blank b ≡ true))
+  pub ends : (following ≡ []) ⊎ ((b : ℕ) × (rest : List ℕ) × (following ≡ b ∷ rest) × (is_blank b ≡ true))
 
 -- The words of a text, in order. A text of only blanks has none.
 abbrev pub AreWords : List ℕ → List (List ℕ) → Type 0
 AreWords text [] = AllPass is_blank text
-AreWords text (word ∷ words) = (behind : List ℕ) × IsFirstWord text word behind × AreWords behind words
+AreWords text (word ∷ words) = (following : List ℕ) × IsFirstWord text word following × AreWords following words
 
 -- The number of blanks at the front of a text.
 abbrev pub leading_blanks : List ℕ → ℕ

@@ -6,16 +6,16 @@ use Rattle.std.specs.Option.{option_to_list}
 use Rattle.std.proofs.lemmas.Bool.{eqb-true, false≢true}
 use Rattle.std.proofs.lemmas.Bool.Decides.{nat_tests}
 use Rattle.std.proofs.lemmas.List.Folds.{list_any-append}
-use Rattle.abc_bars.proofs.HeaderLaws.{header_behind}
+use Rattle.abc_bars.proofs.HeaderLaws.{header_following}
 use Rattle.abc_bars.proofs.LookBack.Along.{from_view}
 use Rattle.abc_bars.proofs.LookBack.Flags.{bodies_say_so}
 use Rattle.abc_bars.specs.LookBack.Along.{CellTokens, results_along, items_along}
-use Rattle.abc_bars.specs.LookBack.Cells.{behind_tokens}
+use Rattle.abc_bars.specs.LookBack.Cells.{after_tokens}
 use Rattle.abc_bars.specs.LookBack.Defaults.{defaults_at}
 use Rattle.abc_bars.specs.LookBack.Element.{Element}
 use Rattle.abc_bars.specs.LookBack.Flags.{is_of_header}
 use Rattle.abc_bars.specs.LookBack.Header.{header_at}
-use Rattle.abc_bars.specs.LookBack.Place.{InBody, InHeader, behind_field, behind_header, behind_header_line, result_in_body, result_in_header}
+use Rattle.abc_bars.specs.LookBack.Place.{InBody, InHeader, following_field, after_header, after_header_line, result_in_body, result_in_header}
 use Rattle.abc_bars_body.specs.SameEntry.{bar_steps}
 use Rattle.abc_bars_body.specs.Step.{directive_in, field_in, header_step, line_in, line_of, entry_step}
 use Rattle.abc_bars_body.specs.declared.entry.Entry.{Entry}
@@ -112,20 +112,20 @@ key_body : (opening : Defaults) (before : List HeaderLine) (key : Key) (elements
 key_body opening before key elements [] = refl
 key_body opening before key elements (cell ∷ cells) =
     let given = (result_in_body opening before key elements cell).items in
-    let rest = items_in (results_along (InBody opening before key (behind_tokens cell elements)) cells) in
+    let rest = items_in (results_along (InBody opening before key (after_tokens cell elements)) cells) in
     list_any-append is_opening_key given rest
     ∙ ap (λ (b : Bool). b || list_any is_opening_key rest) (key_quiet given (bodies_say_so opening before key elements cell))
-    ∙ key_body opening before key (behind_tokens cell elements) cells
+    ∙ key_body opening before key (after_tokens cell elements) cells
 
 tempo_body : (opening : Defaults) (before : List HeaderLine) (key : Key) (elements : List Element) (cells : List CellTokens) (out : Bool)
     → after_all out_after out (items_in (results_along (InBody opening before key elements) cells)) ≡ out
 tempo_body opening before key elements [] out = refl
 tempo_body opening before key elements (cell ∷ cells) out =
     let given = (result_in_body opening before key elements cell).items in
-    let rest = items_in (results_along (InBody opening before key (behind_tokens cell elements)) cells) in
+    let rest = items_in (results_along (InBody opening before key (after_tokens cell elements)) cells) in
     past_append out given rest
     ∙ ap (λ (b : Bool). after_all out_after b rest) (tempo_quiet given out (bodies_say_so opening before key elements cell))
-    ∙ tempo_body opening before key (behind_tokens cell elements) cells out
+    ∙ tempo_body opening before key (after_tokens cell elements) cells out
 
 -- the key that a line of a header gives
 abbrev key_if : Option Item → Bool
@@ -200,34 +200,34 @@ keys_from opening before cells = list_any is_opening_key (items_in (results_alon
 
 key_field : (opening : Defaults) (before : List HeaderLine) (field : Field) (kind : FieldKind) (cells : List CellTokens)
     → ((more : List HeaderLine) → keys_from opening more cells ≡ has_key cells)
-    → (is_key kind || list_any is_opening_key (items_in (results_along (behind_field opening before field kind) cells))) ≡ (is_key kind || has_key cells)
+    → (is_key kind || list_any is_opening_key (items_in (results_along (following_field opening before field kind) cells))) ≡ (is_key kind || has_key cells)
 key_field opening before field fields.Key cells rest = refl
 key_field opening before field _ cells rest = rest (FieldLine field ∷ before)
 
-key_behind : (opening : Defaults) (before : List HeaderLine) (line : HeaderLine) (cells : List CellTokens)
+key_following : (opening : Defaults) (before : List HeaderLine) (line : HeaderLine) (cells : List CellTokens)
     → ((more : List HeaderLine) → keys_from opening more cells ≡ has_key cells)
-    → (is_key_line line || list_any is_opening_key (items_in (results_along (behind_header_line opening before line) cells))) ≡ (is_key_line line || has_key cells)
-key_behind opening before (FieldLine field) cells rest = key_field opening before field (kind_of field.letter) cells rest
-key_behind opening before (DirectiveLine directive) cells rest = rest (DirectiveLine directive ∷ before)
+    → (is_key_line line || list_any is_opening_key (items_in (results_along (after_header_line opening before line) cells))) ≡ (is_key_line line || has_key cells)
+key_following opening before (FieldLine field) cells rest = key_field opening before field (kind_of field.letter) cells rest
+key_following opening before (DirectiveLine directive) cells rest = rest (DirectiveLine directive ∷ before)
 
 key_at : (opening : Defaults) (before : List HeaderLine) (cell : CellTokens) (line : Option HeaderLine) (cells : List CellTokens)
     → ((more : List HeaderLine) → keys_from opening more cells ≡ has_key cells)
-    → (list_any is_opening_key (result_in_header opening before cell line).items || list_any is_opening_key (items_in (results_along (behind_header opening before cell line) cells)))
+    → (list_any is_opening_key (result_in_header opening before cell line).items || list_any is_opening_key (items_in (results_along (after_header opening before cell line) cells)))
     ≡ has_key_from line (has_key cells)
 key_at opening before cell None cells rest =
-    ap (λ (b : Bool). b || list_any is_opening_key (items_in (results_along (InBody opening before empty_key (behind_tokens cell [])) cells)))
+    ap (λ (b : Bool). b || list_any is_opening_key (items_in (results_along (InBody opening before empty_key (after_tokens cell [])) cells)))
     (key_quiet (result_in_body opening before empty_key [] cell).items (bodies_say_so opening before empty_key [] cell))
-    ∙ key_body opening before empty_key (behind_tokens cell []) cells
+    ∙ key_body opening before empty_key (after_tokens cell []) cells
 key_at opening before cell (Some line) cells rest =
-    ap (λ (b : Bool). b || list_any is_opening_key (items_in (results_along (behind_header_line opening before line) cells)))
+    ap (λ (b : Bool). b || list_any is_opening_key (items_in (results_along (after_header_line opening before line) cells)))
     (line_key (header_at opening before) line)
-    ∙ key_behind opening before line cells rest
+    ∙ key_following opening before line cells rest
 
 key_along : (opening : Defaults) (before : List HeaderLine) (cells : List CellTokens) → keys_from opening before cells ≡ has_key cells
 key_along opening before [] = refl
 key_along opening before (cell ∷ cells) =
     list_any-append is_opening_key (result_in_header opening before cell (line_in cell)).items
-    (items_in (results_along (behind_header opening before cell (line_in cell)) cells))
+    (items_in (results_along (after_header opening before cell (line_in cell)) cells))
     ∙ key_at opening before cell (line_in cell) cells (λ more. key_along opening more cells)
 
 -- a fault among those of a tune as a whole
@@ -298,7 +298,7 @@ line_sets opening before line out =
     let own = own_line_result header line in
     program_says out (items_with own.item own.header.defaults) (line_program line header.defaults)
     ∙ items_say out own.item own.header.defaults
-    ∙ ap (λ (h : Header). sets_out_of_range h.defaults) (sym (header_behind opening before line))
+    ∙ ap (λ (h : Header). sets_out_of_range h.defaults) (sym (header_following opening before line))
 
 -- the tempo with which a tune begins
 abbrev sets_at : Defaults → List HeaderLine → Bool
@@ -309,7 +309,7 @@ out_from out opening before cells = after_all out_after out (items_in (results_a
 
 out_field : (opening : Defaults) (before : List HeaderLine) (field : Field) (kind : FieldKind) (cells : List CellTokens)
     → ((more : List HeaderLine) → out_from (sets_at opening more) opening more cells ≡ sets_at opening (header_lines more cells))
-    → after_all out_after (sets_at opening (FieldLine field ∷ before)) (items_in (results_along (behind_field opening before field kind) cells))
+    → after_all out_after (sets_at opening (FieldLine field ∷ before)) (items_in (results_along (following_field opening before field kind) cells))
     ≡ sets_at opening (cond (is_key kind) (FieldLine field ∷ before) (header_lines (FieldLine field ∷ before) cells))
 out_field opening before field fields.Key cells rest =
     tempo_body opening (FieldLine field ∷ before) (key_or_empty (key_of field.value)) [] cells (sets_at opening (FieldLine field ∷ before))
@@ -317,27 +317,27 @@ out_field opening before field _ cells rest = rest (FieldLine field ∷ before)
 
 out_after_items : (opening : Defaults) (before : List HeaderLine) (line : HeaderLine) (cells : List CellTokens)
     → ((more : List HeaderLine) → out_from (sets_at opening more) opening more cells ≡ sets_at opening (header_lines more cells))
-    → after_all out_after (sets_at opening (line ∷ before)) (items_in (results_along (behind_header_line opening before line) cells))
+    → after_all out_after (sets_at opening (line ∷ before)) (items_in (results_along (after_header_line opening before line) cells))
     ≡ sets_at opening (cond (is_key_line line) (line ∷ before) (header_lines (line ∷ before) cells))
 out_after_items opening before (FieldLine field) cells rest = out_field opening before field (kind_of field.letter) cells rest
 out_after_items opening before (DirectiveLine directive) cells rest = rest (DirectiveLine directive ∷ before)
 
 out_line : (opening : Defaults) (before : List HeaderLine) (cell : CellTokens) (line : HeaderLine) (cells : List CellTokens) (out : Bool)
     → ((more : List HeaderLine) → out_from (sets_at opening more) opening more cells ≡ sets_at opening (header_lines more cells))
-    → after_all out_after (after_all out_after out (result_in_header opening before cell (Some line)).items) (items_in (results_along (behind_header opening before cell (Some line)) cells))
+    → after_all out_after (after_all out_after out (result_in_header opening before cell (Some line)).items) (items_in (results_along (after_header opening before cell (Some line)) cells))
     ≡ sets_at opening (header_up_to (Some line) before (header_lines (line ∷ before) cells))
 out_line opening before cell line cells out rest =
-    ap (λ (b : Bool). after_all out_after b (items_in (results_along (behind_header_line opening before line) cells))) (line_sets opening before line out)
+    ap (λ (b : Bool). after_all out_after b (items_in (results_along (after_header_line opening before line) cells))) (line_sets opening before line out)
     ∙ out_after_items opening before line cells rest
 
 out_at : (opening : Defaults) (before : List HeaderLine) (cell : CellTokens) (line : Option HeaderLine) (cells : List CellTokens)
     → ((more : List HeaderLine) → out_from (sets_at opening more) opening more cells ≡ sets_at opening (header_lines more cells))
-    → after_all out_after (after_all out_after (sets_at opening before) (result_in_header opening before cell line).items) (items_in (results_along (behind_header opening before cell line) cells))
+    → after_all out_after (after_all out_after (sets_at opening before) (result_in_header opening before cell line).items) (items_in (results_along (after_header opening before cell line) cells))
     ≡ sets_at opening (header_up_to line before (header_lines (and_line line before) cells))
 out_at opening before cell None cells rest =
-    ap (λ (b : Bool). after_all out_after b (items_in (results_along (InBody opening before empty_key (behind_tokens cell [])) cells)))
+    ap (λ (b : Bool). after_all out_after b (items_in (results_along (InBody opening before empty_key (after_tokens cell [])) cells)))
     (tempo_quiet (result_in_body opening before empty_key [] cell).items (sets_at opening before) (bodies_say_so opening before empty_key [] cell))
-    ∙ tempo_body opening before empty_key (behind_tokens cell []) cells (sets_at opening before)
+    ∙ tempo_body opening before empty_key (after_tokens cell []) cells (sets_at opening before)
 out_at opening before cell (Some line) cells rest = out_line opening before cell line cells (sets_at opening before) rest
 
 out_along : (opening : Defaults) (before : List HeaderLine) (cells : List CellTokens)
@@ -345,11 +345,11 @@ out_along : (opening : Defaults) (before : List HeaderLine) (cells : List CellTo
 out_along opening before [] = refl
 out_along opening before (cell ∷ cells) =
     past_append (sets_at opening before) (result_in_header opening before cell (line_in cell)).items
-    (items_in (results_along (behind_header opening before cell (line_in cell)) cells))
+    (items_in (results_along (after_header opening before cell (line_in cell)) cells))
     ∙ out_at opening before cell (line_in cell) cells (λ more. out_along opening more cells)
 
 out_first : (opening : Defaults) (first : CellTokens) (cells : List CellTokens) (line : HeaderLine) (is : Option HeaderLine) → is ≡ Some line
-    → after_all out_after (after_all out_after false (result_in_header opening [] first is).items) (items_in (results_along (behind_header opening [] first is) cells))
+    → after_all out_after (after_all out_after false (result_in_header opening [] first is).items) (items_in (results_along (after_header opening [] first is) cells))
     ≡ sets_at opening (header_up_to is [] (header_lines (and_line is []) cells))
 out_first opening first cells line (Some other) is = out_line opening [] first other cells false (λ more. out_along opening more cells)
 out_first opening first cells line None is = absurd cc
@@ -359,7 +359,7 @@ tempo_range_by_text opening line first cells is =
     range_built (items_of_tune opening (first ∷ cells))
     ∙ ap (λ (given : List Items). opens_out_of_range (items_in given)) (looked_back_at opening (first ∷ cells))
     ∙ past_append false (result_in_header opening [] first (line_in first)).items
-    (items_in (results_along (behind_header opening [] first (line_in first)) cells))
+    (items_in (results_along (after_header opening [] first (line_in first)) cells))
     ∙ out_first opening first cells line (line_in first) is
 
 -- the number that an X: says

@@ -28,10 +28,10 @@ past_append out [] more = refl
 past_append out (item ∷ items) more = past_append (out_after out item) items more
 
 -- one more cell
-pub out_more : (cells : List Items) (i : ℕ) (out behind : Bool) (cell : Items) (held : List Item) (whole : Bool) → i < length cells → cell ≡ get_or cells i cell
-    → held ≡ cell.items → behind ≡ after_all out_after out held
-    → after_all out_after out (items_in (drop i cells)) ≡ whole → after_all out_after behind (items_in (drop (i + 1) cells)) ≡ whole
-out_more cells i out behind cell held whole within is same after before =
+pub out_more : (cells : List Items) (i : ℕ) (out following : Bool) (cell : Items) (held : List Item) (whole : Bool) → i < length cells → cell ≡ get_or cells i cell
+    → held ≡ cell.items → following ≡ after_all out_after out held
+    → after_all out_after out (items_in (drop i cells)) ≡ whole → after_all out_after following (items_in (drop (i + 1) cells)) ≡ whole
+out_more cells i out following cell held whole within is same after before =
     let rest = items_in (drop (i + 1) cells) in
     let front : drop i cells ≡ cell ∷ drop (i + 1) cells = drop_more cells i cell within ∙ ap (λ x. x ∷ drop (i + 1) cells) (sym is) in
     ap (λ b. after_all out_after b rest) (after ∙ ap (after_all out_after out) same)

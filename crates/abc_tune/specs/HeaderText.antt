@@ -43,8 +43,8 @@ is_key_line (DirectiveLine directive) = false
 
 -- Whether a tune has a K: before all music, from this line or from music on.
 abbrev pub has_key_from : Option HeaderLine → Bool → Bool
-has_key_from None behind = false
-has_key_from (Some line) behind = is_key_line line || behind
+has_key_from None following = false
+has_key_from (Some line) following = is_key_line line || following
 
 -- Whether a tune has a K: before all music.
 abbrev pub has_key : List CellTokens → Bool

@@ -48,8 +48,8 @@ impl Fold for Abc {
         BarFold::same(a, b)
     }
 
-    fn stays(&self, state: &Entry, cell: &Cell, behind: &Entry) -> bool {
-        BarFold.stays(state, cell, behind)
+    fn stays(&self, state: &Entry, cell: &Cell, following: &Entry) -> bool {
+        BarFold.stays(state, cell, following)
     }
 
     fn copy_state(alloc: Global, state: &Entry) -> Result<Entry, AllocError> {

@@ -18,8 +18,8 @@ pub cells_move : {Cell : Type 0} → CellsMove Cell
 cells_move cells lines n [] = refl
 cells_move cells lines n (line ∷ text) =
     let here : n + lines + 1 ≡ n + 1 + lines = omega arith in
-    let behind = ap (λ k. cells_from cells k text) here ∙ cells_move cells lines (n + 1) text in
-    ap (λ l. map (placed_at (n + lines)) (cells line) ++ l) behind
+    let following = ap (λ k. cells_from cells k text) here ∙ cells_move cells lines (n + 1) text in
+    ap (λ l. map (placed_at (n + lines)) (cells line) ++ l) following
     ∙ ap (λ l. l ++ map (placed_moved lines) (cells_from cells (n + 1) text)) (placed_line_moved lines n (cells line))
     ∙ sym (map-append (placed_moved lines) (map (placed_at n) (cells line)) (cells_from cells (n + 1) text))
 

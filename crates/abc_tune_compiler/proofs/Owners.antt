@@ -38,12 +38,12 @@ offered files k None n rest false same = refl
 offered files k (Some bytes) n rest true same = put_step files k bytes n rest (file_at files k) true refl same
 offered files k (Some bytes) n rest false same = put_step files k bytes n rest (file_at files k) false refl same
 
-nothing_behind : (file : Option (List ℕ)) → file ≡ either file None
-nothing_behind None = refl
-nothing_behind (Some bytes) = refl
+nothing_following : (file : Option (List ℕ)) → file ≡ either file None
+nothing_following None = refl
+nothing_following (Some bytes) = refl
 
 first_among : (files : Files) (tunes : List Tune) (n : ℕ) → file_at (files_from files tunes) n ≡ either (file_at files n) (first_file tunes n)
-first_among files [] n = nothing_behind (file_at files n)
+first_among files [] n = nothing_following (file_at files n)
 first_among files (tune ∷ tunes) n = first_among (with_file_of files tune.number tune.bytes) tunes n ∙ offered files tune.number tune.bytes n (first_file tunes n) (tune.number == n) refl
 
 pub first_owner : FirstOwner

@@ -59,7 +59,7 @@ module _ (low high : ℕ) where
       (of_items rules.faults items (of_cells next gives opening cells (of_lines rules.cells first text above inside)))
 
 pub faults_in_lines : {State Cell Items Defaults : Type 0} → FaultsInLines State Cell Items Defaults
-faults_in_lines next gives rules first opening line behind = of_tune_between first (first + length behind) next gives rules first opening (line ∷ behind) (omega arith) (omega
+faults_in_lines next gives rules first opening line following = of_tune_between first (first + length following) next gives rules first opening (line ∷ following) (omega arith) (omega
     arith) (omega arith)
 
 -- none is below the last line, also if there are no lines

@@ -77,9 +77,9 @@ IsBetweenLines low high fault = (low ≤ fault.line) × (fault.line ≤ high)
 abbrev pub FaultsInLines : Type 0 → Type 0 → Type 0 → Type 0 → Type 0
 FaultsInLines State Cell Items Defaults =
     (next : State → Cell → State) (gives : State → Cell → Items) (rules : Rules State Cell Items Defaults) (first : ℕ)
-    (opening : State) (line : List ℕ) (behind : Text)
-    → All (IsBetweenLines first (first + length behind)) (tune_from rules first
-    (items_along next gives opening (cells_from rules.cells first (line ∷ behind)))).faults
+    (opening : State) (line : List ℕ) (following : Text)
+    → All (IsBetweenLines first (first + length following)) (tune_from rules first
+    (items_along next gives opening (cells_from rules.cells first (line ∷ following)))).faults
 
 -- A text without lines has an empty book.
 abbrev pub NoLinesNoBook : Type 0 → Type 0 → Type 0 → Type 0 → Type 0

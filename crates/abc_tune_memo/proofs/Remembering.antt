@@ -54,11 +54,11 @@ done_or_refused (Ok v) done refused = inr done
 done_or_refused (Err e) done refused = inl refused
 
 -- What was built of a key that was not there may be put first.
-pub kept_behind : {Defaults : Type 0} (test : Defaults → Defaults → Bool) (key : TuneKey Defaults) (known : Option Built) (built : Built) (old asked now : List (TuneKey Defaults × Built))
+pub kept_after : {Defaults : Type 0} (test : Defaults → Defaults → Bool) (key : TuneKey Defaults) (known : Option Built) (built : Built) (old asked now : List (TuneKey Defaults × Built))
     → known ≡ lookup (is_same test key) old → ((one : Built) → known ≡ Some one → ⊥)
     → asked ≡ promoted (is_same test key) old → (now ≡ asked) ⊎ (now ≡ put_entries (is_same test) (lru_cache asked 64) key built)
     → IsEntryFirst (is_same test) key built old now
-kept_behind test key known built old asked now found never is cases =
+kept_after test key known built old asked now found never is cases =
     let none = sym found ∙ not_some known never in
     ⊎_elim
     (λ all. inl (all ∙ is))

@@ -304,9 +304,9 @@ fronts_more past front tone same = record {
   tied = λ key. ap (λ n. cond (tone.tied && has_key key tone.key) (suc n) n) (same.tied key) ∙ sym (tied_end key front tone);
 }
 
-behind_front : (front : List Tone) (tone : Tone) (tones : List Tone) → slice_get (front ++ tone ∷ tones) (length front) ≡ Some tone
-behind_front [] tone tones = refl
-behind_front (first ∷ front) tone tones = behind_front front tone tones
+after_front : (front : List Tone) (tone : Tone) (tones : List Tone) → slice_get (front ++ tone ∷ tones) (length front) ≡ Some tone
+after_front [] tone tones = refl
+after_front (first ∷ front) tone tones = after_front front tone tones
 
 tones_begun : (previous : List Tone) (token : TimeToken) (tokens : List TimeToken) (place : ℕ) (past front tones : List Tone)
     → place ≡ length front → token.tones ≡ front ++ tones → Fronts past front
@@ -314,7 +314,7 @@ tones_begun : (previous : List Tone) (token : TimeToken) (tokens : List TimeToke
 tones_begun previous token tokens place past front [] long whole same = refl
 tones_begun previous token tokens place past front (tone ∷ tones) long whole same =
     let stands : slice_get token.tones place ≡ Some tone =
-    (λ i. slice_get (whole i) (long i)) ∙ behind_front front tone tones in
+    (λ i. slice_get (whole i) (long i)) ∙ after_front front tone tones in
     let before : take place token.tones ≡ front = (λ i. take (long i) (whole i)) ∙ take-append_seam front (tone ∷ tones) in (
       begun_by (λ key. tied_with key previous) token.at past tone tokens tone.key,
       begun_at (λ key. tied_with key previous) token.at (tone ∷ past) tones tokens,
@@ -452,7 +452,7 @@ tones_are : (previous : List Tone) (token : TimeToken) (tokens : List TimeToken)
 tones_are previous token tokens place past front [] notes long whole same none = none
 tones_are previous token tokens place past front (tone ∷ tones) notes long whole same (own, others, parts, one, rest) =
     let stands : slice_get token.tones place ≡ Some tone =
-    (λ i. slice_get (whole i) (long i)) ∙ behind_front front tone tones in
+    (λ i. slice_get (whole i) (long i)) ∙ after_front front tone tones in
     let before : take place token.tones ≡ front = (λ i. take (long i) (whole i)) ∙ take-append_seam front (tone ∷ tones) in
     let first = one_is previous token tokens place past tone own stands (subst (Fronts past) (sym before) same) one in
     let later = tones_are previous token tokens (suc place) (tone ∷ past) (front ++ tone ∷ []) tones others

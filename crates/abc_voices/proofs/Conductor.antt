@@ -186,10 +186,10 @@ abbrev keys_in : List Item → List (Grains × (ℤ × Bool))
 keys_in tune = played_with key_of (first_of (tracks tune)) (or_else (pos 0, false) (after_all key_after None tune)) tune
 
 -- what is set after what a tune opens with
-behind_opening : {V : Type 0} (value_of : Item → Option V) (those same_voices : List (List ℕ)) (tune : List Item) (tick : ℕ) (given opening : V)
+following_opening : {V : Type 0} (value_of : Item → Option V) (those same_voices : List (List ℕ)) (tune : List Item) (tick : ℕ) (given opening : V)
     → those ≡ same_voices → given ≡ opening
     → last_on tick (played_with value_of those given tune) ≡ set_or_opening value_of same_voices opening tune tick
-behind_opening value_of those same_voices tune tick given opening voices same =
+following_opening value_of those same_voices tune tick given opening voices same =
     ap (λ last. or_said last (set_on tick 0 (Some given)))
     (sections_said value_of (voice_names tune) those tick 0 (played_sections tune))
     ∙ (λ i. or_said (last_set value_of (voices i) tune tick) (set_on tick 0 (Some (same i))))
@@ -200,17 +200,17 @@ is_conducted tune tick =
     record {
       tempo = tempos_stand tick (tempos_in tune) (meters_in tune) (keys_in tune)
           ∙ ap (λ last. option_to_list (option_map tempo_change last))
-          (behind_opening tempo_of (voice_names tune) (voice_names tune) tune tick
+          (following_opening tempo_of (voice_names tune) (voice_names tune) tune tick
           (or_else usual_tempo (after_all tempo_after None tune)) (opening_by opening_tempo_of at_120 tune) refl
           (opens tempo_after opening_tempo_of at_120 tempo_said tune));
       meter = meters_stand tick (tempos_in tune) (meters_in tune) (keys_in tune)
           ∙ ap (λ last. option_to_list (option_and_then meter_change last))
-          (behind_opening meter_of (first_of (tracks tune)) (leader tune) tune tick
+          (following_opening meter_of (first_of (tracks tune)) (leader tune) tune tick
           (or_else meters.Free (after_all meter_after None tune)) (opening_by opening_meter_of meters.Free tune) first
           (opens meter_after opening_meter_of meters.Free meter_said tune));
       key = keys_stand tick (tempos_in tune) (meters_in tune) (keys_in tune)
           ∙ ap (λ last. option_to_list (option_map key_change last))
-          (behind_opening key_of (first_of (tracks tune)) (leader tune) tune tick
+          (following_opening key_of (first_of (tracks tune)) (leader tune) tune tick
           (or_else (pos 0, false) (after_all key_after None tune)) (opening_by opening_key_of (pos 0, false) tune) first
           (opens key_after opening_key_of (pos 0, false) key_said tune));
     }

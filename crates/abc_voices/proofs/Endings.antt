@@ -13,7 +13,7 @@ use Rattle.abc_repeat.proofs.Existence.{with_plain}
 use Rattle.abc_repeat.proofs.Readings.{stays, ends, single_stays, inside_stays, bar_stays, bar_ends, sign_stays, reading_computed}
 use Rattle.abc_voices_sections.specs.declared.ending_fields.Region.{Region}
 use Rattle.abc_voices_sections.specs.declared.ending_fields.Region.TheVariants.{Common, Inside, AfterBar}
-use Rattle.abc_voices.specs.Endings.{without_fields, has_ending, past_its_bar, between_endings, between_endings_of, between_endings_in, with_waits, behind_signs, MovesByStrains}
+use Rattle.abc_voices.specs.Endings.{without_fields, has_ending, past_its_bar, between_endings, between_endings_of, between_endings_in, with_waits, after_signs, MovesByStrains}
 use Rattle.abc_voices_sections.specs.EndingFields.{with_fields_in_endings_from, put_with_waiting, waits, after_mark, after_bar, region_after}
 use Rattle.abc_voices_sections.specs.Play.{marks_of}
 use Rattle.abc_voices_sections.specs.Step.{is_field, mark_of}
@@ -142,18 +142,18 @@ in_gap opened m ms plain single ahead =
 
 -- a mark of a common part that is no sign, whether it ends the strain or not
 record Follows (opened : Bool) (m : Mark) (ms : List Mark) : Type 0 where
-  pub behind : Bool
-  pub is : outside opened (m ∷ ms) ≡ false ∷ outside behind ms
+  pub following : Bool
+  pub is : outside opened (m ∷ ms) ≡ false ∷ outside following ms
 
 follows : (opened : Bool) (m : Mark) (ms : List Mark) → is_ending m ≡ false → Follows opened m ms
 follows opened m ms plain = ⊎_elim
-    (λ closes. record { behind = opens_next m; is = out_bar opened m ms plain closes })
-    (λ unclosed. record { behind = opened; is = out_more opened m ms plain unclosed })
+    (λ closes. record { following = opens_next m; is = out_bar opened m ms plain closes })
+    (λ unclosed. record { following = opened; is = out_more opened m ms plain unclosed })
     (cases_Bool (closes_common opened m))
 
 -- the order of the rest if nothing waits
 abbrev says : Bool → List Bool → List Item → List Item
-says between others rest = behind_signs [] (with_waits between others rest)
+says between others rest = after_signs [] (with_waits between others rest)
 
 and_true : (b : Bool) → (b && true) ≡ b
 and_true true = refl
@@ -188,7 +188,7 @@ record Walks (rest : List Item) : Type 0 where
   pub common : (opened : Bool) → with_fields_in_endings_from Common [] rest ≡ says false (outside opened (marks_left rest)) rest
   pub within : (opened : Bool) → with_fields_in_endings_from Inside [] rest ≡ says false (inside opened false (marks_left rest)) rest
   pub ahead : (opened : Bool) (held : List Item) → leads_to_ending (marks_left rest) ≡ true
-      → with_fields_in_endings_from AfterBar held rest ≡ behind_signs held (with_waits true (inside opened true (marks_left rest)) rest)
+      → with_fields_in_endings_from AfterBar held rest ≡ after_signs held (with_waits true (inside opened true (marks_left rest)) rest)
   pub astray : (opened : Bool) (held : List Item) → leads_to_ending (marks_left rest) ≡ false
       → with_fields_in_endings_from AfterBar held rest ≡ held ++ says false (outside opened (marks_left rest)) rest
 
@@ -212,21 +212,21 @@ field_step item rest e p w =
           ap (λ l. l ++ with_fields_in_endings_from (region_after Common (mark_of item)) [] rest) (single_run item)
           ∙ ap (λ m. item ∷ with_fields_in_endings_from (region_after Common m) [] rest) p
           ∙ ap (λ l. item ∷ l) (w.common opened)
-          ∙ sym (ap (behind_signs []) (field_flags (outside opened) false item rest e p));
+          ∙ sym (ap (after_signs []) (field_flags (outside opened) false item rest e p));
       within = λ opened.
           ap (λ l. l ++ with_fields_in_endings_from (region_after Inside (mark_of item)) [] rest) (single_run item)
           ∙ ap (λ m. item ∷ with_fields_in_endings_from (region_after Inside m) [] rest) p
           ∙ ap (λ l. item ∷ l) (w.within opened)
-          ∙ sym (ap (behind_signs []) (field_flags (inside opened false) false item rest e p));
+          ∙ sym (ap (after_signs []) (field_flags (inside opened false) false item rest e p));
       ahead = λ opened held h.
           waiting held item rest here
           ∙ w.ahead opened (held ++ item ∷ []) (left ∙ h)
-          ∙ sym (ap (behind_signs held) (field_flags (inside opened true) true item rest e p));
+          ∙ sym (ap (after_signs held) (field_flags (inside opened true) true item rest e p));
       astray = λ opened held h.
           waiting held item rest here
           ∙ w.astray opened (held ++ item ∷ []) (left ∙ h)
           ∙ append_assoc held (item ∷ []) (says false (outside opened (marks_left rest)) rest)
-          ∙ ap (λ l. held ++ l) (sym (ap (behind_signs []) (field_flags (outside opened) false item rest e p)));
+          ∙ ap (λ l. held ++ l) (sym (ap (after_signs []) (field_flags (outside opened) false item rest e p)));
     }
 
 -- the sign of an ending
@@ -241,13 +241,13 @@ sign_step : (numbers : ℕ) (rest : List Item) → Walks rest → Walks (items.E
 sign_step numbers rest w = record {
   common = λ opened.
       ap (λ l. items.Ending numbers ∷ l) (w.within opened)
-      ∙ sym (ap (behind_signs []) (sign_flags false (outside opened) opened numbers rest (out_sign opened numbers (marks_left rest))));
+      ∙ sym (ap (after_signs []) (sign_flags false (outside opened) opened numbers rest (out_sign opened numbers (marks_left rest))));
   within = λ opened.
       ap (λ l. items.Ending numbers ∷ l) (w.within opened)
-      ∙ sym (ap (behind_signs []) (sign_flags false (inside opened false) opened numbers rest (in_sign opened false numbers (marks_left rest))));
+      ∙ sym (ap (after_signs []) (sign_flags false (inside opened false) opened numbers rest (in_sign opened false numbers (marks_left rest))));
   ahead = λ opened held h.
       ap (λ l. items.Ending numbers ∷ (held ++ l)) (w.within opened)
-      ∙ sym (ap (behind_signs held) (sign_flags true (inside opened true) opened numbers rest (in_sign opened true numbers (marks_left rest))));
+      ∙ sym (ap (after_signs held) (sign_flags true (inside opened true) opened numbers rest (in_sign opened true numbers (marks_left rest))));
   astray = λ opened held h. cc;
 }
 
@@ -266,38 +266,38 @@ plain_common opened item rest e plain w =
     let f = follows opened (mark_of item) (marks_left rest) plain in
     ap (λ l. l ++ with_fields_in_endings_from (region_after Common (mark_of item)) [] rest) (single_run item)
     ∙ ap (λ b. item ∷ with_fields_in_endings_from (cond b Inside Common) [] rest) plain
-    ∙ ap (λ l. item ∷ l) (w.common f.behind)
-    ∙ sym (ap (behind_signs []) (plain_flags false false (outside opened) (outside f.behind (marks_left rest)) item rest e plain f.is))
+    ∙ ap (λ l. item ∷ l) (w.common f.following)
+    ∙ sym (ap (after_signs []) (plain_flags false false (outside opened) (outside f.following (marks_left rest)) item rest e plain f.is))
 
 -- inside an ending, after an item that is no sign
-plain_behind : (region : Region) (opened flag : Bool) (more : List Bool) (item : Item) (rest : List Item) → is_field item ≡ false → is_ending (mark_of item) ≡ false
+plain_after : (region : Region) (opened flag : Bool) (more : List Bool) (item : Item) (rest : List Item) → is_field item ≡ false → is_ending (mark_of item) ≡ false
     → after_mark Inside (mark_of item) ≡ region → inside opened false (mark_of item ∷ marks_left rest) ≡ flag ∷ more
     → with_fields_in_endings_from region [] rest ≡ says flag more rest
     → with_fields_in_endings_from Inside [] (item ∷ rest) ≡ says false (inside opened false (marks_left (item ∷ rest))) (item ∷ rest)
-plain_behind region opened flag more item rest e plain there is walk =
+plain_after region opened flag more item rest e plain there is walk =
     ap (λ l. l ++ with_fields_in_endings_from (region_after Inside (mark_of item)) [] rest) (single_run item)
     ∙ ap (λ b. item ∷ with_fields_in_endings_from (cond b Inside (after_mark Inside (mark_of item))) [] rest) plain
     ∙ ap (λ r. item ∷ with_fields_in_endings_from r [] rest) there
     ∙ ap (λ l. item ∷ l) walk
-    ∙ sym (ap (behind_signs []) (plain_flags false flag (inside opened false) more item rest e plain is))
+    ∙ sym (ap (after_signs []) (plain_flags false flag (inside opened false) more item rest e plain is))
 
 -- after a bar that ends an ending
-bar_behind : (opened : Bool) (item : Item) (rest : List Item) → is_field item ≡ false → is_ending (mark_of item) ≡ false → closes_ending (mark_of item) ≡ true → Walks rest
+bar_after : (opened : Bool) (item : Item) (rest : List Item) → is_field item ≡ false → is_ending (mark_of item) ≡ false → closes_ending (mark_of item) ≡ true → Walks rest
     → with_fields_in_endings_from Inside [] (item ∷ rest) ≡ says false (inside opened false (marks_left (item ∷ rest))) (item ∷ rest)
-bar_behind opened item rest e plain closes w =
+bar_after opened item rest e plain closes w =
     let m = mark_of item in
     let ms = marks_left rest in
     let there : after_mark Inside m ≡ after_bar m = ap (λ b. cond b (after_bar m) Inside) closes in
     ⊎_elim
     (λ (opens : opens_next m ≡ true).
-    plain_behind Common opened false (outside (opens_next m) ms) item rest e plain (there ∙ ap (λ b. cond b Common AfterBar) opens)
+    plain_after Common opened false (outside (opens_next m) ms) item rest e plain (there ∙ ap (λ b. cond b Common AfterBar) opens)
     (in_last opened m ms plain closes (ap (λ b. not b && leads_to_ending ms) opens)) (w.common (opens_next m)))
     (λ (opens : opens_next m ≡ false). ⊎_elim
     (λ (leads : leads_to_ending ms ≡ true).
-    plain_behind AfterBar opened true (inside opened true ms) item rest e plain (there ∙ ap (λ b. cond b Common AfterBar) opens)
+    plain_after AfterBar opened true (inside opened true ms) item rest e plain (there ∙ ap (λ b. cond b Common AfterBar) opens)
     (in_bar opened m ms plain closes opens leads) (w.ahead opened [] leads))
     (λ (leads : leads_to_ending ms ≡ false).
-    plain_behind AfterBar opened false (outside (opens_next m) ms) item rest e plain (there ∙ ap (λ b. cond b Common AfterBar) opens)
+    plain_after AfterBar opened false (outside (opens_next m) ms) item rest e plain (there ∙ ap (λ b. cond b Common AfterBar) opens)
     (in_last opened m ms plain closes (ap (λ b. not (opens_next m) && b) leads ∙ none (not (opens_next m)))) (w.astray (opens_next m) [] leads))
     (cases_Bool (leads_to_ending ms)))
     (cases_Bool (opens_next m))
@@ -309,8 +309,8 @@ bar_behind opened item rest e plain closes w =
 plain_within : (opened : Bool) (item : Item) (rest : List Item) → is_field item ≡ false → is_ending (mark_of item) ≡ false → Walks rest
     → with_fields_in_endings_from Inside [] (item ∷ rest) ≡ says false (inside opened false (marks_left (item ∷ rest))) (item ∷ rest)
 plain_within opened item rest e plain w = ⊎_elim
-    (λ closes. bar_behind opened item rest e plain closes w)
-    (λ unclosed. plain_behind Inside opened false (inside opened false (marks_left rest)) item rest e plain (ap (λ b. cond b (after_bar (mark_of item)) Inside) unclosed)
+    (λ closes. bar_after opened item rest e plain closes w)
+    (λ unclosed. plain_after Inside opened false (inside opened false (marks_left rest)) item rest e plain (ap (λ b. cond b (after_bar (mark_of item)) Inside) unclosed)
     (in_more opened (mark_of item) (marks_left rest) plain unclosed) (w.within opened))
     (cases_Bool (closes_ending (mark_of item)))
 
@@ -322,12 +322,12 @@ led_on item rest b e plain h =
 
 plain_ahead : (opened : Bool) (held : List Item) (item : Item) (rest : List Item) → is_field item ≡ false → is_ending (mark_of item) ≡ false → Walks rest
     → leads_to_ending (marks_left (item ∷ rest)) ≡ true
-    → with_fields_in_endings_from AfterBar held (item ∷ rest) ≡ behind_signs held (with_waits true (inside opened true (marks_left (item ∷ rest))) (item ∷ rest))
+    → with_fields_in_endings_from AfterBar held (item ∷ rest) ≡ after_signs held (with_waits true (inside opened true (marks_left (item ∷ rest))) (item ∷ rest))
 plain_ahead opened held item rest e plain w h =
     let both = and_parts (is_single (mark_of item)) (leads_to_ending (marks_left rest)) (led_on item rest true e plain h) in
     waiting held item rest (ap (λ b. b || is_single (mark_of item)) e ∙ both.0)
     ∙ w.ahead opened (held ++ item ∷ []) both.1
-    ∙ sym (ap (behind_signs held) (plain_flags true true (inside opened true) (inside opened true (marks_left rest)) item rest e plain
+    ∙ sym (ap (after_signs held) (plain_flags true true (inside opened true) (inside opened true (marks_left rest)) item rest e plain
     (in_gap opened (mark_of item) (marks_left rest) plain both.0 both.1)))
 
 plain_astray : (opened : Bool) (held : List Item) (item : Item) (rest : List Item) → is_field item ≡ false → is_ending (mark_of item) ≡ false → Walks rest
@@ -335,19 +335,19 @@ plain_astray : (opened : Bool) (held : List Item) (item : Item) (rest : List Ite
     → with_fields_in_endings_from AfterBar held (item ∷ rest) ≡ held ++ says false (outside opened (marks_left (item ∷ rest))) (item ∷ rest)
 plain_astray opened held item rest e plain w h =
     let f = follows opened (mark_of item) (marks_left rest) plain in
-    let rest_says = says false (outside f.behind (marks_left rest)) rest in
+    let rest_says = says false (outside f.following (marks_left rest)) rest in
     let walked : with_fields_in_endings_from AfterBar held (item ∷ rest) ≡ (held ++ item ∷ []) ++ rest_says = ⊎_elim
     (λ single.
     waiting held item rest (ap (λ b. b || is_single (mark_of item)) e ∙ single)
-    ∙ w.astray f.behind (held ++ item ∷ []) (sym (ap (λ b. b && leads_to_ending (marks_left rest)) single) ∙ led_on item rest false e plain h))
+    ∙ w.astray f.following (held ++ item ∷ []) (sym (ap (λ b. b && leads_to_ending (marks_left rest)) single) ∙ led_on item rest false e plain h))
     (λ other.
     cond-false (waits AfterBar item) _ _ (ap (λ b. b || is_single (mark_of item)) e ∙ other)
     ∙ ap (λ b. cond b (item ∷ held) (held ++ item ∷ []) ++ with_fields_in_endings_from (cond b Inside Common) [] rest) plain
-    ∙ ap (λ l. (held ++ item ∷ []) ++ l) (w.common f.behind))
+    ∙ ap (λ l. (held ++ item ∷ []) ++ l) (w.common f.following))
     (cases_Bool (is_single (mark_of item))) in
     walked
     ∙ append_assoc held (item ∷ []) rest_says
-    ∙ ap (λ l. held ++ l) (sym (ap (behind_signs []) (plain_flags false false (outside opened) (outside f.behind (marks_left rest)) item rest e plain f.is)))
+    ∙ ap (λ l. held ++ l) (sym (ap (after_signs []) (plain_flags false false (outside opened) (outside f.following (marks_left rest)) item rest e plain f.is)))
 
 plain_step : (item : Item) (rest : List Item) → is_field item ≡ false → is_ending (mark_of item) ≡ false → Walks rest → Walks (item ∷ rest)
 plain_step item rest e plain w = record {

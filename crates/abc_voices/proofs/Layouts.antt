@@ -47,14 +47,14 @@ total_of voices (section ∷ played) =
 -- what is at a place of a list, by what is left there
 record Front {X : Type 0} (xs : List X) (k : ℕ) (x : X) (rest : List X) : Type 0 where
   found : slice_get xs k ≡ Some x
-  behind : drop (k + 1) xs ≡ rest
+  following : drop (k + 1) xs ≡ rest
 
 front : {X : Type 0} (xs : List X) (k : ℕ) (x : X) (rest : List X) → drop k xs ≡ x ∷ rest → Front xs k x rest
 front xs k x rest e =
     let within : k < length xs = omega (arith, length-drop k xs, ap length e) in
     let more : drop k xs ≡ get_or xs k x ∷ drop (k + 1) xs = drop_more xs k x within in
     let here : get_or xs k x ≡ x = cc in
-    record { found = slice_get-get_or xs k x within ∙ ap Some here; behind = cc }
+    record { found = slice_get-get_or xs k x within ∙ ap Some here; following = cc }
 
 -- what the voice at a place plays of a stage
 steps_here : (section : Sectioned) (voices : List (List ℕ)) (k : ℕ) (voice : List ℕ) → slice_get voices k ≡ Some voice
@@ -74,7 +74,7 @@ voices_here : {X : Type 0} (one : ℕ → X) (own : List ℕ → X) (voices : Li
     → (k : ℕ) (rest : List (List ℕ)) → drop k voices ≡ rest → for_voices one k (length rest) ≡ map own rest
 voices_here one own voices same k [] e = refl
 voices_here one own voices same k (voice ∷ rest) e =
-    λ i. same k voice rest e i ∷ voices_here one own voices same (k + 1) rest (front voices k voice rest e).behind i
+    λ i. same k voice rest e i ∷ voices_here one own voices same (k + 1) rest (front voices k voice rest e).following i
 
 -- the notes of the voice at a place, by what is left of the voices there
 all_here_of : (voices : List (List ℕ)) (played : List Sectioned) (k : ℕ) (voice : List ℕ) (rest : List (List ℕ)) → drop k voices ≡ voice ∷ rest

@@ -64,9 +64,9 @@ voices_step one voice count seen own whole within is before =
     ∙ before
 
 -- what is set after what holds at the beginning
-pub behind_nothing : {V : Type 0} (opening : Option V) (sets : List (Grains × V)) → after_opening opening [] ++ sets ≡ after_opening opening sets
-behind_nothing None sets = refl
-behind_nothing (Some value) sets = refl
+pub after_nothing : {V : Type 0} (opening : Option V) (sets : List (Grains × V)) → after_opening opening [] ++ sets ≡ after_opening opening sets
+after_nothing None sets = refl
+after_nothing (Some value) sets = refl
 
 -- when notes and others are over
 pub last_off_append : (at : ℕ) (xs ys : List Sounding) → last_off at (xs ++ ys) ≡ last_off (last_off at xs) ys

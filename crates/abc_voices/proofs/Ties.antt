@@ -143,13 +143,13 @@ all_past key tied more one at past (tone ∷ tones) tokens far =
     (all_past key tied more one at (tone ∷ past) tones tokens (omega arith))
 
 -- what ends with the next tone of a key
-abbrev behind : List TimeToken → ℕ → ℕ → Tone × ℕ → ℕ
-behind tokens at key other = chain_end at other.0 key other.1 tokens
+abbrev following : List TimeToken → ℕ → ℕ → Tone × ℕ → ℕ
+following tokens at key other = chain_end at other.0 key other.1 tokens
 
 -- the first note of a key is that of the tone after as many of the key as are tied
 record IsTaken (key : ℕ) (tied more : ℕ → ℕ) (at own : ℕ) (past tones : List Tone) (tokens : List TimeToken) : Type 0 where
   left : without_first key (begun_at tied at past tones tokens) ≡ begun_at more at past tones tokens
-  off : first_off key own (begun_at tied at past tones tokens) ≡ end_by own (behind tokens at key) (tone_at key (tied key) past tones)
+  off : first_off key own (begun_at tied at past tones tokens) ≡ end_by own (following tokens at key) (tone_at key (tied key) past tones)
 
 -- words of a note, if there is one, before others
 without_if : (key : ℕ) (b : Bool) (note : Sounding) (notes : List Sounding) → (note.key == key) ≡ false
@@ -179,7 +179,7 @@ take_other key tied more one at own past tone tones tokens other is apart rest =
     (ap (has_key key) is ∙ apart) in
     record {
       left = ap (without_first key) open_tied ∙ without_if key b N T apart ∙ ap (λ n. cond b [] (N ∷ []) ++ n) rest.left ∙ sym open_more;
-      off = ap (first_off key own) open_tied ∙ off_if key own b N T apart ∙ rest.off ∙ ap (end_by own (behind tokens at key)) (sym passed);
+      off = ap (first_off key own) open_tied ∙ off_if key own b N T apart ∙ rest.off ∙ ap (end_by own (following tokens at key)) (sym passed);
     }
 
 take_own : (key : ℕ) (tied more : ℕ → ℕ) → IsOneMore key tied more → (at own : ℕ) (past : List Tone) (tone : Tone) (tones : List Tone) (tokens : List TimeToken)
@@ -208,7 +208,7 @@ take_own key tied more one at own past tone tones tokens is few rest =
           ∙ ap (λ q. cond q (Some (tone, tied_with key past)) (tone_at key (tied key) (tone ∷ past) tones)) (ne_eqb count (tied key) (λ e. omega arith)) in
           record {
             left = ap (without_first key) joined ∙ next.left ∙ sym gone;
-            off = ap (first_off key own) joined ∙ next.off ∙ ap (end_by own (behind tokens at key)) (sym passed);
+            off = ap (first_off key own) joined ∙ next.off ∙ ap (end_by own (following tokens at key)) (sym passed);
           }
       | inr ge ↦
           let begins : begun_at tied at past (tone ∷ tones) tokens ≡ N ∷ T = open_tied ∙ ap (λ q. cond q [] (N ∷ []) ++ T) (le-ltb count (tied key) ge) in
@@ -218,7 +218,7 @@ take_own key tied more one at own past tone tones tokens is few rest =
           record {
             left = ap (without_first key) begins ∙ ap (λ q. cond q T (N ∷ without_first key T)) is_own
                 ∙ all_past key tied more one at (tone ∷ past) tones tokens (omega arith) ∙ sym gone;
-            off = ap (first_off key own) begins ∙ ap (λ q. cond q N.off.0 (first_off key own T)) is_own ∙ ap (end_by own (behind tokens at key)) (sym found);
+            off = ap (first_off key own) begins ∙ ap (λ q. cond q N.off.0 (first_off key own T)) is_own ∙ ap (end_by own (following tokens at key)) (sym found);
           }
     ]
 
@@ -235,7 +235,7 @@ take_none key tied more at own past tone tones tokens is rest =
     ap (λ q. cond (q && (tones_with key past == tied key)) (Some (tone, tied_with key past)) (tone_at key (tied key) (tone ∷ past) tones)) (ap (has_key key) is) in
     record {
       left = ap (without_first key) open_tied ∙ rest.left ∙ sym open_more;
-      off = ap (first_off key own) open_tied ∙ rest.off ∙ ap (end_by own (behind tokens at key)) (sym passed);
+      off = ap (first_off key own) open_tied ∙ rest.off ∙ ap (end_by own (following tokens at key)) (sym passed);
     }
 
 uncounted : (key : ℕ) (tone : Tone) (past : List Tone) (b : Bool) → has_key key tone.key ≡ b → b ≡ false → tones_with key (tone ∷ past) ≡ tones_with key past
@@ -289,7 +289,7 @@ linked_by {b = b} {c = c} p q = ap (λ x. record { begun = x; next = c }) p ∙ 
 untied : (at key number : ℕ) (tone : Tone) (tokens : List TimeToken) → tone.tied ≡ false → chain_end at tone key number tokens ≡ at + tone.length.0
 untied at key number tone [] loose = refl
 untied at key number tone (token ∷ tokens) loose =
-    ap (λ t. end_by (at + tone.length.0) (behind tokens token.at key) (cond t (tone_at key number [] token.tones) None)) loose
+    ap (λ t. end_by (at + tone.length.0) (following tokens token.at key) (cond t (tone_at key number [] token.tones) None)) loose
 
 uncounted_tied : (key : ℕ) (tone : Tone) (past : List Tone) → (tone.tied && has_key key tone.key) ≡ false → tied_with key past ≡ tied_with key (tone ∷ past)
 uncounted_tied key tone past e = sym (ap (λ q. cond q (suc (tied_with key past)) (tied_with key past)) e)
@@ -322,7 +322,7 @@ tied_one at (token ∷ tokens) begun past tone key is tied =
     take_all key (λ k. tied_with k past) (λ k. tied_with k (tone ∷ past)) (one_more key tone past is tied) token.at end [] token.tones tokens (omega arith) in
     linked_by
     (ap (λ off. begun ++ its_note key tone at off ∷ [])
-    (took.off ∙ ap (λ t. end_by end (behind tokens token.at key) (cond t (tone_at key (tied_with key past) [] token.tones) None)) (sym tied)))
+    (took.off ∙ ap (λ t. end_by end (following tokens token.at key) (cond t (tone_at key (tied_with key past) [] token.tones) None)) (sym tied)))
     took.left
 
 with_one : (at : ℕ) (tokens : List TimeToken) (begun : List Sounding) (past : List Tone) (tone : Tone) (key : Option ℕ) (tied : Bool)

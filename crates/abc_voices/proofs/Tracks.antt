@@ -76,11 +76,11 @@ none_more true false named others h rest = rest
 none_more false false named others h rest = rest
 
 -- after a V: of the body nothing plays for the voice without a name
-none_behind : (tune past rest : List Item) → is_none (first_said named_by past) ≡ false → list_any (plays_unnamed tune) (with_items_before past rest) ≡ false
-none_behind tune past [] h = refl
-none_behind tune past (item ∷ rest) h =
+none_after : (tune past rest : List Item) → is_none (first_said named_by past) ≡ false → list_any (plays_unnamed tune) (with_items_before past rest) ≡ false
+none_after tune past [] h = refl
+none_after tune past (item ∷ rest) h =
     none_more (takes_time item) (is_none (first_said named_by past)) (bytes_eq (voice_at_place tune past) []) _ h
-    (none_behind tune (item ∷ past) rest (still (named_by item) (first_said named_by past) h))
+    (none_after tune (item ∷ past) rest (still (named_by item) (first_said named_by past) h))
 
 and_false : (b : Bool) → false ≡ (b && false)
 and_false true = refl
@@ -107,7 +107,7 @@ plays_as tune past (items.Tone tones length ∷ rest) none =
 plays_as tune past (items.Rest length bar ∷ rest) none =
     plays_here tune past (plays_first rest) _ none (plays_as tune (items.Rest length bar ∷ past) rest none)
 plays_as tune past (items.Voice false name ∷ rest) none =
-    none_behind tune (items.Voice false name ∷ past) rest refl ∙ and_false (bytes_eq (unwrap_or (first_said declared_by tune) []) [])
+    none_after tune (items.Voice false name ∷ past) rest refl ∙ and_false (bytes_eq (unwrap_or (first_said declared_by tune) []) [])
 plays_as tune past (item ∷ rest) none = plays_as tune (item ∷ past) rest none
 
 by_nameless : (b : Bool) (names : List (List ℕ)) → cond b ([] ∷ names) names ≡ cond b ([] ∷ []) [] ++ names

@@ -113,14 +113,14 @@ walk : (tune : List Item) (voice opening : List ℕ) (held : List Item) (current
     ≡ front (part_from voice opening held) (map (items_of_voice voice) (between is_letter (with_voices tune past rest)))
 walk tune voice opening held current past [] back on = ap (λ steps. steps ∷ []) (sym (append-nil (part_from voice opening held)))
 walk tune voice opening held current past (item ∷ rest) back on =
-    let behind : voice_after current item ≡ voice_at_place tune (item ∷ past) =
+    let following : voice_after current item ≡ voice_at_place tune (item ∷ past) =
     ap (λ v. voice_after v item) back ∙ one_more (unwrap_or (first_said declared_by tune) []) item past in
-    let more = walk tune voice opening (held ++ item ∷ []) (voice_after current item) (item ∷ past) rest behind
+    let more = walk tune voice opening (held ++ item ∷ []) (voice_after current item) (item ∷ past) rest following
     (ap (λ v. voice_after v item) on ∙ sym (after_more opening held item)) in
     walk_item voice opening held (voice_at_place tune past, item) (sections_from current [] current rest)
     (sections_from opening (held ++ item ∷ []) (voice_after current item) rest)
     (between is_letter (with_voices tune (item ∷ past) rest)) (is_section item)
-    (λ letter. walk tune voice current [] current (item ∷ past) rest (sym (same_voice current item letter) ∙ behind) refl
+    (λ letter. walk tune voice current [] current (item ∷ past) rest (sym (same_voice current item letter) ∙ following) refl
     ∙ front_none voice (with_voices tune (item ∷ past) rest))
     more (sym back ∙ on)
 

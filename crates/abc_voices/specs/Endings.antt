@@ -49,15 +49,15 @@ with_waits between others (item ∷ items) =
     ∷ with_waits (if is_field item then between else get_or others 0 false) (if is_field item then others else drop 1 others) items
 
 -- What waits, and these before it, after the first item that does not.
-abbrev pub behind_signs : List Item → List (Bool × Item) → List Item
-behind_signs waiting [] = waiting
-behind_signs waiting (one ∷ others) =
-    if one.0 then behind_signs (waiting ++ one.1 ∷ []) others
-    else one.1 ∷ (waiting ++ behind_signs [] others)
+abbrev pub after_signs : List Item → List (Bool × Item) → List Item
+after_signs waiting [] = waiting
+after_signs waiting (one ∷ others) =
+    if one.0 then after_signs (waiting ++ one.1 ∷ []) others
+    else one.1 ∷ (waiting ++ after_signs [] others)
 
 -- What is between a bar that ended an ending and the sign of the strain's next ending is put after that sign, and
 -- nothing else is moved, whatever strains the marks of a voice's items in a section are, its fields left out.
 abbrev pub MovesByStrains : Type 0
 MovesByStrains = (part : List Item) (strains : List Strain)
     → IsStrains false (marks_of (without_fields part)) strains
-    → with_fields_in_endings part ≡ behind_signs [] (with_waits false (between_endings_in strains) part)
+    → with_fields_in_endings part ≡ after_signs [] (with_waits false (between_endings_in strains) part)

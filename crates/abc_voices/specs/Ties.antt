@@ -61,8 +61,8 @@ joined_with tone key number next = if tone.tied then tone_at key number [] next 
 
 -- The end of a tone that is joined with another, or with none.
 abbrev pub end_by : ℕ → (Tone × ℕ → ℕ) → Option (Tone × ℕ) → ℕ
-end_by own behind None = own
-end_by own behind (Some other) = behind other
+end_by own following None = own
+end_by own following (Some other) = following other
 
 -- The end of the chain of a tone, which begins at this moment before these time tokens, and which this many tied ones
 -- of its key are before: with the last tone that is joined.

@@ -118,7 +118,7 @@ fn opening_sets<S: Setting>(
 }
 
 /// Returns the values of a voice in the stages that are played, after the opening value, if there is one.
-#[tactic(auto, using(crate::proofs::Lengths::behind_nothing))]
+#[tactic(auto, using(crate::proofs::Lengths::after_nothing))]
 pub(crate) fn one_along<S: Setting>(
     alloc: Global,
     turns: &[Turn],

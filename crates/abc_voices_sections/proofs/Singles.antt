@@ -100,8 +100,8 @@ goes_alike region held steps step h rest =
 abbrev MovedAlike : Region → List Item → List Item → Type 0
 MovedAlike region held steps = without_single_bars (order region held steps) ≡ order region (without_single_bars held) (without_single_bars steps)
 
-behind_single : (held steps : List Item) (step : Item) → is_single (mark_of step) ≡ true → MovedAlike AfterBar (held ++ step ∷ []) steps → MovedAlike AfterBar held (step ∷ steps)
-behind_single held steps step h rest =
+after_single : (held steps : List Item) (step : Item) → is_single (mark_of step) ≡ true → MovedAlike AfterBar (held ++ step ∷ []) steps → MovedAlike AfterBar held (step ∷ steps)
+after_single held steps step h rest =
     ap (λ b. without_single_bars (cond b (order AfterBar (held ++ step ∷ []) steps) (put_with_waiting held step ++ order (region_after AfterBar (mark_of step)) [] steps)))
     (second (is_field step) (is_single (mark_of step)) h)
     ∙ rest
@@ -109,9 +109,9 @@ behind_single held steps step h rest =
     (filter-append matters held (step ∷ []) ∙ ap (λ l. without_single_bars held ++ l) (left_out step [] h) ∙ append-nil (without_single_bars held))
     ∙ ap (order AfterBar (without_single_bars held)) (sym (left_out step steps h))
 
-behind_other : (held steps : List Item) (step : Item) → is_single (mark_of step) ≡ false → MovedAlike AfterBar (held ++ step ∷ []) steps
+after_other : (held steps : List Item) (step : Item) → is_single (mark_of step) ≡ false → MovedAlike AfterBar (held ++ step ∷ []) steps
     → MovedAlike (region_after AfterBar (mark_of step)) [] steps → MovedAlike AfterBar held (step ∷ steps)
-behind_other held steps step h waiting going =
+after_other held steps step h waiting going =
     elim (waits AfterBar step) as (λ b. without_single_bars (cond b (order AfterBar (held ++ step ∷ []) steps) (put_with_waiting held step ++ order (region_after AfterBar (mark_of step)) [] steps))
     ≡ cond b (order AfterBar (without_single_bars held ++ step ∷ []) (without_single_bars steps))
     (put_with_waiting (without_single_bars held) step ++ order (region_after AfterBar (mark_of step)) [] (without_single_bars steps))) [
@@ -138,9 +138,9 @@ inside_other steps step h going = goes_alike Inside [] steps step h going ∙ ap
 -- one step more
 moved_more : (region : Region) (held steps : List Item) (step : Item) (single : Bool) → is_single (mark_of step) ≡ single → MayWait region held
     → ((next : Region) (waiting : List Item) → MayWait next waiting → MovedAlike next waiting steps) → MovedAlike region held (step ∷ steps)
-moved_more AfterBar held steps step true h may rest = behind_single held steps step h (rest AfterBar (held ++ step ∷ []) tt)
+moved_more AfterBar held steps step true h may rest = after_single held steps step h (rest AfterBar (held ++ step ∷ []) tt)
 moved_more AfterBar held steps step false h may rest =
-    behind_other held steps step h (rest AfterBar (held ++ step ∷ []) tt) (rest (region_after AfterBar (mark_of step)) [] (none_waits (region_after AfterBar (mark_of step))))
+    after_other held steps step h (rest AfterBar (held ++ step ∷ []) tt) (rest (region_after AfterBar (mark_of step)) [] (none_waits (region_after AfterBar (mark_of step))))
 moved_more Common held steps step true h may rest =
     subst (λ l. MovedAlike Common l (step ∷ steps)) (sym may) (alone Common steps step h (single_common (mark_of step) h) (rest Common [] refl))
 moved_more Common held steps step false h may rest =

@@ -163,9 +163,9 @@ waits_here stretches i s x region own all within is told here =
     ∙ ap (λ b. not b && nothing_waits (region_after region s.mark) (items_in (runs_of (drop (i + 1) stretches)))) here
 
 -- else the others decide
-pub waits_behind : (stretches : List Stretch) (i : ℕ) (s : Stretch) (x : Bor Item) (region : Region) (own : Bool)
+pub waits_after : (stretches : List Stretch) (i : ℕ) (s : Stretch) (x : Bor Item) (region : Region) (own : Bool)
     → All IsRun (runs_of stretches) → i < length stretches → s ≡ get_or stretches i s → own ≡ waits region (get_or s.items.now 0 x).now → own ≡ false
     → nothing_waits region (items_in (runs_of (drop i stretches))) ≡ nothing_waits (region_after region s.mark) (items_in (runs_of (drop (i + 1) stretches)))
-waits_behind stretches i s x region own all within is told here =
+waits_after stretches i s x region own all within is told here =
     waits_from stretches i s x region own all within is told
     ∙ ap (λ b. not b && nothing_waits (region_after region s.mark) (items_in (runs_of (drop (i + 1) stretches)))) here

@@ -18,10 +18,10 @@ pub nothing_moves : (region : Region) (steps : List Item)
     → nothing_waits region steps ≡ true → with_fields_in_endings_from region [] steps ≡ steps
 nothing_moves region [] h = refl
 nothing_moves region (step ∷ steps) h =
-    let behind = region_after region (mark_of step) in
-    let both = and_parts (not (waits region step)) (nothing_waits behind steps) h in
+    let following = region_after region (mark_of step) in
+    let both = and_parts (not (waits region step)) (nothing_waits following steps) h in
     let stays : waits region step ≡ false = not-true (waits region step) both.0 in
-    ap (λ b. cond b (with_fields_in_endings_from region (step ∷ []) steps) (put_with_waiting [] step ++ with_fields_in_endings_from behind [] steps)) stays
-    ∙ (λ i. single_run step i ++ nothing_moves behind steps both.1 i)
+    ap (λ b. cond b (with_fields_in_endings_from region (step ∷ []) steps) (put_with_waiting [] step ++ with_fields_in_endings_from following [] steps)) stays
+    ∙ (λ i. single_run step i ++ nothing_moves following steps both.1 i)
 
 -- if nothing waits, the steps are those that repeats and endings play

@@ -13,34 +13,34 @@ use Rattle.abc_voices_sections.specs.Stretches.{AllTakeTurns, IsRun, together, s
 use Rattle.abc_voices_sections.proofs.Whole.{takes_turn}
 
 -- after what takes its turn
-abbrev behind_turn : Region → Region
-behind_turn AfterBar = Common
-behind_turn Inside = Inside
-behind_turn Common = Common
+abbrev after_turn : Region → Region
+after_turn AfterBar = Common
+after_turn Inside = Inside
+after_turn Common = Common
 
-past_turn : (region : Region) (item : Item) → is_play (mark_of item) ≡ true → region_after region (mark_of item) ≡ behind_turn region
+past_turn : (region : Region) (item : Item) → is_play (mark_of item) ≡ true → region_after region (mark_of item) ≡ after_turn region
 past_turn region item h = ap (region_after region) (takes_turn (mark_of item) h) ∙ by_region region
   where
-    by_region : (region : Region) → region_after region marks.Play ≡ behind_turn region
+    by_region : (region : Region) → region_after region marks.Play ≡ after_turn region
     by_region AfterBar = refl
     by_region Inside = refl
     by_region Common = refl
 
 -- what takes its turn there waits for nothing, and changes nothing
 one_goes : (region : Region) (item : Item) (rest : List Item) → is_play (mark_of item) ≡ true
-    → nothing_waits (behind_turn region) (item ∷ rest) ≡ nothing_waits (behind_turn region) rest
+    → nothing_waits (after_turn region) (item ∷ rest) ≡ nothing_waits (after_turn region) rest
 one_goes AfterBar item rest h = ap (λ next. nothing_waits next rest) (past_turn Common item h)
 one_goes Inside item rest h = ap (λ next. nothing_waits next rest) (past_turn Inside item h)
 one_goes Common item rest h = ap (λ next. nothing_waits next rest) (past_turn Common item h)
 
 pub rest_goes : (region : Region) (items rest : List Item) → AllTakeTurns items
-    → nothing_waits (behind_turn region) (items ++ rest) ≡ nothing_waits (behind_turn region) rest
+    → nothing_waits (after_turn region) (items ++ rest) ≡ nothing_waits (after_turn region) rest
 rest_goes region [] rest h = refl
 rest_goes region (item ∷ items) rest h =
     one_goes region item (items ++ rest) (All-head (λ one. is_play (mark_of one) ≡ true) item items h)
     ∙ rest_goes region items rest (All-tail (λ one. is_play (mark_of one) ≡ true) item items h)
 
-turn_past : (region : Region) → behind_turn region ≡ region_after region marks.Play
+turn_past : (region : Region) → after_turn region ≡ region_after region marks.Play
 turn_past AfterBar = refl
 turn_past Inside = refl
 turn_past Common = refl

@@ -23,35 +23,35 @@ turn_alone : (item : Item) → is_play (mark_of item) ≡ true → single_run it
 turn_alone item h = ap (λ (mark : Mark). record { mark = mark; items = item ∷ [] }) (takes_turn (mark_of item) h)
 
 -- what is after one run more
-behind_one : (before behind : List (Run Item)) (run : Run Item) → (before ++ run ∷ []) ++ behind ≡ before ++ run ∷ behind
-behind_one before behind run = append_assoc before (run ∷ []) behind
+after_one : (before following : List (Run Item)) (run : Run Item) → (before ++ run ∷ []) ++ following ≡ before ++ run ∷ following
+after_one before following run = append_assoc before (run ∷ []) following
 
-turn_whole : (before behind : List (Run Item)) (item : Item) (items : List Item) → AllTakeTurns (item ∷ items)
-    → items_played (before ++ (map single_run (item ∷ items) ++ behind)) ≡ items_played (before ++ turn (item ∷ items) ∷ behind)
-turn_whole before behind item [] h =
-    ap (λ run. items_played (before ++ run ∷ behind)) (turn_alone item (All-head (λ one. is_play (mark_of one) ≡ true) item [] h))
-turn_whole before behind item (next ∷ items) h =
+turn_whole : (before following : List (Run Item)) (item : Item) (items : List Item) → AllTakeTurns (item ∷ items)
+    → items_played (before ++ (map single_run (item ∷ items) ++ following)) ≡ items_played (before ++ turn (item ∷ items) ∷ following)
+turn_whole before following item [] h =
+    ap (λ run. items_played (before ++ run ∷ following)) (turn_alone item (All-head (λ one. is_play (mark_of one) ≡ true) item [] h))
+turn_whole before following item (next ∷ items) h =
     let first = turn_alone item (All-head (λ one. is_play (mark_of one) ≡ true) item (next ∷ items) h) in
     let rest = All-tail (λ one. is_play (mark_of one) ≡ true) item (next ∷ items) h in
-    ap items_played (sym (behind_one before (map single_run (next ∷ items) ++ behind) (single_run item)))
-    ∙ turn_whole (before ++ single_run item ∷ []) behind next items rest
-    ∙ ap items_played (behind_one before (turn (next ∷ items) ∷ behind) (single_run item))
-    ∙ ap (λ run. items_played (before ++ run ∷ turn (next ∷ items) ∷ behind)) first
-    ∙ joined before behind (item ∷ []) (next ∷ items)
+    ap items_played (sym (after_one before (map single_run (next ∷ items) ++ following) (single_run item)))
+    ∙ turn_whole (before ++ single_run item ∷ []) following next items rest
+    ∙ ap items_played (after_one before (turn (next ∷ items) ∷ following) (single_run item))
+    ∙ ap (λ run. items_played (before ++ run ∷ turn (next ∷ items) ∷ following)) first
+    ∙ joined before following (item ∷ []) (next ∷ items)
 
-run_whole : (before behind : List (Run Item)) (run : Run Item) → IsRun run
-    → items_played (before ++ (map single_run run.items ++ behind)) ≡ items_played (before ++ run ∷ behind)
-run_whole before behind _ (together item items turns) = turn_whole before behind item items turns
-run_whole before behind _ (single item) = refl
+run_whole : (before following : List (Run Item)) (run : Run Item) → IsRun run
+    → items_played (before ++ (map single_run run.items ++ following)) ≡ items_played (before ++ run ∷ following)
+run_whole before following _ (together item items turns) = turn_whole before following item items turns
+run_whole before following _ (single item) = refl
 
 runs_whole : (before runs : List (Run Item)) → All IsRun runs → items_played (before ++ map single_run (items_in runs)) ≡ items_played (before ++ runs)
 runs_whole before [] h = refl
 runs_whole before (run ∷ runs) h =
     ap (λ l. items_played (before ++ l)) (map-append single_run run.items (items_in runs))
     ∙ run_whole before (map single_run (items_in runs)) run (All-head IsRun run runs h)
-    ∙ ap items_played (sym (behind_one before (map single_run (items_in runs)) run))
+    ∙ ap items_played (sym (after_one before (map single_run (items_in runs)) run))
     ∙ runs_whole (before ++ run ∷ []) runs (All-tail IsRun run runs h)
-    ∙ ap items_played (behind_one before runs run)
+    ∙ ap items_played (after_one before runs run)
 
 pub played_whole : (part : List Item) (runs : List (Run Item)) → AreRuns part runs → items_played runs ≡ items_played (map single_run part)
 played_whole part runs are = sym (runs_whole [] runs are.each) ∙ ap (λ items. items_played (map single_run items)) are.whole

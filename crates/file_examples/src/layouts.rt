@@ -124,7 +124,7 @@ pub fn uneven_voices()
 pub fn tempos_at_a_tick()
     ensures last { changes_of (voice_1 ∷ tempo 400000 ∷ note 60 ∷ voice_2 ∷ tempo 300000 ∷ note 60 ∷ [])
         ≡ tempo_change 0 300000 ∷ key_change 0 ∷ [] }
-    ensures behind { set_in tempo_of ([] ∷ []) ([] ∷ []) 0
+    ensures following { set_in tempo_of ([] ∷ []) ([] ∷ []) 0
         (([], tempo_between_endings) ∷ [])
         ≡ (record { 0 = 3 }, 1000000) ∷ [] }
 {}
@@ -158,7 +158,7 @@ pub fn programs_in_play()
         ≡ (program_change 0 5 ∷ []) ∷ (program_change 0 6 ∷ []) ∷ [] }
     ensures repeated { programs_of (opening_program 5 ∷ opening ∷ held 60 ∷ program 41 ∷ held 62 ∷ closing ∷ held 64 ∷ [])
         ≡ (program_change 1452971520 41 ∷ program_change 484323840 41 ∷ program_change 0 5 ∷ []) ∷ [] }
-    ensures behind { set_in program_of ([] ∷ []) ([] ∷ []) 0
+    ensures following { set_in program_of ([] ∷ []) ([] ∷ []) 0
         (([], opening ∷ note 69 ∷ single ∷ first ∷ note 71 ∷ closing ∷ program 41 ∷ single ∷ second ∷ note 66 ∷ double ∷ []) ∷ [])
         ≡ (record { 0 = 3 }, 41) ∷ [] }
 {}

@@ -95,7 +95,7 @@ const FAULT: Fault = Fault {
 /// That tune instead of none.
 fn new_tune(alloc: Global) -> Result<NewTunes, AllocError>
     ensures front { IfOk result (λ tunes. tunes.range.from ≡ 0) }
-    ensures behind { IfOk result (λ tunes. tunes.range.to ≡ 0) }
+    ensures following { IfOk result (λ tunes. tunes.range.to ≡ 0) }
 {
     let mut outputs = Vec::new(alloc);
     outputs.push(output(alloc)?)?;

@@ -21,7 +21,7 @@ pub use Rattle.abc_bars.specs.LookBack.Defaults.{defaults_at}
 pub use Rattle.abc_bars.specs.LookBack.Element.{Element}
 pub use Rattle.abc_bars.specs.LookBack.Header.{declared_names, header_at}
 pub use Rattle.abc_bars.specs.LookBack.Keys.{IsAlteredAt}
-pub use Rattle.abc_bars.specs.LookBack.Place.{AtEachPlace, Place, place_behind, result_at, result_in_body, view}
+pub use Rattle.abc_bars.specs.LookBack.Place.{AtEachPlace, Place, place_following, result_at, result_in_body, view}
 pub use Rattle.abc_bars.specs.LookBack.Ties.{loose_ties}
 pub use Rattle.abc_bars.specs.LookBack.Voice.{voice_state_at}
 pub use Rattle.abc_bars.specs.LooseTies.{is_loose_tie}

@@ -5,7 +5,7 @@ ghost use Rattle.std.specs.Map.{keys_of};
 ghost use Rattle.public_surface.specs.Bars.{here, body_from, is_time_token, with_token, file_header_result, header_result};
 ghost use Rattle.public_surface.specs.Bars.{opening_header, HeaderLine, MOST_VOICES, body_after, CellTokens, naming_at};
 ghost use Rattle.public_surface.specs.Bars.{voice_state_named, VoicePlace, element_of, defaults_at, Element, declared_names};
-ghost use Rattle.public_surface.specs.Bars.{header_at, IsAlteredAt, AtEachPlace, Place, result_at, result_in_body, place_behind};
+ghost use Rattle.public_surface.specs.Bars.{header_at, IsAlteredAt, AtEachPlace, Place, result_at, result_in_body, place_following};
 ghost use Rattle.public_surface.specs.Bars.{view, loose_ties, voice_state_at, is_loose_tie, MentionsFew, NamesVoices};
 ghost use Rattle.public_surface.specs.Bars.{entry_step};
 
@@ -16,7 +16,7 @@ use abc_bars::{
 /// Each cell is entered in the view of its place.
 pub fn cells_are_views()
     ensures value { (place : Place) (cell : List (Spanned TokenKind)) →
-        entry_step (view place) cell ≡ (view (place_behind place cell), result_at place cell) }
+        entry_step (view place) cell ≡ (view (place_following place cell), result_at place cell) }
 {
     laws::cell_views();
 }

@@ -76,7 +76,7 @@ meters = tt
 
 -- The beats of tempi.
 unfoldable pub beats : Unit {0}
-unfolding texts Tempo.positive_number Tempo.part_of Tempo.fraction_of Tempo.word_in_front Tempo.behind_word Tempo.sum_of Tempo.halve
+unfolding texts Tempo.positive_number Tempo.part_of Tempo.fraction_of Tempo.word_in_front Tempo.after_word Tempo.sum_of Tempo.halve
 beats = tt
 
 -- The tempi of `abc_fields`.

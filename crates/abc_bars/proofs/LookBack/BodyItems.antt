@@ -92,21 +92,21 @@ of-chord : (b : Bool) (state : VoiceState) (place : ℕ) (inside : ChordBuilder)
 of-chord true state place inside = ((refl, refl), tt)
 of-chord false state place inside = tt
 
-of-token : (body : Body) (behind : Preceding) (from : ℕ) (kind : TokenKind) (ahead : List (Spanned TokenKind)) → AreOfBody (token_items body behind from kind ahead)
-of-token body behind from (kinds.Note note) ahead = ((refl, refl), tt)
-of-token body behind from (kinds.Rest long) ahead = ((refl, refl), tt)
-of-token body behind from (kinds.BarRest bars) ahead = ((refl, refl), tt)
-of-token body behind from (kinds.Chord chord) ahead = of-chord (has_note chord.parts) _ from _
-of-token body behind from (kinds.InlineField field) ahead = of-field body (kind_of field.letter) field.value from
-of-token body behind from (kinds.Field field) ahead = of-field body (kind_of field.letter) field.value from
-of-token body behind from (kinds.Bar bar) ahead = ((refl, refl), tt)
-of-token body behind from (kinds.Ending (Some passes)) ahead = ((refl, refl), tt)
-of-token body behind from (kinds.Directive (directives.Program written)) ahead = ((refl, refl), tt)
-of-token body behind from _ ahead = tt
+of-token : (body : Body) (preceding : Preceding) (from : ℕ) (kind : TokenKind) (ahead : List (Spanned TokenKind)) → AreOfBody (token_items body preceding from kind ahead)
+of-token body preceding from (kinds.Note note) ahead = ((refl, refl), tt)
+of-token body preceding from (kinds.Rest long) ahead = ((refl, refl), tt)
+of-token body preceding from (kinds.BarRest bars) ahead = ((refl, refl), tt)
+of-token body preceding from (kinds.Chord chord) ahead = of-chord (has_note chord.parts) _ from _
+of-token body preceding from (kinds.InlineField field) ahead = of-field body (kind_of field.letter) field.value from
+of-token body preceding from (kinds.Field field) ahead = of-field body (kind_of field.letter) field.value from
+of-token body preceding from (kinds.Bar bar) ahead = ((refl, refl), tt)
+of-token body preceding from (kinds.Ending (Some passes)) ahead = ((refl, refl), tt)
+of-token body preceding from (kinds.Directive (directives.Program written)) ahead = ((refl, refl), tt)
+of-token body preceding from _ ahead = tt
 
 -- So it is after a token.
 pub of_kind : (given : CellResult) (from : ℕ) (kind : TokenKind) (ahead : List (Spanned TokenKind)) → AreOfBody given.items.items
     → AreOfBody (with_kind given from kind ahead).items.items
 of_kind given from kind ahead h =
     subst AreOfBody (sym (items_added given from kind ahead))
-    (more given.items.items (token_items given.body given.behind from kind ahead) h (of-token given.body given.behind from kind ahead))
+    (more given.items.items (token_items given.body given.preceding from kind ahead) h (of-token given.body given.preceding from kind ahead))

@@ -14,7 +14,7 @@ use Rattle.abc_bars_body.specs.Cell.{is_tie_token, may_be_tied, empty_cell_resul
 use Rattle.abc_bars_body.specs.Cell.{with_token}
 use Rattle.abc_bars.specs.LookBack.CellFaults.{AreFaultsAfter, AreFaultsOfCells, CellStart, Faults, place_in}
 use Rattle.abc_bars.specs.LookBack.CellPlace.{CellPlace, before_place}
-use Rattle.abc_bars.specs.LookBack.Cells.{behind_tokens, look_back}
+use Rattle.abc_bars.specs.LookBack.Cells.{after_tokens, look_back}
 use Rattle.abc_bars.specs.LookBack.Element.{Element}
 use Rattle.abc_bars.specs.LookBack.Held.{body_at}
 use Rattle.abc_bars.specs.LookBack.Place.{opening_at}
@@ -24,20 +24,20 @@ use Rattle.abc_bars.proofs.LookBack.TokenResults.{faults_added, token_faults}
 
 -- The faults of the tokens of a cell, by what holds before them.
 unfoldable pub rest_faults : Body → List Element → Preceding → Bool → List (Spanned TokenKind) → Faults
-rest_faults opening before behind after [] = []
-rest_faults opening before behind after (token ∷ ahead) =
-    token_faults (body_at opening before) behind after token.from token.kind ahead
-    ++ rest_faults opening (record { kind = token.kind; tied = tie_ahead ahead } ∷ before) (preceding_after behind token.kind) (may_be_tied token.kind) ahead
+rest_faults opening before preceding after [] = []
+rest_faults opening before preceding after (token ∷ ahead) =
+    token_faults (body_at opening before) preceding after token.from token.kind ahead
+    ++ rest_faults opening (record { kind = token.kind; tied = tie_ahead ahead } ∷ before) (preceding_after preceding token.kind) (may_be_tied token.kind) ahead
 
 from-here : (opening : Body) (before : List Element) (given : CellResult) (cell : List (Spanned TokenKind))
-    → (look_back opening before given cell).items.faults ≡ given.items.faults ++ rest_faults opening before given.behind given.after_note cell
+    → (look_back opening before given cell).items.faults ≡ given.items.faults ++ rest_faults opening before given.preceding given.after_note cell
 unfolding rest_faults
 from-here opening before given [] = sym (append-nil _)
 from-here opening before given (token ∷ ahead) =
     let start : CellResult = record given { body = body_at opening before } in
     let next : List Element = record { kind = token.kind; tied = tie_ahead ahead } ∷ before in
     from-here opening next (with_token start token ahead) ahead
-    ∙ ap (λ l. l ++ rest_faults opening next (preceding_after given.behind token.kind) (may_be_tied token.kind) ahead) (faults_added start token.from token.kind ahead)
+    ∙ ap (λ l. l ++ rest_faults opening next (preceding_after given.preceding token.kind) (may_be_tied token.kind) ahead) (faults_added start token.from token.kind ahead)
     ∙ append_assoc given.items.faults _ _
 
 -- The faults of a cell.
@@ -46,28 +46,28 @@ pub faults_found : (opening : Body) (before : List Element) (cell : List (Spanne
 faults_found opening before cell = from-here opening before (empty_cell_result opening) cell
 
 -- What precedes the rest of a cell: these tokens of it, and what precedes the cell.
-abbrev behind_front : List (Spanned TokenKind) → List (Spanned TokenKind) → List Element → List Element
-behind_front [] rest before = before
-behind_front (token ∷ front) rest before = behind_front front rest (record { kind = token.kind; tied = tie_ahead (front ++ rest) } ∷ before)
+abbrev after_front : List (Spanned TokenKind) → List (Spanned TokenKind) → List Element → List Element
+after_front [] rest before = before
+after_front (token ∷ front) rest before = after_front front rest (record { kind = token.kind; tied = tie_ahead (front ++ rest) } ∷ before)
 
 one-more : (front ahead : List (Spanned TokenKind)) (token : Spanned TokenKind) (before : List Element)
-    → behind_front (front ++ token ∷ []) ahead before ≡ record { kind = token.kind; tied = tie_ahead ahead } ∷ behind_front front (token ∷ ahead) before
+    → after_front (front ++ token ∷ []) ahead before ≡ record { kind = token.kind; tied = tie_ahead ahead } ∷ after_front front (token ∷ ahead) before
 one-more [] ahead token before = refl
 one-more (first ∷ front) ahead token before =
-    ap (λ l. behind_front (front ++ token ∷ []) ahead (record { kind = first.kind; tied = tie_ahead l } ∷ before)) (append_assoc front (token ∷ []) ahead)
+    ap (λ l. after_front (front ++ token ∷ []) ahead (record { kind = first.kind; tied = tie_ahead l } ∷ before)) (append_assoc front (token ∷ []) ahead)
     ∙ one-more front ahead token (record { kind = first.kind; tied = tie_ahead (front ++ token ∷ ahead) } ∷ before)
 
 no-tie : (front ahead : List (Spanned TokenKind)) (token : Spanned TokenKind) (before : List Element) → is_tie_token token.kind ≡ false
-    → behind_front front (token ∷ ahead) before ≡ behind_tokens front before
+    → after_front front (token ∷ ahead) before ≡ after_tokens front before
 no-tie [] ahead token before e = refl
 no-tie (first ∷ front) ahead token before e =
-    ap (λ b. behind_front front (token ∷ ahead) (record { kind = first.kind; tied = b } ∷ before)) (tie-next front ahead token e)
+    ap (λ b. after_front front (token ∷ ahead) (record { kind = first.kind; tied = b } ∷ before)) (tie-next front ahead token e)
     ∙ no-tie front ahead token (record { kind = first.kind; tied = tie_ahead front } ∷ before) e
 
-pub behind-more : (behind : Preceding) (front : List (Spanned TokenKind)) (token : Spanned TokenKind)
-    → preceding_from behind (front ++ token ∷ []) ≡ preceding_after (preceding_from behind front) token.kind
-behind-more behind [] token = refl
-behind-more behind (first ∷ front) token = behind-more (preceding_after behind first.kind) front token
+pub preceding-more : (preceding : Preceding) (front : List (Spanned TokenKind)) (token : Spanned TokenKind)
+    → preceding_from preceding (front ++ token ∷ []) ≡ preceding_after (preceding_from preceding front) token.kind
+preceding-more preceding [] token = refl
+preceding-more preceding (first ∷ front) token = preceding-more (preceding_after preceding first.kind) front token
 
 -- The opening of the body of a place.
 abbrev pub opening : CellPlace → Body
@@ -89,11 +89,11 @@ module _ (told : FaultCode → Bool) (Has : CellPlace → TokenKind → Faults �
   begin = opening_at start.values start.fields start.key
 
   are : (front cell : List (Spanned TokenKind)) (after : Bool)
-      → AreFaultsAfter Has start front cell (Told told (rest_faults begin (behind_front front cell start.before) (preceding_from Nothing front) after cell))
+      → AreFaultsAfter Has start front cell (Told told (rest_faults begin (after_front front cell start.before) (preceding_from Nothing front) after cell))
   unfolding rest_faults
   are front [] after = refl
   are front (token ∷ ahead) after =
-      let now : List Element = behind_front front (token ∷ ahead) start.before in
+      let now : List Element = after_front front (token ∷ ahead) start.before in
       let own : Faults = token_faults (body_at begin now) (preceding_from Nothing front) after token.from token.kind ahead in
       let later : Faults =
       rest_faults begin (record { kind = token.kind; tied = tie_ahead ahead } ∷ now) (preceding_after (preceding_from Nothing front) token.kind) (may_be_tied token.kind) ahead in (
@@ -102,7 +102,7 @@ module _ (told : FaultCode → Bool) (Has : CellPlace → TokenKind → Faults �
         filter-append (λ fault. told fault.1) own later,
         each (place_in start front token ahead) token.kind now after (no-tie front ahead token start.before),
         subst (AreFaultsAfter Has start (front ++ token ∷ []) ahead)
-            (λ i. Told told (rest_faults begin (one-more front ahead token start.before i) (behind-more Nothing front token i) (may_be_tied token.kind) ahead))
+            (λ i. Told told (rest_faults begin (one-more front ahead token start.before i) (preceding-more Nothing front token i) (may_be_tied token.kind) ahead))
             (are (front ++ token ∷ []) ahead (may_be_tied token.kind)),
       )
 

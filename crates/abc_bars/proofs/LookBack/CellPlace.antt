@@ -26,7 +26,7 @@ use Rattle.abc_bars_body.specs.Body.{here, after_mention}
 use Rattle.abc_bars_body.specs.Cell.{is_tie_token, after_chord_mention, empty_cell_result, tie_ahead, with_kind}
 use Rattle.abc_bars_body.specs.Cell.{with_token}
 use Rattle.abc_bars.specs.LookBack.CellPlace.{CellPlace, GivesItem, before_place, cell_with, voice_place_at, voice_place_of}
-use Rattle.abc_bars.specs.LookBack.Cells.{behind_tokens, look_back}
+use Rattle.abc_bars.specs.LookBack.Cells.{after_tokens, look_back}
 use Rattle.abc_bars.specs.LookBack.Element.{Element}
 use Rattle.abc_bars.specs.LookBack.Held.{body_at}
 use Rattle.abc_bars.specs.LookBack.Place.{opening_at}
@@ -45,7 +45,7 @@ pub goes-on : (opening : Body) (before : List Element) (given : CellResult) (cel
 goes-on opening before given [] = ([], sym (append-nil _))
 goes-on opening before given (token ∷ ahead) =
     let start : CellResult = record given { body = body_at opening before } in
-    let first : List Item = token_items start.body start.behind token.from token.kind ahead in
+    let first : List Item = token_items start.body start.preceding token.from token.kind ahead in
     let rest = goes-on opening (record { kind = token.kind; tied = tie_ahead ahead } ∷ before) (with_token start token ahead) ahead in
     (first ++ rest.0, rest.1 ∙ ap (λ l. l ++ rest.0) (items_added start token.from token.kind ahead) ∙ append_assoc given.items.items first rest.0)
 
@@ -69,26 +69,26 @@ as-many : (one other : CellResult) (body : Body) (place : ℕ) (kind : TokenKind
     → length (with_kind (record one { body = body }) place kind ahead).items.items ≡ length (with_kind (record other { body = body }) place kind further).items.items
 as-many one other body place kind ahead further same =
     ap length (items_added (record one { body = body }) place kind ahead) ∙ length-append one.items.items _
-    ∙ (λ i. same i + more-same body one.behind other.behind place kind ahead further i)
+    ∙ (λ i. same i + more-same body one.preceding other.preceding place kind ahead further i)
     ∙ sym (ap length (items_added (record other { body = body }) place kind further) ∙ length-append other.items.items _)
 
 -- What is before a token that is no tie, whatever follows it, what is nearest before it of what matters to broken
 -- rhythm, and how many items were given: as many as where its cell ends before it.
-pub split-behind : (opening : Body) (before : List Element) (given alone : CellResult) (front ahead : List (Spanned TokenKind)) (token : Spanned TokenKind)
+pub split-following : (opening : Body) (before : List Element) (given alone : CellResult) (front ahead : List (Spanned TokenKind)) (token : Spanned TokenKind)
     → is_tie_token token.kind ≡ false → length given.items.items ≡ length alone.items.items
-    → (start : CellResult) × (look_back opening before given (front ++ token ∷ ahead) ≡ look_back opening (behind_tokens front before) start (token ∷ ahead))
-    × (start.behind ≡ preceding_from given.behind front)
+    → (start : CellResult) × (look_back opening before given (front ++ token ∷ ahead) ≡ look_back opening (after_tokens front before) start (token ∷ ahead))
+    × (start.preceding ≡ preceding_from given.preceding front)
     × (length start.items.items ≡ length (look_back opening before alone front).items.items)
-split-behind opening before given alone [] ahead token e same = (given, refl, refl, same)
-split-behind opening before given alone (first ∷ front) ahead token e same =
+split-following opening before given alone [] ahead token e same = (given, refl, refl, same)
+split-following opening before given alone (first ∷ front) ahead token e same =
     let held : Body = body_at opening before in
     let next : CellResult = with_token (record given { body = held }) first (front ++ token ∷ ahead) in
     let other : CellResult = with_token (record alone { body = held }) first front in
     let follows : Bool = tie_ahead (front ++ token ∷ ahead) in
-    let rest = split-behind opening (record { kind = first.kind; tied = follows } ∷ before) next other front ahead token e
+    let rest = split-following opening (record { kind = first.kind; tied = follows } ∷ before) next other front ahead token e
     (as-many given alone held first.from first.kind (front ++ token ∷ ahead) front same) in (
       rest.0,
-      rest.1 ∙ ap (λ b. look_back opening (behind_tokens front (record { kind = first.kind; tied = b } ∷ before)) rest.0 (token ∷ ahead)) (tie-next front ahead token e),
+      rest.1 ∙ ap (λ b. look_back opening (after_tokens front (record { kind = first.kind; tied = b } ∷ before)) rest.0 (token ∷ ahead)) (tie-next front ahead token e),
       rest.2,
       rest.3 ∙ ap (λ b. length (look_back opening (record { kind = first.kind; tied = b } ∷ before) other front).items.items) (tie-next front ahead token e),
     )
@@ -97,17 +97,17 @@ pub take-front : (front rest : List (Spanned TokenKind)) → take (length front)
 take-front [] rest = refl
 take-front (first ∷ front) rest = ap (λ l. first ∷ l) (take-front front rest)
 
-drop-behind : (front ahead : List (Spanned TokenKind)) (token : Spanned TokenKind) → drop (suc (length front)) (front ++ token ∷ ahead) ≡ ahead
-drop-behind [] ahead token = refl
-drop-behind (first ∷ front) ahead token = drop-behind front ahead token
+drop-following : (front ahead : List (Spanned TokenKind)) (token : Spanned TokenKind) → drop (suc (length front)) (front ++ token ∷ ahead) ≡ ahead
+drop-following [] ahead token = refl
+drop-following (first ∷ front) ahead token = drop-following front ahead token
 
 pub drop-front : (front ahead : List (Spanned TokenKind)) (token : Spanned TokenKind) → drop (length front + 1) (front ++ token ∷ ahead) ≡ ahead
-drop-front front ahead token = rw add-one (drop-behind front ahead token)
+drop-front front ahead token = rw add-one (drop-following front ahead token)
 
 -- The factors that are read at the place of a token are those of its cell.
-pub factors-there : (front ahead : List (Spanned TokenKind)) (token : Spanned TokenKind) (behind : Preceding) → behind ≡ preceding_from Nothing front
-    → factors_of behind ahead ≡ factors_at (front ++ token ∷ ahead) (length front)
-factors-there front ahead token behind e = λ i.
+pub factors-there : (front ahead : List (Spanned TokenKind)) (token : Spanned TokenKind) (preceding : Preceding) → preceding ≡ preceding_from Nothing front
+    → factors_of preceding ahead ≡ factors_at (front ++ token ∷ ahead) (length front)
+factors-there front ahead token preceding e = λ i.
     factors_of ((e ∙ ap (preceding_from Nothing) (sym (take-front front (token ∷ ahead)))) i) (sym (drop-front front ahead token) i)
 
 -- The state in the body at a place.
@@ -142,7 +142,7 @@ chord-items true state place inside e = refl
 chord-items false state place inside e = cc
 
 module _ (place : CellPlace) (kind : TokenKind) (no_tie : is_tie_token kind ≡ false) (Holds : Item → Type 0)
-    (gives : (start : CellResult) → factors_of start.behind place.ahead ≡ factors_at (cell_with place kind) (length place.front)
+    (gives : (start : CellResult) → factors_of start.preceding place.ahead ≡ factors_at (cell_with place kind) (length place.front)
     → (item : Item) × ((with_kind (record start { body = body-at place }) place.from kind place.ahead).items.items ≡ start.items.items ++ item ∷ [])
     × Holds item) where
   abbrev opening : Body
@@ -155,10 +155,10 @@ module _ (place : CellPlace) (kind : TokenKind) (no_tie : is_tie_token kind ≡ 
   pub between : GivesItem place kind Holds
   between =
       let none : CellResult = empty_cell_result opening in
-      let split = split-behind opening place.before none none place.front place.ahead token no_tie refl in
-      let last = split-behind opening place.before none none place.front [] token no_tie refl in
+      let split = split-following opening place.before none none place.front place.ahead token no_tie refl in
+      let last = split-following opening place.before none none place.front [] token no_tie refl in
       let start : CellResult = split.0 in
-      let g = gives start (factors-there place.front place.ahead token start.behind split.2) in
+      let g = gives start (factors-there place.front place.ahead token start.preceding split.2) in
       let rest = goes-on opening (record { kind = kind; tied = tie_ahead place.ahead } ∷ before_place place)
       (with_token (record start { body = body-at place }) token place.ahead) place.ahead in (
         g.0,
@@ -166,7 +166,7 @@ module _ (place : CellPlace) (kind : TokenKind) (no_tie : is_tie_token kind ≡ 
           others = start.items.items;
           more = rest.0;
           split = ap (λ (given : CellResult). given.items.items) split.1 ∙ rest.1 ∙ ap (λ l. l ++ rest.0) g.1 ∙ append_assoc start.items.items (g.0 ∷ []) rest.0;
-          behind = split.3;
+          following = split.3;
           one =
               ap (λ (given : CellResult). length given.items.items) last.1
               ∙ as-many last.0 start (body-at place) place.from kind [] place.ahead (last.3 ∙ sym split.3)

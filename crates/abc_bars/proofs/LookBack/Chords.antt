@@ -38,12 +38,12 @@ use Rattle.abc_bars.proofs.LookBack.Accidentals.{newest_heard, with_each}
 use Rattle.abc_bars.proofs.LookBack.TokenFaults.{Told, more}
 
 -- The accidentals are those of these notes of a chord, newest first, and of what is before the chord.
-abbrev pub AreBehind : VoiceState → List Element → Accidentals → List Note → Type 0
-AreBehind opening before accidentals earlier = accidentals ≡ accidentals_of (reach_of opening.accidentals) (earlier ++ notes_of_bar before)
+abbrev pub AreAfter : VoiceState → List Element → Accidentals → List Note → Type 0
+AreAfter opening before accidentals earlier = accidentals ≡ accidentals_of (reach_of opening.accidentals) (earlier ++ notes_of_bar before)
 
 -- A note is altered as looking back says.
 pub alteration-at : (opening : VoiceState) (before : List Element) (accidentals : Accidentals) (earlier : List Note) (note : Note)
-    → AreBehind opening before accidentals earlier
+    → AreAfter opening before accidentals earlier
     → alteration_of (voice_state_at opening before) accidentals note ≡ alteration_at opening (tied_at opening before) before earlier note
 unfolding voice_state_at
 alteration-at opening before accidentals earlier note h =
@@ -56,7 +56,7 @@ unfolding voice_state_at
 same-shift opening before = refl
 
 -- Its key is that of its pitch.
-pub key-is : (opening : VoiceState) (before : List Element) (accidentals : Accidentals) (earlier : List Note) (note : Note) → AreBehind opening before accidentals earlier
+pub key-is : (opening : VoiceState) (before : List Element) (accidentals : Accidentals) (earlier : List Note) (note : Note) → AreAfter opening before accidentals earlier
     → midi_key (pitch_of (voice_state_at opening before).shift note (alteration_of (voice_state_at opening before) accidentals note))
     ≡ key_at (record { opening = opening; before = before }) earlier note
 key-is opening before accidentals earlier note h = λ i. midi_key (pitch_of (same-shift opening before i) note (alteration-at opening before accidentals earlier note h i))
@@ -118,7 +118,7 @@ module _ (opening : VoiceState) (before : List Element) (broken : List Ratio) (o
   -- So it is of these parts, if `room` more notes of the chord count.
   abbrev AddsFrom : List (Spanned ChordPartKind) → Type 0
   AddsFrom rest =
-      (room : ℕ) (inside : ChordBuilder) (earlier : List Note) → length inside.tones + room ≡ MOST_CHORD_NOTES → AreBehind opening before inside.accidentals earlier
+      (room : ℕ) (inside : ChordBuilder) (earlier : List Note) → length inside.tones + room ≡ MOST_CHORD_NOTES → AreAfter opening before inside.accidentals earlier
       → Adds (after_parts rest inside) inside earlier (take room (notes_among rest)) (take room (notes_in rest))
 
   step : (kind : ChordPartKind) (from to : ℕ) (rest : List (Spanned ChordPartKind)) → AddsFrom rest → AddsFrom (record { kind = kind; from = from; to = to } ∷ rest)
@@ -175,9 +175,9 @@ module _ (opening : VoiceState) (before : List Element) (broken : List Ratio) (o
   adds-all (part ∷ rest) room inside earlier size h = step part.kind part.from part.to rest (adds-all rest) room inside earlier size h
 
 -- Before the first note of a chord the accidentals are those at its place.
-pub behind-none : (opening : VoiceState) (before : List Element) → AreBehind opening before (accidentals_at (reach_of opening.accidentals) before) []
+pub following-none : (opening : VoiceState) (before : List Element) → AreAfter opening before (accidentals_at (reach_of opening.accidentals) before) []
 unfolding accidentals_at
-behind-none opening before = refl
+following-none opening before = refl
 
 -- What the parts of a chord leave and give.
 module _ (opening : VoiceState) (before : List Element) (broken : List Ratio) (outside : ChordContext) (chord : Chord) where
@@ -186,7 +186,7 @@ module _ (opening : VoiceState) (before : List Element) (broken : List Ratio) (o
 
   adds : Adds opening before broken outside whole (no_notes (voice_state_at opening before)) [] (counted_notes chord) (take MOST_CHORD_NOTES (notes_of chord))
   unfolding voice_state_at counted_notes
-  adds = adds-all opening before broken outside chord.parts MOST_CHORD_NOTES (no_notes (voice_state_at opening before)) [] refl (behind-none opening before)
+  adds = adds-all opening before broken outside chord.parts MOST_CHORD_NOTES (no_notes (voice_state_at opening before)) [] refl (following-none opening before)
 
   pub chord-leaves : (whole.accidentals ≡ with_each (accidentals_at (reach_of opening.accidentals) before) (counted_notes chord))
       × (whole.tied ≡ tied_among opening (tied_at opening before) before outside.tied [] (counted_notes chord))

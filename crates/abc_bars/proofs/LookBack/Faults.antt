@@ -89,34 +89,34 @@ same-tuplet at = refl
 
 module _ (values : Defaults) (fields : List HeaderLine) (key : Key) where
   -- The faults of a token.
-  of-kind : (before : List Element) (behind : Preceding) (after : Bool) (from : ℕ) (kind : TokenKind) (ahead : List (Spanned TokenKind))
-      → Ours (token_faults (body_at (opening_at values fields key) before) behind after from kind ahead) ≡ told_in (voice_place_of values fields key before) from kind
-  of-kind before behind after from (kinds.Note note) ahead =
-      ap (λ (s : VoiceState). Ours (play_note s (factors_of behind ahead) (tie_ahead ahead) from note).faults) (here_mentioned values fields key before)
-      ∙ of-single (voice_place_of values fields key before) (factors_of behind ahead) (tie_ahead ahead) from note
-  of-kind before behind after from (kinds.BarRest bars) ahead =
+  of-kind : (before : List Element) (preceding : Preceding) (after : Bool) (from : ℕ) (kind : TokenKind) (ahead : List (Spanned TokenKind))
+      → Ours (token_faults (body_at (opening_at values fields key) before) preceding after from kind ahead) ≡ told_in (voice_place_of values fields key before) from kind
+  of-kind before preceding after from (kinds.Note note) ahead =
+      ap (λ (s : VoiceState). Ours (play_note s (factors_of preceding ahead) (tie_ahead ahead) from note).faults) (here_mentioned values fields key before)
+      ∙ of-single (voice_place_of values fields key before) (factors_of preceding ahead) (tie_ahead ahead) from note
+  of-kind before preceding after from (kinds.BarRest bars) ahead =
       let at : VoicePlace = voice_place_of values fields key before in
       ap (λ (m : Meter). Ours (some_fault from (bar_rest_of m bars).1)) (ap (λ (s : VoiceState). s.meter) (here_mentioned values fields key before) ∙ same-meter at)
       ∙ of-bar-rest from (meter_at at.opening.meter at.before) bars
-  of-kind before behind after from (kinds.Chord chord) ahead =
-      ap (λ (s : VoiceState). Ours (play_chord s (factors_of behind ahead) (tie_ahead ahead) from chord).faults) (here_chord values fields key before (has_note chord.parts))
-      ∙ of-chord (voice_place_of values fields key before) (factors_of behind ahead) (tie_ahead ahead) from chord
-  of-kind before behind after from (kinds.Tuplet mark) ahead =
+  of-kind before preceding after from (kinds.Chord chord) ahead =
+      ap (λ (s : VoiceState). Ours (play_chord s (factors_of preceding ahead) (tie_ahead ahead) from chord).faults) (here_chord values fields key before (has_note chord.parts))
+      ∙ of-chord (voice_place_of values fields key before) (factors_of preceding ahead) (tie_ahead ahead) from chord
+  of-kind before preceding after from (kinds.Tuplet mark) ahead =
       let at : VoicePlace = voice_place_of values fields key before in
       ap (λ (s : VoiceState). Ours (some_fault from (tuplet_after_mark s.tuplet (tuplet_by s.meter mark)).1)) (here_found values fields key before)
       ∙ (λ i. Ours (some_fault from (tuplet_after_mark (same-tuplet at i) (tuplet_by (same-meter at i) mark)).1))
       ∙ of-tuplet from (tuplet_at at.opening.meter at.before) (tuplet_by (meter_at at.opening.meter at.before) mark)
-  of-kind before behind after from kind ahead =
-      none_told is_told_code (body_at (opening_at values fields key) before) behind after from kind ahead refl
+  of-kind before preceding after from kind ahead =
+      none_told is_told_code (body_at (opening_at values fields key) before) preceding after from kind ahead refl
 
-  of-rest : (before : List Element) (behind : Preceding) (after : Bool) (cell : List (Spanned TokenKind))
-      → Ours (rest_faults (opening_at values fields key) before behind after cell) ≡ told_from values fields key before cell
+  of-rest : (before : List Element) (preceding : Preceding) (after : Bool) (cell : List (Spanned TokenKind))
+      → Ours (rest_faults (opening_at values fields key) before preceding after cell) ≡ told_from values fields key before cell
   unfolding rest_faults
-  of-rest before behind after [] = refl
-  of-rest before behind after (token ∷ ahead) =
-      filter-append (λ fault. is_told_code fault.1) (token_faults (body_at (opening_at values fields key) before) behind after token.from token.kind ahead) _
-      ∙ (λ i. of-kind before behind after token.from token.kind ahead i
-      ++ of-rest (record { kind = token.kind; tied = tie_ahead ahead } ∷ before) (preceding_after behind token.kind) (may_be_tied token.kind) ahead i)
+  of-rest before preceding after [] = refl
+  of-rest before preceding after (token ∷ ahead) =
+      filter-append (λ fault. is_told_code fault.1) (token_faults (body_at (opening_at values fields key) before) preceding after token.from token.kind ahead) _
+      ∙ (λ i. of-kind before preceding after token.from token.kind ahead i
+      ++ of-rest (record { kind = token.kind; tied = tie_ahead ahead } ∷ before) (preceding_after preceding token.kind) (may_be_tied token.kind) ahead i)
 
 pub faults_looked_back : FaultsLookedBack
 faults_looked_back values fields key before cell =

@@ -73,9 +73,9 @@ pub name_filled : (value : List ℕ) (voice : Voice) → voice_of value ≡ Ok v
 name_filled value voice read =
     let is : IsVoice value voice = ((voice_read value (voice_of value) refl).ok voice).0 read in
     let word : List ℕ = is.identifier in
-    let rest : drop voice.from value ≡ word ++ is.behind =
-    (λ i. drop (is.from i) (is.first.spelling i)) ∙ drop-append_seam is.first.blanks (word ++ is.behind) in
+    let rest : drop voice.from value ≡ word ++ is.following =
+    (λ i. drop (is.from i) (is.first.spelling i)) ∙ drop-append_seam is.first.blanks (word ++ is.following) in
     let to : voice.to ≡ voice.from + length word = is.to in
     let size : voice.to - voice.from ≡ length word = omega (arith, to) in
-    let same : slice_range value voice.from voice.to ≡ word = (λ i. take (size i) (rest i)) ∙ take-append_seam word is.behind in
+    let same : slice_range value voice.from voice.to ≡ word = (λ i. take (size i) (rest i)) ∙ take-append_seam word is.following in
     filled (slice_range value voice.from voice.to) (subst (λ (name : List ℕ). 0 < length name) (sym same) is.first.some)

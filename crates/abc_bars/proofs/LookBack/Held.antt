@@ -45,7 +45,7 @@ use Rattle.abc_bars_body.specs.BodyOpening.{current_in, opening_voice_state}
 use Rattle.abc_bars_body.proofs.BodyOpenings.{opening_names}
 use Rattle.abc_bars.specs.LookBack.After.{after, after_field, after_kind, in_meter, in_part, in_unit, in_voice}
 use Rattle.abc_bars.specs.LookBack.AfterBody.{body_after, mentioned_if, mentions}
-use Rattle.abc_bars.specs.LookBack.ByName.{Owner, Named, Everyone, Current, Naming, first_name, is_owned_by, names_behind, naming_at, naming_behind, opening_of, owner_of, owner_of_field}
+use Rattle.abc_bars.specs.LookBack.ByName.{Owner, Named, Everyone, Current, Naming, first_name, is_owned_by, names_following, naming_at, naming_after, opening_of, owner_of, owner_of_field}
 use Rattle.abc_bars.specs.LookBack.ByName.{owner_of_part, owner_of_voice, tokens_of, voice_state_named}
 use Rattle.abc_bars.specs.LookBack.Element.{Element}
 use Rattle.abc_bars.specs.LookBack.Header.{declared_names, declared_shift, header_at, with_name}
@@ -56,7 +56,7 @@ use Rattle.abc_bars.proofs.DeclaredVoices.{declared_keys, distinct_names, few_na
 use Rattle.abc_bars.proofs.LookBack.Accidentals.{reach_kept}
 use Rattle.abc_bars.proofs.LookBack.Fields.{name_filled}
 use Rattle.abc_bars.proofs.LookBack.Openings.{declared_opening, opening_state, opening_voices_are}
-use Rattle.abc_bars.proofs.LookBack.Voice.{voice_state_behind}
+use Rattle.abc_bars.proofs.LookBack.Voice.{voice_state_after}
 use Rattle.abc_bars.proofs.Names.{among_at, differs, distinct_on, each_at, each_with, few_on, full_names, keys_each, known_name, last_place}
 use Rattle.abc_bars.proofs.Names.{length_each, mentioned_name, name_there, new_name, no_place, others_each}
 use Rattle.abc_bars.proofs.Names.{push_each, refused_name, same_each, set_each, still_apart, still_room, unplaced}
@@ -198,7 +198,7 @@ module _ (naming : Naming) (by : List ℕ → VoiceState) (another : VoiceState)
   -- What holds after an element of this owner that changes a voice so, and mentions it or not.
   abbrev Next : Owner → Bool → (VoiceState → VoiceState) → Body
   Next owner sounds change =
-      body_by (naming_behind naming owner sounds) (λ name. cond (is_owned_by name naming.current owner) (change (by name)) (by name)) another
+      body_by (naming_after naming owner sounds) (λ name. cond (is_owned_by name naming.current owner) (change (by name)) (by name)) another
 
   by-meter : (r : Result Meter FaultCode) → Next Current false (λ state. in_meter state r) ≡ (meter_by body 0 r).body
   by-meter (Ok meter) = to-current naming by another is.distinct is.current (λ state. record state { meter = meter })
@@ -226,7 +226,7 @@ module _ (naming : Naming) (by : List ℕ → VoiceState) (another : VoiceState)
 
     -- The voice becomes the current one, as it is one of these.
     becomes-current : (names : List (List ℕ)) → with_name naming.names name ≡ names → list_any (bytes_eq name) names ≡ true
-        → naming_behind naming (Named name) false ≡ record { names = names; current = name }
+        → naming_after naming (Named name) false ≡ record { names = names; current = name }
     becomes-current names same there = λ i. record { names = same i; current = cond-true _ name naming.current (ap (list_any (bytes_eq name)) same ∙ there) i }
 
     -- After a V: of a voice that is not mentioned.
@@ -297,7 +297,7 @@ module _ (naming : Naming) (by : List ℕ → VoiceState) (another : VoiceState)
 
   -- The names after an element are those before it, or one more.
   names-by : (P : List (List ℕ) → Type 0) → P naming.names → ((name : List ℕ) → P (with_name naming.names name)) → (owner : Owner) (sounds : Bool)
-      → P (names_behind naming owner sounds)
+      → P (names_following naming owner sounds)
   names-by P old new (Named name) sounds = new name
   names-by P old new Everyone sounds = old
   names-by P old new Current true = new naming.current
@@ -317,7 +317,7 @@ module _ (naming : Naming) (by : List ℕ → VoiceState) (another : VoiceState)
       subst (λ (names : List (List ℕ)). IsCurrent (record { names = names; current = naming.current }))
       (sym (known_name naming.names naming.current (among_at naming.current naming.names at found))) (of_place at found)
 
-  current-by : (owner : Owner) (sounds : Bool) → IsCurrent (naming_behind naming owner sounds)
+  current-by : (owner : Owner) (sounds : Bool) → IsCurrent (naming_after naming owner sounds)
   current-by (Named name) sounds = named-current name (list_any (bytes_eq name) (with_name naming.names name)) refl
   current-by Everyone sounds = is.current
   current-by Current true = sound-current is.current
@@ -329,7 +329,7 @@ module _ (naming : Naming) (by : List ℕ → VoiceState) (another : VoiceState)
   not-current (of_place at found) name some gone = differs naming.names name naming.current (among_at naming.current naming.names at found) gone
 
   absent-by : (change : VoiceState → VoiceState) (owner : Owner) (sounds : Bool) → Fits owner change another
-      → (name : List ℕ) → bytes_eq name [] ≡ false → list_any (bytes_eq name) (names_behind naming owner sounds) ≡ false → length (names_behind naming owner sounds) < MOST_VOICES
+      → (name : List ℕ) → bytes_eq name [] ≡ false → list_any (bytes_eq name) (names_following naming owner sounds) ≡ false → length (names_following naming owner sounds) < MOST_VOICES
       → by name ≡ another → list_any (bytes_eq name) naming.names ≡ false → cond (is_owned_by name naming.current owner) (change (by name)) (by name) ≡ another
   absent-by change (Named other) sounds fit name some gone room same before =
       other-same other change by name (differs (with_name naming.names other) name other (mentioned_name naming.names other room) gone) ∙ same
@@ -338,7 +338,7 @@ module _ (naming : Naming) (by : List ℕ → VoiceState) (another : VoiceState)
       other-same naming.current change by name (not-current is.current name some before) ∙ same
 
   naming-by : (change : VoiceState → VoiceState) (owner : Owner) (sounds : Bool) → Fits owner change another
-      → IsNaming (naming_behind naming owner sounds) (λ name. cond (is_owned_by name naming.current owner) (change (by name)) (by name)) another
+      → IsNaming (naming_after naming owner sounds) (λ name. cond (is_owned_by name naming.current owner) (change (by name)) (by name)) another
   naming-by change owner sounds fit = record {
     distinct = names-by (IsDistinct bytes_eq) is.distinct (λ name. distinct_on naming.names name is.distinct) owner sounds;
     few = names-by (λ names. length names ≤ MOST_VOICES) is.few (λ name. few_on naming.names name is.few) owner sounds;
@@ -376,7 +376,7 @@ begins-current (first ∷ rest) said state another same =
 
 owned-by : (opening : VoiceState) (element : Element) (tokens : List Element) (b : Bool)
     → voice_state_at opening (cond b (element ∷ tokens) tokens) ≡ cond b (after (voice_state_at opening tokens) element) (voice_state_at opening tokens)
-owned-by opening element tokens true = voice_state_behind opening tokens element
+owned-by opening element tokens true = voice_state_after opening tokens element
 owned-by opening element tokens false = refl
 
 module _ (values : Defaults) (fields : List HeaderLine) (key : Key) where
@@ -395,9 +395,9 @@ module _ (values : Defaults) (fields : List HeaderLine) (key : Key) where
       ap (λ (place : Option ℕ). voice_state_at (unwrap_or (option_and_then (voice_at opening.voices) place) opening.another) []) (no_place name (keys_of opening.voices) gone)
       ∙ fresh-state (header_at values fields).defaults key no_shift
 
-  known-behind : (before : List Element) (element : Element)
+  known-following : (before : List Element) (element : Element)
       → known (element ∷ before) ≡ (λ name. cond (is_owned_by name (naming_at opening before).current (owner_of element.kind)) (after (known before name) element) (known before name))
-  known-behind before element = λ i. λ name.
+  known-following before element = λ i. λ name.
       owned-by (opening_of opening name) element (tokens_of opening name before) (is_owned_by name (naming_at opening before).current (owner_of element.kind)) i
 
   plain : without_accidentals opening.another ≡ opening.another
@@ -412,16 +412,16 @@ module _ (values : Defaults) (fields : List HeaderLine) (key : Key) where
     absent = λ name some gone room. undeclared name gone;
   }
   naming_there (element ∷ before) =
-      subst (λ (by : List ℕ → VoiceState). IsNaming (naming_at opening (element ∷ before)) by opening.another) (sym (known-behind before element))
+      subst (λ (by : List ℕ → VoiceState). IsNaming (naming_at opening (element ∷ before)) by opening.another) (sym (known-following before element))
       (naming-by (naming_at opening before) (known before) opening.another (naming_there before) (λ state. after state element) (owner_of element.kind) (mentions element.kind)
       (fits opening.another plain element.kind element.tied))
 
   -- What looking back finds after one element more.
-  pub body_behind_element : (before : List Element) (element : Element)
+  pub body_after_element : (before : List Element) (element : Element)
       → body_at (opening_at values fields key) (element ∷ before) ≡ body_after (body_at (opening_at values fields key) before) element
   unfolding body_at
-  body_behind_element before element =
-      ap (λ (by : List ℕ → VoiceState). body_by (naming_at opening (element ∷ before)) by opening.another) (known-behind before element)
+  body_after_element before element =
+      ap (λ (by : List ℕ → VoiceState). body_by (naming_at opening (element ∷ before)) by opening.another) (known-following before element)
       ∙ by-kind (naming_at opening before) (known before) opening.another (naming_there before) element.kind element.tied
 
   -- A body begins with what looking back finds there.

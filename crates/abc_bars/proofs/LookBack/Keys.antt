@@ -36,7 +36,7 @@ use Rattle.abc_bars.specs.LookBack.Voice.{written_by}
 use Rattle.abc_bars.proofs.LookBack.Accidentals.{newest_heard}
 use Rattle.abc_bars.proofs.LookBack.CellPlace.{between, body-at, chord-items, here-in-chord, here-is}
 use Rattle.abc_bars.proofs.LookBack.Since.{Heard, heard-since}
-use Rattle.abc_bars.proofs.LookBack.Chords.{alteration-at, behind-none, chord-keys, key-is}
+use Rattle.abc_bars.proofs.LookBack.Chords.{alteration-at, following-none, chord-keys, key-is}
 use Rattle.abc_bars.proofs.LookBack.Ties.{Passed, left-by, passed-over, tied-last}
 
 -- The last accidental among notes is the one that is found.
@@ -155,7 +155,7 @@ pub note-key : (at : VoicePlace) (note : Note)
     ≡ key_at at [] note
 note-key at note =
     let accidentals : Accidentals = (voice_state_at at.opening at.before).accidentals in
-    key-is at.opening at.before accidentals [] note (same-accidentals at.opening at.before ∙ behind-none at.opening at.before)
+    key-is at.opening at.before accidentals [] note (same-accidentals at.opening at.before ∙ following-none at.opening at.before)
 
 pub notes_have_keys : NotesHaveKeys
 notes_have_keys place note =
@@ -179,7 +179,7 @@ chords_have_keys place chord some =
     let outside : ChordContext = record { length = chord.length; tied = tie_ahead place.ahead; from = place.from } in
     between place (kinds.Chord chord) refl (SoundsKeys (keys_from at (tie_ahead place.ahead) [] (counted_notes chord)))
     (λ start factors.
-    let broken : List Ratio = factors_of start.behind place.ahead in
+    let broken : List Ratio = factors_of start.preceding place.ahead in
     let body : Body = after_chord_mention (has_note chord.parts) (body-at place) in
     let inside : ChordBuilder = chord_builder_of (here body) broken outside chord.parts in (
       _,

@@ -44,7 +44,7 @@ use Rattle.abc_bars_notes.specs.Lasting.{IsPlace}
 use Rattle.abc_bars_voice.specs.declared.voice_state.VoiceState.{VoiceState}
 use Rattle.abc_bars_voice.specs.Unit.{IsUnitPart, unit_by}
 use Rattle.abc_bars_voice.proofs.WholeParts.{eighth, read_part, sixteenth}
-use Rattle.abc_bars.specs.LookBack.Along.{CellTokens, lines_behind, values_of_header}
+use Rattle.abc_bars.specs.LookBack.Along.{CellTokens, lines_after, values_of_header}
 use Rattle.abc_bars.specs.LookBack.ByName.{naming_at, opening_of}
 use Rattle.abc_bars.specs.LookBack.CellPlace.{CellPlace, before_place, cell_with, voice_place_at}
 use Rattle.abc_bars.specs.LookBack.Defaults.{defaults_at, last_set, said_by_line, unit_said}
@@ -144,7 +144,7 @@ set-unit opening (line ∷ before) is =
 
 values-unit : (header : Option (List CellTokens)) → IfSome (values_of_header header).unit IsUnitPart
 values-unit None = tt
-values-unit (Some cells) = set-unit None (lines_behind cells []) tt
+values-unit (Some cells) = set-unit None (lines_after cells []) tt
 
 meter-unit : (meter : Meter) → IsUnitPart (unit_by meter)
 meter-unit Free = eighth

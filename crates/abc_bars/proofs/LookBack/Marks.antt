@@ -32,11 +32,11 @@ use Rattle.abc_bars.specs.LookBack.Element.{Element}
 use Rattle.abc_bars.specs.LookBack.Faults.{AreFaultsOfMarks, BadMarksDoNotAct, EmptyChordsGiveNone, EmptyChordsLeaveAll, IsFaultOfMark, is_bad_broken_code}
 use Rattle.abc_bars.specs.LookBack.Held.{body_at}
 use Rattle.abc_bars.specs.LookBack.Place.{opening_at}
-use Rattle.abc_bars.proofs.LookBack.CellPlace.{body-at, drop-front, split-behind, take-front}
+use Rattle.abc_bars.proofs.LookBack.CellPlace.{body-at, drop-front, split-following, take-front}
 use Rattle.abc_bars.proofs.LookBack.TokenFaults.{Told, none_told}
 use Rattle.abc_bars.proofs.LookBack.TokenResults.{token_faults}
-use Rattle.abc_bars.proofs.LookBack.CellFaults.{behind-more, faults_found, rest_faults}
-use Rattle.abc_bars.proofs.LookBack.Held.{body_behind_element}
+use Rattle.abc_bars.proofs.LookBack.CellFaults.{preceding-more, faults_found, rest_faults}
+use Rattle.abc_bars.proofs.LookBack.Held.{body_after_element}
 
 -- the faults BadBroken
 abbrev Bad : List (ℕ × FaultCode) → List (ℕ × FaultCode)
@@ -48,13 +48,13 @@ of-mark false column = refl
 
 -- The fault of a mark, by what is before it and these tokens ahead of it.
 abbrev bad_in : Preceding → ℕ → TokenKind → List (Spanned TokenKind) → List (ℕ × FaultCode)
-bad_in behind from (kinds.Broken mark) ahead = fault_if (is_bad_mark behind ahead) (column_of from) BadBroken
-bad_in behind from _ ahead = []
+bad_in preceding from (kinds.Broken mark) ahead = fault_if (is_bad_mark preceding ahead) (column_of from) BadBroken
+bad_in preceding from _ ahead = []
 
-of-kind : (body : Body) (behind : Preceding) (after : Bool) (from : ℕ) (kind : TokenKind) (ahead : List (Spanned TokenKind))
-    → Bad (token_faults body behind after from kind ahead) ≡ bad_in behind from kind ahead
-of-kind body behind after from (kinds.Broken mark) ahead = of-mark (is_bad_mark behind ahead) (column_of from)
-of-kind body behind after from kind ahead = none_told is_bad_broken_code body behind after from kind ahead refl
+of-kind : (body : Body) (preceding : Preceding) (after : Bool) (from : ℕ) (kind : TokenKind) (ahead : List (Spanned TokenKind))
+    → Bad (token_faults body preceding after from kind ahead) ≡ bad_in preceding from kind ahead
+of-kind body preceding after from (kinds.Broken mark) ahead = of-mark (is_bad_mark preceding ahead) (column_of from)
+of-kind body preceding after from kind ahead = none_told is_bad_broken_code body preceding after from kind ahead refl
 
 token-there : (front ahead : List (Spanned TokenKind)) (token : Spanned TokenKind) → slice_get (front ++ token ∷ ahead) (length front) ≡ Some token
 token-there [] ahead token = refl
@@ -88,25 +88,25 @@ module _ (front ahead : List (Spanned TokenKind)) (token : Spanned TokenKind) (o
 
 -- The faults of the tokens after those in front.
 abbrev bad_from : Preceding → List (Spanned TokenKind) → List (ℕ × FaultCode)
-bad_from behind [] = []
-bad_from behind (token ∷ ahead) = bad_in behind token.from token.kind ahead ++ bad_from (preceding_after behind token.kind) ahead
+bad_from preceding [] = []
+bad_from preceding (token ∷ ahead) = bad_in preceding token.from token.kind ahead ++ bad_from (preceding_after preceding token.kind) ahead
 
-of-rest : (opening : Body) (before : List Element) (behind : Preceding) (after : Bool) (cell : List (Spanned TokenKind))
-    → Bad (rest_faults opening before behind after cell) ≡ bad_from behind cell
+of-rest : (opening : Body) (before : List Element) (preceding : Preceding) (after : Bool) (cell : List (Spanned TokenKind))
+    → Bad (rest_faults opening before preceding after cell) ≡ bad_from preceding cell
 unfolding rest_faults
-of-rest opening before behind after [] = refl
-of-rest opening before behind after (token ∷ ahead) =
-    filter-append (λ fault. is_bad_broken_code fault.1) (token_faults (body_at opening before) behind after token.from token.kind ahead) _
-    ∙ (λ i. of-kind (body_at opening before) behind after token.from token.kind ahead i
-    ++ of-rest opening (record { kind = token.kind; tied = tie_ahead ahead } ∷ before) (preceding_after behind token.kind) (may_be_tied token.kind) ahead i)
+of-rest opening before preceding after [] = refl
+of-rest opening before preceding after (token ∷ ahead) =
+    filter-append (λ fault. is_bad_broken_code fault.1) (token_faults (body_at opening before) preceding after token.from token.kind ahead) _
+    ∙ (λ i. of-kind (body_at opening before) preceding after token.from token.kind ahead i
+    ++ of-rest opening (record { kind = token.kind; tied = tie_ahead ahead } ∷ before) (preceding_after preceding token.kind) (may_be_tied token.kind) ahead i)
 
 are-faults : (front cell : List (Spanned TokenKind)) → AreFaultsOfMarks front cell (bad_from (preceding_from Nothing front) cell)
 are-faults front [] = refl
 are-faults front (token ∷ ahead) =
-    let behind : Preceding = preceding_from Nothing front in
-    let others : List (ℕ × FaultCode) = bad_from (preceding_after behind token.kind) ahead in (
+    let preceding : Preceding = preceding_from Nothing front in
+    let others : List (ℕ × FaultCode) = bad_from (preceding_after preceding token.kind) ahead in (
       others,
-      subst (λ (b : Preceding). AreFaultsOfMarks (front ++ token ∷ []) ahead (bad_from b ahead)) (behind-more Nothing front token) (are-faults (front ++ token ∷ []) ahead),
+      subst (λ (b : Preceding). AreFaultsOfMarks (front ++ token ∷ []) ahead (bad_from b ahead)) (preceding-more Nothing front token) (are-faults (front ++ token ∷ []) ahead),
       of-broken front ahead token others token.kind refl,
     )
 
@@ -125,13 +125,13 @@ empty_chords_give_none place chord empty =
     let opening : Body = opening_at place.values place.fields place.key in
     let token : Spanned TokenKind = record { kind = kinds.Chord chord; from = place.from; to = place.to } in
     let none : CellResult = empty_cell_result opening in
-    let split = split-behind opening place.before none none place.front [] token refl refl in
+    let split = split-following opening place.before none none place.front [] token refl refl in
     let start : CellResult = split.0 in
     let body : Body = after_chord_mention (has_note chord.parts) (body-at place) in
     let outside : ChordContext = record { length = chord.length; tied = false; from = place.from } in
     ap (λ (given : CellResult). length given.items.items) split.1
     ∙ ap (λ l. length (start.items.items ++ l))
-    (no-item (has_note chord.parts) (here body) place.from (chord_builder_of (here body) (factors_of start.behind []) outside chord.parts) empty)
+    (no-item (has_note chord.parts) (here body) place.from (chord_builder_of (here body) (factors_of start.preceding []) outside chord.parts) empty)
     ∙ ap length (append-nil start.items.items) ∙ split.3
 
 -- It leaves what holds as it was.
@@ -144,5 +144,5 @@ pub empty_chords_leave_all : EmptyChordsLeaveAll
 empty_chords_leave_all values fields key before chord tied empty =
     let body : Body = body_at (opening_at values fields key) before in
     let outside : ChordContext = record { length = chord.length; tied = tied; from = 0 } in
-    body_behind_element values fields key before (record { kind = kinds.Chord chord; tied = tied })
+    body_after_element values fields key before (record { kind = kinds.Chord chord; tied = tied })
     ∙ left-by (has_note chord.parts) body (λ state. chord_builder_of state [] outside chord.parts) empty

@@ -16,7 +16,7 @@ use Rattle.abc_bars_header.specs.declared.field_kind.FieldKind.TheVariants as fi
 use Rattle.abc_bars_notes.specs.TokenRole.{has_note, is_note_part}
 use Rattle.abc_bars_body.specs.BodyFields.{part_of}
 use Rattle.abc_bars.specs.LookBack.AfterBody.{mentions}
-use Rattle.abc_bars.specs.LookBack.ByName.{Current, Naming, names_behind, naming_at, owner_of, owner_of_field, owner_of_part, owner_of_voice}
+use Rattle.abc_bars.specs.LookBack.ByName.{Current, Naming, names_following, naming_at, owner_of, owner_of_field, owner_of_part, owner_of_voice}
 use Rattle.abc_bars.specs.LookBack.Header.{with_name}
 use Rattle.abc_bars.specs.LookBack.Mentions.{IsHeard, Mentions, TokensMention, mentioned_at}
 use Rattle.abc_bars.specs.LookBack.Fields.{IsVoiceField, NamesVoice}
@@ -63,16 +63,16 @@ heard-current (kinds.Chord chord) h = (refl, heard-chord chord.parts h)
 heard-current _ h = absurd h
 
 -- Other tokens mention no voice.
-part-keeps : (naming : Naming) (part : Option ℕ) → names_behind naming (owner_of_part part) false ≡ naming.names
+part-keeps : (naming : Naming) (part : Option ℕ) → names_following naming (owner_of_part part) false ≡ naming.names
 part-keeps naming None = refl
 part-keeps naming (Some letter) = refl
 
-voice-keeps : (naming : Naming) (value : List ℕ) (r : Result Voice FaultCode) → ((voice : Voice) → r ≡ Ok voice → ⊥) → names_behind naming (owner_of_voice value r) false ≡ naming.names
+voice-keeps : (naming : Naming) (value : List ℕ) (r : Result Voice FaultCode) → ((voice : Voice) → r ≡ Ok voice → ⊥) → names_following naming (owner_of_voice value r) false ≡ naming.names
 voice-keeps naming value (Ok voice) none = absurd (none voice refl)
 voice-keeps naming value (Err fault) none = refl
 
 field-keeps : (naming : Naming) (kind : FieldKind) (value : List ℕ) → ((voice : Voice) → kind ≡ fields.Voice → voice_of value ≡ Ok voice → ⊥)
-    → names_behind naming (owner_of_field kind value) false ≡ naming.names
+    → names_following naming (owner_of_field kind value) false ≡ naming.names
 field-keeps naming fields.Voice value none = voice-keeps naming value (voice_of value) (λ voice e. none voice refl e)
 field-keeps naming fields.Parts value none = part-keeps naming (part_of value)
 field-keeps naming _ value none = refl
@@ -81,23 +81,23 @@ no-voice : (field : Field) → ((name : List ℕ) → ¬ NamesVoice name field)
     → (voice : Voice) → kind_of field.letter ≡ fields.Voice → voice_of field.value ≡ Ok voice → ⊥
 no-voice field none voice letter read = none (slice_range field.value voice.from voice.to) (names-voice field voice letter read)
 
-others-keep : (naming : Naming) (kind : TokenKind) → ((name : List ℕ) → ¬ IsVoiceField name kind) → ¬ IsHeard kind → names_behind naming (owner_of kind) (mentions kind) ≡ naming.names
+others-keep : (naming : Naming) (kind : TokenKind) → ((name : List ℕ) → ¬ IsVoiceField name kind) → ¬ IsHeard kind → names_following naming (owner_of kind) (mentions kind) ≡ naming.names
 others-keep naming (kinds.Note note) none silent = absurd (silent tt)
 others-keep naming (kinds.Rest length) none silent = absurd (silent tt)
 others-keep naming (kinds.BarRest bars) none silent = absurd (silent tt)
-others-keep naming (kinds.Chord chord) none silent = ap (names_behind naming Current) (silent-chord chord.parts silent)
+others-keep naming (kinds.Chord chord) none silent = ap (names_following naming Current) (silent-chord chord.parts silent)
 others-keep naming (kinds.InlineField field) none silent = field-keeps naming (kind_of field.letter) field.value (no-voice field none)
 others-keep naming (kinds.Field field) none silent = field-keeps naming (kind_of field.letter) field.value (no-voice field none)
 others-keep naming _ none silent = refl
 
 -- So it is for the names after one token.
-steps : (naming : Naming) (kind : TokenKind) → IsCurrent naming → Mentions naming.names kind (names_behind naming (owner_of kind) (mentions kind))
+steps : (naming : Naming) (kind : TokenKind) → IsCurrent naming → Mentions naming.names kind (names_following naming (owner_of kind) (mentions kind))
 steps naming kind is = record {
-  named_new = λ name h gone room. ap (λ o. names_behind naming o (mentions kind)) (voice-owner kind name h)
+  named_new = λ name h gone room. ap (λ o. names_following naming o (mentions kind)) (voice-owner kind name h)
       ∙ new_name naming.names name (is_missing name naming.names gone) room;
-  named_again = λ name h again. ap (λ o. names_behind naming o (mentions kind)) (voice-owner kind name h) ∙ more-again naming.names name again;
-  unnamed = λ heard none. let of = heard-current kind heard in (λ i. names_behind naming (of.0 i) (of.1 i)) ∙ heard-first naming is none;
-  heard = λ heard some. let of = heard-current kind heard in (λ i. names_behind naming (of.0 i) (of.1 i)) ∙ heard-again naming is some;
+  named_again = λ name h again. ap (λ o. names_following naming o (mentions kind)) (voice-owner kind name h) ∙ more-again naming.names name again;
+  unnamed = λ heard none. let of = heard-current kind heard in (λ i. names_following naming (of.0 i) (of.1 i)) ∙ heard-first naming is none;
+  heard = λ heard some. let of = heard-current kind heard in (λ i. names_following naming (of.0 i) (of.1 i)) ∙ heard-again naming is some;
   other = others-keep naming kind;
 }
 

@@ -12,13 +12,13 @@ use Rattle.abc_scan.specs.declared.token.TokenKind.TheVariants as kinds
 use Rattle.abc_bars_body.specs.BodyFields.{part_of}
 use Rattle.abc_bars.specs.LookBack.Element.{Element}
 use Rattle.abc_bars.specs.LookBack.Since.{EndsAccidentals, FieldEndsAccidentals, IsEnded, IsSince, newest_first, notes_in, notes_of_tokens}
-use Rattle.abc_bars.specs.LookBack.Voice.{counted_notes, ends_accidentals, notes_behind, notes_of_bar, put_before, unless_ended}
+use Rattle.abc_bars.specs.LookBack.Voice.{counted_notes, ends_accidentals, notes_after, notes_of_bar, put_before, unless_ended}
 use Rattle.abc_bars.proofs.LookBack.Fields.{begins-part, part-of}
 
 -- A token ends accidentals and no earlier note is heard after it, or it adds its notes to those before it.
-data After (Ends : Type 0) (notes own behind : List Note) : Type 0 where
-  ended : Ends → behind ≡ [] → After Ends notes own behind
-  added : ¬ Ends → behind ≡ own ++ notes → After Ends notes own behind
+data After (Ends : Type 0) (notes own following : List Note) : Type 0 where
+  ended : Ends → following ≡ [] → After Ends notes own following
+  added : ¬ Ends → following ≡ own ++ notes → After Ends notes own following
 
 part-after : (field : Field) (notes : List Note) (o : Option ℕ) → kind_of field.letter ≡ fields.Parts → part_of field.value ≡ o
     → After (FieldEndsAccidentals field) notes [] (unless_ended (is_some o) notes)
@@ -46,7 +46,7 @@ put-newest : (chord : List (Note × Bool)) (notes : List Note) → put_before ch
 put-newest [] notes = refl
 put-newest (note ∷ later) notes = put-newest later (note.0 ∷ notes) ∙ sym (append_assoc (newest_first later) (note.0 ∷ []) notes)
 
-token-after : (kind : TokenKind) (notes : List Note) → After (EndsAccidentals kind) notes (notes_in kind) (notes_behind notes kind)
+token-after : (kind : TokenKind) (notes : List Note) → After (EndsAccidentals kind) notes (notes_in kind) (notes_after notes kind)
 token-after (kinds.Note note) notes = added (λ ends. ends) refl
 token-after (kinds.Chord chord) notes = added (λ ends. ends) (put-newest (counted_notes chord) notes)
 token-after (kinds.Bar bar) notes = ended tt refl
@@ -71,7 +71,7 @@ more-whole token before since (inr end) =
     inr (record { token = end.token; earlier = end.earlier; split = ap (λ l. token ∷ l) end.split; ends = end.ends })
 
 one-more : (token : Element) (before : List Element) → Heard before
-    → After (EndsAccidentals token.kind) (notes_of_bar before) (notes_in token.kind) (notes_behind (notes_of_bar before) token.kind)
+    → After (EndsAccidentals token.kind) (notes_of_bar before) (notes_in token.kind) (notes_after (notes_of_bar before) token.kind)
     → Heard (token ∷ before)
 one-more token before heard (ended ends none) = record {
   since = [];

@@ -20,14 +20,14 @@ use Rattle.abc_bars_notes.specs.declared.broken.Preceding.TheVariants.{Nothing}
 use Rattle.abc_bars_notes.specs.Broken.{factors_of, is_time_token, preceding_after}
 use Rattle.abc_bars_notes.specs.LooseTies.{is_loose_tie}
 use Rattle.abc_bars_notes.specs.TokenRole.{has_note}
-use Rattle.abc_bars_notes.proofs.LooseTies.{ties_behind_notes}
+use Rattle.abc_bars_notes.proofs.LooseTies.{ties_after_notes}
 use Rattle.abc_bars_body.specs.Body.{here}
 use Rattle.abc_bars_body.specs.Cell.{after_chord_mention, may_be_tied, tie_ahead}
 use Rattle.abc_bars_items.specs.Column.{column_of}
 use Rattle.abc_bars.specs.LookBack.Element.{Element}
 use Rattle.abc_bars.specs.LookBack.Held.{body_at}
 use Rattle.abc_bars.specs.LookBack.Place.{result_in_body, opening_at}
-use Rattle.abc_bars.specs.LookBack.Ties.{IsTimeBefore, altered_note, is_behind_note, loose_from, loose_in, loose_ties, tied_in_chord, tied_notes}
+use Rattle.abc_bars.specs.LookBack.Ties.{IsTimeBefore, altered_note, is_after_note, loose_from, loose_in, loose_ties, tied_in_chord, tied_notes}
 use Rattle.abc_bars.specs.LookBack.Voice.{counted_notes, voice_state_at, tied_among, tied_at, tied_said}
 use Rattle.abc_bars.proofs.LookBack.TokenFaults.{Told, none_told}
 use Rattle.abc_bars.proofs.LookBack.TokenResults.{token_faults}
@@ -46,21 +46,21 @@ of-tie true column = refl
 of-tie false column = refl
 
 -- The loose ties of a token, if this is directly before it.
-of-kind : (body : Body) (behind : Preceding) (after : Bool) (before : Option TokenKind) (from : ℕ) (kind : TokenKind) (ahead : List (Spanned TokenKind))
-    → after ≡ is_behind_note before → Ties (token_faults body behind after from kind ahead) ≡ loose_in before from kind
-of-kind body behind after before from (kinds.Chord chord) ahead e =
-    ties_behind_notes (here (after_chord_mention (has_note chord.parts) body)) (factors_of behind ahead) from chord (tie_ahead ahead)
-of-kind body behind after before from kinds.Tie ahead e = of-tie after (column_of from) ∙ ap (λ b. cond b [] ((column_of from, LooseTie) ∷ [])) e
-of-kind body behind after before from kind ahead e = none_told is_loose_code body behind after from kind ahead refl
+of-kind : (body : Body) (preceding : Preceding) (after : Bool) (before : Option TokenKind) (from : ℕ) (kind : TokenKind) (ahead : List (Spanned TokenKind))
+    → after ≡ is_after_note before → Ties (token_faults body preceding after from kind ahead) ≡ loose_in before from kind
+of-kind body preceding after before from (kinds.Chord chord) ahead e =
+    ties_after_notes (here (after_chord_mention (has_note chord.parts) body)) (factors_of preceding ahead) from chord (tie_ahead ahead)
+of-kind body preceding after before from kinds.Tie ahead e = of-tie after (column_of from) ∙ ap (λ b. cond b [] ((column_of from, LooseTie) ∷ [])) e
+of-kind body preceding after before from kind ahead e = none_told is_loose_code body preceding after from kind ahead refl
 
-of-rest : (opening : Body) (elements : List Element) (behind : Preceding) (after : Bool) (before : Option TokenKind) (cell : List (Spanned TokenKind)) → after ≡ is_behind_note before
-    → Ties (rest_faults opening elements behind after cell) ≡ loose_from before cell
+of-rest : (opening : Body) (elements : List Element) (preceding : Preceding) (after : Bool) (before : Option TokenKind) (cell : List (Spanned TokenKind)) → after ≡ is_after_note before
+    → Ties (rest_faults opening elements preceding after cell) ≡ loose_from before cell
 unfolding rest_faults
-of-rest opening elements behind after before [] e = refl
-of-rest opening elements behind after before (token ∷ ahead) e =
-    filter-append (λ fault. is_loose_code fault.1) (token_faults (body_at opening elements) behind after token.from token.kind ahead) _
-    ∙ (λ i. of-kind (body_at opening elements) behind after before token.from token.kind ahead e i
-    ++ of-rest opening (record { kind = token.kind; tied = tie_ahead ahead } ∷ elements) (preceding_after behind token.kind) (may_be_tied token.kind) (Some token.kind) ahead refl i)
+of-rest opening elements preceding after before [] e = refl
+of-rest opening elements preceding after before (token ∷ ahead) e =
+    filter-append (λ fault. is_loose_code fault.1) (token_faults (body_at opening elements) preceding after token.from token.kind ahead) _
+    ∙ (λ i. of-kind (body_at opening elements) preceding after before token.from token.kind ahead e i
+    ++ of-rest opening (record { kind = token.kind; tied = tie_ahead ahead } ∷ elements) (preceding_after preceding token.kind) (may_be_tied token.kind) (Some token.kind) ahead refl i)
 
 pub ties_loose : (values : Defaults) (fields : List HeaderLine) (key : Key) (before : List Element) (cell : List (Spanned TokenKind))
     → filter is_loose_tie (result_in_body values fields key before cell).faults ≡ loose_ties cell
@@ -101,19 +101,19 @@ left-by opening before _ follows e = cc
 abbrev pub Passed : Element → Type 0
 Passed other = is_time_token other.kind ≡ false
 
-pub tied-behind : (opening : VoiceState) (nearer rest : List Element) → All Passed nearer → tied_at opening (nearer ++ rest) ≡ tied_at opening rest
-tied-behind opening [] rest none = refl
-tied-behind opening (other ∷ nearer) rest none =
+pub tied-following : (opening : VoiceState) (nearer rest : List Element) → All Passed nearer → tied_at opening (nearer ++ rest) ≡ tied_at opening rest
+tied-following opening [] rest none = refl
+tied-following opening (other ∷ nearer) rest none =
     passed-over opening (tied_at opening (nearer ++ rest)) (nearer ++ rest) other.kind other.tied (All-head Passed other nearer none)
-    ∙ tied-behind opening nearer rest (All-tail Passed other nearer none)
+    ∙ tied-following opening nearer rest (All-tail Passed other nearer none)
 
 pub tied-last : (opening : VoiceState) (before earlier : List Element) (token : Element) → IsTimeBefore before token earlier
     → tied_at opening before ≡ map (altered_note opening earlier) (tied_notes token.kind token.tied)
 tied-last opening before earlier token is =
-    ap (tied_at opening) is.split ∙ tied-behind opening is.nearer (token ∷ earlier) is.none ∙ left-by opening earlier token.kind token.tied is.time
+    ap (tied_at opening) is.split ∙ tied-following opening is.nearer (token ∷ earlier) is.none ∙ left-by opening earlier token.kind token.tied is.time
 
 pub tied-none : (opening : VoiceState) (before : List Element) → All Passed before → tied_at opening before ≡ []
-tied-none opening before none = ap (tied_at opening) (sym (append-nil before)) ∙ tied-behind opening before [] none
+tied-none opening before none = ap (tied_at opening) (sym (append-nil before)) ∙ tied-following opening before [] none
 
 pub ties_lead : (opening : VoiceState) (before earlier : List Element) (token : Element) → IsTimeBefore before token earlier
     → (voice_state_at opening before).tied ≡ map (altered_note opening earlier) (tied_notes token.kind token.tied)

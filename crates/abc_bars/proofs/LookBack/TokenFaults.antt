@@ -232,26 +232,26 @@ module _ (told : FaultCode → Bool) where
       ∙ (λ i. none-byte not (from + part.from) part.kind i ++ none_bytes not from rest i)
 
   -- A token has none if no code of its faults passes.
-  none-of : (body : Body) (behind : Preceding) (after : Bool) (from : ℕ) (kind : TokenKind) (ahead : List (Spanned TokenKind)) → Fails told (codes_of kind)
-      → Told told (token_faults body behind after from kind ahead) ≡ []
-  none-of body behind after from (kinds.Note note) ahead h = none-note h.0 h.1.0 _ _ (column_of from)
-  none-of body behind after from (kinds.Rest length) ahead h = none_if BadLength h.0 _ (column_of from)
-  none-of body behind after from (kinds.BarRest bars) ahead h = none-bars h.0 h.1.0 from (here (after_mention body)).meter bars
-  none-of body behind after from (kinds.Chord chord) ahead h =
-      bytes_of_chord h.1.0 h.0 (λ _. Unit {0}) (λ _ _. h.1.1.1) (here (after_chord_mention (has_note chord.parts) body)) (factors_of behind ahead) (tie_ahead ahead) from chord
+  none-of : (body : Body) (preceding : Preceding) (after : Bool) (from : ℕ) (kind : TokenKind) (ahead : List (Spanned TokenKind)) → Fails told (codes_of kind)
+      → Told told (token_faults body preceding after from kind ahead) ≡ []
+  none-of body preceding after from (kinds.Note note) ahead h = none-note h.0 h.1.0 _ _ (column_of from)
+  none-of body preceding after from (kinds.Rest length) ahead h = none_if BadLength h.0 _ (column_of from)
+  none-of body preceding after from (kinds.BarRest bars) ahead h = none-bars h.0 h.1.0 from (here (after_mention body)).meter bars
+  none-of body preceding after from (kinds.Chord chord) ahead h =
+      bytes_of_chord h.1.0 h.0 (λ _. Unit {0}) (λ _ _. h.1.1.1) (here (after_chord_mention (has_note chord.parts) body)) (factors_of preceding ahead) (tie_ahead ahead) from chord
       (all_parts chord.parts)
       ∙ none_bytes h.1.1.0 from chord.parts
-  none-of body behind after from (kinds.InlineField field) ahead h = none-field h body from (kind_of field.letter) field.value
-  none-of body behind after from (kinds.Field field) ahead h = none-field h body from (kind_of field.letter) field.value
-  none-of body behind after from (kinds.Ending passes) ahead h = none-ending h.0 from passes
-  none-of body behind after from (kinds.Tuplet mark) ahead h = none-tuplet h.0 h.1.0 from (here body).tuplet (tuplet_by (here body).meter mark)
-  none-of body behind after from (kinds.Broken mark) ahead h = none_if BadBroken h.0 _ (column_of from)
-  none-of body behind after from kinds.Tie ahead h = none-tie h.0 from after
-  none-of body behind after from (kinds.Directive directive) ahead h = none-directive h.0 from directive
-  none-of body behind after from kinds.Unclosed ahead h = no_fault (column_of from) Unclosed h.0
-  none-of body behind after from kinds.BadByte ahead h = no_fault (column_of from) BadByte h.0
-  none-of body behind after from _ ahead h = refl
+  none-of body preceding after from (kinds.InlineField field) ahead h = none-field h body from (kind_of field.letter) field.value
+  none-of body preceding after from (kinds.Field field) ahead h = none-field h body from (kind_of field.letter) field.value
+  none-of body preceding after from (kinds.Ending passes) ahead h = none-ending h.0 from passes
+  none-of body preceding after from (kinds.Tuplet mark) ahead h = none-tuplet h.0 h.1.0 from (here body).tuplet (tuplet_by (here body).meter mark)
+  none-of body preceding after from (kinds.Broken mark) ahead h = none_if BadBroken h.0 _ (column_of from)
+  none-of body preceding after from kinds.Tie ahead h = none-tie h.0 from after
+  none-of body preceding after from (kinds.Directive directive) ahead h = none-directive h.0 from directive
+  none-of body preceding after from kinds.Unclosed ahead h = no_fault (column_of from) Unclosed h.0
+  none-of body preceding after from kinds.BadByte ahead h = no_fault (column_of from) BadByte h.0
+  none-of body preceding after from _ ahead h = refl
 
-  pub none_told : (body : Body) (behind : Preceding) (after : Bool) (from : ℕ) (kind : TokenKind) (ahead : List (Spanned TokenKind)) → list_any told (codes_of kind) ≡ false
-      → Told told (token_faults body behind after from kind ahead) ≡ []
-  none_told body behind after from kind ahead none = none-of body behind after from kind ahead (fails told (codes_of kind) none)
+  pub none_told : (body : Body) (preceding : Preceding) (after : Bool) (from : ℕ) (kind : TokenKind) (ahead : List (Spanned TokenKind)) → list_any told (codes_of kind) ≡ false
+      → Told told (token_faults body preceding after from kind ahead) ≡ []
+  none_told body preceding after from kind ahead none = none-of body preceding after from kind ahead (fails told (codes_of kind) none)

@@ -29,17 +29,17 @@ use Rattle.abc_bars.specs.LookBack.CellFaults.{Faults, ending_faults}
 
 -- The items of a token, by what holds before it in the body and in its cell.
 abbrev pub token_items : Body → Preceding → ℕ → TokenKind → List (Spanned TokenKind) → List Item
-token_items body behind from (kinds.Note note) ahead = (play_note (here (after_mention body)) (factors_of behind ahead) (tie_ahead ahead) from note).items
-token_items body behind from (kinds.Rest length) ahead = (play_rest (here (after_mention body)) (factors_of behind ahead) from length).items
-token_items body behind from (kinds.BarRest bars) ahead = (bar_rest_of (here (after_mention body)).meter bars).0 ∷ []
-token_items body behind from (kinds.Chord chord) ahead =
-    (play_chord (here (after_chord_mention (has_note chord.parts) body)) (factors_of behind ahead) (tie_ahead ahead) from chord).items
-token_items body behind from (kinds.InlineField field) ahead = (field_result body field.letter field.value from).items
-token_items body behind from (kinds.Field field) ahead = (field_result body field.letter field.value from).items
-token_items body behind from (kinds.Bar bar) ahead = items.Bar bar ∷ []
-token_items body behind from (kinds.Ending (Some passes)) ahead = items.Ending passes ∷ []
-token_items body behind from (kinds.Directive (directives.Program written)) ahead = items.Program false (program_of written) ∷ []
-token_items body behind from _ ahead = []
+token_items body preceding from (kinds.Note note) ahead = (play_note (here (after_mention body)) (factors_of preceding ahead) (tie_ahead ahead) from note).items
+token_items body preceding from (kinds.Rest length) ahead = (play_rest (here (after_mention body)) (factors_of preceding ahead) from length).items
+token_items body preceding from (kinds.BarRest bars) ahead = (bar_rest_of (here (after_mention body)).meter bars).0 ∷ []
+token_items body preceding from (kinds.Chord chord) ahead =
+    (play_chord (here (after_chord_mention (has_note chord.parts) body)) (factors_of preceding ahead) (tie_ahead ahead) from chord).items
+token_items body preceding from (kinds.InlineField field) ahead = (field_result body field.letter field.value from).items
+token_items body preceding from (kinds.Field field) ahead = (field_result body field.letter field.value from).items
+token_items body preceding from (kinds.Bar bar) ahead = items.Bar bar ∷ []
+token_items body preceding from (kinds.Ending (Some passes)) ahead = items.Ending passes ∷ []
+token_items body preceding from (kinds.Directive (directives.Program written)) ahead = items.Program false (program_of written) ∷ []
+token_items body preceding from _ ahead = []
 
 -- A fault at a place, if there is one.
 abbrev pub some_fault : ℕ → Option FaultCode → Faults
@@ -52,21 +52,21 @@ directive_faults from (directives.Reach reach) = []
 
 -- The faults of a token, by what holds before it in the body and in its cell.
 abbrev pub token_faults : Body → Preceding → Bool → ℕ → TokenKind → List (Spanned TokenKind) → Faults
-token_faults body behind after from (kinds.Note note) ahead = (play_note (here (after_mention body)) (factors_of behind ahead) (tie_ahead ahead) from note).faults
-token_faults body behind after from (kinds.Rest length) ahead = (play_rest (here (after_mention body)) (factors_of behind ahead) from length).faults
-token_faults body behind after from (kinds.BarRest bars) ahead = some_fault from (bar_rest_of (here (after_mention body)).meter bars).1
-token_faults body behind after from (kinds.Chord chord) ahead =
-    (play_chord (here (after_chord_mention (has_note chord.parts) body)) (factors_of behind ahead) (tie_ahead ahead) from chord).faults
-token_faults body behind after from (kinds.InlineField field) ahead = (field_result body field.letter field.value from).faults
-token_faults body behind after from (kinds.Field field) ahead = (field_result body field.letter field.value from).faults
-token_faults body behind after from (kinds.Ending passes) ahead = ending_faults from passes
-token_faults body behind after from (kinds.Tuplet mark) ahead = some_fault from (begin_tuplet (here body).meter (here body).tuplet mark).1
-token_faults body behind after from (kinds.Broken mark) ahead = fault_if (is_bad_mark behind ahead) (column_of from) BadBroken
-token_faults body behind after from kinds.Tie ahead = cond after [] ((column_of from, LooseTie) ∷ [])
-token_faults body behind after from (kinds.Directive directive) ahead = directive_faults from directive
-token_faults body behind after from kinds.Unclosed ahead = (column_of from, Unclosed) ∷ []
-token_faults body behind after from kinds.BadByte ahead = (column_of from, BadByte) ∷ []
-token_faults body behind after from _ ahead = []
+token_faults body preceding after from (kinds.Note note) ahead = (play_note (here (after_mention body)) (factors_of preceding ahead) (tie_ahead ahead) from note).faults
+token_faults body preceding after from (kinds.Rest length) ahead = (play_rest (here (after_mention body)) (factors_of preceding ahead) from length).faults
+token_faults body preceding after from (kinds.BarRest bars) ahead = some_fault from (bar_rest_of (here (after_mention body)).meter bars).1
+token_faults body preceding after from (kinds.Chord chord) ahead =
+    (play_chord (here (after_chord_mention (has_note chord.parts) body)) (factors_of preceding ahead) (tie_ahead ahead) from chord).faults
+token_faults body preceding after from (kinds.InlineField field) ahead = (field_result body field.letter field.value from).faults
+token_faults body preceding after from (kinds.Field field) ahead = (field_result body field.letter field.value from).faults
+token_faults body preceding after from (kinds.Ending passes) ahead = ending_faults from passes
+token_faults body preceding after from (kinds.Tuplet mark) ahead = some_fault from (begin_tuplet (here body).meter (here body).tuplet mark).1
+token_faults body preceding after from (kinds.Broken mark) ahead = fault_if (is_bad_mark preceding ahead) (column_of from) BadBroken
+token_faults body preceding after from kinds.Tie ahead = cond after [] ((column_of from, LooseTie) ∷ [])
+token_faults body preceding after from (kinds.Directive directive) ahead = directive_faults from directive
+token_faults body preceding after from kinds.Unclosed ahead = (column_of from, Unclosed) ∷ []
+token_faults body preceding after from kinds.BadByte ahead = (column_of from, BadByte) ∷ []
+token_faults body preceding after from _ ahead = []
 
 -- These items and faults after those that were given.
 abbrev joined : Items → List Item → Faults → Items
@@ -106,7 +106,7 @@ tie-adds given from false = one-fault given.items (column_of from, LooseTie)
 -- A token adds its items and its faults to those before it.
 token-adds : (given : CellResult) (from : ℕ) (kind : TokenKind) (ahead : List (Spanned TokenKind))
     → (with_kind given from kind ahead).items
-    ≡ joined given.items (token_items given.body given.behind from kind ahead) (token_faults given.body given.behind given.after_note from kind ahead)
+    ≡ joined given.items (token_items given.body given.preceding from kind ahead) (token_faults given.body given.preceding given.after_note from kind ahead)
 token-adds given from (kinds.Note note) ahead = refl
 token-adds given from (kinds.Rest length) ahead = refl
 token-adds given from (kinds.BarRest bars) ahead =
@@ -122,7 +122,7 @@ token-adds given from (kinds.Ending (Some passes)) ahead = one-item given.items 
 token-adds given from (kinds.Tuplet mark) ahead =
     let opened = begin_tuplet (here given.body).meter (here given.body).tuplet mark in
     fault-adds (record given { body = with_here given.body (record (here given.body) { tuplet = opened.0 }) }) from opened.1
-token-adds given from (kinds.Broken mark) ahead = mark-adds given (is_bad_mark given.behind ahead) from
+token-adds given from (kinds.Broken mark) ahead = mark-adds given (is_bad_mark given.preceding ahead) from
 token-adds given from kinds.Tie ahead = tie-adds given from given.after_note
 token-adds given from (kinds.Directive (directives.Program written)) ahead =
     program-adds given (items.Program false (program_of written)) (is_none (program_of written)) from
@@ -132,9 +132,9 @@ token-adds given from kinds.BadByte ahead = one-fault given.items (column_of fro
 token-adds given from _ ahead = no-more given.items
 
 pub items_added : (given : CellResult) (from : ℕ) (kind : TokenKind) (ahead : List (Spanned TokenKind))
-    → (with_kind given from kind ahead).items.items ≡ given.items.items ++ token_items given.body given.behind from kind ahead
+    → (with_kind given from kind ahead).items.items ≡ given.items.items ++ token_items given.body given.preceding from kind ahead
 items_added given from kind ahead = ap (λ (all : Items). all.items) (token-adds given from kind ahead)
 
 pub faults_added : (given : CellResult) (from : ℕ) (kind : TokenKind) (ahead : List (Spanned TokenKind))
-    → (with_kind given from kind ahead).items.faults ≡ given.items.faults ++ token_faults given.body given.behind given.after_note from kind ahead
+    → (with_kind given from kind ahead).items.faults ≡ given.items.faults ++ token_faults given.body given.preceding given.after_note from kind ahead
 faults_added given from kind ahead = ap (λ (all : Items). all.faults) (token-adds given from kind ahead)

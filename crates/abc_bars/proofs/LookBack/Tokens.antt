@@ -197,9 +197,9 @@ by-kind given body line (kinds.BarRest bars) ahead =
     body-fault (with_item (record given { body = after_mention body }) (bar_rest_of (here (after_mention body)).meter bars).0) line (bar_rest_of (here (after_mention body)).meter bars).1
     ∙ same_here (after_mention body)
 by-kind given body line (kinds.Chord chord) ahead =
-    ap (λ (inner : Body). with_here inner (play_chord (here inner) (factors_of given.behind ahead) (tie_ahead ahead) line chord).state) (after_mention-by (has_note chord.parts) body)
+    ap (λ (inner : Body). with_here inner (play_chord (here inner) (factors_of given.preceding ahead) (tie_ahead ahead) line chord).state) (after_mention-by (has_note chord.parts) body)
     ∙ ap (with_here (mentioned_if (has_note chord.parts) body))
-    (chord-any (here (mentioned_if (has_note chord.parts) body)) (factors_of given.behind ahead) [] (tie_ahead ahead) line 0 chord)
+    (chord-any (here (mentioned_if (has_note chord.parts) body)) (factors_of given.preceding ahead) [] (tie_ahead ahead) line 0 chord)
 by-kind given body line (kinds.InlineField field) ahead = of-kind body line 0 (kind_of field.letter) field.value
 by-kind given body line (kinds.Field field) ahead = of-kind body line 0 (kind_of field.letter) field.value
 by-kind given body line (kinds.Bar bar) ahead = refl
@@ -208,7 +208,7 @@ by-kind given body line (kinds.Tuplet mark) ahead =
     (begin_tuplet (here body).meter (here body).tuplet mark).1
 by-kind given body line (kinds.Ending passes) ahead = body-ending (record given { body = body }) line passes ∙ same_here body
 by-kind given body line (kinds.Broken mark) ahead =
-    body-fault-if (record given { body = body }) (is_bad_mark given.behind ahead) line BadBroken ∙ same_here body
+    body-fault-if (record given { body = body }) (is_bad_mark given.preceding ahead) line BadBroken ∙ same_here body
 by-kind given body line kinds.Tie ahead = body-tie given.after_note (record given { body = body }) line LooseTie ∙ same_here body
 by-kind given body line (kinds.Dynamic dynamic) ahead = refl
 by-kind given body line (kinds.Directive directive) ahead = body-directive (record given { body = body }) line directive ∙ same_here body

@@ -97,7 +97,7 @@ notes_have_velocities place note =
       found at.before,
       between place (kinds.Note note) refl (SoundsWith (velocity_of (dynamic_at at.before)))
           (λ start factors.
-          let tone : Tone = tone_in state state.accidentals (factors_of start.behind place.ahead) None note (tie_ahead place.ahead) in (
+          let tone : Tone = tone_in state state.accidentals (factors_of start.preceding place.ahead) None note (tie_ahead place.ahead) in (
             _,
             refl,
             (
@@ -119,7 +119,7 @@ chords_have_velocities place chord some =
       found at.before,
       between place (kinds.Chord chord) refl (SoundsWith (velocity_of (dynamic_at at.before)))
           (λ start factors.
-          let broken : List Ratio = factors_of start.behind place.ahead in
+          let broken : List Ratio = factors_of start.preceding place.ahead in
           let inside : ChordBuilder = chord_builder_of state broken outside chord.parts in (
             _,
             ap (λ l. start.items.items ++ l) (chord-items (has_note chord.parts) state place.from inside some),

@@ -27,7 +27,7 @@ use Rattle.abc_bars_body.specs.declared.body.Body.{Body}
 use Rattle.abc_bars_body.specs.BodyFields.{part_of}
 use Rattle.abc_bars_body.proofs.BodyOpenings.{opening_names}
 use Rattle.abc_bars.specs.LookBack.AfterBody.{mentions}
-use Rattle.abc_bars.specs.LookBack.ByName.{Owner, Named, Everyone, Current, Naming, first_name, is_owned_by, naming_at, naming_behind, owner_of, owner_of_field, owner_of_part, owner_of_voice}
+use Rattle.abc_bars.specs.LookBack.ByName.{Owner, Named, Everyone, Current, Naming, first_name, is_owned_by, naming_at, naming_after, owner_of, owner_of_field, owner_of_part, owner_of_voice}
 use Rattle.abc_bars.specs.LookBack.ByName.{tokens_of}
 use Rattle.abc_bars.specs.LookBack.Element.{Element}
 use Rattle.abc_bars.specs.LookBack.Fields.{BeginsPart, IsField, IsVoiceField, NamesVoice}
@@ -364,13 +364,13 @@ module _ (fields : List HeaderLine) (token : Element) (before : List Element) (n
     said-mentioned true is = said-played (mentions-played token.kind is) said.known
     said-mentioned false is = said-quiet (λ played. let no : false ≡ true = sym is ∙ played-mentions token.kind played in absurd (cc))
 
-  said-by : (owner : Owner) → owner_of token.kind ≡ owner → IsSaid fields (token ∷ before) (naming_behind naming owner (mentions token.kind))
+  said-by : (owner : Owner) → owner_of token.kind ≡ owner → IsSaid fields (token ∷ before) (naming_after naming owner (mentions token.kind))
   said-by (Named name) is = said-voice name is (list_any (bytes_eq name) (with_name naming.names name)) refl
   said-by Everyone is = said-quiet (no-voice-of token.kind Everyone is (λ name e. cc))
       (λ played. let no : Everyone ≡ Current = sym is ∙ played-current token.kind played in absurd (cc))
   said-by Current is = said-mentioned (no-voice-of token.kind Current is (λ name e. cc)) (mentions token.kind) refl
 
-  said-after : IsSaid fields (token ∷ before) (naming_behind naming (owner_of token.kind) (mentions token.kind))
+  said-after : IsSaid fields (token ∷ before) (naming_after naming (owner_of token.kind) (mentions token.kind))
   said-after = said-by (owner_of token.kind) refl
 
 -- A line is among those that hold it.

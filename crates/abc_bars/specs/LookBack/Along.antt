@@ -12,7 +12,7 @@ use Rattle.abc_bars_header.specs.Defaults.{no_defaults}
 use Rattle.abc_bars_header.specs.HeaderLine.{HeaderLine}
 use Rattle.abc_bars_body.specs.Step.{line_in}
 use Rattle.abc_bars.specs.LookBack.Defaults.{defaults_at}
-use Rattle.abc_bars.specs.LookBack.Place.{Place, InFileHeader, InHeader, result_at, place_behind, view}
+use Rattle.abc_bars.specs.LookBack.Place.{Place, InFileHeader, InHeader, result_at, place_following, view}
 use Rattle.abc_fold.specs.Steps.{Steps}
 use Rattle.abc_bars_items.specs.Item.{Items}
 
@@ -26,9 +26,9 @@ with_line None before = before
 with_line (Some line) before = line ∷ before
 
 -- The lines of a header among cells, newest first, before those that are before them.
-abbrev pub lines_behind : List CellTokens → List HeaderLine → List HeaderLine
-lines_behind [] before = before
-lines_behind (cell ∷ cells) before = lines_behind cells (with_line (line_in cell) before)
+abbrev pub lines_after : List CellTokens → List HeaderLine → List HeaderLine
+lines_after [] before = before
+lines_after (cell ∷ cells) before = lines_after cells (with_line (line_in cell) before)
 
 -- The beginning of a file header: nothing is before it.
 abbrev pub file_header_beginning : Place
@@ -37,7 +37,7 @@ file_header_beginning = InFileHeader []
 -- The values that the cells of a file header set, if there is one.
 abbrev pub values_of_header : Option (List CellTokens) → Defaults
 values_of_header None = no_defaults
-values_of_header (Some cells) = defaults_at no_defaults (lines_behind cells [])
+values_of_header (Some cells) = defaults_at no_defaults (lines_after cells [])
 
 -- The beginning of a tune, by the cells of the file header, if there is one.
 abbrev pub tune_beginning : Option (List CellTokens) → Place
@@ -46,12 +46,12 @@ tune_beginning header = InHeader (values_of_header header) []
 -- The place after cells.
 abbrev pub place_after : Place → List CellTokens → Place
 place_after place [] = place
-place_after place (cell ∷ cells) = place_after (place_behind place cell) cells
+place_after place (cell ∷ cells) = place_after (place_following place cell) cells
 
 -- The place of each cell.
 abbrev pub places_along : Place → List CellTokens → List Place
 places_along place [] = []
-places_along place (cell ∷ cells) = place ∷ places_along (place_behind place cell) cells
+places_along place (cell ∷ cells) = place ∷ places_along (place_following place cell) cells
 
 -- What looking back finds at the place of each cell.
 abbrev pub views_along : Place → List CellTokens → List Entry
@@ -60,7 +60,7 @@ views_along place cells = map view (places_along place cells)
 -- What each cell gives at its place.
 abbrev pub results_along : Place → List CellTokens → List Items
 results_along place [] = []
-results_along place (cell ∷ cells) = result_at place cell ∷ results_along (place_behind place cell) cells
+results_along place (cell ∷ cells) = result_at place cell ∷ results_along (place_following place cell) cells
 
 -- The state after cells, by the steps of a fold.
 abbrev pub state_after : {State Cell : Type 0} → (State → Cell → State) → State → List Cell → State
@@ -88,4 +88,4 @@ items_along next gives state (cell ∷ cells) = gives state cell ∷ items_along
 pub record IsLookBack (steps : Steps Entry CellTokens Items) (state : Entry) (place : Place) : Type 0 where
   pub entered : (cells : List CellTokens) → states_along steps.next state cells ≡ views_along place cells
   pub given : (cells : List CellTokens) → items_along steps.next steps.gives state cells ≡ results_along place cells
-  pub behind : (cells : List CellTokens) → state_after steps.next state cells ≡ view (place_after place cells)
+  pub following : (cells : List CellTokens) → state_after steps.next state cells ≡ view (place_after place cells)

@@ -62,21 +62,21 @@ pub record Naming : Type 0 where
   pub current : List ℕ
 
 -- The names after a token, which mentions its voice or not.
-abbrev pub names_behind : Naming → Owner → Bool → List (List ℕ)
-names_behind naming (Named name) sounds = with_name naming.names name
-names_behind naming Everyone sounds = naming.names
-names_behind naming Current sounds = if sounds then with_name naming.names naming.current else naming.names
+abbrev pub names_following : Naming → Owner → Bool → List (List ℕ)
+names_following naming (Named name) sounds = with_name naming.names name
+names_following naming Everyone sounds = naming.names
+names_following naming Current sounds = if sounds then with_name naming.names naming.current else naming.names
 
 -- The name of the current voice after a token, with these mentioned after it.
-abbrev pub current_behind : List (List ℕ) → Owner → List ℕ → List ℕ
-current_behind names (Named name) current = if list_any (bytes_eq name) names then name else current
-current_behind names Everyone current = current
-current_behind names Current current = current
+abbrev pub current_after : List (List ℕ) → Owner → List ℕ → List ℕ
+current_after names (Named name) current = if list_any (bytes_eq name) names then name else current
+current_after names Everyone current = current
+current_after names Current current = current
 
-abbrev pub naming_behind : Naming → Owner → Bool → Naming
-naming_behind naming owner sounds =
-    let names = names_behind naming owner sounds in
-    record { names = names; current = current_behind names owner naming.current }
+abbrev pub naming_after : Naming → Owner → Bool → Naming
+naming_after naming owner sounds =
+    let names = names_following naming owner sounds in
+    record { names = names; current = current_after names owner naming.current }
 
 -- The first of the names, or none.
 abbrev pub first_name : List (List ℕ) → List ℕ
@@ -90,7 +90,7 @@ opening_naming opening = record { names = keys_of opening.voices; current = firs
 -- The names at a place.
 abbrev pub naming_at : Body → List Element → Naming
 naming_at opening [] = opening_naming opening
-naming_at opening (element ∷ before) = naming_behind (naming_at opening before) (owner_of element.kind) (mentions element.kind)
+naming_at opening (element ∷ before) = naming_after (naming_at opening before) (owner_of element.kind) (mentions element.kind)
 
 -- Whether a token belongs to the voice `name` while `current` is the current voice.
 abbrev pub is_owned_by : List ℕ → List ℕ → Owner → Bool

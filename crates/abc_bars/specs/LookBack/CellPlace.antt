@@ -8,7 +8,7 @@ use Rattle.abc_bars_header.specs.declared.defaults.Defaults.{Defaults}
 use Rattle.abc_bars_items.specs.declared.item.Item.{Item}
 use Rattle.abc_bars_voice.specs.declared.voice_state.VoiceState.{VoiceState}
 use Rattle.abc_bars.specs.LookBack.ByName.{naming_at, opening_of, tokens_of}
-use Rattle.abc_bars.specs.LookBack.Cells.{behind_tokens}
+use Rattle.abc_bars.specs.LookBack.Cells.{after_tokens}
 use Rattle.abc_bars.specs.LookBack.Element.{Element}
 use Rattle.abc_bars.specs.LookBack.Place.{result_in_body, opening_at}
 
@@ -40,7 +40,7 @@ pub record CellPlace : Type 0 where
 
 -- All that is before a place in the body, newest first.
 abbrev pub before_place : CellPlace → List Element
-before_place place = behind_tokens place.front place.before
+before_place place = after_tokens place.front place.before
 
 -- A token of the current voice is at a place.
 abbrev pub voice_place_at : CellPlace → VoicePlace
@@ -64,7 +64,7 @@ pub record IsItemOf (place : CellPlace) (kind : TokenKind) (item : Item) : Type 
   pub others : List Item
   pub more : List Item
   pub split : items_of place (cell_with place kind) ≡ others ++ item ∷ more
-  pub behind : length others ≡ length (items_of place place.front)
+  pub following : length others ≡ length (items_of place place.front)
   pub one : length (items_of place (cell_of place kind [])) ≡ length (items_of place place.front) + 1
   pub none : items_of place [] ≡ []
 

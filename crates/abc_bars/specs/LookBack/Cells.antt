@@ -13,9 +13,9 @@ abbrev pub element_of : Spanned TokenKind → List (Spanned TokenKind) → Eleme
 element_of token ahead = record { kind = token.kind; tied = tie_ahead ahead }
 
 -- What is before a place after tokens of a cell.
-abbrev pub behind_tokens : List (Spanned TokenKind) → List Element → List Element
-behind_tokens [] before = before
-behind_tokens (token ∷ ahead) before = behind_tokens ahead (element_of token ahead ∷ before)
+abbrev pub after_tokens : List (Spanned TokenKind) → List Element → List Element
+after_tokens [] before = before
+after_tokens (token ∷ ahead) before = after_tokens ahead (element_of token ahead ∷ before)
 
 -- The items of a cell's tokens, each from the state that looking back finds at its own place.
 abbrev pub look_back : Body → List Element → CellResult → List (Spanned TokenKind) → CellResult

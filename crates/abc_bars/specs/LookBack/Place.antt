@@ -22,7 +22,7 @@ use Rattle.abc_bars_header.specs.Header.{header_result}
 use Rattle.abc_bars_header.specs.HeaderLine.{HeaderLine, FieldLine, DirectiveLine}
 use Rattle.abc_bars_body.specs.Step.{line_in}
 use Rattle.abc_bars.specs.LookBack.Held.{body_at}
-use Rattle.abc_bars.specs.LookBack.Cells.{behind_tokens, look_back}
+use Rattle.abc_bars.specs.LookBack.Cells.{after_tokens, look_back}
 use Rattle.abc_bars.specs.LookBack.Defaults.{defaults_at}
 use Rattle.abc_bars.specs.LookBack.Element.{Element}
 use Rattle.abc_bars.specs.LookBack.Header.{file_header_view, header_at, header_view}
@@ -64,30 +64,30 @@ abbrev pub KindsApart : Type 0
 KindsApart = (here there : Place) → view here ≡ view there → kind_of_place here ≡ kind_of_place there
 
 -- The place after a field of a tune's header, of this kind: after a K: the body begins.
-abbrev pub behind_field : Defaults → List HeaderLine → Field → FieldKind → Place
-behind_field opening before field fields.Key = InBody opening (FieldLine field ∷ before) (key_or_empty (key_of field.value)) []
-behind_field opening before field _ = InHeader opening (FieldLine field ∷ before)
+abbrev pub following_field : Defaults → List HeaderLine → Field → FieldKind → Place
+following_field opening before field fields.Key = InBody opening (FieldLine field ∷ before) (key_or_empty (key_of field.value)) []
+following_field opening before field _ = InHeader opening (FieldLine field ∷ before)
 
 -- The place after a line of a tune's header: no directive ends it.
-abbrev pub behind_header_line : Defaults → List HeaderLine → HeaderLine → Place
-behind_header_line opening before (FieldLine field) = behind_field opening before field (kind_of field.letter)
-behind_header_line opening before (DirectiveLine directive) = InHeader opening (DirectiveLine directive ∷ before)
+abbrev pub after_header_line : Defaults → List HeaderLine → HeaderLine → Place
+after_header_line opening before (FieldLine field) = following_field opening before field (kind_of field.letter)
+after_header_line opening before (DirectiveLine directive) = InHeader opening (DirectiveLine directive ∷ before)
 
 -- The place after a cell of a file header, which is this line or music: the latter has no effect.
-abbrev pub behind_file_header : List HeaderLine → Option HeaderLine → Place
-behind_file_header before (Some line) = InFileHeader (line ∷ before)
-behind_file_header before None = InFileHeader before
+abbrev pub after_file_header : List HeaderLine → Option HeaderLine → Place
+after_file_header before (Some line) = InFileHeader (line ∷ before)
+after_file_header before None = InFileHeader before
 
 -- The place after a cell of a tune's header, which is this line or music: the latter is of the body.
-abbrev pub behind_header : Defaults → List HeaderLine → List (Spanned TokenKind) → Option HeaderLine → Place
-behind_header opening before cell (Some line) = behind_header_line opening before line
-behind_header opening before cell None = InBody opening before empty_key (behind_tokens cell [])
+abbrev pub after_header : Defaults → List HeaderLine → List (Spanned TokenKind) → Option HeaderLine → Place
+after_header opening before cell (Some line) = after_header_line opening before line
+after_header opening before cell None = InBody opening before empty_key (after_tokens cell [])
 
 -- The place after a cell.
-abbrev pub place_behind : Place → List (Spanned TokenKind) → Place
-place_behind (InFileHeader before) cell = behind_file_header before (line_in cell)
-place_behind (InHeader opening before) cell = behind_header opening before cell (line_in cell)
-place_behind (InBody opening before key elements) cell = InBody opening before key (behind_tokens cell elements)
+abbrev pub place_following : Place → List (Spanned TokenKind) → Place
+place_following (InFileHeader before) cell = after_file_header before (line_in cell)
+place_following (InHeader opening before) cell = after_header opening before cell (line_in cell)
+place_following (InBody opening before key elements) cell = InBody opening before key (after_tokens cell elements)
 
 -- What a cell of a body gives: each of its tokens by what looking back finds at its own place.
 abbrev pub result_in_body : Defaults → List HeaderLine → Key → List Element → List (Spanned TokenKind) → Items

@@ -18,9 +18,9 @@ use Rattle.abc_bars_voice.specs.declared.voice_state.VoiceState.{VoiceState}
 use Rattle.abc_bars_voice.specs.declared.tied.TiedNote.{TiedNote}
 
 -- Whether what is directly before a token in its cell, if anything does, is a note or a chord.
-abbrev pub is_behind_note : Option TokenKind → Bool
-is_behind_note None = false
-is_behind_note (Some kind) = may_be_tied kind
+abbrev pub is_after_note : Option TokenKind → Bool
+is_after_note None = false
+is_after_note (Some kind) = may_be_tied kind
 
 -- The loose ties inside a chord at a place of its line: those that have no note directly before them.
 abbrev pub loose_inside : ℕ → Chord → List (ℕ × FaultCode)
@@ -30,7 +30,7 @@ loose_inside from chord = map (λ pair. (column_of (from + pair.1.from), LooseTi
 -- or chord is there, one without notes among them; a chord has those inside it. That nothing may be between
 -- is not in ABC 2.1.
 abbrev pub loose_in : Option TokenKind → ℕ → TokenKind → List (ℕ × FaultCode)
-loose_in before from kinds.Tie = if is_behind_note before then [] else (column_of from, LooseTie) ∷ []
+loose_in before from kinds.Tie = if is_after_note before then [] else (column_of from, LooseTie) ∷ []
 loose_in before from (kinds.Chord chord) = loose_inside from chord
 loose_in before from _ = []
 

@@ -145,18 +145,18 @@ unless_ended false notes = notes
 
 -- The notes whose accidentals can be heard after a token, by those before it, newest first: a bar line ends them, a
 -- chord adds its first sixteen. ABC 2.1 section 4.2.
-abbrev pub notes_behind : List Note → TokenKind → List Note
-notes_behind notes (kinds.Note note) = note ∷ notes
-notes_behind notes (kinds.Chord chord) = put_before (counted_notes chord) notes
-notes_behind notes (kinds.InlineField field) = unless_ended (ends_accidentals (kind_of field.letter) field.value) notes
-notes_behind notes (kinds.Bar bar) = []
-notes_behind notes (kinds.Field field) = unless_ended (ends_accidentals (kind_of field.letter) field.value) notes
-notes_behind notes _ = notes
+abbrev pub notes_after : List Note → TokenKind → List Note
+notes_after notes (kinds.Note note) = note ∷ notes
+notes_after notes (kinds.Chord chord) = put_before (counted_notes chord) notes
+notes_after notes (kinds.InlineField field) = unless_ended (ends_accidentals (kind_of field.letter) field.value) notes
+notes_after notes (kinds.Bar bar) = []
+notes_after notes (kinds.Field field) = unless_ended (ends_accidentals (kind_of field.letter) field.value) notes
+notes_after notes _ = notes
 
 -- The notes of a voice since its last bar line, K: or accepted P:, newest first.
 abbrev pub notes_of_bar : List Element → List Note
 notes_of_bar [] = []
-notes_of_bar (element ∷ before) = notes_behind (notes_of_bar before) element.kind
+notes_of_bar (element ∷ before) = notes_after (notes_of_bar before) element.kind
 
 -- The accidentals of notes, newest first, that reach so far: of two that reach the same notes the newer one.
 abbrev pub accidentals_of : Reach → List Note → Accidentals

@@ -28,7 +28,7 @@ pub fn views_along()
 /// What cells give, and the state after them, depends on the view at the place that they follow and on nothing
 /// else that is before it: if the views at two places of two texts are the same and the same cells follow,
 /// these give the same items and the same faults at both, and the views after them are the same.
-#[tactic(auto, using(crate::proofs::LookBack::Along::same_given, crate::proofs::LookBack::Along::same_behind))]
+#[tactic(auto, using(crate::proofs::LookBack::Along::same_given, crate::proofs::LookBack::Along::same_after))]
 pub fn views_decide()
     ensures given { (here there : Place) (cells : List CellTokens) → view here ≡ view there →
         results_along here cells ≡ results_along there cells }

@@ -5,7 +5,7 @@ ghost use Rattle.abc_bars_body.specs.Cell.{with_token};
 ghost use Rattle.abc_bars_body.specs.Step.{entry_step};
 ghost use Rattle.abc_bars.specs.LookBack.AfterBody.{body_after};
 ghost use Rattle.abc_bars.specs.LookBack.Cells.{element_of};
-ghost use Rattle.abc_bars.specs.LookBack.Place.{Place, result_at, place_behind, view};
+ghost use Rattle.abc_bars.specs.LookBack.Place.{Place, result_at, place_following, view};
 ghost use Rattle.abc_bars_body.specs.declared.body.Body.{Body};
 ghost use Rattle.abc_bars_body.specs.declared.cell.CellResult.{CellResult};
 ghost use Rattle.abc_scan.specs.declared.spanned.Spanned.{Spanned};
@@ -17,7 +17,7 @@ ghost use Rattle.abc_scan.specs.declared.token.TokenKind.{TokenKind};
 #[tactic(auto, using(crate::proofs::LookBack::Places::stepped_back))]
 pub fn cell_views()
     ensures { (place : Place) (cell : List (Spanned TokenKind)) →
-        entry_step (view place) cell ≡ (view (place_behind place cell), result_at place cell) }
+        entry_step (view place) cell ≡ (view (place_following place cell), result_at place cell) }
 {}
 
 /// What a token of a cell leaves, wherever it is in its line and whatever broken rhythm it is in, is

@@ -21,7 +21,7 @@ ghost use Rattle.abc_bars.specs.LookBack.Place.{KindsApart};
 /// it finds: before the first line the values with which it opens, and after one more line, a field or a
 /// directive, what it gives from the state before it. The view there is that and no more; a tune begins with the
 /// file header's values alone, which are a header's without voices, and is in its header after its first line.
-#[tactic(auto, using(crate::proofs::HeaderViews::defaults_behind, crate::proofs::HeaderLaws::header_behind))]
+#[tactic(auto, using(crate::proofs::HeaderViews::defaults_after, crate::proofs::HeaderLaws::header_following))]
 pub fn header_views()
     ensures values_open { (opening : Defaults) → defaults_at opening [] ≡ opening }
     ensures values { (opening : Defaults) (before : List HeaderLine) (line : HeaderLine) →

@@ -11,7 +11,7 @@ ghost use Rattle.abc_fields.specs.declared.key.Key.{Key};
 
 /// The state at a place of a body, for all voices, is what looking back finds: at the beginning of the body what it
 /// begins with, and after one element more what that element leaves of what was found before.
-#[tactic(auto, using(crate::proofs::LookBack::Held::begins, crate::proofs::LookBack::Held::body_behind_element))]
+#[tactic(auto, using(crate::proofs::LookBack::Held::begins, crate::proofs::LookBack::Held::body_after_element))]
 pub fn body_views()
     ensures begins { (opening : Defaults) (fields : List HeaderLine) (key : Key) →
         body_at (opening_at opening fields key) [] ≡ opening_at opening fields key }

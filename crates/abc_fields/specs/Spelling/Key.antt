@@ -42,11 +42,11 @@ SetsProperties word = Contains word equals_sign ⊎ (((n : ℤ) × HasMark word 
 -- an empty signature if accidentals are listed, and no signature if there are only properties. The last two are not in
 -- ABC 2.1.
 pub data IsStart (value : List ℕ) (start : Key) (text : List ℕ) : Type 0 where
-  tonal : (major : ℤ) (behind : List ℕ) (basis : Basis) → IsTonic value major behind → IsBasis behind basis text
+  tonal : (major : ℤ) (following : List ℕ) (basis : Basis) → IsTonic value major following → IsBasis following basis text
       → IsKeyOn major basis start → IsStart value start text
-  listed : (first behind : List ℕ) → HasNoTonic value → IsFirstWord value first behind → BeginsAccidental first
+  listed : (first following : List ℕ) → HasNoTonic value → IsFirstWord value first following → BeginsAccidental first
       → start ≡ empty_key → text ≡ value → IsStart value start text
-  properties : (first behind : List ℕ) → HasNoTonic value → IsFirstWord value first behind → ¬ BeginsAccidental first
+  properties : (first following : List ℕ) → HasNoTonic value → IsFirstWord value first following → ¬ BeginsAccidental first
       → SetsProperties first → start ≡ unchanged_key → text ≡ value → IsStart value start text
 
 -- The accidentals among words complete a signature, if there is one.

@@ -18,7 +18,7 @@ pub data IsOrder : ℕ → List ℕ → List ℕ → Type 0 where
       → IsOrder depth (letter ∷ count) (replicate n letter)
   group : {depth n : ℕ} {inner count letters : List ℕ} → depth < 32 → IsOrder (depth + 1) inner letters → IsCount count n
       → IsOrder depth (open_parenthesis ∷ (inner ++ close_parenthesis ∷ count)) (concat (replicate n letters))
-  behind : {depth : ℕ} {front back first second : List ℕ} → IsOrder depth front first → IsOrder depth back second
+  following : {depth : ℕ} {front back first second : List ℕ} → IsOrder depth front first → IsOrder depth back second
       → IsOrder depth (front ++ back) (first ++ second)
 
 -- The letters of the parts that a P: in a header plays, in order.

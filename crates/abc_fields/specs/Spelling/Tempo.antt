@@ -82,7 +82,7 @@ pub record IsQuoted (text : List ℕ) : Type 0 where
   pub no_quote : AllPass (λ b. not (b == quote)) inside
 
 -- A quoted text, optional blanks, and a tempo.
-pub record IsBehindText (text : List ℕ) (m : Tempo) : Type 0 where
+pub record IsAfterText (text : List ℕ) (m : Tempo) : Type 0 where
   pub quoted : List ℕ
   pub gap : List ℕ
   pub tempo : List ℕ
@@ -107,5 +107,5 @@ pub data IsTempo (text : List ℕ) (m : Tempo) : Type 0 where
   empty : text ≡ [] → m ≡ Unset → IsTempo text m
   text_alone : IsQuoted text → m ≡ Unset → IsTempo text m
   without_text : IsBareTempo text m → IsTempo text m
-  behind_text : IsBehindText text m → IsTempo text m
+  after_text : IsAfterText text m → IsTempo text m
   before_text : IsBeforeText text m → IsTempo text m

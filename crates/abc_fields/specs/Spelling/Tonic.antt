@@ -26,10 +26,10 @@ pub data IsSign (text : List ℕ) (added : ℤ) (rest : List ℕ) : Type 0 where
 -- the rest.
 pub record IsTonic (text : List ℕ) (sharps : ℤ) (rest : List ℕ) : Type 0 where
   pub letter : Letter
-  pub behind : List ℕ
-  pub spelling : text ≡ capital letter ∷ behind
+  pub following : List ℕ
+  pub spelling : text ≡ capital letter ∷ following
   pub added : ℤ
-  pub sign : IsSign behind added rest
+  pub sign : IsSign following added rest
   pub sharps_are : sharps ≡ major_sharps letter +ℤ added
 
 -- The first byte of a text, if it has one, fails a test.
@@ -51,6 +51,6 @@ pub data IsBasis (text : List ℕ) (basis : Basis) (rest : List ℕ) : Type 0 wh
       → IsBasis text basis rest
   explicit : (blanks : List ℕ) → IsRun text blanks (codes "exp") rest → 0 < length blanks → basis ≡ Explicit
       → IsBasis text basis rest
-  major : (blanks run behind : List ℕ) → IsRun text blanks run behind → ((mode : Mode) → ¬ IsMode run mode)
+  major : (blanks run following : List ℕ) → IsRun text blanks run following → ((mode : Mode) → ¬ IsMode run mode)
       → ((run ≡ []) ⊎ ((0 < length blanks) × (run ≢ codes "exp"))) → basis ≡ Named Ionian → rest ≡ text
       → IsBasis text basis rest

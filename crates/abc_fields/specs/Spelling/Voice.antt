@@ -7,8 +7,8 @@ use Rattle.abc_fields.specs.Spelling.Shift.{IsShift}
 -- A voice: its identifier is the first word, and the words after it set its shift.
 pub record IsVoice (text : List ℕ) (voice : Voice) : Type 0 where
   pub identifier : List ℕ
-  pub behind : List ℕ
-  pub first : IsFirstWord text identifier behind
+  pub following : List ℕ
+  pub first : IsFirstWord text identifier following
   pub from : voice.from ≡ length first.blanks
   pub to : voice.to ≡ voice.from + length identifier
-  pub shift : IsShift (words_of behind) voice.shift
+  pub shift : IsShift (words_of following) voice.shift

@@ -78,9 +78,9 @@ pub voice_fits : (voices : List (List ℕ)) (voice : List ℕ) → IsHeard voice
 voice_fits voices voice heard_notes at [] all = record { first = All-nil (Fits at); others = All-nil (Fits at) }
 voice_fits voices voice heard_notes at (section ∷ rest) all =
     let play : List Item = play_in section voice in
-    let behind : Notes = voice_notes voices voice (at + longest voices section) rest in
-    notes_fit at play behind (play_kept IsItem section voice (All-head ItemsIn section rest all))
-    (later_fit at (lasting play) (longest voices section) behind (omega (arith, lasts play, heard_notes.lasts section))
+    let following : Notes = voice_notes voices voice (at + longest voices section) rest in
+    notes_fit at play following (play_kept IsItem section voice (All-head ItemsIn section rest all))
+    (later_fit at (lasting play) (longest voices section) following (omega (arith, lasts play, heard_notes.lasts section))
     (voice_fits voices voice heard_notes (at + longest voices section) rest (All-tail ItemsIn section rest all)))
 
 -- how many there are
@@ -89,11 +89,11 @@ pub voice_few : (voices : List (List ℕ)) (voice : List ℕ) → IsHeard voices
 voice_few voices voice heard_notes at [] all = omega arith
 voice_few voices voice heard_notes at (section ∷ rest) all =
     let play : List Item = play_in section voice in
-    let behind : Notes = voice_notes voices voice (at + longest voices section) rest in
+    let following : Notes = voice_notes voices voice (at + longest voices section) rest in
     omega (
       arith,
       sum_by-cons (size_of voices) section rest,
-      notes_few at play behind (play_kept IsItem section voice (All-head ItemsIn section rest all)),
+      notes_few at play following (play_kept IsItem section voice (All-head ItemsIn section rest all)),
       picked_few (with_fields_in_endings (part voice section)) (places_of (with_fields_in_endings (part voice section))),
       heard_notes.plays section,
       voice_few voices voice heard_notes (at + longest voices section) rest (All-tail ItemsIn section rest all),

@@ -165,13 +165,13 @@ programs_fit end sets all few = record {
 }
 
 -- after the one with which a tune opens
-behind_kept : (end : ℕ) (opening : Option ℕ) (sets : List (Grains × ℕ)) → IfSome opening IsProgram → All (IsSetBy end IsProgram) sets → All (IsSetBy end IsProgram) (after_opening opening sets)
-behind_kept end None sets is all = all
-behind_kept end (Some number) sets is all = All-cons (IsSetBy end IsProgram) (record { 0 = 0 }, number) sets (record { before = omega arith; value = is }) all
+after_kept : (end : ℕ) (opening : Option ℕ) (sets : List (Grains × ℕ)) → IfSome opening IsProgram → All (IsSetBy end IsProgram) sets → All (IsSetBy end IsProgram) (after_opening opening sets)
+after_kept end None sets is all = all
+after_kept end (Some number) sets is all = All-cons (IsSetBy end IsProgram) (record { 0 = 0 }, number) sets (record { before = omega arith; value = is }) all
 
-behind_few : (opening : Option ℕ) (sets : List (Grains × ℕ)) → length (after_opening opening sets) ≤ length sets + 1
-behind_few None sets = omega arith
-behind_few (Some number) sets = omega arith
+after_few : (opening : Option ℕ) (sets : List (Grains × ℕ)) → length (after_opening opening sets) ≤ length sets + 1
+after_few None sets = omega arith
+after_few (Some number) sets = omega arith
 
 -- what the law asks of a tune
 pub record IsShort (tune : List Item) : Type 0 where
@@ -290,9 +290,9 @@ module _ (tune : List Item) (short : IsShort tune) where
   voice_programs voice heard_notes =
       let own : List (Grains × ℕ) = set_in program_of voices (voice ∷ []) 0 played in
       programs_fit end (after_opening opening own)
-      (behind_kept end.0 opening own opening_is
+      (after_kept end.0 opening own opening_is
       (sets program_of IsProgram program_is (voice ∷ []) (All-cons (IsHeard voices) voice [] heard_notes (All-nil (IsHeard voices)))))
-      (omega (arith, short.places, behind_few opening own, voice_sets_few program_of voices voice heard_notes 0 played))
+      (omega (arith, short.places, after_few opening own, voice_sets_few program_of voices voice heard_notes 0 played))
 
   all_programs_fit : All (AreProgramsWithin end) (programs_of tune)
   all_programs_fit =

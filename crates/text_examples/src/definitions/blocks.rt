@@ -13,9 +13,9 @@ pub fn file_headers()
     ensures fields { blocks_of (key ∷ key ∷ Blank ∷ reference ∷ []) ≡ header 0 2 ∷ tune 3 4 ∷ [] }
     ensures any_letter { blocks_of (continued ∷ []) ≡ header 0 1 ∷ [] }
     ensures no_blank_line { blocks_of (key ∷ Music ∷ reference ∷ key ∷ []) ≡ header 0 2 ∷ tune 2 4 ∷ [] }
-    ensures behind_comments { blocks_of (Blank ∷ Comment ∷ key ∷ Comment ∷ Blank ∷ key ∷ []) ≡ header 2 3 ∷ free 5 6 ∷ [] }
+    ensures after_comments { blocks_of (Blank ∷ Comment ∷ key ∷ Comment ∷ Blank ∷ key ∷ []) ≡ header 2 3 ∷ free 5 6 ∷ [] }
     ensures directive { blocks_of (Directive ∷ Comment ∷ Blank ∷ reference ∷ []) ≡ header 0 1 ∷ tune 3 4 ∷ [] }
-    ensures behind_a_directive { blocks_of (Directive ∷ Blank ∷ key ∷ []) ≡ header 0 1 ∷ free 2 3 ∷ [] }
+    ensures after_a_directive { blocks_of (Directive ∷ Blank ∷ key ∷ []) ≡ header 0 1 ∷ free 2 3 ∷ [] }
     ensures music_first { blocks_of (Music ∷ key ∷ []) ≡ free 0 2 ∷ [] }
     ensures tune_first { blocks_of (reference ∷ Blank ∷ key ∷ []) ≡ tune 0 1 ∷ free 2 3 ∷ [] }
 {}

@@ -42,7 +42,7 @@ pub fn tempos()
     ensures sum { tempo_of (codes "1/4 3/8 1/4 3/8=40") ≡ Ok (Beat (ratio 5 4) 40) }
     ensures units { tempo_of (codes "120") ≡ Ok (Units 120) }
     ensures text_before { tempo_of (codes "\"Allegro\" 1/4 = 120") ≡ Ok (Beat (ratio 1 4) 120) }
-    ensures text_behind { tempo_of (codes "120\"a\"") ≡ Ok (Units 120) }
+    ensures text_after { tempo_of (codes "120\"a\"") ≡ Ok (Units 120) }
     ensures text_alone { tempo_of (codes "\"Allegro\"") ≡ Ok Unset }
     ensures empty { tempo_of [] ≡ Ok Unset }
     ensures two_texts { tempo_of (codes "\"a\"120\"b\"") ≡ Err BadTempo }

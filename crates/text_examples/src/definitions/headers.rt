@@ -36,7 +36,7 @@ pub fn reaches()
     ensures last { entry_after_header (codes "X:1" ∷ codes "%%propagate-accidentals not" ∷ codes "%%propagate-accidentals octave"
         ∷ codes "K:C" ∷ [])
         ≡ in_body (voice_state_in Free (ratio 1 8) Octave) }
-    ensures behind_the_key { entry_after_header (codes "X:1" ∷ codes "K:C" ∷ codes "%%propagate-accidentals not" ∷ [])
+    ensures after_the_key { entry_after_header (codes "X:1" ∷ codes "K:C" ∷ codes "%%propagate-accidentals not" ∷ [])
         ≡ in_body (voice_state_in Free (ratio 1 8) Pitch) }
 {}
 

@@ -30,16 +30,16 @@ pub fn endings()
     ensures taken_before { play_of (opening 1 ∷ note ∷ single ∷ ending_for 1 2 ∷ note ∷ closing 1 ∷ ending 2 ∷ note ∷ closing 1
         ∷ ending 3 ∷ note ∷ double ∷ [])
         ≡ 1 ∷ 4 ∷ 1 ∷ 4 ∷ 1 ∷ 10 ∷ [] }
-    ensures behind_a_double_bar { play_of (note ∷ double ∷ ending 1 ∷ note ∷ closing 1 ∷ ending 2 ∷ note ∷ double ∷ note ∷ [])
+    ensures after_a_double_bar { play_of (note ∷ double ∷ ending 1 ∷ note ∷ closing 1 ∷ ending 2 ∷ note ∷ double ∷ note ∷ [])
         ≡ 0 ∷ 3 ∷ 6 ∷ 8 ∷ [] }
-    ensures behind_a_double_bar_opened { play_of
+    ensures after_a_double_bar_opened { play_of
         (opening 1 ∷ note ∷ double ∷ ending 1 ∷ note ∷ closing 1 ∷ ending 2 ∷ note ∷ double ∷ note ∷ [])
         ≡ 1 ∷ 4 ∷ 1 ∷ 7 ∷ 9 ∷ [] }
-    ensures behind_the_common_parts_own_bar { play_of
+    ensures after_the_common_parts_own_bar { play_of
         (note ∷ closing 1 ∷ ending 1 ∷ note ∷ closing 1 ∷ ending 2 ∷ note ∷ double ∷ note ∷ [])
         ≡ 0 ∷ 0 ∷ 3 ∷ 6 ∷ 8 ∷ [] }
     ensures at_the_beginning { play_of (ending 1 ∷ note ∷ closing 1 ∷ ending 2 ∷ note ∷ double ∷ note ∷ []) ≡ 1 ∷ 4 ∷ 6 ∷ [] }
-    ensures behind_a_bar_that_opens { play_of (opening 1 ∷ note ∷ single ∷ ending 1 ∷ note ∷ between 1 ∷ ending 2 ∷ note ∷ double
+    ensures after_a_bar_that_opens { play_of (opening 1 ∷ note ∷ single ∷ ending 1 ∷ note ∷ between 1 ∷ ending 2 ∷ note ∷ double
         ∷ note ∷ closing 1 ∷ [])
         ≡ 1 ∷ 4 ∷ 1 ∷ 7 ∷ 9 ∷ 9 ∷ [] }
     ensures no_ending_for_the_third_pass { play_of

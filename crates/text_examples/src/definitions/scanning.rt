@@ -26,7 +26,7 @@ pub fn blanks_and_comments()
     ensures one_return { class_of (codes "\r") ≡ Blank }
     ensures two_returns { class_of (codes "\r\r") ≡ Music }
     ensures comment { class_of (codes "% C") ≡ Comment }
-    ensures comment_behind_blanks { class_of (codes "\t % C") ≡ Comment }
+    ensures comment_after_blanks { class_of (codes "\t % C") ≡ Comment }
     ensures unknown_directive { class_of (codes "%%landscape 1") ≡ Comment }
     ensures escaped { class_of (codes "\\% C") ≡ Music }
 {}
@@ -43,7 +43,7 @@ pub fn programs()
     ensures numbers { map class_of (codes "%%MIDI program 2 41" ∷ codes "%%MIDI program % 41" ∷ []) ≡ replicate 2 Comment }
     ensures words { map class_of (codes "%%MIDI Program 5" ∷ codes "%%MIDIprogram 5" ∷ codes "%%MIDI program5" ∷ [])
         ≡ replicate 3 Comment }
-    ensures behind_a_blank { class_of (codes " %%MIDI program 5") ≡ Comment }
+    ensures after_a_blank { class_of (codes " %%MIDI program 5") ≡ Comment }
 {}
 
 /// The reach of accidentals. ABC 2.1 section 11.3; the first column is not in ABC 2.1.
@@ -53,7 +53,7 @@ pub fn reaches()
         ≡ replicate 3 Directive }
     ensures other_words { map class_of (codes "%%propagate-accidentals pitches" ∷ codes "%%propagate-accidentals on"
         ∷ codes "%%propagate-accidentals Not" ∷ codes "%%propagate-accidentals" ∷ []) ≡ replicate 4 Comment }
-    ensures behind_a_blank { class_of (codes "\t%%propagate-accidentals not") ≡ Comment }
+    ensures after_a_blank { class_of (codes "\t%%propagate-accidentals not") ≡ Comment }
 {}
 
 /// Fields begin at column 1 with a letter or `+` and a colon. ABC 2.1 sections 3 and 3.3.
@@ -61,7 +61,7 @@ pub fn fields()
     ensures reference { class_of (codes "X:1") ≡ Field 88 }
     ensures small_letter { class_of (codes "w:la") ≡ Field 119 }
     ensures continued { class_of (codes "+:more") ≡ Field 43 }
-    ensures behind_a_blank { class_of (codes " X:1") ≡ Music }
+    ensures after_a_blank { class_of (codes " X:1") ≡ Music }
     ensures digit { class_of (codes "1:") ≡ Music }
     ensures colon_alone { class_of (codes "C:") ≡ Field 67 }
     ensures no_colon { class_of (codes "C D") ≡ Music }

@@ -170,11 +170,11 @@ pub fn velocities()
 pub fn factors_of_broken_rhythm()
     ensures before_right { map first_factor (broken Right 1 ∷ broken Right 2 ∷ broken Right 3 ∷ []) ≡ ratio 3 2 ∷ ratio 7 4
         ∷ ratio 15 8 ∷ [] }
-    ensures behind_right { map second_factor (broken Right 1 ∷ broken Right 2 ∷ broken Right 3 ∷ []) ≡ ratio 1 2 ∷ ratio 1 4
+    ensures after_right { map second_factor (broken Right 1 ∷ broken Right 2 ∷ broken Right 3 ∷ []) ≡ ratio 1 2 ∷ ratio 1 4
         ∷ ratio 1 8 ∷ [] }
     ensures before_left { map first_factor (broken Left 1 ∷ broken Left 2 ∷ broken Left 3 ∷ []) ≡ ratio 1 2 ∷ ratio 1 4 ∷ ratio 1 8
         ∷ [] }
-    ensures behind_left { map second_factor (broken Left 1 ∷ broken Left 2 ∷ broken Left 3 ∷ []) ≡ ratio 3 2 ∷ ratio 7 4
+    ensures after_left { map second_factor (broken Left 1 ∷ broken Left 2 ∷ broken Left 3 ∷ []) ≡ ratio 3 2 ∷ ratio 7 4
         ∷ ratio 15 8 ∷ [] }
 {}
 

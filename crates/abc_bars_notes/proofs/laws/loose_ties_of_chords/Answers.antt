@@ -1,5 +1,5 @@
-use Rattle.abc_bars_notes.proofs.LooseTies.{ties_behind_notes}
+use Rattle.abc_bars_notes.proofs.LooseTies.{ties_after_notes}
 use Rattle.abc_bars_notes.proofs.laws.loose_ties_of_chords.Goals as goal
 
 pub returns : goal.returns
-returns c = ties_behind_notes
+returns c = ties_after_notes

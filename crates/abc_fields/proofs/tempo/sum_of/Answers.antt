@@ -14,17 +14,17 @@ returns-in_err-sum-clause-value c =
 pub returns-then-is_empty-clause-value : goal.returns-then-is_empty-clause-value
 returns-then-is_empty-clause-value c =
     let word = c.split_word.ensures.word in
-    let behind = c.split_word.ensures.behind in
+    let following = c.split_word.ensures.following in
     let part = c.in_ok-sum.ensures.value in
-    let e = sum_of-last c.loop.counter c.loop.rest.now c.split_word.result.0.now c.split_word.result.1.now c.in_ok-sum.field-0 c.loop-test.true word behind part c.if-is_empty.ensures in
+    let e = sum_of-last c.loop.counter c.loop.rest.now c.split_word.result.0.now c.split_word.result.1.now c.in_ok-sum.field-0 c.loop-test.true word following part c.if-is_empty.ensures in
     sym (ap (added c.loop.sum) e) ∙ c.loop.invariant.value
 
 pub loop-preserved : goal.loop-preserved
 loop-preserved c =
     let word = c.split_word.ensures.word in
-    let behind = c.split_word.ensures.behind in
+    let following = c.split_word.ensures.following in
     let part = c.in_ok-sum.ensures.value in
-    let e = sum_of-more c.loop.counter c.loop.rest.now c.split_word.result.0.now c.split_word.result.1.now c.in_ok-sum.field-0 c.loop-test.true word behind part c.if-is_empty.ensures in
+    let e = sum_of-more c.loop.counter c.loop.rest.now c.split_word.result.0.now c.split_word.result.1.now c.in_ok-sum.field-0 c.loop-test.true word following part c.if-is_empty.ensures in
     record {
       value = added-added c.loop.sum c.in_ok-sum.field-0 _ ∙ sym (ap (added c.loop.sum) e) ∙ c.loop.invariant.value;
       range = let part = c.in_ok-sum.ensures.range in let so_far = c.loop.invariant.range in omega (arith, part.1, so_far);

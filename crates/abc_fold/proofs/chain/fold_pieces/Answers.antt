@@ -2,7 +2,7 @@ use Rattle.std.proofs.Common.{refl, ap, arith}
 use Rattle.abc_fold.specs.Piece.{steps_needed}
 use Rattle.abc_fold.proofs.Raised.{raised-none}
 use Rattle.abc_fold.proofs.Folding.{ahead_start, ahead_next, ahead_done, cells_done, within_start, within_next, within_exit, within_raised}
-use Rattle.abc_fold.proofs.Following.{known_taken, left_behind, none_left}
+use Rattle.abc_fold.proofs.Following.{known_taken, left_following, none_left}
 use Rattle.abc_fold.proofs.chain.fold_pieces.Goals as goal
 
 pub is_taken-taken-requires : goal.is_taken-taken-requires
@@ -45,7 +45,7 @@ loop-i-preserved g c =
           (ahead_next (g.F.Fold.steps c.args.fold.now) c.args.opening.now c.args.pieces.now laws c.loop-i.i c.loop-i.state c.in_ok-left.left c.index-pieces-i.result
           c.loop-i.states.items c.loop-i.cells.items c.loop-i.items.items c.in_ok-cell.cell c.in_ok-left.given
           c.loop-i.invariant.ahead c.index-pieces-i.is c.loop-i-test.true alike c.in_ok-cell.ensures c.in_ok-left.ensures.items);
-      left = λ taken. left_behind c.args.pieces.now c.loop-i.i c.index-pieces-i.result c.in_ok-left.left c.index-pieces-i.is c.loop-i-test.true (c.in_ok-left.ensures.left taken);
+      left = λ taken. left_following c.args.pieces.now c.loop-i.i c.index-pieces-i.result c.in_ok-left.left c.index-pieces-i.is c.loop-i-test.true (c.in_ok-left.ensures.left taken);
       rooms = (
         omega (arith, c.loop-i.invariant.rooms.0, c.push.ensures.room, c.loop-i-test.true),
         omega (arith, c.loop-i.invariant.rooms.1, c.push-in-loop-i.ensures.room, c.loop-i-test.true),

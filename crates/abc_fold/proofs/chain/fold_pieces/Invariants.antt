@@ -1,7 +1,7 @@
 use Rattle.std.proofs.Common.{◌≡◌, ℕ, ◌+◌, length, true, drop}
 use Rattle.abc_fold.specs.Piece.{steps_needed}
 use Rattle.abc_fold.proofs.Folding.{IsAhead, IsWithin}
-use Rattle.abc_fold.proofs.Following.{IsLeftBehind}
+use Rattle.abc_fold.proofs.Following.{IsLeftAfter}
 use Rattle.abc_fold.proofs.chain.fold_pieces.Given as goal
 
 -- There is room for what is still to come.
@@ -13,6 +13,6 @@ invariant-loop-i g l = record {
   ahead : IsAhead (g.F.Fold.steps l.fold) l.opening l.pieces l.state (drop l.i l.pieces) l.states.items l.cells.items l.items.items;
   within : IsWithin (g.F.Work.Counts.counts l.initial.work) (g.F.Work.Counts.counts l.work)
       (steps_needed (g.F.Fold.steps l.fold) l.state (drop l.i l.pieces)) (steps_needed (g.F.Fold.steps l.fold) l.opening l.pieces);
-  left : l.taken ≡ true → IsLeftBehind l.pieces l.i l.state;
+  left : l.taken ≡ true → IsLeftAfter l.pieces l.i l.state;
   rooms : HasRooms (length l.pieces) l.i l.states.room l.cells.room l.items.room;
 }

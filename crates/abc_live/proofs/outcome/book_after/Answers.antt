@@ -3,7 +3,7 @@ use Rattle.abc_lines.specs.GapList.{Gapped}
 use Rattle.abc_lines.specs.Lines.{Lines}
 use Rattle.abc_lines.specs.Text.{IsText, seen_lines}
 use Rattle.abc_live.specs.Prepared.{IsBook, header_faults_there}
-use Rattle.abc_live.proofs.Outcomes.{behind_inside, book_now, cells_there, faults_now, few_faults, few_lines}
+use Rattle.abc_live.proofs.Outcomes.{after_inside, book_now, cells_there, faults_now, few_faults, few_lines}
 use Rattle.abc_live.proofs.Outcomes.{good_lines, header_there, lines_inside, ok_both, outputs_after, own_lines, taken_over}
 use Rattle.abc_live.proofs.Stretches.{made_tunes, rows_count, stretch_inside}
 use Rattle.abc_live_index.specs.Output.{output_in}
@@ -64,13 +64,13 @@ faults_of-requires-clause-cells g c =
 
 pub prepare-requires-clause-inside : goal.prepare-requires-clause-inside
 prepare-requires-clause-inside g c =
-    behind_inside _ _ _ _ c.requires.prepared _ c.requires.on _ c.stretch-stretch.ensures c.args.book.now.outputs.items c.requires.outputs
+    after_inside _ _ _ _ c.requires.prepared _ c.requires.on _ c.stretch-stretch.ensures c.args.book.now.outputs.items c.requires.outputs
 
 pub prepare-requires-clause-few : goal.prepare-requires-clause-few
 prepare-requires-clause-few g c =
     let few = few_faults _ _ _ _ c.requires.prepared _ c.requires.on _ c.stretch-stretch.ensures c.args.book.now.faults
     (subst (λ (l : Lines). IsText l.text) c.lines.ensures.lines c.len.ensures.limits) c.requires.faults in
-    λ k d inside behind. let small = few k d inside behind in omega (arith, small)
+    λ k d inside following. let small = few k d inside following in omega (arith, small)
 
 pub returns-clause-outputs : goal.returns-clause-outputs
 returns-clause-outputs g c =

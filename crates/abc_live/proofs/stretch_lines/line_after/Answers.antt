@@ -1,6 +1,6 @@
 use Rattle.std.proofs.Common.{rules, ◌+◌, ◌-◌, ◌≤◌, ◌∙◌, length}
 use Rattle.abc_lines.specs.declared.limits.TheConstants.{MOST_LINES}
-use Rattle.abc_live.proofs.SplicedLines.{line_among, line_behind, line_front, line_small}
+use Rattle.abc_live.proofs.SplicedLines.{line_among, line_following, line_front, line_small}
 use Rattle.abc_live.proofs.stretch_lines.line_after.Goals as goal
 
 pub overflow_add-i : goal.overflow_add-i
@@ -21,5 +21,5 @@ returns-then-i-change-2 c =
 pub returns-else-i-change-2 : goal.returns-else-i-change-2
 returns-else-i-change-2 c =
     c.line-else-i-change-2.ensures
-    ∙ line_behind c.args.text.now.text c.args.change.now.at c.args.change.now.removed c.args.change.now.lines.now
+    ∙ line_following c.args.text.now.text c.args.change.now.at c.args.change.now.removed c.args.change.now.lines.now
     c.requires.change c.args.i c.if-i-change.false c.if-i-change-2.false c.requires.inside

@@ -5,4 +5,4 @@ use Rattle.abc_live_index.proofs.faults.put_shifted.Given as goal
 -- those that are put, and the rest
 abbrev pub invariant-loop-fault : goal.invariant-loop-fault
 invariant-loop-fault l =
-    l.faults.items ++ map (shifted_fault l.gone l.came) (drop l.fault-index l.behind) ≡ l.initial.faults.items ++ map (shifted_fault l.gone l.came) l.behind
+    l.faults.items ++ map (shifted_fault l.gone l.came) (drop l.fault-index l.following) ≡ l.initial.faults.items ++ map (shifted_fault l.gone l.came) l.following

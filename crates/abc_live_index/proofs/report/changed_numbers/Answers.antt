@@ -41,5 +41,5 @@ returns c =
     let rises = subst IsStrictlyIncreasing (keys_stay old new c.requires.claims c.args.owners.now c.requires.owners) c.requires.rise in
     ok_both c.sort_dedup.result _ _ _ (λ sorted is ordered.
     found_sorted old new c.requires.claims s.tunes.from s.tunes.came s.tunes.to c.loop-place.place r.order count
-    c.loop-place-test.false r.front r.behind c.loop-place.found.items sorted.items c.loop-place.invariant rises ordered (is ∙ ap (sort_dedup nat_cmp) c.deref.ensures.value))
+    c.loop-place-test.false r.front r.following c.loop-place.found.items sorted.items c.loop-place.invariant rises ordered (is ∙ ap (sort_dedup nat_cmp) c.deref.ensures.value))
     c.sort_dedup.ensures.value c.sort_dedup.ensures.rises

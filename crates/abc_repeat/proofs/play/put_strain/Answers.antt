@@ -2,7 +2,7 @@ use Rattle.std.proofs.Common.{◌++◌, ◌+◌, ◌≤◌, ◌-◌, ◌^◌, le
 use Rattle.abc_repeat.specs.Strain.{strain_of}
 use Rattle.abc_repeat.specs.Play.{places_from}
 use Rattle.abc_repeat.proofs.Rounds.{put_more, rounds_end}
-use Rattle.abc_repeat.proofs.Behind.{ending_behind}
+use Rattle.abc_repeat.proofs.Following.{ending_after}
 use Rattle.abc_repeat.proofs.play.put_strain.Goals as goal
 
 pub loop-earlier-preserved : goal.loop-earlier-preserved
@@ -14,7 +14,7 @@ loop-earlier-preserved c =
     (c.in_ok-extend_from_slice.ensures.items ∙ ap (λ l. c.loop-earlier.play.items ++ l) c.deref-in-loop-earlier.ensures.value)
     (c.in_ok-put_ending.ensures
     ∙ ap (λ l. c.extend_from_slice.new.self.items ++ l)
-    (ending_behind c.args.text.now c.up_to_ending-front.result.now c.args.from (length c.up_to_ending-front.result.now) (c.loop-earlier.earlier + 1) c.up_to_ending-front.ensures.value refl))
+    (ending_after c.args.text.now c.up_to_ending-front.result.now c.args.from (length c.up_to_ending-front.result.now) (c.loop-earlier.earlier + 1) c.up_to_ending-front.ensures.value refl))
 
 pub returns : goal.returns
 returns c =

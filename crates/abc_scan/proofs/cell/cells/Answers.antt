@@ -15,9 +15,9 @@ loop-rest-preserved c =
     let done = c.loop-rest.cells.items in
     let size : c.first_size.result ≡ first_size rest = c.first_size.ensures.value in
     let cell : c.in_ok-cell_of.field-0 ≡ take (first_size rest) rest = c.in_ok-cell_of.ensures ∙ c.split_at.ensures.front ∙ ap (λ n. take n rest) size in
-    let behind : c.split_at.result.1.now ≡ drop (first_size rest) rest = c.split_at.ensures.back ∙ ap (λ n. drop n rest) size in
+    let following : c.split_at.result.1.now ≡ drop (first_size rest) rest = c.split_at.ensures.back ∙ ap (λ n. drop n rest) size in
     let cells : c.push.new.self.items ≡ done ++ take (first_size rest) rest ∷ [] = c.in_ok-push.ensures.items ∙ ap (λ x. done ++ x ∷ []) cell in
-    (λ i. cells i ++ cells_of (behind i)) ∙ next_cell done _ rest (is_some rest (sym c.is_empty.ensures ∙ c.loop-rest-test.true)) c.loop-rest.invariant
+    (λ i. cells i ++ cells_of (following i)) ∙ next_cell done _ rest (is_some rest (sym c.is_empty.ensures ∙ c.loop-rest-test.true)) c.loop-rest.invariant
 
 pub returns-clause-value : goal.returns-clause-value
 returns-clause-value c = no_more c.loop-rest.cells.items (cells_of c.args.tokens.now) c.loop-rest.rest.now (sym c.is_empty.ensures ∙ c.loop-rest-test.false) c.loop-rest.invariant

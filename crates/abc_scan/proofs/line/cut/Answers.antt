@@ -1,7 +1,7 @@
 use Rattle.std.proofs.Common.{◌+◌, ◌++◌, ap, drop, ◌∙◌, arith}
 use Rattle.abc_scan.specs.Cutting.{cutting_from}
 use Rattle.abc_scan.specs.Token.{line_reader}
-use Rattle.abc_scan.proofs.Closings.{absent_behind, front_inside}
+use Rattle.abc_scan.proofs.Closings.{absent_after, front_inside}
 use Rattle.abc_scan.proofs.Cuttings.{cut_more}
 use Rattle.abc_scan.proofs.line.cut.Goals as goal
 
@@ -15,7 +15,7 @@ loop-at-preserved c =
     told.value c.in_ok-push.ensures.items c.loop-at.invariant.cut in
     record {
       inside = front_inside text at size c.loop-at.invariant.inside told.front;
-      known = absent_behind c.next_token.new.absent text at size told.front told.kept;
+      known = absent_after c.next_token.new.absent text at size told.front told.kept;
       cut = ap (λ b. c.push.new.self.items ++ cutting_from line_reader b (at + size) 0 (drop (at + size) text)) c.is_bar-after_bar.ensures ∙ more;
     }
 

@@ -3,7 +3,7 @@ use Rattle.std.proofs.lemmas.List.Elements.{All-nil}
 use Rattle.abc_scan.specs.Cell.{ends_cell, cells_of, HasNoBar}
 use Rattle.abc_scan.specs.Cutting.{cutting_from}
 use Rattle.abc_scan.specs.Token.{line_reader}
-use Rattle.abc_scan.proofs.Closings.{absent_next, absent_behind, front_inside}
+use Rattle.abc_scan.proofs.Closings.{absent_next, absent_after, front_inside}
 use Rattle.abc_scan.proofs.CellLaws.{stays, still_no_bar, cells_more}
 use Rattle.abc_scan.proofs.line_cells.cut_cells.Goals as goal
 
@@ -19,7 +19,7 @@ loop-at-preserved c =
     ) c.loop-at-test.true told.front told.value c.token_at-in-None.ensures c.in_ok-put_token-in-None.ensures.cells c.loop-at.invariant.cut in
     record {
       inside = front_inside text at size c.loop-at.invariant.inside told.front;
-      known = absent_behind c.next_token.new.absent text at size told.front told.kept;
+      known = absent_after c.next_token.new.absent text at size told.front told.kept;
       begun = c.in_ok-put_token-in-None.ensures.begun;
       cut = ap (λ b. c.put_token.new.cells.items ++ cells_of (c.put_token.new.begun.items ++ cutting_from line_reader b (at + size) 0 (drop (at + size) text))) c.is_bar-after_bar.ensures ∙ more;
     }
@@ -40,7 +40,7 @@ loop-at-preserved-in-Some c =
     ) c.loop-at-test.true told.front read c.token_at.ensures (stays token c.loop-at.cells.items c.loop-at.begun.items begun c.in_ok-push-in-Some.ensures.items) c.loop-at.invariant.cut in
     record {
       inside = front_inside text at size c.loop-at.invariant.inside told.front;
-      known = absent_behind c.loop-at.absent text at size told.front (absent_next c.loop-at.absent text at c.loop-at.invariant.known);
+      known = absent_after c.loop-at.absent text at size told.front (absent_next c.loop-at.absent text at c.loop-at.invariant.known);
       begun = subst HasNoBar (sym c.in_ok-push-in-Some.ensures.items) (still_no_bar token c.loop-at.begun.items c.loop-at.invariant.begun (ap ends_cell c.token_at.ensures ∙ told.plain));
       cut = ap (λ b. c.loop-at.cells.items ++ cells_of (begun ++ cutting_from line_reader b (at + size) 0 (drop (at + size) text))) (sym told.plain) ∙ more;
     }

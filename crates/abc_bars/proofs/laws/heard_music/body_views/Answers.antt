@@ -1,5 +1,5 @@
-use Rattle.abc_bars.proofs.LookBack.Held.{body_behind_element}
+use Rattle.abc_bars.proofs.LookBack.Held.{body_after_element}
 use Rattle.abc_bars.proofs.laws.heard_music.body_views.Goals as goal
 
 pub returns-clause-after : goal.returns-clause-after
-returns-clause-after c = body_behind_element
+returns-clause-after c = body_after_element

@@ -7,5 +7,5 @@ use Rattle.abc_bars_body.proofs.entry.Entry.stays.Goals as goal
 pub stays-requires : goal.stays-requires
 stays-requires c =
     let before = c.in-Body-Body.is-0 in
-    let behind = sym c.in-Body-Body.is-1 ∙ c.requires ∙ ap (λ (e : Entry). (entry_step e c.args.cell.now).0) before in
-    rw (c.get.ensures, c.get-in-Body-Body.ensures) (step_keeps_names c.in-Body-Body.body c.in-Body-Body.next c.args.cell.now behind)
+    let following = sym c.in-Body-Body.is-1 ∙ c.requires ∙ ap (λ (e : Entry). (entry_step e c.args.cell.now).0) before in
+    rw (c.get.ensures, c.get-in-Body-Body.ensures) (step_keeps_names c.in-Body-Body.body c.in-Body-Body.next c.args.cell.now following)

@@ -1,5 +1,5 @@
 use Rattle.std.proofs.Common.{◌≡◌, ◌+◌, ◌-◌, ◌≤◌, ◌++◌, drop, length, take, sym, ap, ◌∙◌, subst, arith}
-use Rattle.abc_live_index.proofs.BookSplice.{count, items, same_behind, same_front}
+use Rattle.abc_live_index.proofs.BookSplice.{count, items, same_after, same_front}
 use Rattle.abc_live_index.specs.KeptBook.{KeptBookView}
 use Rattle.abc_lines.specs.GapList.{Gapped}
 use Rattle.abc_live_index.specs.declared.output.Output.{Output}
@@ -20,7 +20,7 @@ differences-requires-clause-change c =
       inside = inside;
       count = count before after tunes.range.from tunes.range.to tunes.outputs.items c.requires.order inside is ∙ ap (λ n. tunes.range.from + n + (length before.items - tunes.range.to)) many;
       front = same_front before after tunes.range.from tunes.range.to tunes.outputs.items c.requires.order inside is;
-      behind = ap (λ n. drop (tunes.range.from + n) after.items) (sym many) ∙ same_behind before after tunes.range.from tunes.range.to tunes.outputs.items c.requires.order inside is;
+      following = ap (λ n. drop (tunes.range.from + n) after.items) (sym many) ∙ same_after before after tunes.range.from tunes.range.to tunes.outputs.items c.requires.order inside is;
     }
 
 pub returns-in-Ok-clause-outputs : goal.returns-in-Ok-clause-outputs

@@ -9,4 +9,4 @@ returns-in_ok-titles-clause-after c =
     let count = c.keeps_count.ensures c.if-keeps_count.true in
     titles_among (old_outputs s)
     (new_outputs s) s.tunes.from s.tunes.came s.tunes.to _ c.in_ok-titles.titles.items c.requires.order c.requires.inside
-    count (omega (arith, count, c.requires.order)) c.requires.count c.requires.front c.requires.behind c.in_ok-titles.ensures
+    count (omega (arith, count, c.requires.order)) c.requires.count c.requires.front c.requires.following c.in_ok-titles.ensures

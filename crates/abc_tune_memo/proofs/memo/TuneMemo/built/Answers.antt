@@ -1,5 +1,5 @@
 use Rattle.std.proofs.Common.{sym, ◌∙◌}
-use Rattle.abc_tune_memo.proofs.Remembering.{after_asking, after_keeping, found_values, kept_behind}
+use Rattle.abc_tune_memo.proofs.Remembering.{after_asking, after_keeping, found_values, kept_after}
 use Rattle.abc_tune_memo.proofs.memo.TuneMemo.built.Goals as goal
 
 pub returns-in_err-known-clause-remembers : goal.returns-in_err-known-clause-remembers
@@ -35,6 +35,6 @@ returns-clause-remembers g c =
 
 pub returns-clause-first : goal.returns-clause-first
 returns-clause-first g c =
-    kept_behind g.C.Defaults.PartialEq.eq c.args.key c.in_ok-known.field-0 c.in_ok-built.built c.args.self.now c.recall.new.self c.remember.new.self
+    kept_after g.C.Defaults.PartialEq.eq c.args.key c.in_ok-known.field-0 c.in_ok-built.built c.args.self.now c.recall.new.self c.remember.new.self
     c.in_ok-known.ensures.value c.in_default.not-Some c.recall.ensures.entries
     c.remember.ensures

@@ -17,18 +17,18 @@ without_common (marks.Play ∷ text) = without_common text
 without_common (marks.Bar closes opens double ∷ text) = without_common text
 without_common (marks.Ending numbers ∷ text) = refl
 
-behind_front : (text front : List Mark) (n : ℕ) → front ≡ (strain_of text).common → n ≡ length front
+after_front : (text front : List Mark) (n : ℕ) → front ≡ (strain_of text).common → n ≡ length front
     → strain_of (take (length text - n) (drop n text)) ≡ bare (strain_of text)
-behind_front text front n is long =
+after_front text front n is long =
     ap strain_of (rest_of n text) ∙ ap (λ k. strain_of (drop k text)) (long ∙ ap length is) ∙ without_common text
 
 -- the ending of a pass is found after the common part as in the whole
-pub ending_behind : (text front : List Mark) (at n pass : ℕ) → front ≡ (strain_of text).common → n ≡ length front
+pub ending_after : (text front : List Mark) (at n pass : ℕ) → front ≡ (strain_of text).common → n ≡ length front
     → ending_of (at + n) (strain_of (take (length text - n) (drop n text))) pass ≡ ending_of at (strain_of text) pass
-ending_behind text front at n pass is long =
+ending_after text front at n pass is long =
     let endings = (strain_of text).endings in
     let here : at + n + 0 ≡ at + n = omega arith in
-    ap (λ strain. ending_of (at + n) strain pass) (behind_front text front n is long)
+    ap (λ strain. ending_of (at + n) strain pass) (after_front text front n is long)
     ∙ ap (λ k. first_ending pass k endings) here
     ∙ ap (λ k. first_ending pass (at + k) endings) (long ∙ ap length is)
 
@@ -40,7 +40,7 @@ bare_size strain (suc passes) =
     ∙ ap (λ k. endings_size strain passes + k) (length-first_ending (suc passes) 0 (length strain.common) strain.endings)
 
 -- its endings play as many places there
-pub endings_behind : (text front : List Mark) (n passes : ℕ) → front ≡ (strain_of text).common → n ≡ length front
+pub endings_after : (text front : List Mark) (n passes : ℕ) → front ≡ (strain_of text).common → n ≡ length front
     → endings_size (strain_of (take (length text - n) (drop n text))) passes ≡ endings_size (strain_of text) passes
-endings_behind text front n passes is long =
-    ap (λ strain. endings_size strain passes) (behind_front text front n is long) ∙ bare_size (strain_of text) passes
+endings_after text front n passes is long =
+    ap (λ strain. endings_size strain passes) (after_front text front n is long) ∙ bare_size (strain_of text) passes

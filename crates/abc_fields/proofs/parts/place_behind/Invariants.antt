@@ -1,8 +1,0 @@
-use Rattle.std.proofs.Common.{◌≡◌, Some, drop}
-use Rattle.std.specs.List.{fold}
-use Rattle.abc_fields.specs.Parts.{order_bytes, next_of, place_behind}
-use Rattle.abc_fields.proofs.parts.place_behind.Given as goal
-
--- the place after the rest is the place after the whole text
-abbrev pub invariant-loop-byte : goal.invariant-loop-byte
-invariant-loop-byte l = fold next_of (Some l.place) (order_bytes (drop l.byte-index l.text)) ≡ place_behind l.text
