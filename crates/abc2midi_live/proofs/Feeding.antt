@@ -13,7 +13,7 @@ use Rattle.abc_fold.specs.Work.{raised}
 use Rattle.abc_publish.specs.Publisher.{Directory}
 use Rattle.abc2midi_live.specs.Cut.{IsCut}
 use Rattle.abc2midi_live.specs.Machine.{Future, future_change, IsClean, Answers, AsksNothing, CarriesOut, EndsOneAtMost}
-use Rattle.abc2midi_live.specs.Machine.{between, future_of_bytes, MachineState}
+use Rattle.abc2midi_live.specs.Machine.{change_between, future_of_bytes, MachineState}
 use Rattle.abc2midi_live.specs.Outcome.{RunEnds, Outlets, outlets, Serves, Tells, TellsFirst, FailsToFeed, FailsToServe, FailsAtEnd}
 use Rattle.abc2midi_live.specs.Outcome.{AnswersInput, Turn, Leaves, Within, AtTheEnd, InHand, LastInHand, read_counts, Reads}
 use Rattle.abc2midi_live.specs.Outcome.{Failed, read_faults}
@@ -118,7 +118,7 @@ LineState = MachineState (List ℕ)
 
 -- what serving a line says, as clauses have it
 abbrev pub Served : LineState → LineState → List ℕ → Outlets → Outlets → Bool → Type 0
-Served before after line old new goes_on = Serves before.directory (between before after) (line ∷ []) old new goes_on
+Served before after line old new goes_on = Serves before.directory (change_between before after) (line ∷ []) old new goes_on
 
 -- two pieces are served
 serves_both : {X : Type 0} (before mid after : Future X) (d e f : Directory) (a b : List X) (old w new : Outlets) (goes_on : Bool)
@@ -236,13 +236,13 @@ fed_all {before} {mid} after {d} {e} {piece} {rest} {line} {old} {new} fed is sa
 -- what is written first, after a piece that is served
 pub first_after : (before mid : Ahead) (d e : Directory) (piece front next : List ℕ) (old w new : Outlets) → Serves d (future_change before mid e) piece old w true
     → TellsFirst e (mid SoFar front) (mid Stopped (front ++ next)) w new → TellsFirst d (before SoFar (piece ++ front)) (before Stopped ((piece ++ front) ++ next)) old new
-first_after before mid d e piece front next old w new (text, stored, wrote, says, follows) (stored', t, between, is, wrote', follows', (more, t', is', follows'')) = (
+first_after before mid d e piece front next old w new (text, stored, wrote, says, follows) (stored', t, change_between, is, wrote', follows', (more, t', is', follows'')) = (
   stored ++ stored',
   run_output (text ++ t.text) t.directory,
-  between,
+  change_between,
   continued_with before mid e piece stored stored' text t SoFar front says is,
   Appends-trans old.output w.output new.output text t.text wrote wrote',
-  follows_both old.store w.store between stored stored' d e t.directory follows follows',
+  follows_both old.store w.store change_between stored stored' d e t.directory follows follows',
   (
     more,
     run_output (text ++ t'.text) t'.directory,
@@ -299,7 +299,7 @@ serve_line (Ok goes_on) before before' after begun piece line begun' old new sam
   stored,
   wrote,
   line_ended before.future after.future after.directory begun piece line begun' stored text goes_on clean clean_piece is none
-      (subst (λ (s : LineState). Answers (between s after) (line ∷ []) stored text goes_on) same says),
+      (subst (λ (s : LineState). Answers (change_between s after) (line ∷ []) stored text goes_on) same says),
   subst (λ (s : LineState). Follows old.store new.store stored s.directory after.directory) same follows,
 )
 serve_line (Err Read) before before' after begun piece line begun' old new same clean clean_piece is none h = absurd h

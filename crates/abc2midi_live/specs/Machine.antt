@@ -31,8 +31,8 @@ abbrev pub machine_state : {X : Type 0} → Future X → Directory → MachineSt
 machine_state future directory = record { future = future; directory = directory }
 
 -- the text to be written from a machine's state before a piece to its state after it
-abbrev pub between : {X : Type 0} → MachineState X → MachineState X → FutureChange X
-between before after = future_change before.future after.future after.directory
+abbrev pub change_between : {X : Type 0} → MachineState X → MachineState X → FutureChange X
+change_between before after = future_change before.future after.future after.directory
 
 -- Whatever comes after a piece, and whatever the store answers after these answers: what was to be written before it is
 -- the text, and then, if the machine goes on, what is to be written after it.
@@ -51,7 +51,7 @@ Replies t line now End = Answers t (line ∷ []) now [] false
 -- A line is taken: the reply goes with the store's answers.
 abbrev pub TakesLine : MachineState (List ℕ) → MachineState (List ℕ) → List ℕ → StoreSeen → StoreSeen → Reply → Type 0
 TakesLine before after line old new reply =
-    (stored : List StoreAnswer) × Replies (between before after) line stored reply
+    (stored : List StoreAnswer) × Replies (change_between before after) line stored reply
     × Follows old new stored before.directory after.directory
 
 -- The input is carried out for these answers of a store. The definition leaves open what is written.

@@ -4,7 +4,7 @@ use Rattle.std.specs.Prelude.{◌⊎◌, IfSome, IsSome, MatchResult}
 use Rattle.std.specs.Io.KnownBytes.{Appends, Consumes, IsAtEnd, Keeps}
 use Rattle.abc_publish.specs.Publisher.{Directory}
 use Rattle.abc_text.specs.Byte.{line_feed}
-use Rattle.abc2midi_live.specs.Machine.{between, Answers, CarriesOut, EndsOneAtMost, Future, MachineState, FutureChange}
+use Rattle.abc2midi_live.specs.Machine.{change_between, Answers, CarriesOut, EndsOneAtMost, Future, MachineState, FutureChange}
 use Rattle.abc2midi_live.specs.Storing.{Follows, HasNoFiles, MirrorsWhereTold, StoreAnswer, StoreSeen, faults_among}
 use Rattle.abc2midi_live.specs.RunOutput.{Extent, Whole, SoFar, Stopped, RunOutput, is_whole}
 use Rattle.abc2midi_live.specs.Transcript.{input_lines, no_directory, transcript, transcript_of}
@@ -54,7 +54,7 @@ Serves before t piece old new goes_on =
 abbrev pub ServesOrFails : {X : Type 0} → MachineState X → MachineState X → List X → Outlets → Outlets → Result Bool RunFault
     → Type 0
 ServesOrFails before after piece old new result =
-    MatchResult result (Serves before.directory (between before after) piece old new)
+    MatchResult result (Serves before.directory (change_between before after) piece old new)
     (FailsToServe before.directory (λ extent. before.future extent piece) old new)
 
 -- What is written for the answers of a store is written, and these are its answers.
@@ -85,10 +85,10 @@ TellsOrFails before old new result =
 abbrev pub TellsFirst : Directory → (List StoreAnswer → Option RunOutput) → (List StoreAnswer → Option RunOutput) → Outlets
     → Outlets → Type 0
 TellsFirst before answered in_hand old new =
-    (stored : List StoreAnswer) × (run_output : RunOutput) × (between : StoreSeen) × (answered stored ≡ Some run_output)
+    (stored : List StoreAnswer) × (run_output : RunOutput) × (change_between : StoreSeen) × (answered stored ≡ Some run_output)
     × Appends old.output new.output run_output.text
-    × Follows old.store between stored before run_output.directory
-    × CarriesOut run_output.directory (λ more. in_hand (stored ++ more)) between new.store
+    × Follows old.store change_between stored before run_output.directory
+    × CarriesOut run_output.directory (λ more. in_hand (stored ++ more)) change_between new.store
 
 -- The result of a fault while a piece of the input is served. If an answer cannot be written, a front of the piece is
 -- carried out. If an allocation fails, a front of it is answered, and the run stops within the command of the next line.
@@ -103,7 +103,7 @@ FailsToFeed before future piece old new Memory =
 -- The result of a piece of the input that is served, or of the fault within it.
 abbrev pub FeedsOrBreaks : MachineState ℕ → MachineState ℕ → List ℕ → Outlets → Outlets → Result Bool RunFault → Type 0
 FeedsOrBreaks before after piece old new result =
-    MatchResult result (Serves before.directory (between before after) piece old new)
+    MatchResult result (Serves before.directory (change_between before after) piece old new)
     (FailsToFeed before.directory before.future piece old new)
 
 -- The ends of a run, if they are known: the bytes left in the reader, the bytes in the writer, and the visible state of
@@ -183,7 +183,7 @@ Turn before t old new false = AnswersInput before t.before old new
 -- The result of one read, or of the fault that it ends in.
 abbrev pub TurnsOrFails : MachineState ℕ → MachineState ℕ → RunEnds → RunEnds → Result Bool RunFault → Type 0
 TurnsOrFails before after old new result =
-    MatchResult result (Turn before.directory (between before after) old new) (Leaves before.directory before.future old new)
+    MatchResult result (Turn before.directory (change_between before after) old new) (Leaves before.directory before.future old new)
 
 -- A machine in this state answers all of an input, or a fault leaves a part of the answers.
 abbrev pub AnswersAll : {T : Type 0} → MachineState (List ℕ) → RunEnds → RunEnds → Result T RunFault → Type 0

@@ -2,5 +2,5 @@
 use Rattle.abc2midi_live.specs.declared.streams.Piped.{Piped}
 
 -- a reader or a writer of std that has not been used yet
-abbrev pub piped : {T : Type 0} → T → Piped T
-piped inner = record { inner = inner; failures = 0; calls = 0 }
+abbrev pub new_pipe : {T : Type 0} → T → Piped T
+new_pipe inner = record { inner = inner; failures = 0; calls = 0 }

@@ -86,11 +86,11 @@ pub struct Piped<T> {
 }
 
 impl<T> Piped<T> {
-    ghost use Rattle.abc2midi_live.specs.Piped.{piped};
+    ghost use Rattle.abc2midi_live.specs.Piped.{new_pipe};
 
     /// Nothing has been read or written yet.
     pub fn new(inner: T) -> Piped<T>
-        ensures { result ≡ piped inner }
+        ensures { result ≡ new_pipe inner }
     {
         Piped {
             inner,

@@ -16,8 +16,8 @@ use Rattle.abc_bars_voice.specs.declared.voice_state.VoiceState.{VoiceState}
 use Rattle.abc_bars_voice.specs.declared.voice_shift.VoiceShift.{VoiceShift}
 
 -- The shift of a voice of which no field says any part.
-abbrev pub unshifted : VoiceShift
-unshifted = record { clef = pos 0; octave = pos 0; transpose = pos 0 }
+abbrev pub zero_shift : VoiceShift
+zero_shift = record { clef = pos 0; octave = pos 0; transpose = pos 0 }
 
 -- The state of a voice at the beginning of a body, by the header's values, the key that ended the header, and
 -- what was said of the voice's shift: its own parts go before those of the key. A key without a signature
@@ -27,7 +27,7 @@ opening_voice_state defaults key said = record {
   meter = meter_in defaults;
   unit = unit_in defaults;
   signature = unwrap_or key.signature natural;
-  shift = with_properties (with_properties unshifted key.shift) said;
+  shift = with_properties (with_properties zero_shift key.shift) said;
   accidentals = no_accidentals defaults.reach;
   tuplet = None;
   tied = [];

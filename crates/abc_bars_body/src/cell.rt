@@ -350,7 +350,11 @@ impl CellResult {
             TokenKind::Ending(passes) => self.ending(place, *passes),
             TokenKind::Tuplet(mark) => self.tuplet(place, *mark),
             TokenKind::Broken(_) => {
-                self.fault_if(is_bad_mark(self.preceding, ahead), place, FaultCode::BadBroken)
+                self.fault_if(
+                    is_bad_mark(self.preceding, ahead),
+                    place,
+                    FaultCode::BadBroken,
+                )
             }
             TokenKind::Tie => self.tie(place),
             TokenKind::Blank | TokenKind::NoEffect => Ok(()),

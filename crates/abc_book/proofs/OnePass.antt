@@ -7,14 +7,14 @@ use Rattle.abc_scan.specs.declared.class.LineClass.TheVariants.{Blank, Comment, 
 use Rattle.abc_book.specs.declared.block.Block.{Block}
 use Rattle.abc_book.specs.declared.block.BlockKind.TheVariants.{FileHeader, Tune, Free}
 use Rattle.abc_book.specs.declared.pass.OpenBlock.TheVariants.{Nothing, Inside, Ended}
-use Rattle.abc_book.specs.Block.{Line, letter_x, numbered, without_comments, first_piece, other_pieces, cut_at_blanks, cut_before_x, has_lines, pieces_of, end_after, later_blocks, blocks_of_runs}
+use Rattle.abc_book.specs.Block.{Line, letter_x, number_lines, without_comments, first_piece, other_pieces, cut_at_blanks, cut_before_x, has_lines, pieces_of, end_after, later_blocks, blocks_of_runs}
 use Rattle.abc_book.specs.Block.{blocks_of, opening_kind}
 use Rattle.abc_book.specs.Pass.{one_line, blocks_from}
 use Rattle.abc_book.specs.Laws.{OnePass}
 
 -- the lines from this number on, cut at the blank ones; the current run first
 pub runs_at : ℕ → List LineClass → List (List Line)
-runs_at at classes = cut_at_blanks (without_comments (numbered at classes))
+runs_at at classes = cut_at_blanks (without_comments (number_lines at classes))
 
 -- the current run, cut before each X: line; the current piece first
 pub pieces_at : ℕ → List LineClass → List (List Line)

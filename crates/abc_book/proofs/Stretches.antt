@@ -7,12 +7,12 @@ use Rattle.std.proofs.lemmas.List.Elements.{filter-append}
 use Rattle.abc_scan.specs.declared.class.LineClass.{LineClass}
 use Rattle.abc_book.specs.declared.block.Block.{Block}
 use Rattle.abc_book.specs.Block.{blocks_of}
-use Rattle.abc_book.specs.Laws.{moved, RiseFromTo}
-use Rattle.abc_book.specs.Stretch.{BeginTune, IsCut, blocks_at, blocks_before, blocks_after, shifted, AStretchIsEnough}
+use Rattle.abc_book.specs.Laws.{move_block, RiseFromTo}
+use Rattle.abc_book.specs.Stretch.{BeginTune, IsCut, blocks_at, blocks_before, blocks_after, shift_block, AStretchIsEnough}
 use Rattle.abc_book.proofs.Cuts.{x_line_cuts}
 use Rattle.abc_book.proofs.Rising.{blocks_rise}
 
-unmoved : (blocks : List Block) → map (moved 0) blocks ≡ blocks
+unmoved : (blocks : List Block) → map (move_block 0) blocks ≡ blocks
 unmoved [] = refl
 unmoved (block ∷ blocks) =
     let from : block.from + 0 ≡ block.from = omega arith in
@@ -49,7 +49,7 @@ rise_on : (first last : ℕ) (blocks : List Block) → RiseFromTo first blocks l
 rise_on first last [] h = h
 rise_on first last (block ∷ blocks) h = omega (arith, h.0, h.1, rise_on block.to last blocks h.2)
 
-rise_moved : (n first last : ℕ) (blocks : List Block) → RiseFromTo first blocks last → RiseFromTo (first + n) (map (moved n) blocks) (last + n)
+rise_moved : (n first last : ℕ) (blocks : List Block) → RiseFromTo first blocks last → RiseFromTo (first + n) (map (move_block n) blocks) (last + n)
 rise_moved n first last [] h = omega arith
 rise_moved n first last (block ∷ blocks) h = (omega (arith, h.0), omega (arith, h.1), rise_moved n block.to last blocks h.2)
 
@@ -75,7 +75,7 @@ module _ (line : ℕ) where
       let later = above block.to last blocks h.2 (omega (arith, h.0, h.1)) in
       (simp before later.0, simp following (ap (λ l. block ∷ l) later.1))
 
-shifts : (n went came : ℕ) (blocks : List Block) → map (shifted went came) (map (moved (n + went)) blocks) ≡ map (moved (n + came)) blocks
+shifts : (n went came : ℕ) (blocks : List Block) → map (shift_block went came) (map (move_block (n + went)) blocks) ≡ map (move_block (n + came)) blocks
 shifts n went came [] = refl
 shifts n went came (block ∷ blocks) =
     let from : block.from + (n + went) - went + came ≡ block.from + (n + came) = omega arith in
@@ -116,4 +116,4 @@ stretch_is_enough before old new following cut cut_new tune =
     let n = length before in let k = length old in let m = length new in
     in_three before new following cut_new tune
     ∙ (λ i. sym (stay before old following cut tune) i
-    ++ (blocks_at n new ++ (sym (shifts n k m (blocks_of following)) ∙ ap (map (shifted k m)) (sym (rest before old following cut tune))) i))
+    ++ (blocks_at n new ++ (sym (shifts n k m (blocks_of following)) ∙ ap (map (shift_block k m)) (sym (rest before old following cut tune))) i))

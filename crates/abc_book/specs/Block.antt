@@ -33,9 +33,9 @@ is_x_line (Field letter) = letter == letter_x
 is_x_line _ = false
 
 -- The lines of a text with their numbers from this one on.
-abbrev pub numbered : ℕ → List LineClass → List Line
-numbered number [] = []
-numbered number (class ∷ classes) = line_at number class ∷ numbered (number + 1) classes
+abbrev pub number_lines : ℕ → List LineClass → List Line
+number_lines number [] = []
+number_lines number (class ∷ classes) = line_at number class ∷ number_lines (number + 1) classes
 
 -- The lines without the comments. ABC 2.1 section 2.2.
 abbrev pub without_comments : List Line → List Line
@@ -72,7 +72,7 @@ has_lines (line ∷ lines) = true
 
 -- The runs of lines between blank ones. ABC 2.1 section 2.2.
 abbrev pub runs_of : List LineClass → List (List Line)
-runs_of classes = filter has_lines (cut_at_blanks (without_comments (numbered 0 classes)))
+runs_of classes = filter has_lines (cut_at_blanks (without_comments (number_lines 0 classes)))
 
 -- The pieces of a run: an X: line always begins a tune. Not in ABC 2.1.
 abbrev pub pieces_of : List Line → List (List Line)

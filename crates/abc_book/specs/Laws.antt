@@ -30,14 +30,14 @@ NoBlankInABlock =
     → count_by (holds line) (blocks_of classes) ≡ 0
 
 -- A block `lines` lines further down.
-abbrev pub moved : ℕ → Block → Block
-moved lines block = record { kind = block.kind; from = block.from + lines; to = block.to + lines }
+abbrev pub move_block : ℕ → Block → Block
+move_block lines block = record { kind = block.kind; from = block.from + lines; to = block.to + lines }
 
 -- The blocks of a text are those of the lines before an X: line, and those of the rest. Not in ABC 2.1.
 abbrev pub AnXLineCuts : Type 0
 AnXLineCuts =
     (before following : List LineClass) (x : LineClass) → IsTrue (is_x_line x)
-    → blocks_of (before ++ x ∷ following) ≡ blocks_of before ++ map (moved (length before)) (blocks_of (x ∷ following))
+    → blocks_of (before ++ x ∷ following) ≡ blocks_of before ++ map (move_block (length before)) (blocks_of (x ∷ following))
 
 -- Blocks of at least one line follow one another from the first line to the last.
 abbrev pub RiseFromTo : ℕ → List Block → ℕ → Type 0

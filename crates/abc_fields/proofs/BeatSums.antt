@@ -3,7 +3,7 @@ use Rattle.std.proofs.Common.{◌≡◌, ℕ, zero, suc, ◌+◌, ◌-◌, ◌<�
 use Rattle.std.specs.Prelude.{◌==◌, option_and_then}
 use Rattle.std.proofs.lemmas.Bool.{eqb-true}
 use Rattle.abc_fields.proofs.Fractions.{sum_of-suc}
-use Rattle.abc_fields.specs.Tempo.{fraction_of, word_in_front, after_word, added, sum_with, sum_of}
+use Rattle.abc_fields.specs.Tempo.{fraction_of, word_in_front, after_word, add_fraction, sum_with, sum_of}
 
 -- a step of the sum
 left_over : (i : ℕ) → i < 16 → 16 - i ≡ suc (16 - (i + 1))
@@ -23,7 +23,7 @@ sum_of-last i text word [] part h e b f none = at_step i text word (Some part) h
 sum_of-last i text word (x ∷ xs) part h e b f none = absurd (omega (arith, eqb-true (length (x ∷ xs)) 0 (sym none)))
 
 pub sum_of-more : (i : ℕ) (text word following : List ℕ) (part : ℕ) → i < 16 → word ≡ word_in_front text → following ≡ after_word text → Some part ≡ fraction_of word → false ≡ (length following == 0)
-    → sum_of (16 - i) text ≡ added part (sum_of (16 - (i + 1)) following)
+    → sum_of (16 - i) text ≡ add_fraction part (sum_of (16 - (i + 1)) following)
 sum_of-more i text word [] part h e b f some = cc
 sum_of-more i text word (x ∷ xs) part h e b f some = at_step i text word (Some part) h e f ∙ ap (λ l. sum_with (sum_of (16 - (i + 1))) l part) (sym b)
 
@@ -31,10 +31,10 @@ pub sum_of-end : (i : ℕ) (text : List ℕ) → 16 ≤ i → sum_of (16 - i) te
 unfolding sum_of
 sum_of-end i text h = let n : 16 - i ≡ zero = omega arith in ap (λ n. sum_of n text) n
 
-pub added-added : (a b : ℕ) (o : Option ℕ) → added (a + b) o ≡ added a (added b o)
+pub added-added : (a b : ℕ) (o : Option ℕ) → add_fraction (a + b) o ≡ add_fraction a (add_fraction b o)
 added-added a b None = refl
 added-added a b (Some n) = let e : a + b + n ≡ a + (b + n) = omega arith in ap Some e
 
-pub added-zero : (o : Option ℕ) → added 0 o ≡ o
+pub added-zero : (o : Option ℕ) → add_fraction 0 o ≡ o
 added-zero None = refl
 added-zero (Some n) = let e : 0 + n ≡ n = omega arith in ap Some e

@@ -16,7 +16,7 @@ use Rattle.abc_text.specs.Number.{number_of, IsNumber}
 use Rattle.abc_text.specs.Cut.{cut_at}
 use Rattle.abc_text.specs.Power.{IsPowerUpTo}
 use Rattle.abc_text.specs.Word.{bytes_before_blank}
-use Rattle.abc_fields.specs.Tempo.{part_of, fraction_of, word_in_front, after_word, added, sum_with, sum_of}
+use Rattle.abc_fields.specs.Tempo.{part_of, fraction_of, word_in_front, after_word, add_fraction, sum_with, sum_of}
 use Rattle.abc_fields.specs.Spelling.Tempo.{IsFraction, IsSum}
 use Rattle.abc_text.proofs.Powers.{power_from, power_to}
 use Rattle.abc_fields.proofs.Readings.{bound, map_some}
@@ -239,7 +239,7 @@ sum_of-Some (suc most) text sum e =
     let word = fraction_of-Some (word_in_front text) found.0 found.1 in
     sum_by most text sum (λ rest n. sum_of-Some most rest n) (after_word text) refl found.0 word found.2 (word_cut text)
 
-more_than_none : (f : List ℕ → Option ℕ) (rest : List ℕ) (part : ℕ) → 1 ≤ length rest → sum_with f rest part ≡ added part (f rest)
+more_than_none : (f : List ℕ → Option ℕ) (rest : List ℕ) (part : ℕ) → 1 ≤ length rest → sum_with f rest part ≡ add_fraction part (f rest)
 more_than_none f [] part some = absurd (omega arith)
 more_than_none f (x ∷ xs) part some = refl
 
@@ -263,7 +263,7 @@ sum_of-is (suc most) text sum (inr first) =
     let read : fraction_of (word_in_front text) ≡ Some first.part = ap fraction_of word ∙ fraction_of-is first.word first.part first.word_is in
     let rest_read : sum_of most first.rest ≡ Some first.rest_sum = sum_of-is most first.rest first.rest_sum first.rest_is in
     sum_of-suc most text ∙ ap (option_and_then (sum_with (sum_of most) (after_word text))) read ∙ ap (λ l. sum_with (sum_of most) l first.part) following
-    ∙ more_than_none (sum_of most) first.rest first.part begins.1 ∙ ap (added first.part) rest_read ∙ ap Some (sym first.total)
+    ∙ more_than_none (sum_of most) first.rest first.part begins.1 ∙ ap (add_fraction first.part) rest_read ∙ ap Some (sym first.total)
 
 -- the size of sums
 pub record IsWithin (sum limit : ℕ) : Type 0 where

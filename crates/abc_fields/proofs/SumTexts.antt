@@ -9,7 +9,7 @@ use Rattle.std.proofs.lemmas.List.Folds.{list_any-append, list_any_none}
 use Rattle.std.proofs.lemmas.List.Sums.{sum_by-cons}
 use Rattle.std.proofs.lemmas.List.Splits.{slice_split_none, slice_split_at, length-slice_split, join_with_byte-slice_split}
 use Rattle.abc_text.specs.Number.{IsNumber, number_of}
-use Rattle.abc_fields.specs.Meter.{added, sum_of_words, at_most_255, sum_of, has_plus}
+use Rattle.abc_fields.specs.Meter.{add_numbers, sum_of_words, at_most_255, sum_of, has_plus}
 use Rattle.abc_fields.specs.Spelling.Meter.{IsSum}
 use Rattle.abc_text.proofs.Numbers.{number_of-spells, number_of-spelled}
 
@@ -17,7 +17,7 @@ abbrev is_plus : ℕ → Bool
 is_plus b = b == 43
 
 -- the parts of a sum of two
-added_from : (o p : Option ℕ) (n : ℕ) → added o p ≡ Some n → (a : ℕ) × (b : ℕ) × (o ≡ Some a) × (p ≡ Some b) × (n ≡ a + b)
+added_from : (o p : Option ℕ) (n : ℕ) → add_numbers o p ≡ Some n → (a : ℕ) × (b : ℕ) × (o ≡ Some a) × (p ≡ Some b) × (n ≡ a + b)
 added_from None p n e = cc
 added_from (Some a) None n e = cc
 added_from (Some a) (Some b) n e = let same : n ≡ a + b = cc in (a, b, refl, refl, same)
@@ -58,10 +58,11 @@ no_plus text n h = All-weaker (λ b. is_ascii_digit b ≡ true) (λ b. is_plus b
 sum_of_words-to : (text numbers : List ℕ) → IsSum text numbers → sum_of_words (slice_split is_plus text) ≡ Some (sum numbers)
 sum_of_words-to text [] h = absurd h
 sum_of_words-to text (n ∷ []) h =
-    ap sum_of_words (slice_split_none is_plus text (no_plus text n h)) ∙ ap (λ o. added o (Some 0)) (number_of-spelled text n h) ∙ ap Some (sym (sum-cons n []))
+    ap sum_of_words (slice_split_none is_plus text (no_plus text n h)) ∙ ap (λ o. add_numbers o (Some 0)) (number_of-spelled text n h) ∙ ap Some (sym (sum-cons n []))
 sum_of_words-to text (n ∷ m ∷ more) h =
     ap (λ t. sum_of_words (slice_split is_plus t)) h.2 ∙ ap sum_of_words (slice_split_at is_plus h.0 43 h.1 (no_plus h.0 n h.3) refl)
-    ∙ ap (λ o. added o (sum_of_words (slice_split is_plus h.1))) (number_of-spelled h.0 n h.3) ∙ ap (added (Some n)) (sum_of_words-to h.1 (m ∷ more) h.4) ∙ ap Some (sym (sum-cons n (m ∷ more)))
+    ∙ ap (λ o. add_numbers o (sum_of_words (slice_split is_plus h.1))) (number_of-spelled h.0 n h.3) ∙ ap (add_numbers (Some n)) (sum_of_words-to h.1 (m ∷ more) h.4)
+    ∙ ap Some (sym (sum-cons n (m ∷ more)))
 
 -- up to 255
 at_most-tested : (m n : ℕ) (t : Bool) → t ≡ leb m 255 → cond t (Some m) None ≡ Some n → (m ≡ n) × (n ≤ 255)

@@ -27,15 +27,15 @@ IsMeterInRange Free = Unit {0}
 IsMeterInRange (Of num den) = HasMeterRange num den
 
 -- The sum of two numbers, if there are both.
-abbrev pub added : Option ℕ → Option ℕ → Option ℕ
-added None b = None
-added (Some a) None = None
-added (Some a) (Some b) = Some (a + b)
+abbrev pub add_numbers : Option ℕ → Option ℕ → Option ℕ
+add_numbers None b = None
+add_numbers (Some a) None = None
+add_numbers (Some a) (Some b) = Some (a + b)
 
 -- The sum of the numbers that words spell, if each spells one.
 abbrev pub sum_of_words : List (List ℕ) → Option ℕ
 sum_of_words [] = Some 0
-sum_of_words (word ∷ words) = added (number_of word) (sum_of_words words)
+sum_of_words (word ∷ words) = add_numbers (number_of word) (sum_of_words words)
 
 -- A number, if it is at most 255.
 abbrev pub at_most_255 : Option ℕ → Option ℕ
@@ -44,7 +44,7 @@ at_most_255 (Some n) = if nat_le n 255 then Some n else None
 
 -- The sum so far and one more number, if the result is at most 255.
 abbrev pub add_word : ℕ → Option ℕ → Option ℕ
-add_word total n = at_most_255 (added (Some total) n)
+add_word total n = at_most_255 (add_numbers (Some total) n)
 
 -- The sum of the numbers between plus signs, if it is at most 255.
 unfoldable pub sum_of : List ℕ → Option ℕ

@@ -44,13 +44,13 @@ unfoldable pub after_word : List ℕ → List ℕ
 after_word text = trim_start (drop (bytes_before_blank text) text)
 
 -- A fraction added to the sum of the rest.
-abbrev pub added : ℕ → Option ℕ → Option ℕ
-added part rest = option_map (λ sum. part + sum) rest
+abbrev pub add_fraction : ℕ → Option ℕ → Option ℕ
+add_fraction part rest = option_map (λ sum. part + sum) rest
 
 -- The sum of this fraction and the rest, which is empty or a text with a sum.
 abbrev pub sum_with : (List ℕ → Option ℕ) → List ℕ → ℕ → Option ℕ
 sum_with sum_rest [] part = Some part
-sum_with sum_rest (b ∷ bs) part = added part (sum_rest (b ∷ bs))
+sum_with sum_rest (b ∷ bs) part = add_fraction part (sum_rest (b ∷ bs))
 
 -- The sum of at most `most` fractions, in 512ths.
 unfoldable pub sum_of : ℕ → List ℕ → Option ℕ

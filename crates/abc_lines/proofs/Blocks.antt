@@ -1,6 +1,6 @@
 -- A row as its block shows it.
 use Rattle.std.proofs.Common.{◌≡◌, ℕ, ◌-◌, length, set, Option, Some, None, refl, sym, ap, ◌∙◌, subst}
-use Rattle.abc_lines.specs.Block.{BlockView, placed, IsSound, block_view}
+use Rattle.abc_lines.specs.Block.{BlockView, gap_block, IsSound, block_view}
 use Rattle.abc_lines.specs.GapRowLends.{with_item_in}
 use Rattle.abc_lines.specs.declared.gap_row.GapRow.{GapRow}
 use Rattle.abc_lines.proofs.GapRow.{held_count, sound_at, holds_at}
@@ -20,6 +20,6 @@ module _ {X : Type 0} where
   sound_in None i w sound = tt
   sound_in (Some row) i w sound = sound_at sound i w
 
-  pub shown_in : (row : Option (GapRow X)) (i : ℕ) (w : X) → IsSound row → block_view (with_item_in row i w) ≡ placed (set (block_view row).items i w) (block_view row).gap (block_view row).room
+  pub shown_in : (row : Option (GapRow X)) (i : ℕ) (w : X) → IsSound row → block_view (with_item_in row i w) ≡ gap_block (set (block_view row).items i w) (block_view row).gap (block_view row).room
   shown_in None i w sound = refl
-  shown_in (Some row) i w sound = ap (λ items. placed items row.at (row.capacity - row.size)) (holds_at sound i w)
+  shown_in (Some row) i w sound = ap (λ items. gap_block items row.at (row.capacity - row.size)) (holds_at sound i w)

@@ -5,10 +5,10 @@ use Rattle.std.proofs.lemmas.Bool.Decides.{nat_tests}
 use Rattle.std.proofs.lemmas.Grind.{common_steps}
 use Rattle.std.proofs.lemmas.Option.{gets}
 use Rattle.std.proofs.lemmas.List.{append-nil, take_at, drop_at, length-take-le}
-use Rattle.abc_lines.specs.GapList.{Gapped, gapped, distance, add_to_tally, replaced_run}
+use Rattle.abc_lines.specs.GapList.{Gapped, gapped_list, distance, add_to_tally, replaced_run}
 use Rattle.abc_lines.specs.ListSplice.{Patched, after_splice, count_after, places, places_for, splice_view}
 
-pub gapped_alike : {X : Type 0} (xs ys : List X) (gap moved m n : ℕ) → xs ≡ ys → m ≡ n → gapped xs gap m moved ≡ gapped ys gap n moved
+pub gapped_alike : {X : Type 0} (xs ys : List X) (gap moved m n : ℕ) → xs ≡ ys → m ≡ n → gapped_list xs gap m moved ≡ gapped_list ys gap n moved
 gapped_alike xs ys gap moved m n same alike = rw same (rw alike refl)
 
 pub length-replaced_run : {X : Type 0} (xs : List X) (at removed : ℕ) (new : List X) → at + removed ≤ length xs
@@ -46,13 +46,13 @@ inside_now {X = X} on now at removed new patch seen same inside =
 
 -- what is done to a list: some items are left out, all are moved over into a roomier list, others are put in
 abbrev pub left_out : {X : Type 0} → ℕ → ℕ → Gapped X → Gapped X
-left_out at removed list = gapped (replaced_run list.items at removed []) at (list.room + removed) (add_to_tally list.moved (distance list.gap at))
+left_out at removed list = gapped_list (replaced_run list.items at removed []) at (list.room + removed) (add_to_tally list.moved (distance list.gap at))
 
 abbrev pub move_items : {X : Type 0} → Gapped X → Gapped X → Gapped X
-move_items roomier list = gapped list.items list.gap (roomier.room - length list.items) list.moved
+move_items roomier list = gapped_list list.items list.gap (roomier.room - length list.items) list.moved
 
 abbrev pub put_in : {X : Type 0} → List X → Gapped X → Gapped X
-put_in new list = gapped (replaced_run list.items list.gap 0 new) (list.gap + length new) (list.room - length new) list.moved
+put_in new list = gapped_list (replaced_run list.items list.gap 0 new) (list.gap + length new) (list.room - length new) list.moved
 
 run_put : {X : Type 0} (xs : List X) (at removed : ℕ) (new : List X) → at + removed ≤ length xs
     → replaced_run (replaced_run xs at removed []) at 0 new ≡ replaced_run xs at removed new
@@ -73,7 +73,7 @@ put_in_room list at removed new inside fits =
     gapped_alike _ _ _ _ _ _ (run_put list.items at removed new inside) (omega (arith, all))
 
 pub put_in_roomier : {X : Type 0} (list : Gapped X) (at removed : ℕ) (new : List X) → at + removed ≤ length list.items → places list < count_after list removed new
-    → put_in new (move_items (gapped [] 0 (2 * count_after list removed new) 0) (left_out at removed list)) ≡ after_splice list at removed new
+    → put_in new (move_items (gapped_list [] 0 (2 * count_after list removed new) 0) (left_out at removed list)) ≡ after_splice list at removed new
 unfolding after_splice
 put_in_roomier list at removed new inside narrow =
     let count : ℕ = count_after list removed new in

@@ -2,8 +2,8 @@
 use Rattle.std.proofs.Common.{◌≡◌, ℕ, suc, ◌+◌, ◌<◌, ◌≤◌, List, [], ◌∷◌, ◌++◌, length, take, drop, Some, refl, sym, ap, ◌∙◌, arith, rules}
 use Rattle.std.specs.List.{insert, remove, slice_get}
 use Rattle.std.proofs.lemmas.List.{same_lists, places, append-nil, drop-drop, drop_at, length-take-le, take_at}
-use Rattle.abc_lines.specs.Block.{placed}
-use Rattle.abc_lines.specs.GapList.{gapped, replaced_run}
+use Rattle.abc_lines.specs.Block.{gap_block}
+use Rattle.abc_lines.specs.GapList.{gapped_list, replaced_run}
 
 drop_past : {X : Type 0} (front back : List X) (n : ℕ) → length front ≡ n → drop (suc n) (front ++ back) ≡ drop 1 back
 drop_past front back n count =
@@ -38,10 +38,10 @@ none_put xs gap [] none = sym (none_left_out xs gap)
 none_put xs gap (x ∷ rest) none = absurd (omega arith)
 
 -- a list part by part
-pub gapped_equal : {X : Type 0} (xs ys : List X) (i j m n t u : ℕ) → xs ≡ ys → i ≡ j → m ≡ n → t ≡ u → gapped xs i m t ≡ gapped ys j n u
+pub gapped_equal : {X : Type 0} (xs ys : List X) (i j m n t u : ℕ) → xs ≡ ys → i ≡ j → m ≡ n → t ≡ u → gapped_list xs i m t ≡ gapped_list ys j n u
 gapped_equal xs ys i j m n t u items gap room moved = rw items (rw gap (rw room (rw moved refl)))
 
-pub placed_equal : {X : Type 0} (xs ys : List X) (gap m n : ℕ) → xs ≡ ys → m ≡ n → placed xs gap m ≡ placed ys gap n
+pub placed_equal : {X : Type 0} (xs ys : List X) (gap m n : ℕ) → xs ≡ ys → m ≡ n → gap_block xs gap m ≡ gap_block ys gap n
 placed_equal xs ys gap m n items room = rw items (rw room refl)
 
 -- the first of some goes after the last of others

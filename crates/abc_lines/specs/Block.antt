@@ -9,13 +9,13 @@ pub record BlockView (X : Type 0) : Type 0 where
   pub gap : ℕ
   pub room : ℕ
 
-abbrev pub placed : {X : Type 0} → List X → ℕ → ℕ → BlockView X
-placed items gap room = record { items = items; gap = gap; room = room }
+abbrev pub gap_block : {X : Type 0} → List X → ℕ → ℕ → BlockView X
+gap_block items gap room = record { items = items; gap = gap; room = room }
 
 -- The view of a row, and of no row.
 abbrev pub block_view : {X : Type 0} → Option (GapRow X) → BlockView X
-block_view None = placed [] 0 0
-block_view (Some row) = placed (items_of row) row.at (row.capacity - row.size)
+block_view None = gap_block [] 0 0
+block_view (Some row) = gap_block (items_of row) row.at (row.capacity - row.size)
 
 -- A row is laid out with its gap.
 abbrev pub IsSound : {X : Type 0} → Option (GapRow X) → Type 0

@@ -8,8 +8,8 @@ pub record Gapped (T : Type 0) : Type 0 where
   pub room : ℕ
   pub moved : ℕ
 
-abbrev pub gapped : {T : Type 0} → List T → ℕ → ℕ → ℕ → Gapped T
-gapped items gap room moved = record { items = items; gap = gap; room = room; moved = moved }
+abbrev pub gapped_list : {T : Type 0} → List T → ℕ → ℕ → ℕ → Gapped T
+gapped_list items gap room moved = record { items = items; gap = gap; room = room; moved = moved }
 
 -- The distance between two places.
 abbrev pub distance : ℕ → ℕ → ℕ

@@ -1,6 +1,6 @@
 -- A splice of a list with a gap that has been prepared. Not in ABC 2.1.
 use Rattle.std.specs.Prelude.{◌≡◌, ℕ, ◌+◌, ◌-◌, ◌*◌, ◌<◌, ◌≤◌, if◌then◌else◌, List, [], length, nat_le, Option, Some, None}
-use Rattle.abc_lines.specs.GapList.{Gapped, gapped, distance, add_to_tally, replaced_run}
+use Rattle.abc_lines.specs.GapList.{Gapped, gapped_list, distance, add_to_tally, replaced_run}
 
 -- How many items there are after a splice.
 abbrev pub count_after : {T : Type 0} → Gapped T → ℕ → List T → ℕ
@@ -19,7 +19,7 @@ places_for count list = if nat_le count (places list) then places list else 2 * 
 unfoldable pub after_splice : {T : Type 0} → Gapped T → ℕ → ℕ → List T → Gapped T
 after_splice list at removed new =
     let count = count_after list removed new in
-    gapped (replaced_run list.items at removed new) (at + length new) (places_for count list - count)
+    gapped_list (replaced_run list.items at removed new) (at + length new) (places_for count list - count)
     (add_to_tally list.moved (distance list.gap at))
 
 -- A list before a splice, and the same list after it.
@@ -33,7 +33,7 @@ splice_view on at removed new = record { on = on; after = after_splice on at rem
 -- `count` items fit: in the list's own places, or in those of an empty list that replaces it.
 abbrev pub Fits : {T : Type 0} → ℕ → Gapped T → Option (Gapped T) → Type 0
 Fits count on None = count ≤ places on
-Fits count on (Some roomier) = (places on < count) × (roomier ≡ gapped [] 0 (2 * count) 0)
+Fits count on (Some roomier) = (places on < count) × (roomier ≡ gapped_list [] 0 (2 * count) 0)
 
 -- What a prepared splice keeps: the removed items are in the list, and the new ones fit.
 pub record IsSplice {T : Type 0} (on : Gapped T) (at removed : ℕ) (new : List T) (roomier : Option (Gapped T)) : Type 0 where

@@ -4,7 +4,7 @@ ghost use Rattle.std.specs.Prelude.{◌≡◌, ◌+◌, ◌-◌, ◌<◌, ◌≤
 ghost use Rattle.std.specs.List.{insert, remove};
 ghost use Rattle.std.specs.Option.{option_copied_mut};
 ghost use Rattle.std.specs.Borrow.{sem};
-ghost use Rattle.abc_lines.specs.Block.{placed, block_view, IsSound};
+ghost use Rattle.abc_lines.specs.Block.{gap_block, block_view, IsSound};
 ghost use Rattle.abc_lines.specs.GapRowLends.{lends_in};
 
 use crate::gap_row::GapRow;
@@ -32,7 +32,7 @@ impl<T> Block<T> {
 
     /// Returns `room` empty places.
     pub(crate) fn with_room(alloc: Global, room: usize) -> Result<Block<T>, AllocError>
-        ensures empty { IfOk result (λ block. block ≡ placed [] 0 room) }
+        ensures empty { IfOk result (λ block. block ≡ gap_block [] 0 room) }
         ensures succeeds { room ≡ 0 → IsOk result }
     {
         if room == 0 {
@@ -97,7 +97,7 @@ impl<T> Block<T> {
     /// Moves the gap to a place.
     pub(crate) fn move_gap(&mut self, to: usize)
         requires { to ≤ length self.old.items }
-        ensures { self.new ≡ placed self.old.items to self.old.room }
+        ensures { self.new ≡ gap_block self.old.items to self.old.room }
     {
         match &mut self.row {
             None => {}
@@ -108,7 +108,7 @@ impl<T> Block<T> {
     /// Puts an item before the gap.
     pub(crate) fn put(&mut self, item: T)
         requires { 0 < self.old.room }
-        ensures put { self.new ≡ placed (insert self.old.items self.old.gap item) (self.old.gap + 1) (self.old.room - 1) }
+        ensures put { self.new ≡ gap_block (insert self.old.items self.old.gap item) (self.old.gap + 1) (self.old.room - 1) }
         ensures inside { self.old.gap ≤ length self.old.items }
     {
         match &mut self.row {
@@ -121,7 +121,7 @@ impl<T> Block<T> {
     pub(crate) fn take_next(&mut self) -> T
         requires { self.old.gap < length self.old.items }
         ensures item { slice_get self.old.items self.old.gap ≡ Some result }
-        ensures left { self.new ≡ placed (remove self.old.items self.old.gap) self.old.gap (self.old.room + 1) }
+        ensures left { self.new ≡ gap_block (remove self.old.items self.old.gap) self.old.gap (self.old.room + 1) }
     {
         match &mut self.row {
             None => unreachable!(),

@@ -5,8 +5,8 @@ ghost use Rattle.std.specs.Prelude.{Some};
 ghost use Rattle.std.specs.List.{insert, remove};
 ghost use Rattle.std.specs.Option.{option_copied_mut};
 ghost use Rattle.std.specs.Borrow.{sem};
-ghost use Rattle.abc_lines.specs.Block.{placed};
-ghost use Rattle.abc_lines.specs.GapList.{gapped, distance, add_to_tally, replaced_run};
+ghost use Rattle.abc_lines.specs.Block.{gap_block};
+ghost use Rattle.abc_lines.specs.GapList.{gapped_list, distance, add_to_tally, replaced_run};
 
 use crate::block::Block;
 use std::alloc::{AllocError, Global};
@@ -23,11 +23,11 @@ pub struct GapList<T> {
 }
 
 impl<T> Model for GapList<T> {
-    ghost use Rattle.abc_lines.specs.GapList.{Gapped, gapped};
+    ghost use Rattle.abc_lines.specs.GapList.{Gapped, gapped_list};
 
     ghost Value = { Gapped T };
 
-    ghost view = { λ l. gapped l.block.items l.block.gap l.block.room l.moved };
+    ghost view = { λ l. gapped_list l.block.items l.block.gap l.block.room l.moved };
 }
 
 impl<T> GapList<T> {
@@ -35,7 +35,7 @@ impl<T> GapList<T> {
 
     /// A list with no items, and room for `room` items.
     pub fn with_room(alloc: Global, room: usize) -> Result<GapList<T>, AllocError>
-        ensures empty { IfOk result (λ list. list ≡ gapped [] 0 room 0) }
+        ensures empty { IfOk result (λ list. list ≡ gapped_list [] 0 room 0) }
         ensures succeeds { room ≡ 0 → IsOk result }
     {
         Ok(GapList {
@@ -99,7 +99,7 @@ impl<T> GapList<T> {
     pub fn insert(&mut self, i: usize, item: T)
         requires inside { i ≤ length self.old.items }
         requires room { 0 < self.old.room }
-        ensures { self.new ≡ gapped (insert self.old.items i item) (i + 1) (self.old.room - 1)
+        ensures { self.new ≡ gapped_list (insert self.old.items i item) (i + 1) (self.old.room - 1)
             (add_to_tally self.old.moved (distance self.old.gap i)) }
     {
         self.move_gap(i);
@@ -110,7 +110,7 @@ impl<T> GapList<T> {
     pub fn remove(&mut self, i: usize) -> T
         requires { i < length self.old.items }
         ensures item { slice_get self.old.items i ≡ Some result }
-        ensures list { self.new ≡ gapped (remove self.old.items i) i (self.old.room + 1)
+        ensures list { self.new ≡ gapped_list (remove self.old.items i) i (self.old.room + 1)
             (add_to_tally self.old.moved (distance self.old.gap i)) }
     {
         self.move_gap(i);
@@ -135,7 +135,7 @@ impl<T> GapList<T> {
     #[inline(never)]
     fn move_gap(&mut self, to: usize)
         requires { to ≤ length self.old.items }
-        ensures { self.new ≡ gapped self.old.items to self.old.room (add_to_tally self.old.moved (distance self.old.gap to)) }
+        ensures { self.new ≡ gapped_list self.old.items to self.old.room (add_to_tally self.old.moved (distance self.old.gap to)) }
     {
         let from = self.block.gap();
         self.block.move_gap(to);
@@ -147,7 +147,7 @@ impl<T> GapList<T> {
     where
         T: Drop,
         requires { at + count ≤ length self.old.items }
-        ensures { self.new ≡ gapped (replaced_run self.old.items at count []) at (self.old.room + count)
+        ensures { self.new ≡ gapped_list (replaced_run self.old.items at count []) at (self.old.room + count)
             (add_to_tally self.old.moved (distance self.old.gap at)) }
     {
         self.move_gap(at);
@@ -160,7 +160,7 @@ impl<T> GapList<T> {
     pub(crate) fn move_over(&mut self, roomier: GapList<T>)
         requires empty { roomier.items ≡ [] }
         requires room { length self.old.items ≤ roomier.room }
-        ensures { self.new ≡ gapped self.old.items self.old.gap (roomier.room - length self.old.items) self.old.moved }
+        ensures { self.new ≡ gapped_list self.old.items self.old.gap (roomier.room - length self.old.items) self.old.moved }
     {
         let GapList {
             block,
@@ -192,7 +192,7 @@ impl<T> GapList<T> {
     where
         T: Drop,
         requires { length items.items ≤ self.old.room }
-        ensures { self.new ≡ gapped (replaced_run self.old.items self.old.gap 0 items.items)
+        ensures { self.new ≡ gapped_list (replaced_run self.old.items self.old.gap 0 items.items)
             (self.old.gap + length items.items) (self.old.room - length items.items) self.old.moved }
     {
         for item in items {
@@ -205,7 +205,7 @@ impl<T> GapList<T> {
 fn move_items<T>(from: &mut Block<T>, mut block: Block<T>) -> Block<T>
     requires empty { block.items ≡ [] }
     requires room { length from.old.items ≤ block.room }
-    ensures moved { result ≡ placed from.old.items (length from.old.items) (block.room - length from.old.items) }
+    ensures moved { result ≡ gap_block from.old.items (length from.old.items) (block.room - length from.old.items) }
     ensures none { from.new.items ≡ [] }
 {
     from.move_gap(0);

@@ -4,7 +4,7 @@ use Rattle.std.proofs.Common.{sym, ap, ◌∙◌, arith}
 use Rattle.std.specs.Prelude.{All, IfSome}
 use Rattle.std.proofs.lemmas.List.{drop-drop, drop-take, length-drop, length-take-le, map-append, take-take}
 use Rattle.std.proofs.lemmas.List.Elements.{All-append, All-head, All-nil, All-tail}
-use Rattle.abc_book.specs.Stretch.{shifted}
+use Rattle.abc_book.specs.Stretch.{shift_block}
 use Rattle.abc_book.specs.declared.block.Block.{Block}
 use Rattle.abc_fold.specs.Steps.{Steps}
 use Rattle.abc_live_index.specs.Faults.{shifted_fault}
@@ -113,8 +113,8 @@ module _ {State Cell Items Defaults : Type 0} (steps : Steps State Cell Items) (
       ∙ ap (λ l. shifted_fault gone came (fault_moved (first + 1) fault) ∷ l) (moved_shifted first gone came following faults)
 
   -- a tune of the same lines at another place has its faults there
-  pub shifted_tune : (text new : Text) (gone came : ℕ) (block : Block) → gone ≤ block.from → lines_in new (shifted gone came block) ≡ lines_in text block
-      → (tune_of steps.next steps.gives rules opening new (shifted gone came block)).faults ≡ map (shifted_fault gone came) (tune_of steps.next steps.gives rules opening text block).faults
+  pub shifted_tune : (text new : Text) (gone came : ℕ) (block : Block) → gone ≤ block.from → lines_in new (shift_block gone came block) ≡ lines_in text block
+      → (tune_of steps.next steps.gives rules opening new (shift_block gone came block)).faults ≡ map (shifted_fault gone came) (tune_of steps.next steps.gives rules opening text block).faults
   unfolding tune_of
   shifted_tune text new gone came block following same =
       let lines = lines_in text block in
@@ -137,14 +137,14 @@ module _ {State Cell Items Defaults : Type 0} (steps : Steps State Cell Items) (
   -- and tunes after it
   pub shifted_tunes : (text new : Text) (start gone came : ℕ) (blocks : List Block)
       → drop (start + came) new ≡ drop (start + gone) text → All (λ (block : Block). start + gone ≤ block.from) blocks → All (LiesIn (length text)) blocks
-      → faults_of_tunes (map (tune_of steps.next steps.gives rules opening new) (map (shifted gone came) blocks))
+      → faults_of_tunes (map (tune_of steps.next steps.gives rules opening new) (map (shift_block gone came) blocks))
       ≡ map (shifted_fault gone came) (faults_of_tunes (map (tune_of steps.next steps.gives rules opening text) blocks))
   shifted_tunes text new start gone came [] same following lie = refl
   shifted_tunes text new start gone came (block ∷ blocks) same following lie =
       let own = All-head (λ (block : Block). start + gone ≤ block.from) block blocks following in
       let some = (All-head (LiesIn (length text)) block blocks lie).some in
       let here = lines_after text new start gone came block.from block.to same own (omega (arith, some)) in
-      ap (λ l. l ++ faults_of_tunes (map (tune_of steps.next steps.gives rules opening new) (map (shifted gone came) blocks))) (shifted_tune text new gone came block (omega (arith, own)) here)
+      ap (λ l. l ++ faults_of_tunes (map (tune_of steps.next steps.gives rules opening new) (map (shift_block gone came) blocks))) (shifted_tune text new gone came block (omega (arith, own)) here)
       ∙ ap (λ l. map (shifted_fault gone came) (tune_of steps.next steps.gives rules opening text block).faults ++ l)
       (shifted_tunes text new start gone came blocks same (All-tail (λ (block : Block). start + gone ≤ block.from) block blocks following) (All-tail (LiesIn (length text)) block blocks lie))
       ∙ sym (map-append (shifted_fault gone came) (tune_of steps.next steps.gives rules opening text block).faults (faults_of_tunes (map (tune_of steps.next steps.gives rules opening text) blocks)))

@@ -5,7 +5,7 @@ use Rattle.std.specs.List.{flat_map}
 use Rattle.std.proofs.lemmas.List.{take_at, drop_at}
 use Rattle.std.proofs.lemmas.List.Elements.{All-take, All-drop}
 use Rattle.abc_book.specs.Block.{blocks_of}
-use Rattle.abc_book.specs.Laws.{moved}
+use Rattle.abc_book.specs.Laws.{move_block}
 use Rattle.abc_book.specs.declared.block.Block.{Block}
 use Rattle.abc_fold.specs.Chain.{Chained}
 use Rattle.abc_fold.specs.Steps.{Steps}
@@ -123,12 +123,12 @@ all_mid P a own b all = subst (All P) (take_at own b (length own) refl)
 
 -- A tune of the stretch in the text.
 pub rows_moved : {Cell : Type 0} (a own b : List (CarriedRow Cell)) (n : ℕ) (block : Block) → n ≡ length a
-    → LiesWithin (length own) block → rows_in (a ++ (own ++ b)) (moved n block) ≡ rows_in own block
+    → LiesWithin (length own) block → rows_in (a ++ (own ++ b)) (move_block n block) ≡ rows_in own block
 rows_moved a own b n block e within = part_moved a own b block.from block.to n e within.0 within.1
 
 pub chain_moved : {State Cell Items : Type 0} (steps : Steps State Cell Items) (opening : State) (a own b : List (CarriedRow Cell))
     (n : ℕ) (chain : Chained State Cell Items) (block : Block) → n ≡ length a → LiesWithin (length own) block
-    → IsChain steps opening own chain block → IsChain steps opening (a ++ (own ++ b)) chain (moved n block)
+    → IsChain steps opening own chain block → IsChain steps opening (a ++ (own ++ b)) chain (move_block n block)
 chain_moved steps opening a own b n chain block e within is = record {
   folds = is.folds;
   cells = is.cells ∙ ap (flat_map cells_in) (sym (rows_moved a own b n block e within));
@@ -136,6 +136,6 @@ chain_moved steps opening a own b n chain block e within is = record {
 
 pub steps_moved : {State Cell Items : Type 0} (steps : Steps State Cell Items) (opening : State)
     (old : List (Chained State Cell Items)) (a own b : List (CarriedRow Cell)) (n : ℕ) (block : Block) → n ≡ length a → LiesWithin (length own) block
-    → steps_taken steps opening old own block ≡ steps_taken steps opening old (a ++ (own ++ b)) (moved n block)
+    → steps_taken steps opening old own block ≡ steps_taken steps opening old (a ++ (own ++ b)) (move_block n block)
 steps_moved steps opening old a own b n block e within =
     ap (λ rows. steps_over steps opening (flat_map cells_in rows) (flat_map (kept_states_of old) rows)) (sym (rows_moved a own b n block e within))

@@ -1,8 +1,8 @@
 -- The lines that an edit folds again, among those of the old text and of the new one.
 use Rattle.std.proofs.Common.{◌≡◌, ◌+◌, ◌-◌, ◌≤◌, List, ◌++◌, map, All, length, take, drop, sym, ◌∙◌, ap}
 use Rattle.std.proofs.lemmas.List.{map-append}
-use Rattle.abc_book.specs.Laws.{moved}
-use Rattle.abc_book.specs.Stretch.{shifted}
+use Rattle.abc_book.specs.Laws.{move_block}
+use Rattle.abc_book.specs.Stretch.{shift_block}
 use Rattle.abc_book.specs.declared.block.Block.{Block}
 use Rattle.abc_lines.specs.Text.{Splice, Text, spliced}
 use Rattle.abc_scan.specs.declared.class.LineClass.{LineClass}
@@ -30,8 +30,8 @@ pub record IsEditedRun {State Cell Items Defaults : Type 0} (rules : Rules State
     (s : Splice) (rows : List (Row Cell)) (span : Span) (own : List (CarriedRow Cell)) : Type 0 where
   pub parts : Parted rules s (placed_from (map carried_row rows) 0 0 (places_of (blocks_in rules text))) own span.lines.from
   pub tunes : tunes_in (blocks_in rules (spliced text s)) ≡ take span.tunes.from (tunes_in (blocks_in rules text))
-      ++ (map (moved span.lines.from) (tunes_among (stretch_rows rules s span.lines.from own))
-      ++ map (shifted (span.lines.to - span.lines.from) (length (stretch_rows rules s span.lines.from own))) (drop span.tunes.to (tunes_in (blocks_in rules text))))
+      ++ (map (move_block span.lines.from) (tunes_among (stretch_rows rules s span.lines.from own))
+      ++ map (shift_block (span.lines.to - span.lines.from) (length (stretch_rows rules s span.lines.from own))) (drop span.tunes.to (tunes_in (blocks_in rules text))))
   pub before : All (Ends span.lines.from) (take span.tunes.from (tunes_in (blocks_in rules text)))
   pub following : All (StartsFrom span.lines.to) (drop span.tunes.to (tunes_in (blocks_in rules text)))
   pub amid : All (λ (block : Block). (span.lines.from ≤ block.from) × (block.to ≤ span.lines.to))

@@ -5,7 +5,7 @@ use Rattle.std.proofs.lemmas.List.{drop_all}
 use Rattle.std.proofs.lemmas.Slice.Zip.{AllZip-long}
 use Rattle.std.specs.List.{AllZip, sum_by}
 use Rattle.abc_book.specs.Block.{blocks_of}
-use Rattle.abc_book.specs.Laws.{moved}
+use Rattle.abc_book.specs.Laws.{move_block}
 use Rattle.abc_book.specs.declared.block.Block.{Block}
 use Rattle.abc_fold.specs.Chain.{Chained}
 use Rattle.abc_fold.specs.Steps.{Steps, IsAlike}
@@ -38,7 +38,7 @@ use Rattle.abc_live_text.proofs.ChainPlaces.{header_within}
 use Rattle.abc_live_text.proofs.RowOrigins.{settled_carried}
 use Rattle.abc_live_text.proofs.WholeRows.{placed_from}
 
-stays : (block : Block) → moved 0 block ≡ block
+stays : (block : Block) → move_block 0 block ≡ block
 stays block =
     let a : block.from + 0 ≡ block.from = omega arith in
     let b : block.to + 0 ≡ block.to = omega arith in

@@ -4,8 +4,8 @@ use Rattle.std.proofs.Common.{arith, take-append-drop}
 use Rattle.std.proofs.lemmas.List.{length-map, nil_from_length}
 use Rattle.std.proofs.lemmas.List.Elements.{All-nil}
 use Rattle.abc_book.specs.Block.{blocks_of}
-use Rattle.abc_book.specs.Laws.{RiseFromTo, moved}
-use Rattle.abc_book.specs.Stretch.{shifted}
+use Rattle.abc_book.specs.Laws.{RiseFromTo, move_block}
+use Rattle.abc_book.specs.Stretch.{shift_block}
 use Rattle.abc_book.specs.declared.block.Block.{Block}
 use Rattle.abc_lines.specs.Text.{Splice, Text, spliced}
 use Rattle.abc_tune_compiler.specs.Book.{blocks_in, header_in, tunes_in}
@@ -98,7 +98,7 @@ module _ {State Cell Items Defaults : Type 0} (rules : Rules State Cell Items De
         run = record {
           parts = own;
           tunes = sym (ap (λ c. tunes_in (blocks_of c)) new_classes) ∙ (law
-              ∙ (λ i. map (moved (long_before i)) (tunes_in (blocks_of r)) ++ map (shifted (long_old i) (length-map new_run class_in i)) back));
+              ∙ (λ i. map (move_block (long_before i)) (tunes_in (blocks_of r)) ++ map (shift_block (long_old i) (length-map new_run class_in i)) back));
           before = All-nil (Ends 0);
           following = all_starts (start_of back (length text)) back (length text) lead.lines.to (omega (arith, start)) (strict_rest 0 front back (length text) strict_parts);
           amid = subst (λ n. All (λ (block : Block). (0 ≤ block.from) × (block.to ≤ lead.lines.to)) (take n tunes)) none_after (rise_amid 0 head.to front lead.lines.to (omega arith) here.2);

@@ -9,8 +9,8 @@ use Rattle.std.proofs.lemmas.List.Sums.{sum_by-cons}
 use Rattle.std.proofs.lemmas.List.Elements.{All-cons, All-nil, All-drop}
 use Rattle.std.proofs.lemmas.List.{drop_all, drop_at, append-nil}
 use Rattle.abc_book.specs.Block.{blocks_of, is_x_line, letter_x}
-use Rattle.abc_book.specs.Laws.{RiseFromTo, holds, moved}
-use Rattle.abc_book.specs.Stretch.{BeginTune, blocks_at, blocks_before, blocks_after, shifted}
+use Rattle.abc_book.specs.Laws.{RiseFromTo, holds, move_block}
+use Rattle.abc_book.specs.Stretch.{BeginTune, blocks_at, blocks_before, blocks_after, shift_block}
 use Rattle.abc_book.specs.declared.block.Block.{Block}
 use Rattle.abc_book.specs.declared.block.BlockKind.{BlockKind}
 use Rattle.abc_book.specs.declared.block.BlockKind.TheVariants as kinds
@@ -119,7 +119,7 @@ no_header (class ∷ classes) some begin =
     (λ (e : class ≡ Comment). let bad : Comment ≡ Field letter_x = sym e ∙ x in absurd (cc)))
     (tunes_begin (class ∷ classes)) (ap (λ c. Some c) x)
 
-header_moved : (n : ℕ) (ys : List Block) → header_in ys ≡ None → header_in (map (moved n) ys) ≡ None
+header_moved : (n : ℕ) (ys : List Block) → header_in ys ≡ None → header_in (map (move_block n) ys) ≡ None
 header_moved n [] e = refl
 header_moved n (block ∷ ys) e = ⊎_elim
     (λ (f : is_file_header block.kind ≡ true). absurd (let bad : Some block ≡ None = sym (ap (λ b. if b then Some block else None) f) ∙ e in cc))
@@ -130,7 +130,7 @@ header_front : (xs ys zs : List Block) → header_in ys ≡ None → header_in z
 header_front [] ys zs e f = e ∙ sym f
 header_front (x ∷ xs) ys zs e f = refl
 
-cut : (before following : List LineClass) → 1 ≤ length following → BeginTune following → blocks_of (before ++ following) ≡ blocks_of before ++ map (moved (length before)) (blocks_of following)
+cut : (before following : List LineClass) → 1 ≤ length following → BeginTune following → blocks_of (before ++ following) ≡ blocks_of before ++ map (move_block (length before)) (blocks_of following)
 cut before [] some begin = absurd (omega arith)
 cut before (x ∷ following) some begin = x_line_cuts before following x begin
 
@@ -138,7 +138,7 @@ cut before (x ∷ following) some begin = x_line_cuts before following x begin
 header_stays : (before old new : List LineClass) → 1 ≤ length old → 1 ≤ length new → BeginTune old → BeginTune new → header_in (blocks_of (before ++ new)) ≡ header_in (blocks_of (before ++ old))
 header_stays before old new some more begin begins =
     ap header_in (cut before new more begins)
-    ∙ (header_front (blocks_of before) (map (moved (length before)) (blocks_of new)) (map (moved (length before)) (blocks_of old))
+    ∙ (header_front (blocks_of before) (map (move_block (length before)) (blocks_of new)) (map (move_block (length before)) (blocks_of old))
     (header_moved (length before) (blocks_of new) (no_header new more begins)) (header_moved (length before) (blocks_of old) (no_header old some begin))
     ∙ ap header_in (sym (cut before old some begin)))
 
@@ -182,20 +182,20 @@ run_ends before old following front mid back run = begin_rest before old followi
 
 tunes_parts : (before old new following : List LineClass) (there front back : List Block)
     → blocks_of (before ++ (new ++ following)) ≡ blocks_before (length before) there
-    ++ (blocks_at (length before) new ++ map (shifted (length old) (length new)) (blocks_after (length before + length old) there))
+    ++ (blocks_at (length before) new ++ map (shift_block (length old) (length new)) (blocks_after (length before + length old) there))
     → tunes_in (blocks_before (length before) there) ≡ front → tunes_in (blocks_after (length before + length old) there) ≡ back
-    → tunes_in (blocks_of (before ++ (new ++ following))) ≡ front ++ (map (moved (length before)) (tunes_in (blocks_of new)) ++ map (shifted (length old) (length new)) back)
+    → tunes_in (blocks_of (before ++ (new ++ following))) ≡ front ++ (map (move_block (length before)) (tunes_in (blocks_of new)) ++ map (shift_block (length old) (length new)) back)
 tunes_parts before old new following there front back law first last =
     let a = blocks_before (length before) there in
     let b = blocks_at (length before) new in
-    let c = map (shifted (length old) (length new)) (blocks_after (length before + length old) there) in
+    let c = map (shift_block (length old) (length new)) (blocks_after (length before + length old) there) in
     ap tunes_in law ∙ (tunes_both a (b ++ c)
     ∙ (λ i. first i ++ (tunes_both b c ∙ (λ j. tunes_moved (length before) (blocks_of new) j ++
-    (tunes_shifted (length old) (length new) (blocks_after (length before + length old) there) ∙ ap (map (shifted (length old) (length new))) last) j)) i))
+    (tunes_shifted (length old) (length new) (blocks_after (length before + length old) there) ∙ ap (map (shift_block (length old) (length new))) last) j)) i))
 
 -- The tunes after the edit of a stretch.
 pub tunes_after : (before old new following : List LineClass) (front mid back : List Block) → IsRun before old following front mid back → BeginTune new
-    → tunes_in (blocks_of (before ++ (new ++ following))) ≡ front ++ (map (moved (length before)) (tunes_in (blocks_of new)) ++ map (shifted (length old) (length new)) back)
+    → tunes_in (blocks_of (before ++ (new ++ following))) ≡ front ++ (map (move_block (length before)) (tunes_in (blocks_of new)) ++ map (shift_block (length old) (length new)) back)
 tunes_after before old new following front mid back run begins =
     let all = before ++ (old ++ following) in
     let there = blocks_of all in
@@ -222,7 +222,7 @@ header_after before old new following front mid back run more begins =
 -- The tunes after the edit of the first lines of a text.
 pub tunes_first : (before old new following : List LineClass) (mid back : List Block) → before ≡ []
     → tunes_in (blocks_of (before ++ (old ++ following))) ≡ mid ++ back → length before + length old ≡ start_of back (length (before ++ (old ++ following)))
-    → tunes_in (blocks_of (before ++ (new ++ following))) ≡ map (moved (length before)) (tunes_in (blocks_of new)) ++ map (shifted (length old) (length new)) back
+    → tunes_in (blocks_of (before ++ (new ++ following))) ≡ map (move_block (length before)) (tunes_in (blocks_of new)) ++ map (shift_block (length old) (length new)) back
 tunes_first before old new following mid back none tunes to =
     let all = before ++ (old ++ following) in
     let there = blocks_of all in
@@ -240,7 +240,7 @@ header_only new [] begin = ap (λ c. header_in (blocks_of c)) (append-nil new)
 header_only new (x ∷ following) begin =
     let some : 1 ≤ suc (length following) = omega arith in
     ap header_in (cut new (x ∷ following) some begin)
-    ∙ (header_front (blocks_of new) (map (moved (length new)) (blocks_of (x ∷ following))) [] (header_moved (length new) (blocks_of (x ∷ following)) (no_header (x ∷ following) some begin)) refl
+    ∙ (header_front (blocks_of new) (map (move_block (length new)) (blocks_of (x ∷ following))) [] (header_moved (length new) (blocks_of (x ∷ following)) (no_header (x ∷ following) some begin)) refl
     ∙ ap header_in (append-nil (blocks_of new)))
 
 -- And the file header, which is that of the first lines.

@@ -4,7 +4,7 @@ use Rattle.std.proofs.Common.{drop, refl, sym, ◌∙◌, ap, subst, arith, drop
 use Rattle.std.proofs.lemmas.List.{length-take-le, take-append-le, take-take}
 use Rattle.std.specs.List.{AllZip, flat_map, sum_by}
 use Rattle.std.proofs.lemmas.List.Sums.{sum_by-append}
-use Rattle.abc_book.specs.Stretch.{shifted}
+use Rattle.abc_book.specs.Stretch.{shift_block}
 use Rattle.abc_book.specs.declared.block.Block.{Block}
 use Rattle.abc_fold.specs.Chain.{Chained}
 use Rattle.abc_fold.specs.Steps.{Steps, IsAlike, IsResumable}
@@ -62,7 +62,7 @@ chain_before steps read opening text new from chain block e ends own = record {
 
 pub chain_after : {State Cell Items : Type 0} (steps : Steps State Cell Items) (read : List ℕ → List Cell) (opening : State)
     (text new : Text) (from gone came : ℕ) (chain : Chained State Cell Items) (block : Block) → drop (from + came) new ≡ drop (from + gone) text → StartsFrom (from + gone) block
-    → IsChainOf steps read opening text chain block → IsChainOf steps read opening new chain (shifted gone came block)
+    → IsChainOf steps read opening text chain block → IsChainOf steps read opening new chain (shift_block gone came block)
 chain_after steps read opening text new from gone came chain block e starts own = record {
   folds = own.folds;
   cells = own.cells ∙ ap (flat_map read) (sym (part_following text new block.from block.to from gone came e starts.0 starts.1));
@@ -97,7 +97,7 @@ module _ {State Cell Items Defaults : Type 0} (steps : Steps State Cell Items) (
   -- The chains of tunes outside the stretch, and the new ones of the stretch, are those of the new text.
   pub tunes_stay : (tunes made : List (Chained State Cell Items)) (rows : List (CarriedRow Cell)) (own now : State) (front following : ℕ) (places : List Block)
       → IsResumable steps → take from new ≡ take from text → drop (from + came) new ≡ drop (from + gone) text
-      → tunes_in (blocks_in rules new) ≡ take front (tunes_in (blocks_in rules text)) ++ (places ++ map (shifted gone came) (drop following (tunes_in (blocks_in rules text))))
+      → tunes_in (blocks_in rules new) ≡ take front (tunes_in (blocks_in rules text)) ++ (places ++ map (shift_block gone came) (drop following (tunes_in (blocks_in rules text))))
       → All (Ends from) (take front (tunes_in (blocks_in rules text))) → All (StartsFrom (from + gone)) (drop following (tunes_in (blocks_in rules text)))
       → AllZip (IsChainOf steps rules.cells now text) (take front tunes) (take front (tunes_in (blocks_in rules text)))
       → AllZip (IsChainOf steps rules.cells now text) (drop following tunes) (drop following (tunes_in (blocks_in rules text)))
@@ -109,11 +109,11 @@ module _ {State Cell Items Defaults : Type 0} (steps : Steps State Cell Items) (
       (λ chain block known own. chain_before steps rules.cells now text new from chain block e known own) before old_front in
       let b = tunes_made steps rules.cells own now new rows made places laws alike read chains in
       let c = zip_given (IsChainOf steps rules.cells now text) (IsChainOf steps rules.cells now new) (StartsFrom (from + gone))
-      (shifted gone came) (drop following tunes) (drop following blocks)
+      (shift_block gone came) (drop following tunes) (drop following blocks)
       (λ chain block known own. chain_after steps rules.cells now text new from gone came chain block f known own) starts old_after in
       subst (AllZip (IsChainOf steps rules.cells now new) (take front tunes ++ (made ++ drop following tunes))) (sym all)
-      (zip_both (IsChainOf steps rules.cells now new) (take front tunes) (made ++ drop following tunes) (take front blocks) (places ++ map (shifted gone came) (drop following blocks)) a
-      (zip_both (IsChainOf steps rules.cells now new) made (drop following tunes) places (map (shifted gone came) (drop following blocks)) b c))
+      (zip_both (IsChainOf steps rules.cells now new) (take front tunes) (made ++ drop following tunes) (take front blocks) (places ++ map (shift_block gone came) (drop following blocks)) a
+      (zip_both (IsChainOf steps rules.cells now new) made (drop following tunes) places (map (shift_block gone came) (drop following blocks)) b c))
 
 -- So is the chain of a file header that is before the stretch.
 pub header_stays : {State Cell Items Defaults : Type 0} (steps : Steps State Cell Items) (rules : Rules State Cell Items Defaults)

@@ -2,7 +2,7 @@
 use Rattle.std.proofs.Common.{◌≡◌, ◌⊎◌, ℕ, suc, ◌+◌, ◌≤◌, List, [], ◌∷◌, ◌++◌, map, Option, Some, None, All, length, take}
 use Rattle.std.proofs.Common.{drop, refl, sym, ◌∙◌, ap, subst, arith, ⊎_elim, inl, inr, length-append, length-drop}
 use Rattle.std.proofs.lemmas.List.Elements.{All-cons, All-nil}
-use Rattle.abc_book.specs.Laws.{moved}
+use Rattle.abc_book.specs.Laws.{move_block}
 use Rattle.abc_book.specs.declared.block.Block.{Block}
 use Rattle.abc_fold.specs.Chain.{Chained}
 use Rattle.abc_fold.specs.Steps.{Steps}
@@ -20,12 +20,12 @@ use Rattle.abc_live_text.specs.declared.stretch.Stretch.{Stretch}
 use Rattle.std.proofs.lemmas.List.{length-take-le, length-map}
 use Rattle.abc_live_text.proofs.Edits.{spliced_is}
 
-all_among : (stretch : Stretch) (tunes : List Block) → All (LiesWithin stretch.lines.came) tunes → All (LiesAmong stretch) (map (moved stretch.lines.from) tunes)
+all_among : (stretch : Stretch) (tunes : List Block) → All (LiesWithin stretch.lines.came) tunes → All (LiesAmong stretch) (map (move_block stretch.lines.from) tunes)
 all_among stretch [] all = All-nil (LiesAmong stretch)
 all_among stretch (block ∷ tunes) all =
     let known = all 0 block (omega arith) in
-    let own : LiesAmong stretch (moved stretch.lines.from block) = (omega arith, omega (arith, known.1)) in
-    All-cons (LiesAmong stretch) (moved stretch.lines.from block) (map (moved stretch.lines.from) tunes) own (all_among stretch tunes (λ i d l. all (suc i) d (omega arith)))
+    let own : LiesAmong stretch (move_block stretch.lines.from block) = (omega arith, omega (arith, known.1)) in
+    All-cons (LiesAmong stretch) (move_block stretch.lines.from block) (map (move_block stretch.lines.from) tunes) own (all_among stretch tunes (λ i d l. all (suc i) d (omega arith)))
 
 tunes_following : {State Cell Items Defaults : Type 0} (steps : Steps State Cell Items) (rules : Rules State Cell Items Defaults)
     (text : Text) (first : Option (Chained State Cell Items)) (stretch : Stretch) (old made : List (Chained State Cell Items)) → AreChains steps rules text old
@@ -71,7 +71,7 @@ module _ {C State Cell Items Defaults : Type 0} {steps : Steps State Cell Items}
 
   -- The stretch.
   pub new_stretch : {text : Text} {rows : List (Row Cell)} {all places : List Block} {chains : List (Chained State Cell Items)}
-      → text ≡ spliced on.lines.text s → all ≡ tunes_after new.stretch on.tunes new.tunes → places ≡ map (moved new.stretch.lines.from) new.tunes
+      → text ≡ spliced on.lines.text s → all ≡ tunes_after new.stretch on.tunes new.tunes → places ≡ map (move_block new.stretch.lines.from) new.tunes
       → chains ≡ chains_after new.first new.stretch on.chains.items new.new_chains
       → IsStretch s (patch_view on text (parts rows new.header all chains) new places)
   new_stretch {text = text} {rows = rows} {all = all} {places = places} {chains = chains} x t p c = record {
@@ -83,7 +83,7 @@ module _ {C State Cell Items Defaults : Type 0} {steps : Steps State Cell Items}
     came = new_parts.came;
     chains_are = ap (drop 1) c ∙ tunes_following steps rules on.lines.text new.first new.stretch on.chains.items new.new_chains kept.stands.chains_are;
     tunes_are = t ∙ ap (λ l. take new.stretch.tunes.from on.tunes ++ (l ++ map (block_after new.stretch) (drop new.stretch.tunes.to on.tunes))) (sym p);
-    places_count = ap length p ∙ (length-map new.tunes (moved new.stretch.lines.from) ∙ sym new_parts.count);
+    places_count = ap length p ∙ (length-map new.tunes (move_block new.stretch.lines.from) ∙ sym new_parts.count);
     before = new_parts.before;
     beyond = new_parts.beyond;
     among = subst (All (LiesAmong new.stretch)) (sym p) (all_among new.stretch new.tunes new_parts.among);

@@ -4,8 +4,8 @@ use Rattle.std.proofs.Common.{get_or, refl, sym, ◌∙◌, ap, subst, arith, le
 use Rattle.std.proofs.lemmas.List.{length-map, length-take-le}
 use Rattle.std.specs.List.{AllZip, sum_by}
 use Rattle.abc_book.specs.Block.{blocks_of}
-use Rattle.abc_book.specs.Laws.{moved}
-use Rattle.abc_book.specs.Stretch.{shifted}
+use Rattle.abc_book.specs.Laws.{move_block}
+use Rattle.abc_book.specs.Stretch.{shift_block}
 use Rattle.abc_book.specs.declared.block.Block.{Block}
 use Rattle.abc_tune_compiler.specs.Lawful.{AreLawful}
 use Rattle.abc_fold.specs.Chain.{Chained}
@@ -65,11 +65,11 @@ refold_facts {State = State} steps old opening rows tunes here there made chains
 -- The steps of tunes at their places in the text.
 pub sums_moved : {State Cell Items : Type 0} (steps : Steps State Cell Items) (own : State) (old : List (Chained State Cell Items))
     (a rows b : List (CarriedRow Cell)) (n : ℕ) (tunes : List Block) → n ≡ length a → All (LiesWithin (length rows)) tunes
-    → sum_by (steps_taken steps own old rows) tunes ≡ sum_by (steps_taken steps own old (a ++ (rows ++ b))) (map (moved n) tunes)
+    → sum_by (steps_taken steps own old rows) tunes ≡ sum_by (steps_taken steps own old (a ++ (rows ++ b))) (map (move_block n) tunes)
 sums_moved steps own old a rows b n [] e within = refl
 sums_moved steps own old a rows b n (t ∷ tunes) e within =
     let here = sum_by-cons (steps_taken steps own old rows) t tunes in
-    let there = sum_by-cons (steps_taken steps own old (a ++ (rows ++ b))) (moved n t) (map (moved n) tunes) in
+    let there = sum_by-cons (steps_taken steps own old (a ++ (rows ++ b))) (move_block n t) (map (move_block n) tunes) in
     let first = steps_moved steps own old a rows b n t e (within 0 t (omega arith)) in
     let more = sums_moved steps own old a rows b n tunes e (λ i d l. within (suc i) d (omega arith)) in
     omega (arith, here, there, first, more)
@@ -78,7 +78,7 @@ sums_moved steps own old a rows b n (t ∷ tunes) e within =
 pub along_moved : {State Cell Items : Type 0} (steps : Steps State Cell Items) (own : State) (old : List (Chained State Cell Items))
     (a rows b : List (CarriedRow Cell)) (n : ℕ) (tunes : List Block) (reused_tunes : List (Option ℕ)) → n ≡ length a → All (LiesWithin (length rows)) tunes
     → KnowsAlong steps old own rows tunes reused_tunes
-    → KnowsAlong steps old own (a ++ (rows ++ b)) (map (moved n) tunes) reused_tunes
+    → KnowsAlong steps old own (a ++ (rows ++ b)) (map (move_block n) tunes) reused_tunes
 along_moved steps own old a rows b n [] [] e within all = tt
 along_moved steps own old a rows b n [] (one ∷ reused_tunes) e within all = absurd all
 along_moved steps own old a rows b n (t ∷ tunes) [] e within all = absurd all
@@ -115,9 +115,9 @@ alike_old steps rules text (chain ∷ tunes) first own laws lawful chains there 
 
 pub zips_moved : {State Cell Items : Type 0} (steps : Steps State Cell Items) (own : State) (a rows b : List (CarriedRow Cell))
     (n : ℕ) (made : List (Chained State Cell Items)) (tunes : List Block) → n ≡ length a → All (LiesWithin (length rows)) tunes
-    → AllZip (IsChain steps own rows) made tunes → AllZip (IsChain steps own (a ++ (rows ++ b))) made (map (moved n) tunes)
+    → AllZip (IsChain steps own rows) made tunes → AllZip (IsChain steps own (a ++ (rows ++ b))) made (map (move_block n) tunes)
 zips_moved steps own a rows b n made tunes e within all =
-    zip_given (IsChain steps own rows) (IsChain steps own (a ++ (rows ++ b))) (LiesWithin (length rows)) (moved n) made tunes
+    zip_given (IsChain steps own rows) (IsChain steps own (a ++ (rows ++ b))) (LiesWithin (length rows)) (move_block n) made tunes
     (λ chain block known is. chain_moved steps own a rows b n chain block e known is) within all
 
 pub stretch_length : {State Cell Items Defaults : Type 0} (rules : Rules State Cell Items Defaults) (s : Splice) (from to : ℕ)
@@ -181,9 +181,10 @@ module _ {C State Cell Items Defaults : Type 0} {steps : Steps State Cell Items}
     run_parts = facts.parts.new_are ∙ ap (λ r. facts.parts.before ++ (r ++ facts.parts.following)) (sym runs)
 
     tunes_there : tunes_in new_blocks ≡ take span.tunes.from on.tunes
-        ++ (map (moved span.lines.from) (tunes_among run) ++ map (shifted (span.lines.to - span.lines.from) (length run)) (drop span.tunes.to on.tunes))
+        ++ (map (move_block span.lines.from) (tunes_among run) ++ map (shift_block (span.lines.to - span.lines.from) (length run)) (drop span.tunes.to on.tunes))
     tunes_there = facts.tunes ∙ (λ i. take span.tunes.from (sym kept.stands.tunes_are i)
-        ++ (map (moved span.lines.from) (tunes_among (sym runs i)) ++ map (shifted (span.lines.to - span.lines.from) (length (sym runs i))) (drop span.tunes.to (sym kept.stands.tunes_are i))))
+        ++ (map (move_block span.lines.from) (tunes_among (sym runs i))
+        ++ map (shift_block (span.lines.to - span.lines.from) (length (sym runs i))) (drop span.tunes.to (sym kept.stands.tunes_are i))))
 
     within : All (LiesWithin (length run)) (tunes_among run)
     within = tunes_within run (blocks_of (map class_in run)) refl
@@ -193,12 +194,12 @@ module _ {C State Cell Items Defaults : Type 0} {steps : Steps State Cell Items}
         → IsRaisedUpTo (sum_by (steps_taken steps own on.chains.items run) (tunes_among run)) now after
         → IsRaisedUpTo (fresh_cells_after steps rules on.lines.text s) before after
     run_cost before now after head raise =
-        let places = map (moved span.lines.from) (tunes_among run) in
+        let places = map (move_block span.lines.from) (tunes_among run) in
         let moved_sum : sum_by (steps_taken steps own on.chains.items run) (tunes_among run) ≡ sum_by (steps_taken steps own on.chains.items all_rows) places =
         sums_moved steps own on.chains.items facts.parts.before run facts.parts.following span.lines.from (tunes_among run) facts.parts.count within
         ∙ ap (λ r. sum_by (steps_taken steps own on.chains.items r) places) (sym run_parts) in
         stretch_cost steps rules on.lines.text s on.chains.items all_rows own (take span.tunes.from on.tunes) places
-        (map (shifted (span.lines.to - span.lines.from) (length run)) (drop span.tunes.to on.tunes)) before now after kept.laws inside kept.stands.chains_are all_renewed alike tunes_there head
+        (map (shift_block (span.lines.to - span.lines.from) (length run)) (drop span.tunes.to on.tunes)) before now after kept.laws inside kept.stands.chains_are all_renewed alike tunes_there head
         (subst (λ n. IsRaisedUpTo n now after) moved_sum raise)
 
     line_sum : span.lines.from + (span.lines.to - span.lines.from) ≡ span.lines.to
@@ -215,8 +216,8 @@ module _ {C State Cell Items Defaults : Type 0} {steps : Steps State Cell Items}
         lines_after on.lines.text s span.lines.from (span.lines.to - span.lines.from) (length run) facts.begins (omega (arith, sum, ends)) (omega (arith, sum, most)) came_is
 
     placed_chains : (tunes : List Block) (made : List (Chained State Cell Items)) → tunes ≡ tunes_among run → AllZip (IsChain steps own run) made tunes
-        → AllZip (IsChain steps own all_rows) made (map (moved span.lines.from) tunes)
-    placed_chains tunes made e chains = subst (λ r. AllZip (IsChain steps own r) made (map (moved span.lines.from) tunes)) (sym run_parts)
+        → AllZip (IsChain steps own all_rows) made (map (move_block span.lines.from) tunes)
+    placed_chains tunes made e chains = subst (λ r. AllZip (IsChain steps own r) made (map (move_block span.lines.from) tunes)) (sym run_parts)
         (zips_moved steps own facts.parts.before run facts.parts.following span.lines.from made tunes facts.parts.count (subst (All (LiesWithin (length run))) (sym e) within) chains)
 
     -- The chains of the tunes of the new text, if those outside begin in its states.
@@ -227,10 +228,10 @@ module _ {C State Cell Items Defaults : Type 0} {steps : Steps State Cell Items}
     run_chains tunes made e chains front back =
         tunes_stay steps rules on.lines.text new_text span.lines.from (span.lines.to - span.lines.from) (length run) (drop 1 on.chains.items)
         made all_rows own new_opening span.tunes.from span.tunes.to
-        (map (moved span.lines.from) tunes) kept.laws (lines_before on.lines.text s span.lines.from facts.begins inside) lines_past
+        (map (move_block span.lines.from) tunes) kept.laws (lines_before on.lines.text s span.lines.from facts.begins inside) lines_past
         (tunes_there
         ∙ (λ i. take span.tunes.from (kept.stands.tunes_are i)
-        ++ (map (moved span.lines.from) (sym e i) ++ map (shifted (span.lines.to - span.lines.from) (length run)) (drop span.tunes.to (kept.stands.tunes_are i)))))
+        ++ (map (move_block span.lines.from) (sym e i) ++ map (shift_block (span.lines.to - span.lines.from) (length run)) (drop span.tunes.to (kept.stands.tunes_are i)))))
         facts.before (subst (λ n. All (StartsFrom n) (drop span.tunes.to old_blocks)) (sym line_sum) facts.following) front back alike all_renewed.read.cells (placed_chains tunes made e chains)
 
     -- What is folded again, with the file header and its chain.
@@ -241,21 +242,21 @@ module _ {C State Cell Items Defaults : Type 0} {steps : Steps State Cell Items}
         → AreNewParts steps rules on s (new_parts_view (span_stretch span (length run)) header first tunes made reused_tunes)
     run_renewed header first tunes made reused_tunes refolded is chains keeps =
         let stretch = span_stretch span (length run) in
-        let back = map (shifted (span.lines.to - span.lines.from) (length run)) (drop span.tunes.to on.tunes) in
+        let back = map (shift_block (span.lines.to - span.lines.from) (length run)) (drop span.tunes.to on.tunes) in
         let e = refolded.tunes_are in
-        let all : tunes_in new_blocks ≡ take span.tunes.from on.tunes ++ (map (moved span.lines.from) tunes ++ back) =
-        tunes_there ∙ ap (λ (t : List Block). take span.tunes.from on.tunes ++ (map (moved span.lines.from) t ++ back)) (sym e) in
+        let all : tunes_in new_blocks ≡ take span.tunes.from on.tunes ++ (map (move_block span.lines.from) tunes ++ back) =
+        tunes_there ∙ ap (λ (t : List Block). take span.tunes.from on.tunes ++ (map (move_block span.lines.from) t ++ back)) (sym e) in
         let here : All (LiesWithin (length run)) tunes = subst (All (LiesWithin (length run))) (sym e) within in
         let begun : AllZip (IsChain steps new_opening run) made tunes = zip_same (IsChain steps own run) (IsChain steps new_opening run) (LiesWithin (length run)) made tunes
         (λ chain block known own_chain. record { folds = folds_alike steps own new_opening chain kept.laws alike own_chain.folds; cells = own_chain.cells }) here refolded.chains_are in
-        let goes = subst (λ r. KnowsAlong steps on.chains.items new_opening r (map (moved span.lines.from) tunes) reused_tunes) (sym run_parts)
+        let goes = subst (λ r. KnowsAlong steps on.chains.items new_opening r (map (move_block span.lines.from) tunes) reused_tunes) (sym run_parts)
         (along_moved steps new_opening on.chains.items facts.parts.before run facts.parts.following span.lines.from tunes reused_tunes facts.parts.count here (refolded.along new_opening begun)) in
         let order = facts.order in
         let most : span.tunes.to ≤ length on.tunes = subst (λ (t : List Block). span.tunes.to ≤ length t) (sym kept.stands.tunes_are) facts.most in
         let front_count : length (take span.tunes.from on.tunes) ≡ span.tunes.from = length-take-le span.tunes.from on.tunes (omega (arith, order, most)) in
         let back_count : length back ≡ length on.tunes - span.tunes.to =
-        length-map (drop span.tunes.to on.tunes) (shifted (span.lines.to - span.lines.from) (length run)) ∙ length-drop span.tunes.to on.tunes in
-        let whole = taken_all steps new_opening on.chains.items all_rows (take span.tunes.from on.tunes) (map (moved span.lines.from) tunes) back
+        length-map (drop span.tunes.to on.tunes) (shift_block (span.lines.to - span.lines.from) (length run)) ∙ length-drop span.tunes.to on.tunes in
+        let whole = taken_all steps new_opening on.chains.items all_rows (take span.tunes.from on.tunes) (map (move_block span.lines.from) tunes) back
         span.tunes.from span.tunes.to (length on.tunes) reused_tunes front_count back_count goes in
         let same = kept.stands.tunes_are in
         let before = subst (λ (t : List Block). All (Ends span.lines.from) (take span.tunes.from t)) (sym same) facts.before in

@@ -4,8 +4,8 @@ use Rattle.std.proofs.Common.{refl, ◌∙◌, ap, arith, ⊎_elim}
 use Rattle.std.proofs.lemmas.Bool.{cases_Bool}
 use Rattle.std.proofs.lemmas.Bool.Decides.{nat_tests}
 use Rattle.std.proofs.lemmas.List.Elements.{All-cons, All-nil}
-use Rattle.abc_book.specs.Laws.{RiseFromTo, moved}
-use Rattle.abc_book.specs.Stretch.{blocks_before, blocks_after, shifted}
+use Rattle.abc_book.specs.Laws.{RiseFromTo, move_block}
+use Rattle.abc_book.specs.Stretch.{blocks_before, blocks_after, shift_block}
 use Rattle.abc_book.specs.declared.block.Block.{Block}
 use Rattle.abc_tune_compiler.specs.Book.{is_tune, tunes_in}
 use Rattle.abc_live_text.specs.Origin.{BlocksRise}
@@ -179,16 +179,16 @@ tunes_before line xs = filter_swap (λ block. is_tune block.kind) (λ block. nat
 pub tunes_following : (line : ℕ) (xs : List Block) → tunes_in (blocks_after line xs) ≡ blocks_after line (tunes_in xs)
 tunes_following line xs = filter_swap (λ block. is_tune block.kind) (λ block. nat_le line block.from) xs
 
-pub tunes_moved : (n : ℕ) (xs : List Block) → tunes_in (map (moved n) xs) ≡ map (moved n) (tunes_in xs)
+pub tunes_moved : (n : ℕ) (xs : List Block) → tunes_in (map (move_block n) xs) ≡ map (move_block n) (tunes_in xs)
 tunes_moved n [] = refl
 tunes_moved n (x ∷ xs) = ⊎_elim
-    (λ (e : is_tune x.kind ≡ true). simp e (ap (λ l. moved n x ∷ l) (tunes_moved n xs)))
+    (λ (e : is_tune x.kind ≡ true). simp e (ap (λ l. move_block n x ∷ l) (tunes_moved n xs)))
     (λ (e : is_tune x.kind ≡ false). simp e (tunes_moved n xs))
     (cases_Bool (is_tune x.kind))
 
-pub tunes_shifted : (gone came : ℕ) (xs : List Block) → tunes_in (map (shifted gone came) xs) ≡ map (shifted gone came) (tunes_in xs)
+pub tunes_shifted : (gone came : ℕ) (xs : List Block) → tunes_in (map (shift_block gone came) xs) ≡ map (shift_block gone came) (tunes_in xs)
 tunes_shifted gone came [] = refl
 tunes_shifted gone came (x ∷ xs) = ⊎_elim
-    (λ (e : is_tune x.kind ≡ true). simp e (ap (λ l. shifted gone came x ∷ l) (tunes_shifted gone came xs)))
+    (λ (e : is_tune x.kind ≡ true). simp e (ap (λ l. shift_block gone came x ∷ l) (tunes_shifted gone came xs)))
     (λ (e : is_tune x.kind ≡ false). simp e (tunes_shifted gone came xs))
     (cases_Bool (is_tune x.kind))

@@ -4,8 +4,8 @@ use Rattle.std.proofs.Common.{drop, sym, ◌∙◌, ap, subst, arith, append_ass
 use Rattle.std.proofs.lemmas.List.{map-append, take-map, length-map}
 use Rattle.std.proofs.lemmas.List.Elements.{All-cons}
 use Rattle.abc_book.specs.Block.{blocks_of}
-use Rattle.abc_book.specs.Laws.{RiseFromTo, moved}
-use Rattle.abc_book.specs.Stretch.{BeginTune, shifted}
+use Rattle.abc_book.specs.Laws.{RiseFromTo, move_block}
+use Rattle.abc_book.specs.Stretch.{BeginTune, shift_block}
 use Rattle.abc_book.specs.declared.block.Block.{Block}
 use Rattle.abc_book.proofs.Rising.{blocks_rise}
 use Rattle.abc_lines.specs.Text.{Splice, Text, spliced}
@@ -165,7 +165,7 @@ module _ {State Cell Items Defaults : Type 0} (rules : Rules State Cell Items De
         run = record {
           parts = own;
           tunes = sym (ap (λ c. tunes_in (blocks_of c)) new_classes) ∙ (law
-              ∙ (λ i. front ++ (map (moved (long_before i)) (tunes_in (blocks_of (map class_in run))) ++ map (shifted (long_old i) (length-map run class_in i)) back)));
+              ∙ (λ i. front ++ (map (move_block (long_before i)) (tunes_in (blocks_of (map class_in run))) ++ map (shift_block (long_old i) (length-map run class_in i)) back)));
           before = subst (λ n. All (Ends n) front) (sym from) (end_start front (mid_tunes ++ back) (length text) strict_front);
           following = all_starts (start_of back (length text)) back (length text) span.lines.to (omega (arith, is.to)) (strict_rest 0 (front ++ mid_tunes) back (length text) strict_back);
           amid = rise_amid span.lines.from span.lines.from mid_tunes span.lines.to (omega arith) among_text.here;

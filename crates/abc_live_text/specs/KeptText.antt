@@ -1,7 +1,7 @@
 -- What contracts see of a kept text, and of a prepared edit of it. Not in ABC 2.1.
 use Rattle.std.specs.Prelude.{◌≡◌, ◌⊎◌, ℕ, zero, suc, ◌+◌, ◌-◌, ◌≤◌, All, List, [], ◌∷◌, ◌++◌, drop, length, map, take, Option}
 use Rattle.std.specs.Prelude.{Some}
-use Rattle.abc_book.specs.Stretch.{shifted}
+use Rattle.abc_book.specs.Stretch.{shift_block}
 use Rattle.abc_book.specs.declared.block.Block.{Block}
 use Rattle.abc_fold.specs.Chain.{Chained}
 use Rattle.abc_fold.specs.Steps.{Steps}
@@ -125,7 +125,7 @@ old_tunes patch = drop 1 patch.on.chains.items
 
 -- The place after the edit of a block that is after the stretch.
 abbrev pub block_after : Stretch → Block → Block
-block_after stretch block = shifted (gone stretch.lines) stretch.lines.came block
+block_after stretch block = shift_block (gone stretch.lines) stretch.lines.came block
 
 -- Blocks before a stretch, after it, and in the lines that replace it.
 abbrev pub LiesBefore : Stretch → Block → Type 0

@@ -2,7 +2,7 @@
 use Rattle.std.specs.Prelude.{◌≡◌, ◌⊎◌, ℕ, ◌+◌, ◌-◌, ◌<◌, ◌≤◌, All, List, [], ◌∷◌, ◌++◌, drop, length, map, take, Option, Some}
 use Rattle.std.specs.Prelude.{None, IsSome}
 use Rattle.std.specs.List.{AllZip}
-use Rattle.abc_book.specs.Laws.{moved}
+use Rattle.abc_book.specs.Laws.{move_block}
 use Rattle.abc_book.specs.declared.block.Block.{Block}
 use Rattle.abc_fold.specs.Chain.{Chained}
 use Rattle.abc_fold.specs.Steps.{Steps}
@@ -89,7 +89,8 @@ chains_after first stretch old new_chains =
 -- The places of its tunes.
 abbrev pub tunes_after : Stretch → List Block → List Block → List Block
 tunes_after stretch old tunes =
-    take stretch.tunes.from old ++ (map (moved stretch.lines.from) tunes ++ map (block_after stretch) (drop stretch.tunes.to old))
+    take stretch.tunes.from old
+    ++ (map (move_block stretch.lines.from) tunes ++ map (block_after stretch) (drop stretch.tunes.to old))
 
 -- The file header stays, and lies before the stretch.
 pub record HeaderStays {State Cell Items : Type 0} (first : Option (Chained State Cell Items)) (header was : Option Block)

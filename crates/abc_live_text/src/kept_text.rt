@@ -6,7 +6,7 @@ ghost use Rattle.std.specs.Prelude.{slice_get};
 ghost use Rattle.std.specs.List.{AllZip};
 ghost use Rattle.abc_live_text.specs.KeptText.{AreRows, IsStretch, IsWorkUpTo, ArePartsOf, all_reused_tunes, fresh_cells_in};
 ghost use Rattle.abc_live_text.specs.KeptText.{parts_after, parts_of};
-ghost use Rattle.abc_book.specs.Laws.{moved};
+ghost use Rattle.abc_book.specs.Laws.{move_block};
 ghost use Rattle.abc_live_text.specs.NewPlaces.{MayReplaceTunes, tune_places_after};
 ghost use Rattle.abc_live_text.specs.NewParts.{AreNewParts, chains_after, view_of_new_parts, tunes_after};
 ghost use Rattle.abc_live_cost.specs.OldItems.{HasItemsOf, TakesUntouched};
@@ -165,7 +165,7 @@ impl<C: Compiler> KeptText<C> {
             (λ p. MayReplaceTunes p.patches.tunes p.new_parts.stretch self.now.tunes
             p.patches.places.items) }
         ensures places { IfOk result (λ p. p.patches.places.items
-            ≡ map (moved p.new_parts.stretch.lines.from) p.new_parts.folded.tunes.items) }
+            ≡ map (move_block p.new_parts.stretch.lines.from) p.new_parts.folded.tunes.items) }
         ensures counted { let c = self.now.compiler in
             IsWorkUpTo (length lines.now) (fresh_cells_in (C.steps c) (C.rules c) self.now (splice_from at removed lines.now))
             (C.Work.counts work.old) (C.Work.counts work.new) }

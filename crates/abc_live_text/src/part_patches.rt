@@ -1,7 +1,7 @@
 //! The prepared changes of the parts of a kept text.
 
 ghost use Rattle.std.specs.Prelude.{◌≡◌, ◌+◌, ◌-◌, ◌≤◌, ◌++◌, All, IfOk, OnOk, drop, length, map};
-ghost use Rattle.abc_book.specs.Laws.{moved};
+ghost use Rattle.abc_book.specs.Laws.{move_block};
 ghost use Rattle.abc_live_text.specs.Pieces.{LiesWithin};
 ghost use Rattle.abc_live_text.specs.NewParts.{MayReplaceHeader, chains_after, tunes_after};
 ghost use Rattle.abc_live_text.specs.NewPlaces.{MayReplaceTunes, tune_places_after};
@@ -33,7 +33,7 @@ pub(crate) struct PartPatches<C: Compiler> {
 fn tune_places(alloc: Global, tunes: &[Block], stretch: Stretch) -> Result<Vec<Block>, AllocError>
     requires within { All (LiesWithin stretch.lines.came) tunes.now }
     requires numbers { stretch.lines.from + stretch.lines.came ≤ usize.MAX }
-    ensures { IfOk result (λ places. places.items ≡ map (moved stretch.lines.from) tunes.now) }
+    ensures { IfOk result (λ places. places.items ≡ map (move_block stretch.lines.from) tunes.now) }
 {
     let mut places = Vec::new(alloc);
     for i in 0..tunes.len() {
@@ -124,7 +124,7 @@ impl<C: Compiler> KeptText<C> {
         ensures put { IfOk result
             (λ p. MayReplaceTunes p.tunes new_parts.now.stretch self.now.tunes p.places.items) }
         ensures places { IfOk result (λ p. p.places.items
-            ≡ map (moved new_parts.now.stretch.lines.from) new_parts.now.folded.tunes.items) }
+            ≡ map (move_block new_parts.now.stretch.lines.from) new_parts.now.folded.tunes.items) }
     {
         let alloc = self.lines.allocator();
         let stretch = new_parts.stretch;

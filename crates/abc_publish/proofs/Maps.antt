@@ -7,7 +7,7 @@ use Rattle.std.specs.BTreeMap.{is_at}
 use Rattle.std.specs.Ordering.{nat_cmp}
 use Rattle.std.proofs.lemmas.Bool.{false≢true}
 use Rattle.std.proofs.lemmas.Bool.Decides.{nat_tests}
-use Rattle.abc_publish.specs.Publisher.{Stored, SlotView, Slots, slot_at, stored_of, job_bytes_of, maps_of, publishing}
+use Rattle.abc_publish.specs.Publisher.{Stored, SlotView, Slots, slot_at, stored_of, job_bytes_of, maps_of, publishing_of}
 use Rattle.abc_publish.specs.Publisher.{with_entry, with_job, without_job}
 
 -- the slots new are old, but w at k
@@ -32,8 +32,8 @@ again f k n false other = refl
 stays : {A : Type 0} (f : ℕ → Option A) (k : ℕ) (entry : Option A) → entry ≡ f k → with_entry f k entry ≡ f
 stays f k entry is = fun_ext (λ n. ap (λ e. cond (n == k) e (f n)) is ∙ again f k n (n == k) refl)
 
-both : {d e : ℕ → Option Stored} {i j : ℕ → Option (Option (List ℕ))} → d ≡ e → i ≡ j → publishing d i ≡ publishing e j
-both p q = λ t. publishing (p t) (q t)
+both : {d e : ℕ → Option Stored} {i j : ℕ → Option (Option (List ℕ))} → d ≡ e → i ≡ j → publishing_of d i ≡ publishing_of e j
+both p q = λ t. publishing_of (p t) (q t)
 
 pub begins : (held old new : Slots) (k : ℕ) (w : SlotView) (bytes : Option (List ℕ)) → held ≡ old → Puts held new k (Some w)
     → w.stored ≡ stored_of (slot_at old k) → w.job_bytes ≡ Some bytes → maps_of new ≡ with_job (maps_of old) k bytes

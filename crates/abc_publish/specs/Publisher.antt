@@ -23,8 +23,8 @@ pub record Publishing : Type 0 where
   pub directory : Directory
   pub jobs : Jobs
 
-abbrev pub publishing : Directory → Jobs → Publishing
-publishing directory jobs = record { directory = directory; jobs = jobs }
+abbrev pub publishing_of : Directory → Jobs → Publishing
+publishing_of directory jobs = record { directory = directory; jobs = jobs }
 
 -- What a publisher holds for a number: its entry of the directory, and what the job carries, if one is under way.
 pub record SlotView : Type 0 where
@@ -54,7 +54,7 @@ job_bytes_of (Some slot) = slot.job_bytes
 
 -- The directory and the jobs under way of a publisher.
 abbrev pub maps_of : Slots → Publishing
-maps_of slots = publishing (λ n. stored_of (slot_at slots n)) (λ n. job_bytes_of (slot_at slots n))
+maps_of slots = publishing_of (λ n. stored_of (slot_at slots n)) (λ n. job_bytes_of (slot_at slots n))
 
 -- A map with another entry at a number.
 abbrev pub with_entry : {A : Type 0} → (ℕ → Option A) → ℕ → Option A → ℕ → Option A
@@ -99,7 +99,7 @@ IsNextJob p files from job =
 
 -- A job for a number has begun, and nothing else changed.
 abbrev pub with_job : Publishing → ℕ → Option (List ℕ) → Publishing
-with_job p number bytes = publishing p.directory (with_entry p.jobs number (Some bytes))
+with_job p number bytes = publishing_of p.directory (with_entry p.jobs number (Some bytes))
 
 -- The job that was taken has begun, and nothing else changed; if there was none, nothing did.
 abbrev pub HasBegun : Slots → Slots → Option Job → Type 0
@@ -107,7 +107,7 @@ HasBegun old new job = MatchOption job (new ≡ old) (λ j. maps_of new ≡ with
 
 -- The job of a number has ended, and the directory holds this for it.
 abbrev pub without_job : Publishing → ℕ → Option Stored → Publishing
-without_job p number stored = publishing (with_entry p.directory number stored) (with_entry p.jobs number None)
+without_job p number stored = publishing_of (with_entry p.directory number stored) (with_entry p.jobs number None)
 
 -- Nothing is pending and no job is under way.
 pub record IsSettled (p : Publishing) (files : Files) : Type 0 where

@@ -4,7 +4,7 @@ ghost use Rattle.std.specs.Prelude.{◌≡◌, ◌↔◌, ℕ, ◌==◌, ◌≤�
 ghost use Rattle.std.specs.Prelude.{IfOk, IsOk, IsTrue, MatchOption, OnErr, OnOk};
 ghost use Rattle.std.specs.List.Sorted.{IsStrictlyIncreasing};
 ghost use Rattle.abc_live.specs.Session.{book_in};
-ghost use Rattle.abc_publish.specs.Publisher.{with_job, without_job, is_pending, is_wanted, maps_of, publishing, slot_at};
+ghost use Rattle.abc_publish.specs.Publisher.{with_job, without_job, is_pending, is_wanted, maps_of, publishing_of, slot_at};
 ghost use Rattle.abc_publish.specs.Publisher.{stored_as, HasBegun, HasNone, IsNext, IsNextJob, IsSettled};
 ghost use Rattle.abc_publish.specs.declared.slot.Stored.TheVariants.{Unknown};
 
@@ -38,7 +38,7 @@ impl Publisher {
     /// No file is in the directory, none is unknown, and no job is under way. It allocates nothing yet.
     pub fn new(alloc: Global) -> Result<Publisher, AllocError>
         ensures succeeds { IsOk result }
-        ensures empty { IfOk result (λ p. maps_of p ≡ publishing (λ _. None) (λ _. None)) }
+        ensures empty { IfOk result (λ p. maps_of p ≡ publishing_of (λ _. None) (λ _. None)) }
     {
         Ok(Publisher {
             alloc,

@@ -4,7 +4,7 @@ use Rattle.std.specs.Prelude.{◌&&◌, bytes_eq, unwrap_or, filter}
 use Rattle.abc_bars_items.specs.declared.item.Item.{Item}
 use Rattle.abc_bars_items.specs.declared.item.Item.TheVariants as items
 use Rattle.abc_voices_sections.specs.Section.{is_section, is_step, opening_voice, part, part_from, sections_from, voice_after}
-use Rattle.abc_voices.specs.Voices.{named_by, declared_by, first_said, voice_at_place, with_voices, put_in_front, between, items_of_voice, AreOfVoices}
+use Rattle.abc_voices.specs.Voices.{named_by, declared_by, first_said, voice_at_place, with_voices, put_in_front, pieces_between, items_of_voice, AreOfVoices}
 
 abbrev is_letter : List ℕ × Item → Bool
 is_letter one = is_section one.1
@@ -85,9 +85,9 @@ first_there voice false one [] = refl
 first_there voice false one (xs ∷ others) = refl
 
 front_none : (voice : List ℕ) (placed : List (List ℕ × Item))
-    → front [] (map (items_of_voice voice) (between is_letter placed)) ≡ map (items_of_voice voice) (between is_letter placed)
+    → front [] (map (items_of_voice voice) (pieces_between is_letter placed)) ≡ map (items_of_voice voice) (pieces_between is_letter placed)
 front_none voice [] = refl
-front_none voice (one ∷ placed) = first_there voice (is_letter one) one (between is_letter placed)
+front_none voice (one ∷ placed) = first_there voice (is_letter one) one (pieces_between is_letter placed)
 
 -- one item of the walk
 walk_item : (voice opening : List ℕ) (held : List Item) (one : List ℕ × Item) (anew on : List (List ℕ × List Item))
@@ -110,7 +110,7 @@ walk_item voice opening held one anew on others false new more e =
 walk : (tune : List Item) (voice opening : List ℕ) (held : List Item) (current : List ℕ) (past rest : List Item)
     → current ≡ voice_at_place tune past → current ≡ after opening held
     → map (part voice) (sections_from opening held current rest)
-    ≡ front (part_from voice opening held) (map (items_of_voice voice) (between is_letter (with_voices tune past rest)))
+    ≡ front (part_from voice opening held) (map (items_of_voice voice) (pieces_between is_letter (with_voices tune past rest)))
 walk tune voice opening held current past [] back on = ap (λ steps. steps ∷ []) (sym (append-nil (part_from voice opening held)))
 walk tune voice opening held current past (item ∷ rest) back on =
     let following : voice_after current item ≡ voice_at_place tune (item ∷ past) =
@@ -119,7 +119,7 @@ walk tune voice opening held current past (item ∷ rest) back on =
     (ap (λ v. voice_after v item) on ∙ sym (after_more opening held item)) in
     walk_item voice opening held (voice_at_place tune past, item) (sections_from current [] current rest)
     (sections_from opening (held ++ item ∷ []) (voice_after current item) rest)
-    (between is_letter (with_voices tune (item ∷ past) rest)) (is_section item)
+    (pieces_between is_letter (with_voices tune (item ∷ past) rest)) (is_section item)
     (λ letter. walk tune voice current [] current (item ∷ past) rest (sym (same_voice current item letter) ∙ following) refl
     ∙ front_none voice (with_voices tune (item ∷ past) rest))
     more (sym back ∙ on)

@@ -22,14 +22,14 @@ own_note at tone key = record {
 }
 
 -- A note that lasts to the end of the one at this place, as loud as it begins.
-abbrev pub lengthened : Sounding → List Sounding → ℕ → Sounding
-lengthened note next place = record note { off = (slice_index_or next place note).off }
+abbrev pub lengthen_to : Sounding → List Sounding → ℕ → Sounding
+lengthen_to note next place = record note { off = (slice_index_or next place note).off }
 
 -- One more note begins, tied to the one at this place, or to none.
 abbrev pub with_note : Sounding → TokenNotes → Option ℕ → TokenNotes
 with_note note linked None = record linked { begun = linked.begun ++ note ∷ [] }
 with_note note linked (Some place) =
-    record { begun = linked.begun ++ lengthened note linked.next place ∷ []; next = remove linked.next place }
+    record { begun = linked.begun ++ lengthen_to note linked.next place ∷ []; next = remove linked.next place }
 
 -- The place of the note with which a tone of this key is joined: a tied one with the first of its key.
 abbrev pub next_place : Bool → ℕ → List Sounding → Option ℕ

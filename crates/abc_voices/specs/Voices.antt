@@ -45,10 +45,10 @@ put_in_front x [] = (x ∷ []) ∷ []
 put_in_front x (xs ∷ others) = (x ∷ xs) ∷ others
 
 -- What is between the letters of sections.
-abbrev pub between : {X : Type 0} → (X → Bool) → List X → List (List X)
-between is_letter [] = [] ∷ []
-between is_letter (x ∷ xs) =
-    if is_letter x then [] ∷ between is_letter xs else put_in_front x (between is_letter xs)
+abbrev pub pieces_between : {X : Type 0} → (X → Bool) → List X → List (List X)
+pieces_between is_letter [] = [] ∷ []
+pieces_between is_letter (x ∷ xs) =
+    if is_letter x then [] ∷ pieces_between is_letter xs else put_in_front x (pieces_between is_letter xs)
 
 -- What a voice has to play of items that are with their voices, and the marks that say how.
 abbrev pub items_of_voice : List ℕ → List (List ℕ × Item) → List Item
@@ -58,4 +58,4 @@ items_of_voice voice placed = map (λ one. one.1) (filter (λ one. is_step one.1
 abbrev pub AreOfVoices : Type 0
 AreOfVoices = (tune : List Item) (voice : List ℕ)
     → map (part voice) (sections tune)
-    ≡ map (items_of_voice voice) (between (λ one. is_section one.1) (with_voices tune [] tune))
+    ≡ map (items_of_voice voice) (pieces_between (λ one. is_section one.1) (with_voices tune [] tune))

@@ -1,6 +1,6 @@
 -- States in examples of music inside bars, and the results of lines there. Not in ABC 2.1.
 use Rattle.std.specs.Prelude.{ℕ, ℤ, true, false, List, [], ◌∷◌, ◌++◌, map, flat_map, Option, Some, None}
-use Rattle.abc_bars_body.specs.BodyOpening.{unshifted}
+use Rattle.abc_bars_body.specs.BodyOpening.{zero_shift}
 use Rattle.abc_bars_body.specs.Step.{entry_step}
 use Rattle.abc_bars_body.specs.declared.body.Current.TheVariants.{Unnamed, At}
 use Rattle.abc_bars_body.specs.declared.entry.Entry.{Entry}
@@ -37,7 +37,7 @@ voice_state_in meter unit reach = record {
   meter = meter;
   unit = unit;
   signature = natural;
-  shift = unshifted;
+  shift = zero_shift;
   accidentals = no_accidentals reach;
   tuplet = None;
   tied = [];

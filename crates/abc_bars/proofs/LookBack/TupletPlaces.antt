@@ -16,7 +16,7 @@ use Rattle.abc_bars_voice.specs.Tuplet.{IsOpen, IsTupletNumber, OpenTuplet, defa
 use Rattle.abc_bars.specs.LookBack.Element.{Element}
 use Rattle.abc_bars.specs.LookBack.TupletPlaces.{IsAccepted, IsAcceptedMark, IsCompound, IsLastMark, IsSizeOf, IsTimeOf, IsTupletAt, IsUsualTime, TupletsByMarks, inside, is_time, no_mark, past}
 use Rattle.abc_bars.specs.LookBack.TupletPlaces.{time_count}
-use Rattle.abc_bars.specs.LookBack.Voice.{left_after, meter_at, passing, voice_state_at, tuplet_at, tuplet_from, tuplet_or, tuplet_said}
+use Rattle.abc_bars.specs.LookBack.Voice.{left_after, meter_at, one_more_if, voice_state_at, tuplet_at, tuplet_from, tuplet_or, tuplet_said}
 
 -- Numbers that a tuplet may have.
 number-of : (n : ℕ) → is_tuplet_number n ≡ true → IsTupletNumber n
@@ -151,15 +151,15 @@ time-same (kinds.Chord chord) = refl
 time-same _ = refl
 
 passed-on : (b : Bool) (token : Element) (times : List Element) (passed : ℕ)
-    → length times + passing b passed ≡ length (cond b (token ∷ times) times) + passed
+    → length times + one_more_if b passed ≡ length (cond b (token ∷ times) times) + passed
 passed-on true token times passed = omega arith
 passed-on false token times passed = refl
 
 one-counted : (token : Element) (since : List Element) (passed : ℕ)
-    → time_count since + passing (is_time_token token.kind) passed ≡ time_count (token ∷ since) + passed
+    → time_count since + one_more_if (is_time_token token.kind) passed ≡ time_count (token ∷ since) + passed
 one-counted token since passed =
     let times : List Element = filter (λ (t : Element). is_time t.kind) since in
-    ap (λ (b : Bool). length times + passing b passed) (time-same token.kind) ∙ passed-on (is_time token.kind) token times passed
+    ap (λ (b : Bool). length times + one_more_if b passed) (time-same token.kind) ∙ passed-on (is_time token.kind) token times passed
 
 -- No token is an accepted mark.
 abbrev Unmarked : Element → Type 0
@@ -184,14 +184,14 @@ still-last opening token before mark q r since unmarked is = record {
 }
 
 from-earlier : (opening : Meter) (passed : ℕ) (token : Element) (before : List Element) (found : Option OpenTuplet) → ¬ IsAcceptedMark token.kind
-    → From opening (passing (is_time_token token.kind) passed) before found → From opening passed (token ∷ before) found
+    → From opening (one_more_if (is_time_token token.kind) passed) before found → From opening passed (token ∷ before) found
 from-earlier opening passed token before found unmarked (from_mark mark q r since last q_is r_is e) =
     from_mark mark q r (token ∷ since) (still-last opening token before mark q r since unmarked last) q_is r_is
     (e ∙ ap (λ n. left_after n (record { p = mark.p; q = q; left = r })) (one-counted token since passed))
 from-earlier opening passed token before found unmarked (from_none none e) = from_none (All-cons Unmarked token before unmarked none) e
 
 from-token : (opening : Meter) (passed : ℕ) (token : Element) (before : List Element) (begun earlier : Option OpenTuplet)
-    → Begins (meter_at opening before) token.kind begun → From opening (passing (is_time_token token.kind) passed) before earlier
+    → Begins (meter_at opening before) token.kind begun → From opening (one_more_if (is_time_token token.kind) passed) before earlier
     → From opening passed (token ∷ before) (tuplet_or begun passed earlier)
 from-token opening passed token before begun earlier (a_tuplet mark q r is accepted q_of_it r_of_it q_is r_is e) rest =
     let start : passed ≡ 0 + passed = omega arith in
@@ -215,8 +215,8 @@ from-all : (opening : Meter) (passed : ℕ) (before : List Element) → From ope
 from-all opening passed [] = from_none (All-nil Unmarked) refl
 from-all opening passed (token ∷ before) =
     from-token opening passed token before (tuplet_said (meter_at opening before) token.kind)
-    (tuplet_from opening (passing (is_time_token token.kind) passed) before)
-    (token-begins (meter_at opening before) token.kind) (from-all opening (passing (is_time_token token.kind) passed) before)
+    (tuplet_from opening (one_more_if (is_time_token token.kind) passed) before)
+    (token-begins (meter_at opening before) token.kind) (from-all opening (one_more_if (is_time_token token.kind) passed) before)
 
 -- The tuplet of a place.
 at-place : (opening : Meter) (before : List Element) (found : Option OpenTuplet) → From opening 0 before found → IsTupletAt opening before found

@@ -6,13 +6,13 @@ use Rattle.abc_scan.specs.declared.tuplet.Tuplet.{Tuplet}
 use Rattle.abc_bars_notes.specs.Broken.{is_time_token}
 use Rattle.abc_bars_voice.specs.Tuplet.{OpenTuplet, tuplet_by, begin_tuplet, tuplet_after_mark, is_tuplet_number, count_down, default_q}
 use Rattle.abc_bars.specs.LookBack.Element.{Element}
-use Rattle.abc_bars.specs.LookBack.Voice.{meter_at, left_after, passing, tuplet_from, tuplet_or, tuplet_said}
+use Rattle.abc_bars.specs.LookBack.Voice.{meter_at, left_after, one_more_if, tuplet_from, tuplet_or, tuplet_said}
 
 -- One more time token leaves one less of a tuplet.
 left-suc : (passed : ℕ) (tuplet : OpenTuplet) → left_after (suc passed) tuplet ≡ count_down (left_after passed tuplet)
 left-suc passed tuplet = grind (arith, nat_tests)
 
-passing-suc : (b : Bool) (passed : ℕ) → passing b (suc passed) ≡ suc (passing b passed)
+passing-suc : (b : Bool) (passed : ℕ) → one_more_if b (suc passed) ≡ suc (one_more_if b passed)
 passing-suc true passed = refl
 passing-suc false passed = refl
 
@@ -27,7 +27,7 @@ tuplet_from-suc opening passed [] = refl
 tuplet_from-suc opening passed (element ∷ before) =
     or-suc (tuplet_said (meter_at opening before) element.kind) passed _ _
     (ap (λ n. tuplet_from opening n before) (passing-suc (is_time_token element.kind) passed)
-    ∙ tuplet_from-suc opening (passing (is_time_token element.kind) passed) before)
+    ∙ tuplet_from-suc opening (one_more_if (is_time_token element.kind) passed) before)
 
 -- A number that a tuplet may have is one at least.
 number-least : (n : ℕ) → is_tuplet_number n ≡ true → 1 ≤ n

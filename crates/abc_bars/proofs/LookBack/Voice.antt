@@ -38,7 +38,8 @@ use Rattle.abc_bars_voice.specs.Tuplet.{OpenTuplet, count_down, begin_tuplet}
 use Rattle.abc_bars_notes.specs.Chords.{chord_builder_of, tie_follows}
 use Rattle.abc_bars_notes.specs.TimeTokens.{chord_by, play_chord, play_note, play_rest}
 use Rattle.abc_bars.specs.LookBack.Element.{Element}
-use Rattle.abc_bars.specs.LookBack.Voice.{accidentals_at, accidentals_of, as_tied, counted_notes, dynamic_at, ends_accidentals, meter_at, note_before, notes_among, notes_of_bar, passing, put_before}
+use Rattle.abc_bars.specs.LookBack.Voice.{accidentals_at, accidentals_of, as_tied, counted_notes, dynamic_at, ends_accidentals, meter_at, note_before}
+use Rattle.abc_bars.specs.LookBack.Voice.{notes_among, notes_of_bar, one_more_if, put_before}
 use Rattle.abc_bars.specs.LookBack.Voice.{
   unless_ended,
   tied_among,
@@ -119,7 +120,7 @@ chord-by opening before broken tied from chord true e =
     let accidentals : accidentals_at reach (record { kind = kinds.Chord chord; tied = tied } ∷ before) ≡ inside.accidentals =
     each_put reach (counted_notes chord) (notes_of_bar before) ∙ sym (chord-leaves opening before broken outside chord).0 in
     let tuplet : tuplet_from opening.meter 0 (record { kind = kinds.Chord chord; tied = tied } ∷ before) ≡ count_down (tuplet_from opening.meter 0 before) =
-    ap (λ (b : Bool). tuplet_from opening.meter (passing b 0) before) e ∙ tuplet_from-suc opening.meter 0 before in
+    ap (λ (b : Bool). tuplet_from opening.meter (one_more_if b 0) before) e ∙ tuplet_from-suc opening.meter 0 before in
     let ties : tied_said opening (tied_at opening before) before (kinds.Chord chord) tied ≡ inside.tied =
     ap (λ (b : Bool). cond b (tied_among opening (tied_at opening before) before tied [] (counted_notes chord)) (tied_at opening before)) e
     ∙ sym (chord-leaves opening before broken outside chord).1 in
@@ -129,7 +130,7 @@ chord-by opening before broken tied from chord false e =
     let accidentals : accidentals_at reach (record { kind = kinds.Chord chord; tied = tied } ∷ before) ≡ accidentals_at reach before =
     ap (λ (notes : List (Note × Bool)). accidentals_of reach (put_before notes (notes_of_bar before))) (counted-none chord e) in
     let tuplet : tuplet_from opening.meter 0 (record { kind = kinds.Chord chord; tied = tied } ∷ before) ≡ tuplet_from opening.meter 0 before =
-    ap (λ (b : Bool). tuplet_from opening.meter (passing b 0) before) e in
+    ap (λ (b : Bool). tuplet_from opening.meter (one_more_if b 0) before) e in
     let ties : tied_said opening (tied_at opening before) before (kinds.Chord chord) tied ≡ tied_at opening before =
     ap (λ (b : Bool). cond b (tied_among opening (tied_at opening before) before tied [] (counted_notes chord)) (tied_at opening before)) e in
     λ i. state_with opening before (accidentals i) (tuplet i) (ties i)

@@ -191,16 +191,16 @@ tuplet_or (Some tuplet) passed earlier = left_after passed tuplet
 tuplet_or None passed earlier = earlier
 
 -- One more if a token is a time token.
-abbrev pub passing : Bool → ℕ → ℕ
-passing true passed = suc passed
-passing false passed = passed
+abbrev pub one_more_if : Bool → ℕ → ℕ
+one_more_if true passed = suc passed
+one_more_if false passed = passed
 
 -- What is left of the last tuplet, if this number of time tokens is after these elements.
 abbrev pub tuplet_from : Meter → ℕ → List Element → Option OpenTuplet
 tuplet_from opening passed [] = None
 tuplet_from opening passed (element ∷ before) =
     tuplet_or (tuplet_said (meter_at opening before) element.kind) passed
-    (tuplet_from opening (passing (is_time_token element.kind) passed) before)
+    (tuplet_from opening (one_more_if (is_time_token element.kind) passed) before)
 
 -- The tuplet that is open at a place: the last accepted mark's, if fewer time tokens are after the
 -- mark than it takes. ABC 2.1 section 4.13.

@@ -8,7 +8,7 @@ use Rattle.abc_bars_items.specs.declared.item.Item.{Item}
 use Rattle.abc_bars_items.specs.declared.item.Item.TheVariants as items
 use Rattle.abc_bars_items.specs.declared.item.Tone.{Tone}
 use Rattle.abc_voices_score.specs.declared.score.Sounding.{Sounding}
-use Rattle.abc_voices.specs.TiedNotes.{TokenNotes, Notes, own_note, lengthened, with_note, next_place, with_key, with_tones, before, notes_from}
+use Rattle.abc_voices.specs.TiedNotes.{TokenNotes, Notes, own_note, lengthen_to, with_note, next_place, with_key, with_tones, before, notes_from}
 use Rattle.abc_voices_sections.specs.Step.{length_of, tones_of}
 
 -- how many notes of both kinds there are
@@ -26,7 +26,7 @@ shorter (x ∷ xs) (suc place) = omega (arith, shorter xs place)
 
 note_more : (note : Sounding) (linked : TokenNotes) (place : Option ℕ) → linked_notes (with_note note linked place) ≤ linked_notes linked + 1
 note_more note linked None = omega (arith, length-append linked.begun (note ∷ []))
-note_more note linked (Some place) = omega (arith, length-append linked.begun (lengthened note linked.next place ∷ []), shorter linked.next place)
+note_more note linked (Some place) = omega (arith, length-append linked.begun (lengthen_to note linked.next place ∷ []), shorter linked.next place)
 
 key_more : (at : ℕ) (tone : Tone) (linked : TokenNotes) (key : Option ℕ) → linked_notes (with_key at tone linked key) ≤ linked_notes linked + 1
 key_more at tone linked None = omega arith

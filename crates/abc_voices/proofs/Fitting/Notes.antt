@@ -8,7 +8,7 @@ use Rattle.abc_bars_items.specs.declared.item.Item.{Item}
 use Rattle.abc_bars_items.specs.declared.item.Item.TheVariants as items
 use Rattle.abc_bars_items.specs.declared.item.Tone.{Tone}
 use Rattle.abc_voices_score.specs.declared.score.Sounding.{Sounding}
-use Rattle.abc_voices.specs.TiedNotes.{TokenNotes, Notes, own_note, lengthened, with_note, next_place, with_key, with_tones, before, notes_from}
+use Rattle.abc_voices.specs.TiedNotes.{TokenNotes, Notes, own_note, lengthen_to, with_note, next_place, with_key, with_tones, before, notes_from}
 use Rattle.abc_voices_sections.specs.Step.{length_of, tones_of}
 
 -- a note that begins then or later, ends no sooner than it begins, and has a key and a velocity of MIDI
@@ -30,7 +30,7 @@ at_place P [] place spare all own = own
 at_place P (x ∷ xs) zero spare all own = All-head P x xs all
 at_place P (x ∷ xs) (suc place) spare all own = at_place P xs place spare (All-tail P x xs all) own
 
-lengthened_fits : (at : ℕ) (note : Sounding) (next : List Sounding) (place : ℕ) → note.on.0 ≡ at → Fits at note → All (Fits at) next → Fits at (lengthened note next place)
+lengthened_fits : (at : ℕ) (note : Sounding) (next : List Sounding) (place : ℕ) → note.on.0 ≡ at → Fits at note → All (Fits at) next → Fits at (lengthen_to note next place)
 lengthened_fits at note next place begins own all =
     let other : Fits at (slice_index_or next place note) = at_place (Fits at) next place note all own in
     record { begins = own.begins; forward = omega (arith, begins, other.begins, other.forward); key = own.key; velocity = own.velocity }
@@ -49,7 +49,7 @@ with_note_fits at note linked None begins own fits =
     record { begun = All-push (Fits at) linked.begun note fits.begun own; next = fits.next }
 with_note_fits at note linked (Some place) begins own fits =
     record {
-      begun = All-push (Fits at) linked.begun (lengthened note linked.next place) fits.begun (lengthened_fits at note linked.next place begins own fits.next);
+      begun = All-push (Fits at) linked.begun (lengthen_to note linked.next place) fits.begun (lengthened_fits at note linked.next place begins own fits.next);
       next = All-remove (Fits at) linked.next place fits.next;
     }
 

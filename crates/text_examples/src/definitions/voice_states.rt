@@ -4,7 +4,7 @@
 
 ghost use Rattle.std.specs.Prelude.{◌≡◌, ◌^◌, ◌-◌, pos, negsuc, true, false, [], ◌∷◌, codes, map, replicate, Some, None, Ok, Err};
 ghost use Rattle.abc_bars_body.specs.BodyFields.{part_of};
-ghost use Rattle.abc_bars_body.specs.BodyOpening.{unshifted};
+ghost use Rattle.abc_bars_body.specs.BodyOpening.{zero_shift};
 ghost use Rattle.abc_fields.specs.Shift.{no_shift};
 ghost use Rattle.abc_fields.specs.declared.fault.FaultCode.TheVariants.{BadLength, BadReference, BadTuplet, FreeBarRest};
 ghost use Rattle.abc_fields.specs.declared.fault.FaultCode.TheVariants.{NestedTuplet, TooManyVoices};
@@ -192,7 +192,7 @@ pub fn rests_of_bars()
 
 /// The shift of a voice after properties, part by part. Not in ABC 2.1.
 pub fn shifts()
-    ensures clef { with_properties unshifted (shift (Some (negsuc 11)) None None) ≡ voice_shift (negsuc 11) (pos 0) (pos 0) }
+    ensures clef { with_properties zero_shift (shift (Some (negsuc 11)) None None) ≡ voice_shift (negsuc 11) (pos 0) (pos 0) }
     ensures others { with_properties (voice_shift (pos 12) (pos 1) (pos 3)) (shift None (Some (negsuc 0)) (Some (pos 0)))
         ≡ voice_shift (pos 12) (negsuc 0) (pos 0) }
     ensures nothing { with_properties (voice_shift (pos 12) (pos 1) (pos 3)) no_shift ≡ voice_shift (pos 12) (pos 1) (pos 3) }

@@ -1,10 +1,10 @@
 use Rattle.std.proofs.Common.{◌≡◌, ◌≤◌, ◌-◌, ◌*◌}
-use Rattle.abc_fields.specs.Tempo.{sum_of, added}
+use Rattle.abc_fields.specs.Tempo.{sum_of, add_fraction}
 use Rattle.abc_fields.proofs.tempo.sum_of.Given as goal
 
 -- the sum so far and the sum of the rest make the whole sum
 abbrev pub invariant-loop : goal.invariant-loop
 invariant-loop l = record {
-  value : added l.sum (sum_of (16 - l.counter) l.rest) ≡ sum_of 16 l.fn.text;
+  value : add_fraction l.sum (sum_of (16 - l.counter) l.rest) ≡ sum_of 16 l.fn.text;
   range : l.sum ≤ l.counter * 262144;
 }
