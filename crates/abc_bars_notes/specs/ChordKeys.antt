@@ -43,7 +43,7 @@ ChordsSoundTheirKeys =
     → (tones : List Tone) × (lasting : Grains)
     × ((play_chord state broken tied from chord).items ≡ items.Tone tones lasting ∷ [])
     × ((before following : List Note) (note : Note)
-      → notes_in chord.parts ≡ before ++ note ∷ following → length before < MOST_CHORD_NOTES
+    → notes_in chord.parts ≡ before ++ note ∷ following → length before < MOST_CHORD_NOTES
     → IsSomeAnd (slice_get tones (length before)) (SoundsKey state (after_notes state.accidentals before) note))
 
 -- Tones are as loud as the last dynamic of their voice says.
