@@ -1,17 +1,26 @@
 //! Bytes that come in pieces, cut into lines for a machine whose answers go to a sink.
 
-ghost use Rattle.std.specs.Prelude.{◌≡◌, ◌≤◌, [], ◌∷◌, ◌++◌, take, length, true, false, OnOk, MatchResult};
+ghost use Rattle.std.specs.Prelude.{◌≡◌, ◌<◌, ◌≤◌, [], ◌∷◌, ◌++◌, take, length, true, false, OnOk, MatchResult};
 ghost use Rattle.std.specs.Io.KnownBytes.{Appends};
 ghost use Rattle.abc_text.specs.Byte.{line_feed};
 ghost use Rattle.abc2midi_live.specs.Machine.{IsClean};
-ghost use Rattle.abc2midi_live.specs.Outcome.{write_faults, outlets_of, FeedsOrBreaks, ServesOrFails, TellsOrFails};
+ghost use Rattle.abc2midi_live.specs.Outcome.{
+  read_faults,
+  write_faults,
+  outlets_of,
+  run_ends_of,
+  FeedsOrBreaks,
+  ServesOrFails,
+  TellsOrFails,
+  TurnsOrFails,
+};
 ghost use Rattle.abc2midi_live.specs.Transcript.{most_kept};
 ghost use Rattle.abc_fold.specs.Work.{raised};
 
 use crate::cut::cut;
 use crate::fault::RunFault;
 use crate::machine::{Machine, Reply};
-use crate::streams::{Sink, Store};
+use crate::streams::{Sink, Source, Store};
 use abc_fold::Work;
 use abc_lines::LONGEST_LINE;
 use std::alloc::{AllocError, Global};
@@ -184,5 +193,33 @@ impl<M: Machine> Listener<M> {
         } else {
             Ok(())
         }
+    }
+
+    /// Reads once, and serves the bytes, or the end of the input. Returns whether the run goes on.
+    pub fn serve_read<R: Source, W: Sink, S: Store>(
+        &mut self,
+        buffer: &mut [u8],
+        reader: &mut R,
+        writer: &mut W,
+        store: &mut S,
+        work: &mut Work,
+    ) -> Result<bool, RunFault>
+        requires { 0 < length buffer.old }
+        ensures answers { let e = run_ends_of R.remaining W.contents S.seen in TurnsOrFails (at_byte M.state self.old)
+            (at_byte M.state self.new)
+            (e reader.old writer.old store.old) (e reader.new writer.new store.new) result }
+        ensures calls { R.calls reader.new ≡ raised (R.calls reader.old) 1 }
+        ensures reads { R.failures reader.new ≡ raised (R.failures reader.old) (read_faults result) }
+        ensures writes { W.failures writer.new ≡ raised (W.failures writer.old) (write_faults result) }
+    {
+        let count = match reader.read(buffer) {
+            Ok(count) => count,
+            Err(_) => return Err(RunFault::Read),
+        };
+        if count > 0 {
+            return self.feed(writer, &buffer[..count], store, work);
+        }
+        self.finish(writer, store, work)?;
+        Ok(false)
     }
 }

@@ -1,8 +1,7 @@
 //! A machine that listens to a reader, from its first byte to the end of the input.
 
-ghost use Rattle.std.specs.Prelude.{◌≡◌, ◌<◌, ◌≤◌, ℕ, length};
-ghost use Rattle.abc2midi_live.specs.Outcome.{read_faults, write_faults, run_ends_of, read_counts, AnswersAll, Reads, TurnsOrFails};
-ghost use Rattle.abc2midi_live.specs.Listener.{at_byte};
+ghost use Rattle.std.specs.Prelude.{◌≡◌, ◌≤◌, ℕ};
+ghost use Rattle.abc2midi_live.specs.Outcome.{write_faults, run_ends_of, read_counts, AnswersAll, Reads};
 ghost use Rattle.abc_fold.specs.Work.{raised};
 
 use crate::fault::RunFault;
@@ -19,35 +18,6 @@ pub const MOST_READS: u32 = 4_294_967_295;
 const PIECE: usize = 8_192;
 
 const _: () = prove!(MOST_READS == u32::MAX);
-
-// Reads once, and serves the bytes. Returns whether the run goes on.
-#[tactic(auto, using(crate::proofs::Counts::raised_none))]
-fn serve_read<M: Machine, R: Source, W: Sink, S: Store>(
-    listener: &mut Listener<M>,
-    buffer: &mut [u8],
-    reader: &mut R,
-    writer: &mut W,
-    store: &mut S,
-    work: &mut Work,
-) -> Result<bool, RunFault>
-    requires { 0 < length buffer.old }
-    ensures answers { let e = run_ends_of R.remaining W.contents S.seen in TurnsOrFails (at_byte M.state listener.old)
-        (at_byte M.state listener.new)
-        (e reader.old writer.old store.old) (e reader.new writer.new store.new) result }
-    ensures calls { R.calls reader.new ≡ raised (R.calls reader.old) 1 }
-    ensures reads { R.failures reader.new ≡ raised (R.failures reader.old) (read_faults result) }
-    ensures writes { W.failures writer.new ≡ raised (W.failures writer.old) (write_faults result) }
-{
-    let count = match reader.read(buffer) {
-        Ok(count) => count,
-        Err(_) => return Err(RunFault::Read),
-    };
-    if count > 0 {
-        return listener.feed(writer, &buffer[..count], store, work);
-    }
-    listener.finish(writer, store, work)?;
-    Ok(false)
-}
 
 /// Reads to the end of the input, or until the machine ends, writes the machine's answers, and returns the machine.
 #[tactic(auto, using(crate::proofs::Counts::raised_none))]
@@ -69,7 +39,7 @@ pub fn listen<M: Machine + Drop, R: Source, W: Sink, S: Store>(
     let mut listener = Listener::new(alloc, machine);
     let mut buffer = [0; PIECE];
     'reads: for _ in 0..MOST_READS {
-        if !serve_read(&mut listener, &mut buffer, reader, writer, store, work)? {
+        if !listener.serve_read(&mut buffer, reader, writer, store, work)? {
             return Ok(listener.into_machine());
         }
     }

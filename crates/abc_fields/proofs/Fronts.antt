@@ -12,7 +12,7 @@ use Rattle.abc_text.proofs.Decimals.{digit_range}
 use Rattle.abc_fields.specs.declared.parts.LastItem.{LastItem}
 use Rattle.abc_fields.specs.declared.parts.LastItem.TheVariants.{Nothing, Item}
 use Rattle.abc_fields.specs.declared.parts.Place.{Place}
-use Rattle.abc_fields.specs.Parts.{is_ignored, order_bytes, ends_item, begins_item, with_digit, at, following_digit, next, next_of, ends_order, is_order, parts_of}
+use Rattle.abc_fields.specs.Parts.{is_ignored, order_bytes, ends_item, begins_item, with_digit, place_at, following_digit, next, next_of, ends_order, is_order, parts_of}
 use Rattle.abc_fields.specs.Letters.{Played, nothing_played, count_or_once, letters_so_far, with_item, close_group, count_on, play_on, letters_of, is_order_byte, read_on, front_of}
 use Rattle.abc_fields.proofs.LetterLaws.{plays_letter, plays_open, plays_close, plays_digit}
 use Rattle.abc_fields.proofs.Orders.{order_lost, begins_too, positive_step, guarded_digit, Follows, by_letter, by_open, by_close, by_digit, follows, accepts}
@@ -163,7 +163,7 @@ not_digit_upper b upper = grind (arith, nat_tests)
 not_open_upper : (b : ℕ) → is_ascii_uppercase b ≡ true → b ≡ 40 → ⊥
 not_open_upper b upper e = both_ways (is_ascii_uppercase b) (subst (λ k. is_ascii_uppercase k ≡ false) (sym e) refl) upper
 
-letter_leads : (place : Place) (played : Played) (b : ℕ) → Fits place played → is_ascii_uppercase b ≡ true → begins_item place.before ≡ true → Leads played b (at place.depth (Item 0 false))
+letter_leads : (place : Place) (played : Played) (b : ℕ) → Fits place played → is_ascii_uppercase b ≡ true → begins_item place.before ≡ true → Leads played b (place_at place.depth (Item 0 false))
 letter_leads place played b fits upper begins = record {
   says = order_letter b upper;
   accepts_it = record {
@@ -172,10 +172,10 @@ letter_leads place played b fits upper begins = record {
     counted = λ e d. settled_count place.before played.count fits.counted begins;
   };
   fits_after =
-      subst (Fits (at place.depth (Item 0 false))) (sym (plays_letter played b upper)) (record { groups = fits.groups; few = fits.few; counted = (refl, refl) });
+      subst (Fits (place_at place.depth (Item 0 false))) (sym (plays_letter played b upper)) (record { groups = fits.groups; few = fits.few; counted = (refl, refl) });
 }
 
-open_leads : (place : Place) (played : Played) → Fits place played → begins_item place.before ≡ true → place.depth < 32 → Leads played 40 (at (place.depth + 1) Nothing)
+open_leads : (place : Place) (played : Played) → Fits place played → begins_item place.before ≡ true → place.depth < 32 → Leads played 40 (place_at (place.depth + 1) Nothing)
 open_leads place played fits begins room = record {
   says = refl;
   accepts_it = record {
@@ -184,14 +184,14 @@ open_leads place played fits begins room = record {
     counted = λ e d. settled_count place.before played.count fits.counted begins;
   };
   fits_after =
-      subst (Fits (at (place.depth + 1) Nothing)) (sym (plays_open played)) (record { groups = omega (arith, fits.groups); few = omega arith; counted = tt });
+      subst (Fits (place_at (place.depth + 1) Nothing)) (sym (plays_open played)) (record { groups = omega (arith, fits.groups); few = omega arith; counted = tt });
 }
 
-closed_fits : (depth : ℕ) (around : List (List ℕ)) (item : List ℕ) → length around ≡ depth → depth ≤ 32 → 0 < depth → Fits (at (depth - 1) (Item 0 false)) (close_group around item)
+closed_fits : (depth : ℕ) (around : List (List ℕ)) (item : List ℕ) → length around ≡ depth → depth ≤ 32 → 0 < depth → Fits (place_at (depth - 1) (Item 0 false)) (close_group around item)
 closed_fits depth [] item groups few some = absurd (omega arith)
 closed_fits depth (before ∷ around) item groups few some = record { groups = omega arith; few = omega arith; counted = (refl, refl) }
 
-close_leads : (place : Place) (played : Played) → Fits place played → ends_item place.before ≡ true → 0 < place.depth → Leads played 41 (at (place.depth - 1) (Item 0 false))
+close_leads : (place : Place) (played : Played) → Fits place played → ends_item place.before ≡ true → 0 < place.depth → Leads played 41 (place_at (place.depth - 1) (Item 0 false))
 close_leads place played fits ends some = record {
   says = refl;
   accepts_it = record {
@@ -200,13 +200,13 @@ close_leads place played fits ends some = record {
     counted = λ e d. settled_count place.before played.count fits.counted (begins_too place.before ends);
   };
   fits_after =
-      subst (Fits (at (place.depth - 1) (Item 0 false))) (sym (plays_close played)) (closed_fits place.depth played.around (letters_so_far played) fits.groups fits.few some);
+      subst (Fits (place_at (place.depth - 1) (Item 0 false))) (sym (plays_close played)) (closed_fits place.depth played.around (letters_so_far played) fits.groups fits.few some);
 }
 
 not_open_digit : (b : ℕ) → is_ascii_digit b ≡ true → b ≡ 40 → ⊥
 not_open_digit b digit e = both_ways (is_ascii_digit b) (subst (λ k. is_ascii_digit k ≡ false) (sym e) refl) digit
 
-digit_leads : (depth : ℕ) (before : LastItem) (played : Played) (b : ℕ) (after : Place) → Fits (at depth before) played → is_ascii_digit b ≡ true
+digit_leads : (depth : ℕ) (before : LastItem) (played : Played) (b : ℕ) (after : Place) → Fits (place_at depth before) played → is_ascii_digit b ≡ true
     → following_digit depth (with_digit before b) ≡ Some after → Leads played b after
 digit_leads depth Nothing played b after fits digit e = cc
 digit_leads depth (Item digits positive) played b after fits digit e =
@@ -222,7 +222,7 @@ digit_leads depth (Item digits positive) played b after fits digit e =
       };
       fits_after =
           subst (λ p. Fits p (play_on played b)) given.1
-          (subst (Fits (at depth longer)) (sym (plays_digit played b digit)) (record { groups = fits.groups; few = fits.few; counted = counted }));
+          (subst (Fits (place_at depth longer)) (sym (plays_digit played b digit)) (record { groups = fits.groups; few = fits.few; counted = counted }));
     }
 
 next_leads : (place : Place) (played : Played) (b : ℕ) (after : Place) → Fits place played → Follows place b after → Leads played b after
@@ -296,11 +296,11 @@ whole_from (b ∷ text) place played fits ends =
     let rest = whole_from text step.following (read_on played b) step.fits_after step.ends_after in
     (rest.0, rest.1 ∙ sym step.reads)
 
-nothing_fits : Fits (at 0 Nothing) nothing_played
+nothing_fits : Fits (place_at 0 Nothing) nothing_played
 nothing_fits = record { groups = refl; few = omega arith; counted = tt }
 
 pub front_accepts : (text : List ℕ) → parts_of text ≡ Ok tt → (i : ℕ) → i < length text → Accepts (front_of text i) (get_or text i 0)
-front_accepts text order i inside = accepts_from text (at 0 Nothing) nothing_played nothing_fits (accepts (is_order text) order) i inside
+front_accepts text order i inside = accepts_from text (place_at 0 Nothing) nothing_played nothing_fits (accepts (is_order text) order) i inside
 
 pub front_more : (text : List ℕ) (i : ℕ) → i < length text → front_of text (i + 1) ≡ read_on (front_of text i) (get_or text i 0)
 front_more text i inside = fold_more read_on nothing_played text i 0 inside
@@ -310,8 +310,8 @@ all_read text i past = ap (fold read_on nothing_played) (take_all i text past)
 
 pub whole_order : (text : List ℕ) → parts_of text ≡ Ok tt → (i : ℕ) → length text ≤ i → Whole (front_of text i)
 whole_order text order i past =
-    subst Whole (sym (all_read text i past)) (whole_from text (at 0 Nothing) nothing_played nothing_fits (accepts (is_order text) order)).0
+    subst Whole (sym (all_read text i past)) (whole_from text (place_at 0 Nothing) nothing_played nothing_fits (accepts (is_order text) order)).0
 
 pub whole_letters : (text : List ℕ) → parts_of text ≡ Ok tt → (i : ℕ) → length text ≤ i → letters_so_far (front_of text i) ≡ letters_of text
 whole_letters text order i past =
-    ap letters_so_far (all_read text i past ∙ (whole_from text (at 0 Nothing) nothing_played nothing_fits (accepts (is_order text) order)).1)
+    ap letters_so_far (all_read text i past ∙ (whole_from text (place_at 0 Nothing) nothing_played nothing_fits (accepts (is_order text) order)).1)

@@ -17,7 +17,7 @@ use Rattle.abc_fields.specs.declared.fault.FaultCode.TheVariants.{BadOrder}
 use Rattle.abc_fields.specs.declared.parts.LastItem.{LastItem}
 use Rattle.abc_fields.specs.declared.parts.LastItem.TheVariants.{Nothing, Item}
 use Rattle.abc_fields.specs.declared.parts.Place.{Place}
-use Rattle.abc_fields.specs.Parts.{is_ignored, order_bytes, ends_item, begins_item, with_digit, at, following_digit, next, next_of, is_whole, place_following, ends_order, is_order, parts_of}
+use Rattle.abc_fields.specs.Parts.{is_ignored, order_bytes, ends_item, begins_item, with_digit, place_at, following_digit, next, next_of, is_whole, place_following, ends_order, is_order, parts_of}
 use Rattle.abc_fields.specs.Spelling.Parts.{IsCount, once, times, IsOrder, part, group, following, IsParts}
 use Rattle.abc_fields.proofs.Readings.{branches}
 
@@ -26,15 +26,15 @@ abbrev read : Option Place → List ℕ → Option Place
 read place text = fold next_of place text
 
 -- a letter, parentheses and a digit are four kinds of bytes
-letter_next : (depth letter : ℕ) (before : LastItem) → is_ascii_uppercase letter ≡ true → begins_item before ≡ true → next (at depth before) letter ≡ Some (at depth (Item 0 false))
+letter_next : (depth letter : ℕ) (before : LastItem) → is_ascii_uppercase letter ≡ true → begins_item before ≡ true → next (place_at depth before) letter ≡ Some (place_at depth (Item 0 false))
 unfolding next
 letter_next depth letter before upper begins = rw (upper, begins) refl
 
-open_next : (depth : ℕ) (before : LastItem) → begins_item before ≡ true → depth < 32 → next (at depth before) 40 ≡ Some (at (depth + 1) Nothing)
+open_next : (depth : ℕ) (before : LastItem) → begins_item before ≡ true → depth < 32 → next (place_at depth before) 40 ≡ Some (place_at (depth + 1) Nothing)
 unfolding next
 open_next depth before begins few = rw (begins, lt-ltb depth 32 few) refl
 
-close_next : (depth : ℕ) (before : LastItem) → ends_item before ≡ true → next (at (depth + 1) before) 41 ≡ Some (at depth (Item 0 false))
+close_next : (depth : ℕ) (before : LastItem) → ends_item before ≡ true → next (place_at (depth + 1) before) 41 ≡ Some (place_at depth (Item 0 false))
 unfolding next
 close_next depth before ends =
     let some : ltb 0 (depth + 1) ≡ true = lt-ltb 0 (depth + 1) (omega arith) in
@@ -45,7 +45,7 @@ pub below_upper : (b : ℕ) → b ≤ 57 → is_ascii_uppercase b ≡ false
 below_upper b h = grind (arith, nat_tests)
 
 digit_next : (depth b digits : ℕ) (positive : Bool) → is_ascii_digit b ≡ true → digits < 9
-    → next (at depth (Item digits positive)) b ≡ Some (at depth (Item (digits + 1) (positive || not (b == 48))))
+    → next (place_at depth (Item digits positive)) b ≡ Some (place_at depth (Item (digits + 1) (positive || not (b == 48))))
 unfolding next
 digit_next depth b digits positive digit few =
     let range = digit_range b digit in
@@ -74,7 +74,7 @@ order_step place value i inside =
 -- From the grammar to the places: an order leads from a place for the beginning of an item to one for its end, at the
 -- same depth.
 abbrev Ends : ℕ → Option Place → Type 0
-Ends depth place = (before : LastItem) × (place ≡ Some (at depth before)) × (ends_item before ≡ true)
+Ends depth place = (before : LastItem) × (place ≡ Some (place_at depth before)) × (ends_item before ≡ true)
 
 pub begins_too : (before : LastItem) → ends_item before ≡ true → begins_item before ≡ true
 begins_too Nothing h = cc
@@ -88,18 +88,18 @@ abbrev pub number_after : ℕ → List ℕ → ℕ
 number_after n digits = fold (λ n d. n * 10 + (d - 48)) n digits
 
 count_places : (text : List ℕ) (depth digits n : ℕ) → AllPass is_ascii_digit text → digits + length text ≤ 9
-    → read (Some (at depth (Item digits (ltb 0 n)))) text ≡ Some (at depth (Item (digits + length text) (ltb 0 (number_after n text))))
+    → read (Some (place_at depth (Item digits (ltb 0 n)))) text ≡ Some (place_at depth (Item (digits + length text) (ltb 0 (number_after n text))))
 count_places [] depth digits n all few = rw add-zero refl
 count_places (b ∷ text) depth digits n all few =
     let digit : is_ascii_digit b ≡ true = All-head (λ y. is_ascii_digit y ≡ true) b text all in
     let range = digit_range b digit in
     let following = count_places text depth (digits + 1) (n * 10 + (b - 48)) (All-tail (λ y. is_ascii_digit y ≡ true) b text all) (omega arith) in
     let one = digit_next depth b digits (ltb 0 n) digit (omega arith) in
-    let positive = ap (λ p. Some (at depth (Item (digits + 1) p))) (positive_step b n range.0) in
+    let positive = ap (λ p. Some (place_at depth (Item (digits + 1) p))) (positive_step b n range.0) in
     let long : (digits + 1) + length text ≡ digits + length (b ∷ text) = omega arith in
-    ap (λ place. read place text) (one ∙ positive) ∙ following ∙ ap (λ k. Some (at depth (Item k (ltb 0 (number_after (n * 10 + (b - 48)) text))))) long
+    ap (λ place. read place text) (one ∙ positive) ∙ following ∙ ap (λ k. Some (place_at depth (Item k (ltb 0 (number_after (n * 10 + (b - 48)) text))))) long
 
-count_ends : {count : List ℕ} {n : ℕ} → IsCount count n → (depth : ℕ) → Ends depth (read (Some (at depth (Item 0 false))) count)
+count_ends : {count : List ℕ} {n : ℕ} → IsCount count n → (depth : ℕ) → Ends depth (read (Some (place_at depth (Item 0 false))) count)
 count_ends once depth = (Item 0 false, refl, refl)
 count_ends (times {text} {n} number positive) depth = (
   Item (0 + length text) (ltb 0 (decimal text)),
@@ -107,19 +107,19 @@ count_ends (times {text} {n} number positive) depth = (
   or_right (0 + length text == 0) _ (lt-ltb 0 (decimal text) (subst (λ v. 0 < v) number.value positive)),
 )
 
-order_ends : {depth : ℕ} {text letters : List ℕ} → IsOrder depth text letters → (before : LastItem) → begins_item before ≡ true → Ends depth (read (Some (at depth before)) text)
+order_ends : {depth : ℕ} {text letters : List ℕ} → IsOrder depth text letters → (before : LastItem) → begins_item before ≡ true → Ends depth (read (Some (place_at depth before)) text)
 order_ends (part {depth} {letter} {n} {count} upper counted) before begins =
     subst (λ place. Ends depth (read place count)) (sym (letter_next depth letter before upper begins)) (count_ends counted depth)
 order_ends (group {depth} {n} {inner} {count} few order counted) before begins =
     let within = order_ends order Nothing refl in
     let entered = ap (λ place. read place (inner ++ 41 ∷ count)) (open_next depth before begins few) in
-    let apart = fold-append next_of (Some (at (depth + 1) Nothing)) inner (41 ∷ count) in
+    let apart = fold-append next_of (Some (place_at (depth + 1) Nothing)) inner (41 ∷ count) in
     let closed = ap (λ place. read place (41 ∷ count)) within.1 ∙ ap (λ place. read place count) (close_next depth within.0 within.2) in
     subst (Ends depth) (sym (entered ∙ apart ∙ closed)) (count_ends counted depth)
 order_ends (following {depth} {front} {back} first second) before begins =
     let front_ends = order_ends first before begins in
     let back_ends = order_ends second front_ends.0 (begins_too front_ends.0 front_ends.2) in
-    subst (Ends depth) (sym (fold-append next_of (Some (at depth before)) front back ∙ ap (λ place. read place back) front_ends.1)) back_ends
+    subst (Ends depth) (sym (fold-append next_of (Some (place_at depth before)) front back ∙ ap (λ place. read place back) front_ends.1)) back_ends
 
 -- From the places to the grammar: the parts of a text that leads to a place.
 
@@ -280,7 +280,7 @@ after_digit b (at_item {depth} {digits} {positive} {outer} {inner} {bare} {count
 abbrev Leads : List ℕ → Place → Type 0
 Leads text place = Reached place.depth place.before text
 
-pub guarded_digit : (t : Bool) (depth : ℕ) (before : LastItem) (after : Place) → following_digit depth (cond t (Some before) None) ≡ Some after → (t ≡ true) × (at depth before ≡ after)
+pub guarded_digit : (t : Bool) (depth : ℕ) (before : LastItem) (after : Place) → following_digit depth (cond t (Some before) None) ≡ Some after → (t ≡ true) × (place_at depth before ≡ after)
 guarded_digit true depth before after e = (refl, cc)
 guarded_digit false depth before after e = cc
 
@@ -293,23 +293,23 @@ digit_leads depth (Item digits positive) b text after reached digit e =
 
 -- the kinds of a byte that may come at a place, and the place after it
 pub data Follows (place : Place) (b : ℕ) (after : Place) : Type 0 where
-  by_letter : is_ascii_uppercase b ≡ true → begins_item place.before ≡ true → at place.depth (Item 0 false) ≡ after → Follows place b after
-  by_open : b ≡ 40 → begins_item place.before ≡ true → place.depth < 32 → at (place.depth + 1) Nothing ≡ after → Follows place b after
-  by_close : b ≡ 41 → ends_item place.before ≡ true → 0 < place.depth → at (place.depth - 1) (Item 0 false) ≡ after → Follows place b after
+  by_letter : is_ascii_uppercase b ≡ true → begins_item place.before ≡ true → place_at place.depth (Item 0 false) ≡ after → Follows place b after
+  by_open : b ≡ 40 → begins_item place.before ≡ true → place.depth < 32 → place_at (place.depth + 1) Nothing ≡ after → Follows place b after
+  by_close : b ≡ 41 → ends_item place.before ≡ true → 0 < place.depth → place_at (place.depth - 1) (Item 0 false) ≡ after → Follows place b after
   by_digit : is_ascii_digit b ≡ true → following_digit place.depth (with_digit place.before b) ≡ Some after → Follows place b after
 
 pub follows : (place : Place) (b : ℕ) (after : Place) → next place b ≡ Some after → Follows place b after
 unfolding next
 follows place b after e = ⊎_elim
-    (λ letter. let given = cond_some (begins_item place.before) (at place.depth (Item 0 false)) after letter.1 in by_letter letter.0 given.0 given.1)
+    (λ letter. let given = cond_some (begins_item place.before) (place_at place.depth (Item 0 false)) after letter.1 in by_letter letter.0 given.0 given.1)
     (λ other. ⊎_elim
     (λ opens.
-    let given = cond_some (begins_item place.before && ltb place.depth 32) (at (place.depth + 1) Nothing) after opens.1 in
+    let given = cond_some (begins_item place.before && ltb place.depth 32) (place_at (place.depth + 1) Nothing) after opens.1 in
     let both = and_parts (begins_item place.before) (ltb place.depth 32) given.0 in
     by_open (eqb-true b 40 opens.0) both.0 (ltb-true place.depth 32 both.1) given.1)
     (λ others. ⊎_elim
     (λ closes.
-    let given = cond_some (ends_item place.before && ltb 0 place.depth) (at (place.depth - 1) (Item 0 false)) after closes.1 in
+    let given = cond_some (ends_item place.before && ltb 0 place.depth) (place_at (place.depth - 1) (Item 0 false)) after closes.1 in
     let both = and_parts (ends_item place.before) (ltb 0 place.depth) given.0 in
     by_close (eqb-true b 41 closes.0) both.0 (ltb-true 0 place.depth both.1) given.1)
     (λ rest. ⊎_elim
@@ -361,7 +361,7 @@ order_accepted value letters order = ends_well (place_following value) (order_en
 pub accepted_order : (value : List ℕ) → is_order value ≡ true → (letters : List ℕ) × IsParts value letters
 accepted_order value e =
     let h = last_of (place_following value) e in
-    order_from (order_bytes value) h.0 (leads_through (order_bytes value) [] (at 0 Nothing) h.0 (at_front outside) h.1) h.2
+    order_from (order_bytes value) h.0 (leads_through (order_bytes value) [] (place_at 0 Nothing) h.0 (at_front outside) h.1) h.2
 
 pub accepts : (whole : Bool) → ◌≡◌ {A = Result (Unit {0}) FaultCode} (cond whole (Ok tt) (Err BadOrder)) (Ok tt) → whole ≡ true
 accepts true e = refl

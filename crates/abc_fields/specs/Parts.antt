@@ -35,23 +35,23 @@ with_digit (Item digits positive) digit =
     if nat_lt digits 9 then Some (Item (digits + 1) (positive || not (digit == digit_zero))) else None
 
 -- The place at this depth after this item.
-abbrev pub at : ℕ → LastItem → Place
-at depth before = record { depth = depth; before = before }
+abbrev pub place_at : ℕ → LastItem → Place
+place_at depth before = record { depth = depth; before = before }
 
 -- The place after a digit.
 abbrev pub following_digit : ℕ → Option LastItem → Option Place
 following_digit depth None = None
-following_digit depth (Some before) = Some (at depth before)
+following_digit depth (Some before) = Some (place_at depth before)
 
 -- The place after a byte that may come at this place. The byte is a letter or the beginning of a group if an item may
 -- begin; the end of a group if its last item may end; or a digit of a count.
 unfoldable pub next : Place → ℕ → Option Place
 next place b =
-    if is_ascii_uppercase b then (if begins_item place.before then Some (at place.depth (Item 0 false)) else None)
+    if is_ascii_uppercase b then (if begins_item place.before then Some (place_at place.depth (Item 0 false)) else None)
     else (if b == open_parenthesis
-    then (if begins_item place.before && nat_lt place.depth 32 then Some (at (place.depth + 1) Nothing) else None)
+    then (if begins_item place.before && nat_lt place.depth 32 then Some (place_at (place.depth + 1) Nothing) else None)
     else (if b == close_parenthesis
-    then (if ends_item place.before && nat_lt 0 place.depth then Some (at (place.depth - 1) (Item 0 false)) else None)
+    then (if ends_item place.before && nat_lt 0 place.depth then Some (place_at (place.depth - 1) (Item 0 false)) else None)
     else (if is_ascii_digit b then following_digit place.depth (with_digit place.before b) else None)))
 
 -- The same for an optional place.
@@ -65,7 +65,7 @@ is_whole place = (place.depth == 0) && ends_item place.before
 
 -- The place after a text, if an order may begin with it.
 abbrev pub place_following : List ℕ → Option Place
-place_following text = fold next_of (Some (at 0 Nothing)) (order_bytes text)
+place_following text = fold next_of (Some (place_at 0 Nothing)) (order_bytes text)
 
 -- The same for an optional place.
 abbrev pub ends_order : Option Place → Bool

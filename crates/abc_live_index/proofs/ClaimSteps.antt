@@ -69,7 +69,8 @@ titles_among old new front came following end titles order inside count last lon
     ap length are ∙ length-map some title_by ∙ length-take-le (end - front) (drop front new) (omega (arith, stretch, long, length-drop front new)) ∙ stretch in
     let first : take front (titles_of old) ≡ titles_of (take front new) = take-map title_by front old ∙ ap titles_of (sym start) in
     let last : drop (front + length titles) (titles_of old) ≡ titles_of (drop came (drop front new)) =
-    ap (λ n. drop (front + n) (titles_of old)) many ∙ ap (λ n. drop n (titles_of old)) there ∙ drop-map title_by following old ∙ ap titles_of (sym rest) ∙ ap titles_of (sym (drop-drop came front new)) in
+    ap (λ n. drop (front + n) (titles_of old)) many ∙ ap (λ n. drop n (titles_of old)) there ∙ drop-map title_by following old
+    ∙ ap titles_of (sym rest) ∙ ap titles_of (sym (drop-drop came front new)) in
     let middle : titles ≡ titles_of (take came (drop front new)) = are ∙ ap (λ n. titles_of (take n (drop front new))) stretch in
     ap (λ l. l ++ (titles ++ drop (front + length titles) (titles_of old))) first
     ∙ ap (λ l. titles_of (take front new) ++ (titles ++ l)) last

@@ -61,7 +61,8 @@ rest_after P xs next i x y put all inside is =
 -- Tunes that lie within some lines lie within more.
 -- The tunes of the stretch are put, and then those after it are moved.
 pub put_and_moved : {X : Type 0} (f : X → X) (old places : List X) (front following : ℕ) → front + length places ≡ following → following ≤ length old
-    → take following (take front old ++ (places ++ drop following old)) ++ map f (drop following (take front old ++ (places ++ drop following old))) ≡ take front old ++ (places ++ map f (drop following old))
+    → take following (take front old ++ (places ++ drop following old)) ++ map f (drop following (take front old ++ (places ++ drop following old)))
+    ≡ take front old ++ (places ++ map f (drop following old))
 put_and_moved f old places front following count inside =
     let whole = take front old ++ (places ++ drop following old) in
     let parts : whole ≡ (take front old ++ places) ++ drop following old = sym (append_assoc (take front old) places (drop following old)) in

@@ -182,14 +182,16 @@ no_step : {State Cell Items : Type 0} (steps : Steps State Cell Items) (state : 
 no_step steps state cell cells kept_states None first none =
     let fresh : is_fresh_after steps.alike state (entry_of (first_past kept_states)) ≡ true = ap (λ o. is_fresh_after steps.alike state (entry_of o)) first in
     let bad : 1 + steps_over steps (steps.next state cell) cells (rest kept_states) ≡ 0 =
-    sym (ap (λ b. cond b (1 + steps_over steps (steps.next state cell) cells (rest kept_states)) (steps_over steps (following state (first_past kept_states)) cells (rest kept_states))) fresh) ∙ none in
+    sym (ap (λ b. cond b (1 + steps_over steps (steps.next state cell) cells (rest kept_states)) (steps_over steps (following state (first_past kept_states)) cells (rest kept_states))) fresh)
+    ∙ none in
     absurd (omega (arith, bad))
 no_step steps state cell cells kept_states (Some held) first none = ⊎_elim
     (λ (t : steps.alike held.entry state ≡ true). (held, refl, t))
     (λ (f : steps.alike held.entry state ≡ false).
     let fresh : is_fresh_after steps.alike state (entry_of (first_past kept_states)) ≡ true = ap (λ o. is_fresh_after steps.alike state (entry_of o)) first ∙ ap not f in
     let bad : 1 + steps_over steps (steps.next state cell) cells (rest kept_states) ≡ 0 =
-    sym (ap (λ b. cond b (1 + steps_over steps (steps.next state cell) cells (rest kept_states)) (steps_over steps (following state (first_past kept_states)) cells (rest kept_states))) fresh) ∙ none in
+    sym (ap (λ b. cond b (1 + steps_over steps (steps.next state cell) cells (rest kept_states)) (steps_over steps (following state (first_past kept_states)) cells (rest kept_states))) fresh)
+    ∙ none in
     absurd (omega (arith, bad)))
     (cases_Bool (steps.alike held.entry state))
 

@@ -40,7 +40,8 @@ sign_inner numbers ms strains (closed_run body rest bar later h closes stops fol
 sign_inner numbers ms strains (run_to_end run endings inner are) =
     run_to_end [] (record { numbers = numbers; run = run } ∷ endings) (straight [] (All-nil (λ m. in_ending m ≡ true))) (another numbers run endings None inner are)
 sign_inner numbers ms strains (run_to_bar run rest endings bar later inner are stops following) =
-    run_to_bar [] rest (record { numbers = numbers; run = run } ∷ endings) bar later (straight [] (All-nil (λ m. in_ending m ≡ true))) (another numbers run endings (Some bar) inner are) stops following
+    run_to_bar [] rest (record { numbers = numbers; run = run } ∷ endings) bar later (straight [] (All-nil (λ m. in_ending m ≡ true)))
+    (another numbers run endings (Some bar) inner are) stops following
 
 sign_outer : (opened : Bool) (numbers : ℕ) (ms : List Mark) (strains : List Strain) → IsInside ms strains → IsStrains opened (marks.Ending numbers ∷ ms) (on_first (marks.Ending numbers) strains)
 sign_outer opened numbers ms strains (last_run body h) =
@@ -53,7 +54,8 @@ sign_outer opened numbers ms strains (closed_run body rest bar later h closes st
 sign_outer opened numbers ms strains (run_to_end run endings inner are) =
     last_endings opened [] (record { numbers = numbers; run = run } ∷ endings) (All-nil (λ m. in_common opened m ≡ true)) (another numbers run endings None inner are)
 sign_outer opened numbers ms strains (run_to_bar run rest endings bar later inner are stops following) =
-    with_endings opened [] rest (record { numbers = numbers; run = run } ∷ endings) bar later (All-nil (λ m. in_common opened m ≡ true)) (another numbers run endings (Some bar) inner are) stops following
+    with_endings opened [] rest (record { numbers = numbers; run = run } ∷ endings) bar later (All-nil (λ m. in_common opened m ≡ true))
+    (another numbers run endings (Some bar) inner are) stops following
 
 pub with_plain : (m : Mark) (strain : Strain) → is_ending m ≡ false → with_mark m strain ≡ record strain { common = m ∷ strain.common }
 with_plain (marks.Ending numbers) strain e = cc

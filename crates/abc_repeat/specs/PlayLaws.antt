@@ -46,7 +46,8 @@ IsBetween m = (¬ (m ≡ marks.Play)) × (¬ EndsEnding m)
 -- The next sign comes after nothing but such marks.
 abbrev pub SignComes : List Mark → Type 0
 SignComes rest =
-    (gap : List Mark) × (numbers : ℕ) × (following : List Mark) × All IsBetween gap × (rest ≡ gap ++ marks.Ending numbers ∷ following)
+    (gap : List Mark) × (numbers : ℕ) × (following : List Mark) × All IsBetween gap
+    × (rest ≡ gap ++ marks.Ending numbers ∷ following)
 
 -- An ending in its section: its numbers, the place after its sign, and its marks from there on.
 pub record PlacedEnding : Type 0 where

@@ -76,7 +76,8 @@ frame_closed inside (b ∷ following) inside_is no_field =
     (λ yes.
     let closing : b ≡ closing_bracket = eqb-true b closing_bracket yes in
     let none = sym (begins_inside inside following) ∙ ap (λ x. begins_field (inside ++ x ∷ following)) (sym closing) ∙ no_field in
-    subst (λ x. IsSpelled IsFrame (opening_bracket ∷ (inside ++ x ∷ following)) (record { inside = length inside; length = length_at following }, length inside + 2 + length_size following)) (sym closing)
+    subst (λ x. IsSpelled IsFrame (opening_bracket ∷ (inside ++ x ∷ following)) (record { inside = length inside; length = length_at following }, length inside + 2 + length_size following))
+    (sym closing)
     (frame_here inside following inside_is none))
     (λ _. tt)
 

@@ -54,7 +54,8 @@ following_first : (size : ℕ) (written : List ℕ) → AllPass is_range_byte wr
 following_first zero written all = All-nil _
 following_first (suc n) written all = All-take (λ b. is_range_byte b ≡ true) n written all
 
-too_short : (written rest inside following : List ℕ) (size : ℕ) → AllPass is_range_byte written → size ≤ length (91 ∷ written) → take size ((91 ∷ written) ++ rest) ≡ 91 ∷ (inside ++ 93 ∷ following) → ⊥
+too_short : (written rest inside following : List ℕ) (size : ℕ) → AllPass is_range_byte written → size ≤ length (91 ∷ written)
+    → take size ((91 ∷ written) ++ rest) ≡ 91 ∷ (inside ++ 93 ∷ following) → ⊥
 too_short written rest inside following size bytes short spelled =
     let whole : take size (91 ∷ written) ≡ 91 ∷ (inside ++ 93 ∷ following) = sym (take-append-le size (91 ∷ written) rest short) ∙ spelled in
     let all : AllPass is_range_byte (inside ++ 93 ∷ following) = subst (λ l. AllPass is_range_byte (drop 1 l)) whole (following_first size written bytes) in

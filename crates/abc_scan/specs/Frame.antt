@@ -25,7 +25,8 @@ pub record IsFrame (text : List ℕ) (frame : Frame) : Type 0 where
 abbrev pub closed_frame : ℕ → List ℕ → Option (Frame × ℕ)
 closed_frame size [] = None
 closed_frame size (b ∷ following) =
-    if b == closing_bracket then Some (record { inside = size; length = length_at following }, size + 2 + length_size following) else None
+    if b == closing_bracket then Some (record { inside = size; length = length_at following }, size + 2 + length_size following)
+    else None
 
 -- The number of bytes at the front of a text that may be inside a chord.
 abbrev pub inside_size : List ℕ → ℕ

@@ -222,8 +222,8 @@ unfolding first_word
 first_known text word following is =
     let from = length is.blanks in
     let some : 0 < length word = is.some in
-    let count : leading_blanks text ≡ from = ap leading_blanks is.spelling ∙ front_blanks is.blanks (word ++ following) is.are_blanks ∙ (let none = no_blank_first word following some is.no_blank in omega
-    (arith, none)) in
+    let count : leading_blanks text ≡ from = ap leading_blanks is.spelling ∙ front_blanks is.blanks (word ++ following) is.are_blanks ∙ (let none = no_blank_first word following some is.no_blank in
+    omega (arith, none)) in
     let long : length text ≡ from + (length word + length following) = ap length is.spelling ∙ length-append is.blanks (word ++ following) ∙ ap (λ n. from + n) (length-append word following) in
     let rest : drop from text ≡ word ++ following = ap (drop from) is.spelling ∙ drop-append_seam is.blanks (word ++ following) in
     let size : bytes_before_blank (drop (leading_blanks text) text) ≡ length word = ap (λ n. bytes_before_blank

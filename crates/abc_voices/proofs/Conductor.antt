@@ -13,7 +13,7 @@ use Rattle.abc_time.specs.Grains.{tick_at}
 use Rattle.abc_voices_score.specs.declared.score.Change.{Change}
 use Rattle.abc_voices_score.specs.declared.score.ChangeKind.TheVariants as kinds
 use Rattle.abc_voices.specs.Arrange.{first_of, or_else, played_sections, set_in, usual_tempo}
-use Rattle.abc_voices_sections.specs.PlayedSection.{longest, play_in}
+use Rattle.abc_voices_sections.specs.PlayedSection.{section_length, play_in}
 use Rattle.abc_voices.specs.Change.{tempo_of, meter_of, key_of, set_from}
 use Rattle.abc_voices.specs.Conductor.{opening_tempo_of, opening_meter_of, opening_key_of, opening_by, sections_in_time, last_beside, last_set}
 use Rattle.abc_voices.specs.Conductor.{set_or_opening, at_120, leader, is_tempo, is_meter, is_key, is_there, IsConductedOnTicks}
@@ -40,7 +40,7 @@ sections_said : {V : Type 0} (value_of : Item → Option V) (voices those : List
     ≡ last_said (last_beside value_of those tick) (sections_in_time voices at sections)
 sections_said value_of voices those tick at [] = refl
 sections_said value_of voices those tick at (section ∷ rest) =
-    let next : ℕ = at + longest voices section in
+    let next : ℕ = at + section_length voices section in
     last_append (set_if_on tick) (flat_map (λ voice. set_from value_of at (play_in section voice)) those)
     (set_in value_of voices those next rest)
     ∙ (λ i. or_said (sections_said value_of voices those tick next rest i) (voices_said value_of those tick at section i))

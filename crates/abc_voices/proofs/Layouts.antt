@@ -22,7 +22,7 @@ use Rattle.abc_voices.specs.Turns.{IsStage, length_along, steps_of, notes_along,
 use Rattle.abc_voices.specs.Turns.{is_stage_uneven, first_place, changes_along, programs_by, programs_along, end_along, score_along}
 use Rattle.abc_voices.specs.Arrange.{played_sections, voice_notes, all_notes, set_in, first_of, lengths_differ, is_uneven, voices_notes, last_off}
 use Rattle.abc_voices.specs.Arrange.{end_of, changes_of, programs_in, programs_of, score_of, or_else, usual_tempo, arranged_of}
-use Rattle.abc_voices_sections.specs.PlayedSection.{play_in, longest}
+use Rattle.abc_voices_sections.specs.PlayedSection.{play_in, section_length}
 use Rattle.abc_voices.specs.Change.{tempo_of, meter_of, key_of, program_of, set_from, after_opening}
 use Rattle.abc_voices.specs.ScoreChanges.{programs_in_force}
 use Rattle.abc_voices.specs.TiedNotes.{notes_from}
@@ -37,12 +37,12 @@ abbrev Sectioned : Type 0
 Sectioned = List ℕ × List Item
 
 -- how long the stages of sections are
-pub total_of : (voices : List (List ℕ)) (played : List Sectioned) → length_along (map (stage_of voices) played) ≡ sum_by (longest voices) played
+pub total_of : (voices : List (List ℕ)) (played : List Sectioned) → length_along (map (stage_of voices) played) ≡ sum_by (section_length voices) played
 total_of voices [] = refl
 total_of voices (section ∷ played) =
-    sum_by_from (λ (stage : Stage). stage.longest.0) (0 + longest voices section) (map (stage_of voices) played)
-    ∙ ap (λ n. (0 + longest voices section) + n) (total_of voices played)
-    ∙ sym (sum_by_from (longest voices) (0 + longest voices section) played)
+    sum_by_from (λ (stage : Stage). stage.longest.0) (0 + section_length voices section) (map (stage_of voices) played)
+    ∙ ap (λ n. (0 + section_length voices section) + n) (total_of voices played)
+    ∙ sym (sum_by_from (section_length voices) (0 + section_length voices section) played)
 
 -- what is at a place of a list, by what is left there
 record Front {X : Type 0} (xs : List X) (k : ℕ) (x : X) (rest : List X) : Type 0 where
@@ -66,7 +66,7 @@ notes_here : (voices : List (List ℕ)) (k : ℕ) (voice : List ℕ) (at : ℕ) 
     → notes_along k at (map (stage_of voices) played) ≡ voice_notes voices voice at played
 notes_here voices k voice at [] e = refl
 notes_here voices k voice at (section ∷ played) e =
-    λ i. notes_from at (steps_here section voices k voice e i) (notes_here voices k voice (at + longest voices section) played e i)
+    λ i. notes_from at (steps_here section voices k voice e i) (notes_here voices k voice (at + section_length voices section) played e i)
 
 -- the values of the voices from a place on, if the value of each is known from the voices that are left there
 voices_here : {X : Type 0} (one : ℕ → X) (own : List ℕ → X) (voices : List (List ℕ))
@@ -86,7 +86,7 @@ all_here : {V : Type 0} (value_of : Item → Option V) (voices : List (List ℕ)
     → set_by_all value_of at (map (stage_of voices) played) ≡ set_in value_of voices voices at played
 all_here value_of voices at [] = refl
 all_here value_of voices at (section ∷ played) =
-    λ i. flat_map-map (λ (part : Part). set_from value_of at part.steps) (part_of section) voices i ++ all_here value_of voices (at + longest voices section) played i
+    λ i. flat_map-map (λ (part : Part). set_from value_of at part.steps) (part_of section) voices i ++ all_here value_of voices (at + section_length voices section) played i
 
 -- what the voice at a place sets in a stage
 track_here : {V : Type 0} (value_of : Item → Option V) (section : Sectioned) (voices : List (List ℕ)) (k at : ℕ) (rest : List (List ℕ)) → drop k voices ≡ rest
@@ -105,7 +105,7 @@ one_here : {V : Type 0} (value_of : Item → Option V) (voices : List (List ℕ)
     → set_by_one value_of k at (map (stage_of voices) played) ≡ set_in value_of voices (first_of (drop k voices)) at played
 one_here value_of voices k at [] = refl
 one_here value_of voices k at (section ∷ played) =
-    λ i. track_here value_of section voices k at (drop k voices) refl i ++ one_here value_of voices k (at + longest voices section) played i
+    λ i. track_here value_of section voices k at (drop k voices) refl i ++ one_here value_of voices k (at + section_length voices section) played i
 
 -- the programs of the voice at a place, by what is left of the voices there
 programs_here : (opening : Option ℕ) (voices : List (List ℕ)) (played : List Sectioned) (k : ℕ) (voice : List ℕ) (rest : List (List ℕ)) → drop k voices ≡ voice ∷ rest

@@ -10,7 +10,7 @@ use Rattle.abc_time.specs.declared.grains.Grains.{Grains}
 use Rattle.abc_time.specs.Grains.{tick_at}
 use Rattle.abc_voices_score.specs.declared.score.ProgramChange.{ProgramChange}
 use Rattle.abc_voices.specs.Arrange.{played_sections, programs_in, set_in}
-use Rattle.abc_voices_sections.specs.PlayedSection.{longest, play_in}
+use Rattle.abc_voices_sections.specs.PlayedSection.{section_length, play_in}
 use Rattle.abc_voices.specs.Change.{at_moment, after_opening, program_of, set_from}
 use Rattle.abc_voices.specs.Opening.{after_all, program_after}
 use Rattle.abc_voices.specs.OnTicks.{last_said, opening_program_of, at_moments, moments_in, set_on, set_by, program_on, HaveProgramsOnTicks}
@@ -120,7 +120,7 @@ sections_said : (tick : ℕ) (voices : List (List ℕ)) (voice : List ℕ) (at :
 sections_said tick voices voice at [] = refl
 sections_said tick voices voice at (section ∷ rest) =
     let play : List Item = play_in section voice in
-    let next : ℕ = at + longest voices section in
+    let next : ℕ = at + section_length voices section in
     let own : List (Grains × ℕ) = set_from program_of at play in
     let others : List (Grains × ℕ) = set_in program_of voices (voice ∷ []) next rest in
     ap (λ sets. last_on tick (sets ++ others)) (append-nil own)

@@ -17,9 +17,9 @@ use Rattle.abc_time.specs.Grains.{grains_of_the_latest_end}
 use Rattle.abc_voices_sections.specs.declared.section.Section.{Section}
 use Rattle.abc_voices_sections.specs.declared.stage.Stage.{Stage}
 use Rattle.abc_voices_sections.specs.declared.stage.StageFault.{StageFault}
-use Rattle.abc_voices_sections.specs.PlayedSection.{size_in, longest}
+use Rattle.abc_voices_sections.specs.PlayedSection.{size_in, section_length}
 use Rattle.abc_voices_sections.specs.Stage.{content, stage_of, stage_size}
-use Rattle.abc_voices.specs.Stages.{stage_at, stage_for, number_of, size_for, longest_for, IsStageAt, AreStages, IsNew, IsPut, ArePut, sections_at}
+use Rattle.abc_voices.specs.Stages.{stage_at, stage_for, number_of, size_for, length_for, IsStageAt, AreStages, IsNew, IsPut, ArePut, sections_at}
 
 past_end : {A : Type 0} (xs : List A) (k : ℕ) → slice_get xs k ≡ None → length xs ≤ k
 past_end xs k h =
@@ -67,9 +67,9 @@ section_size voices sections place section is =
     ap (number_of (λ one. sum_by (size_in (content one)) voices)) is
 
 pub section_longest : (voices : List (List ℕ)) (sections : List Section) (place : ℕ) (section : Section)
-    → slice_get sections place ≡ Some section → longest_for voices sections place ≡ longest voices (content section)
+    → slice_get sections place ≡ Some section → length_for voices sections place ≡ section_length voices (content section)
 section_longest voices sections place section is =
-    ap (number_of (λ one. longest voices (content one))) is
+    ap (number_of (λ one. section_length voices (content one))) is
 
 -- what is at a place of a table after a stage was put
 set_at : (table : List (Option Stage)) (place other : ℕ) (stage : Stage) (P : ℕ → Option Stage → Type 0)
@@ -196,13 +196,13 @@ too_many_at voices sections places i room table within are full =
 
 -- a section that is too long
 pub too_late_at : (voices : List (List ℕ)) (sections : List Section) (places : List ℕ) (i : ℕ)
-    → i < length places → grains_of_the_latest_end < longest_for voices sections (get_or places i 0)
-    → grains_of_the_latest_end < sum_by (longest voices) (sections_at sections places)
+    → i < length places → grains_of_the_latest_end < length_for voices sections (get_or places i 0)
+    → grains_of_the_latest_end < sum_by (section_length voices) (sections_at sections places)
 too_late_at voices sections places i within late =
-    let here : sum_by (longest_for voices sections) (take i places) + longest_for voices sections (get_or places i 0) ≤ sum_by
-    (longest_for voices sections) places = sum_by_more_le (longest_for voices sections) places i 0 within in
-    let whole : sum_by (longest_for voices sections) places ≡ sum_by (longest voices) (sections_at sections places) =
-    numbers_at (longest voices) sections places in
+    let here : sum_by (length_for voices sections) (take i places) + length_for voices sections (get_or places i 0) ≤ sum_by
+    (length_for voices sections) places = sum_by_more_le (length_for voices sections) places i 0 within in
+    let whole : sum_by (length_for voices sections) places ≡ sum_by (section_length voices) (sections_at sections places) =
+    numbers_at (section_length voices) sections places in
     omega arith
 
 -- all that is played is within the room

@@ -8,13 +8,13 @@ use Rattle.abc_bars_items.specs.Item.{IsItem}
 use Rattle.abc_time.specs.declared.grains.Grains.{Grains}
 use Rattle.abc_voices.specs.Turns.{IsPart, IsStage}
 use Rattle.abc_voices.specs.Arrange.{total, voices_notes, end_of}
-use Rattle.abc_voices_sections.specs.PlayedSection.{length_in, longest}
+use Rattle.abc_voices_sections.specs.PlayedSection.{length_in, section_length}
 use Rattle.abc_voices_sections.specs.Stage.{part_of, stage_of}
 use Rattle.abc_voices.proofs.Fitting.Kept.{play_kept}
 use Rattle.abc_voices.proofs.Fitting.Voices.{last_past}
 
 abbrev longest_in : List ℕ × List Item → List (List ℕ) → ℕ
-longest_in section voices = longest voices section
+longest_in section voices = section_length voices section
 
 -- each part is at most as long as the longest, and its items can be
 parts_all : (section : List ℕ × List Item) (longest : Grains) (voices : List (List ℕ))

@@ -8,7 +8,7 @@ use Rattle.abc_bars_items.specs.declared.item.Item.{Item}
 use Rattle.abc_bars_items.specs.declared.item.Tone.{Tone}
 use Rattle.abc_voices_score.specs.declared.score.Sounding.{Sounding}
 use Rattle.abc_voices.specs.Arrange.{all_notes, played_sections, voice_notes}
-use Rattle.abc_voices_sections.specs.PlayedSection.{longest, play_in}
+use Rattle.abc_voices_sections.specs.PlayedSection.{section_length, play_in}
 use Rattle.abc_voices.specs.TiedNotes.{TokenNotes, Notes, own_note, with_note, with_key, with_tones, next_place, before, before_all, notes_from}
 use Rattle.abc_voices_sections.specs.Step.{length_of, tones_of}
 use Rattle.abc_voices.specs.Track.{voice_names, tracks}
@@ -406,7 +406,7 @@ voice_tokens : (voices : List (List ℕ)) (voice : List ℕ) (at : ℕ) (section
     → voice_notes voices voice at sections ≡ by_tokens (tokens_in voices voice at sections)
 voice_tokens voices voice at [] = refl
 voice_tokens voices voice at (section ∷ rest) =
-    let next : ℕ = at + longest voices section in
+    let next : ℕ = at + section_length voices section in
     ap (notes_from at (play_in section voice)) (voice_tokens voices voice next rest)
     ∙ played_tokens at (play_in section voice) (tokens_in voices voice next rest)
 

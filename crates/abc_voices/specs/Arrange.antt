@@ -21,7 +21,7 @@ use Rattle.abc_voices.specs.Change.{tempo_of, meter_of, key_of, program_of, set_
 use Rattle.abc_voices.specs.ScoreChanges.{changes_in_force, programs_in_force}
 use Rattle.abc_voices.specs.TiedNotes.{Notes, notes_from}
 use Rattle.abc_voices.specs.Opening.{tempo_after, meter_after, key_after, program_after, order_after, after_all, title_of}
-use Rattle.abc_voices_sections.specs.PlayedSection.{play_in, size_in, length_in, longest}
+use Rattle.abc_voices_sections.specs.PlayedSection.{play_in, size_in, length_in, section_length}
 use Rattle.abc_voices_sections.specs.Section.{letters, sections}
 use Rattle.abc_voices.specs.Track.{voice_names, tracks}
 
@@ -34,7 +34,7 @@ played_sections tune =
 abbrev pub voice_notes : List (List ℕ) → List ℕ → ℕ → List (List ℕ × List Item) → Notes
 voice_notes voices voice at [] = record { first = []; others = [] }
 voice_notes voices voice at (section ∷ rest) =
-    notes_from at (play_in section voice) (voice_notes voices voice (at + longest voices section) rest)
+    notes_from at (play_in section voice) (voice_notes voices voice (at + section_length voices section) rest)
 
 -- All notes of a voice.
 abbrev pub all_notes : Notes → List Sounding
@@ -46,7 +46,7 @@ abbrev pub set_in : {V : Type 0} → (Item → Option V) → List (List ℕ) →
 set_in value_of voices those at [] = []
 set_in value_of voices those at (section ∷ rest) =
     flat_map (λ voice. set_from value_of at (play_in section voice)) those
-    ++ set_in value_of voices those (at + longest voices section) rest
+    ++ set_in value_of voices those (at + section_length voices section) rest
 
 -- A value of its own if there is none.
 abbrev pub or_else : {V : Type 0} → V → Option V → V
@@ -86,7 +86,7 @@ is_uneven voices section = list_any (λ a. list_any (lengths_differ section a) v
 
 -- The sum of the sections of a tune.
 abbrev pub total : List Item → ℕ
-total tune = sum_by (longest (voice_names tune)) (played_sections tune)
+total tune = sum_by (section_length (voice_names tune)) (played_sections tune)
 
 -- The notes of each voice that has a track.
 abbrev pub voices_notes : List Item → List (List Sounding)

@@ -12,7 +12,7 @@ use Rattle.abc_voices_score.specs.declared.score.Change.{Change}
 use Rattle.abc_voices_score.specs.declared.score.ChangeKind.{ChangeKind}
 use Rattle.abc_voices_score.specs.declared.score.ChangeKind.TheVariants as kinds
 use Rattle.abc_voices.specs.Arrange.{played_sections, score_of}
-use Rattle.abc_voices_sections.specs.PlayedSection.{longest, play_in}
+use Rattle.abc_voices_sections.specs.PlayedSection.{section_length, play_in}
 use Rattle.abc_voices.specs.Change.{tempo_of, meter_of, key_of}
 use Rattle.abc_voices.specs.OnTicks.{at_moments, last_said, set_by, set_on}
 use Rattle.abc_voices.specs.Track.{voice_names, tracks}
@@ -44,7 +44,7 @@ last_played value_of tick at play = last_said (set_by value_of tick) (at_moments
 -- Sections that are played one after another from a moment on, each at its moment.
 abbrev pub sections_in_time : List (List ℕ) → ℕ → List (List ℕ × List Item) → List (ℕ × (List ℕ × List Item))
 sections_in_time voices at [] = []
-sections_in_time voices at (section ∷ rest) = (at, section) ∷ sections_in_time voices (at + longest voices section) rest
+sections_in_time voices at (section ∷ rest) = (at, section) ∷ sections_in_time voices (at + section_length voices section) rest
 
 -- What some voices set last on a tick in a section that is played from a moment on: of the voices that set something
 -- there the last one decides, in the order of the voices, whichever of them sets it later.

@@ -3,13 +3,13 @@ use Rattle.std.specs.Prelude.{◌≡◌, ◌≤◌, ◌⊎◌, ℕ, List, sum_by
 use Rattle.std.specs.List.{flat_map}
 use Rattle.abc_bars_items.specs.declared.item.Item.{Item}
 use Rattle.abc_voices_score.specs.declared.score.Sounding.{Sounding}
-use Rattle.abc_voices_sections.specs.PlayedSection.{longest}
+use Rattle.abc_voices_sections.specs.PlayedSection.{section_length}
 use Rattle.abc_voices.specs.Arrange.{played_sections, score_of}
 use Rattle.abc_voices.specs.Track.{voice_names}
 
 -- How long the sections of a tune are that are played, one after another.
 abbrev pub length_of_sections : List Item → ℕ
-length_of_sections tune = sum_by (longest (voice_names tune)) (played_sections tune)
+length_of_sections tune = sum_by (section_length (voice_names tune)) (played_sections tune)
 
 -- The notes of all voices of a tune.
 abbrev pub all_notes_of : List Item → List Sounding

@@ -7,7 +7,7 @@ use Rattle.abc_time.specs.declared.grains.Grains.{Grains}
 use Rattle.abc_time.specs.Grains.{tick_at}
 use Rattle.abc_voices_score.specs.declared.score.ProgramChange.{ProgramChange}
 use Rattle.abc_voices.specs.Arrange.{played_sections, score_of}
-use Rattle.abc_voices_sections.specs.PlayedSection.{longest, play_in}
+use Rattle.abc_voices_sections.specs.PlayedSection.{section_length, play_in}
 use Rattle.abc_voices.specs.Change.{at_moment, program_of}
 use Rattle.abc_voices_sections.specs.Step.{length_of}
 use Rattle.abc_voices.specs.Track.{voice_names, tracks}
@@ -32,7 +32,7 @@ at_moments at (item ∷ play) = (at, item) ∷ at_moments (at + length_of item) 
 abbrev pub moments_in : List (List ℕ) → List ℕ → ℕ → List (List ℕ × List Item) → List (ℕ × Item)
 moments_in voices voice at [] = []
 moments_in voices voice at (section ∷ rest) =
-    at_moments at (play_in section voice) ++ moments_in voices voice (at + longest voices section) rest
+    at_moments at (play_in section voice) ++ moments_in voices voice (at + section_length voices section) rest
 
 -- A value at a moment, if there is one and the moment is on this tick.
 abbrev pub set_on : {V : Type 0} → ℕ → ℕ → Option V → Option (Grains × V)

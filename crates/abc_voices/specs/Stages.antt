@@ -5,7 +5,7 @@ use Rattle.abc_bars_items.specs.declared.item.Item.{Item}
 use Rattle.abc_repeat.specs.declared.play.TheConstants.{MOST_PLACES}
 use Rattle.abc_voices_sections.specs.declared.section.Section.{Section}
 use Rattle.abc_voices_sections.specs.declared.stage.Stage.{Stage}
-use Rattle.abc_voices_sections.specs.PlayedSection.{size_in, longest}
+use Rattle.abc_voices_sections.specs.PlayedSection.{size_in, section_length}
 use Rattle.abc_voices_sections.specs.Stage.{content, stage_of, stage_size}
 
 -- The stage at a place of a table, if one is there.
@@ -35,9 +35,9 @@ size_for voices sections place =
     number_of (λ section. sum_by (size_in (content section)) voices) (slice_get sections place)
 
 -- How long the section at a place is.
-abbrev pub longest_for : List (List ℕ) → List Section → ℕ → ℕ
-longest_for voices sections place =
-    number_of (λ section. longest voices (content section)) (slice_get sections place)
+abbrev pub length_for : List (List ℕ) → List Section → ℕ → ℕ
+length_for voices sections place =
+    number_of (λ section. section_length voices (content section)) (slice_get sections place)
 
 -- What a stage at a place says of its section.
 pub record IsStageAt (voices : List (List ℕ)) (sections : List Section) (place : ℕ) (stage : Stage) : Type 0 where

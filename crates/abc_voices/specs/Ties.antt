@@ -5,7 +5,7 @@ use Rattle.abc_bars_items.specs.declared.item.Item.{Item}
 use Rattle.abc_bars_items.specs.declared.item.Tone.{Tone}
 use Rattle.abc_voices_score.specs.declared.score.Sounding.{Sounding}
 use Rattle.abc_voices.specs.Arrange.{all_notes, played_sections, score_of}
-use Rattle.abc_voices_sections.specs.PlayedSection.{longest, play_in}
+use Rattle.abc_voices_sections.specs.PlayedSection.{section_length, play_in}
 use Rattle.abc_voices.specs.TiedNotes.{notes_from}
 use Rattle.abc_voices_sections.specs.Step.{length_of, tones_of}
 use Rattle.abc_voices.specs.Track.{voice_names, tracks}
@@ -29,7 +29,7 @@ tokens_from at (item ∷ play) tokens = with_token at (tones_of item) (tokens_fr
 abbrev pub tokens_in : List (List ℕ) → List ℕ → ℕ → List (List ℕ × List Item) → List TimeToken
 tokens_in voices voice at [] = []
 tokens_in voices voice at (section ∷ rest) =
-    tokens_from at (play_in section voice) (tokens_in voices voice (at + longest voices section) rest)
+    tokens_from at (play_in section voice) (tokens_in voices voice (at + section_length voices section) rest)
 
 -- Whether a tone has this key.
 abbrev pub has_key : ℕ → Option ℕ → Bool

@@ -4,9 +4,9 @@ ghost use Rattle.std.specs.Prelude.{◌≡◌, ◌+◌, ◌<◌, ◌≤◌, ◌^
 ghost use Rattle.abc_repeat.specs.declared.play.TheConstants.{MOST_PLACES};
 ghost use Rattle.abc_time.specs.Grains.{grains_of_the_latest_end};
 ghost use Rattle.abc_voices.specs.Turns.{stages_in};
-ghost use Rattle.abc_voices_sections.specs.PlayedSection.{size_in, longest};
+ghost use Rattle.abc_voices_sections.specs.PlayedSection.{size_in, section_length};
 ghost use Rattle.abc_voices_sections.specs.Stage.{content, stage_of, stage_size};
-ghost use Rattle.abc_voices.specs.Stages.{stage_at, at_places, sections_at, size_for, longest_for, AreStages, IsNew, IsPut};
+ghost use Rattle.abc_voices.specs.Stages.{stage_at, at_places, sections_at, size_for, length_for, AreStages, IsNew, IsPut};
 
 use crate::turns::Turn;
 use abc_repeat::MOST_PLACES;
@@ -65,7 +65,7 @@ fn put_new<'t>(
     ensures too_many { result ≡ Err StageFault.TooMany
         → room < sum_by (size_in (content section.now)) (map (λ voice. voice.now) voices.now) }
     ensures too_late { result ≡ Err StageFault.TooLate
-        → grains_of_the_latest_end < longest (map (λ voice. voice.now) voices.now) (content section.now) }
+        → grains_of_the_latest_end < section_length (map (λ voice. voice.now) voices.now) (content section.now) }
 {
     let stage = Stage::of(alloc, section, voices, room)?;
     let left = room - stage.size();
@@ -91,7 +91,7 @@ fn put_stage<'t>(
     ensures too_many { result ≡ Err StageFault.TooMany
         → room < size_for (map (λ voice. voice.now) voices.now) sections.now place }
     ensures too_late { result ≡ Err StageFault.TooLate
-        → grains_of_the_latest_end < longest_for (map (λ voice. voice.now) voices.now) sections.now place }
+        → grains_of_the_latest_end < length_for (map (λ voice. voice.now) voices.now) sections.now place }
 {
     let Some(section) = section_at(sections, place) else {
         return Ok(room);
@@ -132,7 +132,8 @@ pub(crate) fn stages<'t>(
         → MOST_PLACES
         < sum_by (λ section. sum_by (size_in section) (map (λ voice. voice.now) voices.now)) (sections_at sections.now played.now) }
     ensures too_late { result ≡ Err StageFault.TooLate
-        → grains_of_the_latest_end < sum_by (longest (map (λ voice. voice.now) voices.now)) (sections_at sections.now played.now) }
+        → grains_of_the_latest_end
+        < sum_by (section_length (map (λ voice. voice.now) voices.now)) (sections_at sections.now played.now) }
 {
     let mut table = empty_table(alloc, sections)?;
     let mut room = MOST_PLACES;

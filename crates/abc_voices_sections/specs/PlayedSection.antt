@@ -18,6 +18,6 @@ abbrev pub length_in : List ℕ × List Item → List ℕ → ℕ
 length_in section voice = duration (play_in section voice)
 
 -- How long a section is: as long as the longest of its voices.
-abbrev pub longest : List (List ℕ) → List ℕ × List Item → ℕ
-longest [] section = 0
-longest (voice ∷ voices) section = max (length_in section voice) (longest voices section)
+abbrev pub section_length : List (List ℕ) → List ℕ × List Item → ℕ
+section_length [] section = 0
+section_length (voice ∷ voices) section = max (length_in section voice) (section_length voices section)

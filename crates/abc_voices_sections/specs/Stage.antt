@@ -9,7 +9,7 @@ use Rattle.abc_voices_sections.specs.declared.stage.Stage.{Stage}
 use Rattle.abc_voices_sections.specs.declared.stage.StageFault.{StageFault}
 use Rattle.abc_voices_sections.specs.declared.stage.StageFault.TheVariants as faults
 use Rattle.abc_voices_sections.specs.Items.{items_of}
-use Rattle.abc_voices_sections.specs.PlayedSection.{play_in, length_in, longest}
+use Rattle.abc_voices_sections.specs.PlayedSection.{play_in, length_in, section_length}
 
 -- A section as the definitions see it: the current voice at its beginning, and its items.
 abbrev pub content : Section → List ℕ × List Item
@@ -26,7 +26,7 @@ part_of section voice = record {
 abbrev pub stage_of : List (List ℕ) → List ℕ × List Item → Stage
 stage_of voices section = record {
   parts = map (part_of section) voices;
-  longest = record { 0 = longest voices section };
+  longest = record { 0 = section_length voices section };
 }
 
 -- How many places a part has, and the parts of a stage together.

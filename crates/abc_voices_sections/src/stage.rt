@@ -3,7 +3,7 @@
 ghost use Rattle.std.specs.Prelude.{◌≡◌, ◌<◌, ◌≤◌, ◌^◌, length, map, sum_by, IfOk};
 ghost use Rattle.abc_repeat.specs.declared.play.TheConstants.{MOST_PLACES};
 ghost use Rattle.abc_time.specs.Grains.{grains_of_the_latest_end};
-ghost use Rattle.abc_voices_sections.specs.PlayedSection.{size_in, length_in, longest};
+ghost use Rattle.abc_voices_sections.specs.PlayedSection.{size_in, length_in, section_length};
 ghost use Rattle.abc_voices_sections.specs.Stage.{content, part_of, stage_of, part_size, stage_size};
 
 use crate::play::{duration, played_items};
@@ -136,7 +136,7 @@ impl<'t> Stage<'t> {
         ensures too_many { result ≡ Err StageFault.TooMany
             → room < sum_by (size_in (content section.now)) (map (λ voice. voice.now) voices.now) }
         ensures too_late { result ≡ Err StageFault.TooLate
-            → grains_of_the_latest_end < longest (map (λ voice. voice.now) voices.now) (content section.now) }
+            → grains_of_the_latest_end < section_length (map (λ voice. voice.now) voices.now) (content section.now) }
     {
         let mut parts = Sequence::new(alloc);
         let mut left = room;

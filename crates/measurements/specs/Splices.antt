@@ -14,7 +14,8 @@ IsNumber word = IsNumeral 10 (without_leading_plus word) × (value_of word < 2 ^
 
 -- The words are three numbers.
 abbrev pub AreNumbers : List (String Global) → Type 0
-AreNumbers (lines ∷ count ∷ step ∷ []) = IsNumber (string_bytes lines) × IsNumber (string_bytes count) × IsNumber (string_bytes step)
+AreNumbers (lines ∷ count ∷ step ∷ []) =
+    IsNumber (string_bytes lines) × IsNumber (string_bytes count) × IsNumber (string_bytes step)
 AreNumbers _ = ⊥
 
 -- The splices that the words LINES COUNT STEP ask for.

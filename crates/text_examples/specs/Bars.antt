@@ -89,8 +89,8 @@ abbrev pub entry_after_header : List (List ℕ) → Entry
 entry_after_header lines = entry_after (Opening no_defaults) lines
 
 -- The defaults after the lines of a file header.
-abbrev pub entry_after_file_header : List (List ℕ) → Entry
-entry_after_file_header lines = entry_after (FileHeader no_defaults) lines
+abbrev pub after_file_header : List (List ℕ) → Entry
+after_file_header lines = entry_after (FileHeader no_defaults) lines
 
 -- The items and faults of a line in this state.
 abbrev pub result_of_line : Entry → List ℕ → Items

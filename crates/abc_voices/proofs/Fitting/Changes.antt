@@ -9,7 +9,7 @@ use Rattle.abc_bars_items.specs.declared.item.Item.{Item}
 use Rattle.abc_time.specs.declared.grains.Grains.{Grains}
 use Rattle.abc_time.specs.Grains.{tick_at}
 use Rattle.abc_voices.specs.Arrange.{set_in}
-use Rattle.abc_voices_sections.specs.PlayedSection.{play_in, longest}
+use Rattle.abc_voices_sections.specs.PlayedSection.{play_in, section_length}
 use Rattle.abc_voices.specs.Change.{at_moment, set_from}
 use Rattle.abc_voices.specs.Opening.{after_all}
 use Rattle.abc_voices.specs.Ticks.{has_tick, last_of_each_tick}
@@ -54,7 +54,7 @@ module _ {V : Type 0} (value_of : Item → Option V) (Q : V → Type 0) (is : (i
       (is step (All-head IsItem step steps all))
       (set_by end (at + length_of step) steps (omega (arith, by)) (All-tail IsItem step steps all))
 
-  voices_set : (end at : ℕ) (voices those : List (List ℕ)) (section : List ℕ × List Item) → at + longest voices section ≤ end
+  voices_set : (end at : ℕ) (voices those : List (List ℕ)) (section : List ℕ × List Item) → at + section_length voices section ≤ end
       → All (IsHeard voices) those → All IsItem section.1
       → All (IsSetBy end Q) (flat_map (λ voice. set_from value_of at (play_in section voice)) those)
   voices_set end at voices [] section by heard_notes all = All-nil (IsSetBy end Q)
@@ -66,14 +66,14 @@ module _ {V : Type 0} (value_of : Item → Option V) (Q : V → Type 0) (is : (i
       (voices_set end at voices those section by (All-tail (IsHeard voices) voice those heard_notes) all)
 
   -- what voices set in sections that are played from a moment on
-  pub sections_set : (end at : ℕ) (voices those : List (List ℕ)) (sections : List (List ℕ × List Item)) → at + sum_by (longest voices) sections ≤ end
+  pub sections_set : (end at : ℕ) (voices those : List (List ℕ)) (sections : List (List ℕ × List Item)) → at + sum_by (section_length voices) sections ≤ end
       → All (IsHeard voices) those → All ItemsIn sections
       → All (IsSetBy end Q) (set_in value_of voices those at sections)
   sections_set end at voices those [] by heard_notes all = All-nil (IsSetBy end Q)
   sections_set end at voices those (section ∷ rest) by heard_notes all =
       All-append (IsSetBy end Q) (flat_map (λ voice. set_from value_of at (play_in section voice)) those) _
-      (voices_set end at voices those section (omega (arith, by, sum_by-cons (longest voices) section rest)) heard_notes (All-head ItemsIn section rest all))
-      (sections_set end (at + longest voices section) voices those rest (omega (arith, by, sum_by-cons (longest voices) section rest)) heard_notes
+      (voices_set end at voices those section (omega (arith, by, sum_by-cons (section_length voices) section rest)) heard_notes (All-head ItemsIn section rest all))
+      (sections_set end (at + section_length voices section) voices those rest (omega (arith, by, sum_by-cons (section_length voices) section rest)) heard_notes
       (All-tail ItemsIn section rest all))
 
 -- what a tune opens with

@@ -9,7 +9,7 @@ use Rattle.abc_bars_items.specs.declared.item.Item.TheVariants as items
 use Rattle.abc_fields.specs.declared.meter.Meter.{Meter}
 use Rattle.abc_time.specs.declared.grains.Grains.{Grains}
 use Rattle.abc_voices.specs.Arrange.{set_in, first_of}
-use Rattle.abc_voices_sections.specs.PlayedSection.{play_in, size_in, longest}
+use Rattle.abc_voices_sections.specs.PlayedSection.{play_in, size_in, section_length}
 use Rattle.abc_voices.specs.Change.{tempo_of, meter_of, key_of, at_moment, set_from}
 use Rattle.abc_voices_sections.specs.EndingFields.{with_fields_in_endings}
 use Rattle.abc_voices_sections.specs.Play.{places_of}
@@ -125,7 +125,7 @@ pub sets_few : (voices those : List (List ℕ)) → All (HasRoom voices) those �
     + length (set_in key_of voices (first_of those) at sections) ≤ sum_by (size_of voices) sections
 sets_few voices those room at [] = omega arith
 sets_few voices those room at (section ∷ rest) =
-    let later : ℕ = at + longest voices section in
+    let later : ℕ = at + section_length voices section in
     omega (
       arith,
       section_few at section voices those room,
@@ -153,7 +153,7 @@ module _ {V : Type 0} (value_of : Item → Option V) where
   voice_sets_few voices voice heard_notes at [] = omega arith
   voice_sets_few voices voice heard_notes at (section ∷ rest) =
       let play : List Item = play_in section voice in
-      let later : ℕ = at + longest voices section in
+      let later : ℕ = at + section_length voices section in
       omega (
         arith,
         own_few at play,

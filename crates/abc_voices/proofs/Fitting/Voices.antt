@@ -8,7 +8,7 @@ use Rattle.abc_bars_items.specs.Item.{IsItem}
 use Rattle.abc_bars_items.specs.declared.item.Item.{Item}
 use Rattle.abc_voices_score.specs.declared.score.Sounding.{Sounding}
 use Rattle.abc_voices.specs.Arrange.{voice_notes, last_off}
-use Rattle.abc_voices_sections.specs.PlayedSection.{play_in, size_in, length_in, longest}
+use Rattle.abc_voices_sections.specs.PlayedSection.{play_in, size_in, length_in, section_length}
 use Rattle.abc_voices.specs.TiedNotes.{Notes}
 use Rattle.abc_voices_sections.specs.EndingFields.{with_fields_in_endings}
 use Rattle.abc_voices_sections.specs.Play.{places_of, duration}
@@ -29,7 +29,7 @@ size_of voices section = sum_by (size_in section) voices
 
 -- a voice is no longer than the longest in each section, and plays no more than all together
 pub record IsHeard (voices : List (List ℕ)) (voice : List ℕ) : Type 0 where
-  pub lasts : (section : List ℕ × List Item) → length_in section voice ≤ longest voices section
+  pub lasts : (section : List ℕ × List Item) → length_in section voice ≤ section_length voices section
   pub plays : (section : List ℕ × List Item) → size_in section voice ≤ size_of voices section
 
 heard_first : (voice : List ℕ) (voices : List (List ℕ)) → IsHeard (voice ∷ voices) voice
@@ -78,10 +78,10 @@ pub voice_fits : (voices : List (List ℕ)) (voice : List ℕ) → IsHeard voice
 voice_fits voices voice heard_notes at [] all = record { first = All-nil (Fits at); others = All-nil (Fits at) }
 voice_fits voices voice heard_notes at (section ∷ rest) all =
     let play : List Item = play_in section voice in
-    let following : Notes = voice_notes voices voice (at + longest voices section) rest in
+    let following : Notes = voice_notes voices voice (at + section_length voices section) rest in
     notes_fit at play following (play_kept IsItem section voice (All-head ItemsIn section rest all))
-    (later_fit at (lasting play) (longest voices section) following (omega (arith, lasts play, heard_notes.lasts section))
-    (voice_fits voices voice heard_notes (at + longest voices section) rest (All-tail ItemsIn section rest all)))
+    (later_fit at (lasting play) (section_length voices section) following (omega (arith, lasts play, heard_notes.lasts section))
+    (voice_fits voices voice heard_notes (at + section_length voices section) rest (All-tail ItemsIn section rest all)))
 
 -- how many there are
 pub voice_few : (voices : List (List ℕ)) (voice : List ℕ) → IsHeard voices voice → (at : ℕ) (sections : List (List ℕ × List Item)) → All ItemsIn sections
@@ -89,14 +89,14 @@ pub voice_few : (voices : List (List ℕ)) (voice : List ℕ) → IsHeard voices
 voice_few voices voice heard_notes at [] all = omega arith
 voice_few voices voice heard_notes at (section ∷ rest) all =
     let play : List Item = play_in section voice in
-    let following : Notes = voice_notes voices voice (at + longest voices section) rest in
+    let following : Notes = voice_notes voices voice (at + section_length voices section) rest in
     omega (
       arith,
       sum_by-cons (size_of voices) section rest,
       notes_few at play following (play_kept IsItem section voice (All-head ItemsIn section rest all)),
       picked_few (with_fields_in_endings (part voice section)) (places_of (with_fields_in_endings (part voice section))),
       heard_notes.plays section,
-      voice_few voices voice heard_notes (at + longest voices section) rest (All-tail ItemsIn section rest all),
+      voice_few voices voice heard_notes (at + section_length voices section) rest (All-tail ItemsIn section rest all),
     )
 
 -- the latest end of notes is no sooner than where it was looked for from

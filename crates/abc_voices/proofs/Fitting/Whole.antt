@@ -22,7 +22,7 @@ use Rattle.abc_voices_score.specs.declared.score.Change.{Change}
 use Rattle.abc_voices_score.specs.declared.score.Sounding.{Sounding}
 use Rattle.abc_voices.specs.Arrange.{played_sections, voice_notes, all_notes, set_in, or_else, usual_tempo, first_of, total, voices_notes, end_of}
 use Rattle.abc_voices.specs.Arrange.{changes_of, programs_in, programs_of, score_of, places_played}
-use Rattle.abc_voices_sections.specs.PlayedSection.{longest}
+use Rattle.abc_voices_sections.specs.PlayedSection.{section_length}
 use Rattle.abc_voices.specs.Change.{tempo_of, meter_of, key_of, program_of, after_opening}
 use Rattle.abc_voices.specs.ScoreChanges.{tempo_change, meter_at, meter_change, key_change, program_change, changes_in_force, programs_in_force}
 use Rattle.abc_voices.specs.TiedNotes.{Notes}
@@ -204,7 +204,7 @@ module _ (tune : List Item) (short : IsShort tune) where
   all_played : All ItemsIn played
   all_played = played_kept IsItem tune short.each
 
-  in_time : 0 + sum_by (longest voices) played ≤ end.0
+  in_time : 0 + sum_by (section_length voices) played ≤ end.0
   in_time = omega (arith, last_past (total tune) (flat_map (λ notes. notes) (voices_notes tune)))
 
   sets : {V : Type 0} (value_of : Item → Option V) (Q : V → Type 0) → ((item : Item) → IsItem item → IfSome (value_of item) Q)

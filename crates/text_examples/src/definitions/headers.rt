@@ -10,7 +10,7 @@ ghost use Rattle.abc_fields.specs.declared.meter.Meter.TheVariants.{Free, Of};
 ghost use Rattle.abc_bars_header.specs.Defaults.{no_defaults};
 ghost use Rattle.abc_bars_items.specs.declared.item.Item.TheVariants as items;
 ghost use Rattle.abc_scan.specs.declared.directive.Reach.TheVariants.{Not, Octave, Pitch};
-ghost use Rattle.text_examples.specs.Bars.{entry_after, entry_after_file_header, entry_after_header, faults_by, in_body, items_by};
+ghost use Rattle.text_examples.specs.Bars.{entry_after, after_file_header, entry_after_header, faults_by, in_body, items_by};
 ghost use Rattle.text_examples.specs.Bars.{voice_state_in, voice_shift, with_unnamed_voice};
 ghost use Rattle.text_examples.specs.Headers.{opening_state, defaults, in_f, in_g, state_with_key, shifted_voices, two_voices};
 ghost use Rattle.text_examples.specs.Values.{ratio};
@@ -121,13 +121,13 @@ pub fn faults_of_headers()
 /// File headers: their settings and their faults; they give no items. ABC 2.1 section 2.2.2; the other lines are not in
 /// ABC 2.1.
 pub fn file_headers()
-    ensures values { entry_after_file_header (codes "M:2/4" ∷ codes "L:1/4" ∷ codes "%%MIDI program 5"
+    ensures values { after_file_header (codes "M:2/4" ∷ codes "L:1/4" ∷ codes "%%MIDI program 5"
         ∷ codes "%%propagate-accidentals not" ∷ [])
         ≡ FileHeader (defaults (Some (Of 2 4)) (Some (ratio 1 4)) None (Some 5) Not) }
     ensures refused { entry_after (FileHeader (defaults None (Some (ratio 1 4)) None (Some 5) Pitch))
         (codes "L:1/3" ∷ codes "%%MIDI program 128" ∷ [])
         ≡ FileHeader (defaults None (Some (ratio 1 4)) None (Some 5) Pitch) }
-    ensures others { entry_after_file_header (codes "K:G" ∷ codes "V:1" ∷ codes "T:a" ∷ codes "C" ∷ []) ≡ FileHeader no_defaults }
+    ensures others { after_file_header (codes "K:G" ∷ codes "V:1" ∷ codes "T:a" ∷ codes "C" ∷ []) ≡ FileHeader no_defaults }
     ensures no_items { items_by (FileHeader no_defaults) (codes "M:2/4") ≡ [] }
     ensures fault { faults_by (FileHeader no_defaults) (codes "M:x") ≡ (1, BadMeter) ∷ [] }
     ensures program_fault { faults_by (FileHeader no_defaults) (codes "%%MIDI program 128") ≡ (1, BadProgram) ∷ [] }

@@ -39,7 +39,7 @@ returns-in_err-serve_read-clause-reads g c =
 pub returns-then-not-branch-clause-answers : goal.returns-then-not-branch-clause-answers
 unfolding future_of_bytes
 returns-then-not-branch-clause-answers g c =
-    let after = c.serve_read.new.listener in
+    let after = c.serve_read.new.self in
     let state = g.M.Machine.state after.machine in
     let new = outlets (g.W.Sink.contents c.serve_read.new.writer) (g.S.Store.seen c.serve_read.new.store) in
     heard_end (future_of_bytes state.future after.begun.items) state.directory (g.R.Source.remaining c.serve_read.new.reader) new c.reads.invariant.heard

@@ -6,7 +6,7 @@ use Rattle.abc_time.specs.Grains.{grains_of_the_latest_end}
 use Rattle.abc_voices_sections.specs.Items.{items_of}
 use Rattle.abc_voices_sections.specs.declared.stage.StageFault.TheVariants.{TooMany, TooLate}
 use Rattle.abc_voices.specs.Stages.{at_places}
-use Rattle.abc_voices_sections.specs.PlayedSection.{size_in, longest}
+use Rattle.abc_voices_sections.specs.PlayedSection.{size_in, section_length}
 use Rattle.abc_voices_sections.specs.Stage.{content, stage_of}
 use Rattle.abc_voices.proofs.Layouts.{played_here, alike}
 use Rattle.abc_voices.proofs.Staged.{total_within}
@@ -29,6 +29,6 @@ returns-clause-too_many c =
 
 pub returns-clause-too_late : goal.returns-clause-too_late
 returns-clause-too_late c = λ e.
-    let late = alike (λ (voices : List (List ℕ)) (played : List (List ℕ × List Item)). c.stages.result ≡ Err TooLate → grains_of_the_latest_end < sum_by (longest voices) played) _ _ _ _
+    let late = alike (λ (voices : List (List ℕ)) (played : List (List ℕ × List Item)). c.stages.result ≡ Err TooLate → grains_of_the_latest_end < sum_by (section_length voices) played) _ _ _ _
     c.requires.voices (played_here (items_of c.args.tune.now) _ _ (ap (map content) c.deref.ensures.value ∙ c.in_ok-found.ensures) c.requires.played) c.stages.ensures.too_late e in
     omega (arith, late, total_within (items_of c.args.tune.now))

@@ -1,7 +1,7 @@
 use Rattle.std.proofs.Common.{◌≡◌, ◌+◌, ◌++◌, ◌≤◌, max, drop, map}
 use Rattle.std.specs.Prelude.{sum_by}
 use Rattle.abc_time.specs.Grains.{grains_of_the_latest_end}
-use Rattle.abc_voices_sections.specs.PlayedSection.{size_in, longest}
+use Rattle.abc_voices_sections.specs.PlayedSection.{size_in, section_length}
 use Rattle.abc_voices_sections.specs.Stage.{content, part_of, part_size}
 use Rattle.abc_voices_sections.proofs.stage.Stage.of.Given as goal
 
@@ -12,6 +12,6 @@ invariant-loop-voice l = record {
   sizes : sum_by part_size l.parts + sum_by (size_in (content l.section)) (map (λ voice. voice.now) (drop l.voice-index l.voices))
       ≡ sum_by (size_in (content l.section)) (map (λ voice. voice.now) l.voices);
   left : sum_by part_size l.parts + l.left ≡ l.fn.room;
-  longest : max l.longest.0 (longest (map (λ voice. voice.now) (drop l.voice-index l.voices)) (content l.section)) ≡ longest (map (λ voice. voice.now) l.voices) (content l.section);
+  longest : max l.longest.0 (section_length (map (λ voice. voice.now) (drop l.voice-index l.voices)) (content l.section)) ≡ section_length (map (λ voice. voice.now) l.voices) (content l.section);
   in_time : l.longest.0 ≤ grains_of_the_latest_end;
 }

@@ -3,11 +3,11 @@ use Rattle.abc2midi_live.specs.Machine.{future_of_bytes}
 use Rattle.abc2midi_live.specs.Outcome.{outlets}
 use Rattle.abc2midi_live.proofs.Feeding.{turn_failed, some_read, turn_fed, turn_ended, turn_unserved, nothing_ahead, nothing_read}
 use Rattle.abc2midi_live.proofs.Feeding.{fault_exit}
-use Rattle.abc2midi_live.proofs.reading.serve_read.Goals as goal
+use Rattle.abc2midi_live.proofs.listener.Listener.serve_read.Goals as goal
 
 pub returns-in-Err-clause-answers : goal.returns-in-Err-clause-answers
 returns-in-Err-clause-answers g c =
-    let now = c.args.listener.now in
+    let now = c.args.self.now in
     let state = g.M.Machine.state now.machine in
     let old = outlets (g.W.Sink.contents c.args.writer.now) (g.S.Store.seen c.args.store.now) in
     turn_failed (future_of_bytes state.future now.begun.items) state.directory (g.R.Source.remaining c.args.reader.now) (g.R.Source.remaining c.read.new.self) old c.in-Err.ensures.bytes
@@ -15,7 +15,7 @@ returns-in-Err-clause-answers g c =
 
 pub returns-then-count-gt0-clause-answers : goal.returns-then-count-gt0-clause-answers
 returns-then-count-gt0-clause-answers g c =
-    let now = c.args.listener.now in
+    let now = c.args.self.now in
     let state = g.M.Machine.state now.machine in
     let after = c.feed.new.self in
     let old = outlets (g.W.Sink.contents c.args.writer.now) (g.S.Store.seen c.args.store.now) in
@@ -27,7 +27,7 @@ returns-then-count-gt0-clause-answers g c =
 
 pub returns-in_err-finish-clause-answers : goal.returns-in_err-finish-clause-answers
 returns-in_err-finish-clause-answers g c =
-    let now = c.args.listener.now in
+    let now = c.args.self.now in
     let state = g.M.Machine.state now.machine in
     let new = outlets (g.W.Sink.contents c.finish.new.writer) (g.S.Store.seen c.finish.new.store) in
     let failed = c.in_err-finish in
@@ -39,7 +39,7 @@ returns-in_err-finish-clause-answers g c =
 
 pub returns-clause-answers : goal.returns-clause-answers
 returns-clause-answers g c =
-    let now = c.args.listener.now in
+    let now = c.args.self.now in
     let state = g.M.Machine.state now.machine in
     turn_ended (future_of_bytes state.future now.begun.items) state.directory (g.R.Source.remaining c.args.reader.now) (g.R.Source.remaining c.read.new.self)
     (outlets (g.W.Sink.contents c.args.writer.now) (g.S.Store.seen c.args.store.now)) (outlets (g.W.Sink.contents c.finish.new.writer) (g.S.Store.seen c.finish.new.store))
