@@ -182,6 +182,7 @@ impl<M: Machine> Listener<M> {
     ) -> Result<(), RunFault>
         ensures answer { let out = outlets_of W.contents S.seen in
             TellsOrFails (at_byte M.state self.old) (out writer.old store.old) (out writer.new store.new) result }
+        ensures begun { self.new.begun.items ≡ [] }
         ensures failures { W.failures writer.new ≡ raised (W.failures writer.old) (write_faults result) }
     {
         if self.begun.is_empty() {

@@ -122,7 +122,10 @@ impl<T> GapList<T> {
     pub fn push(&mut self, item: T)
         requires { 0 < self.old.room }
         ensures items { self.new.items ≡ self.old.items ++ item ∷ [] }
+        ensures gap { self.new.gap ≡ length self.old.items + 1 }
         ensures room { self.new.room ≡ self.old.room - 1 }
+        ensures moved { self.new.moved
+            ≡ add_to_tally self.old.moved (distance self.old.gap (length self.old.items)) }
     {
         let end = self.block.len();
         if self.block.gap() != end {
@@ -173,11 +176,14 @@ impl<T> GapList<T> {
         self.block.move_gap(gap);
     }
 
-    /// Takes the items of another list instead of its own: in its own memory if they fit, else in that of the other.
+    /// Takes the items of another list instead of its own: in its own memory if they fit, else in that of the other. The
+    /// gap, and how many places it has moved, are those of the other.
     pub fn take_over(&mut self, other: GapList<T>)
     where
         T: Drop,
-        ensures { self.new.items ≡ other.items }
+        ensures items { self.new.items ≡ other.items }
+        ensures gap { self.new.gap ≡ other.gap }
+        ensures moved { self.new.moved ≡ other.moved }
     {
         let mut own = replace(self, other);
         let count = own.len();

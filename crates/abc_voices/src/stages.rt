@@ -30,6 +30,7 @@ fn room_after(stage: &Stage, room: u64) -> Result<u64, StageFault>
     ensures room { IfOk result (λ left. left + stage_size stage.now ≡ room) }
     ensures too_many { result ≡ Err StageFault.TooMany → room < stage_size stage.now }
     ensures too_late { result ≢ Err StageFault.TooLate }
+    ensures memory { result ≢ Err StageFault.OutOfMemory }
 {
     let size = stage.size();
     if size > room {

@@ -1,6 +1,6 @@
 //! The slot of a session, which is a struct of the caller.
 
-ghost use Rattle.std.specs.Prelude.{◌≡◌, IsSome, None, Some, option_map};
+ghost use Rattle.std.specs.Prelude.{◌≡◌, IfSome, IsSome, None, Some, option_map};
 
 use crate::handle::Handle;
 use crate::open_session::OpenSession;
@@ -26,6 +26,7 @@ impl SessionSlot {
     pub fn take(&mut self, alloc: Global) -> Option<Box<OpenSession>>
         ensures value { option_map (λ session. session.value) result ≡ session_in self.old }
         ensures empty { session_in self.new ≡ None }
+        ensures zeros { IfSome result (λ _. self.new.state ≡ 0) }
     {
         if self.state != OPEN {
             return None;
