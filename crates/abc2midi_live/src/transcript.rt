@@ -56,9 +56,8 @@ fn dialogue_after_run<R: Source, W: Sink, S: Store>(
     listen(alloc, dialogue, reader, writer, store, work)
 }
 
-/// Puts the lines of a tune book, if there is one, into a text that is empty at first, reads commands to the end of the
-/// input or `quit`, carries them out, and writes the answers to all of these. `build` puts files into the store and
-/// removes them.
+/// Puts the lines of a tune book, if there is one, into an empty text, and writes the answer. Then reads commands to the end of the
+/// input or `quit`, carries them out, and writes their answers. `build` stores and removes files.
 ///
 /// The fault is `Read` if the reader fails or after 4,294,967,295 reads, `Write` if the writer fails, and `Memory`
 /// if an allocation fails. A fault of the store is no fault of the run.

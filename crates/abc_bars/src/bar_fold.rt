@@ -157,7 +157,7 @@ fn file_header_step(alloc: Global, defaults: Defaults, cell: &[Token]) -> StepRe
     ))
 }
 
-/// A cell that is entered there.
+/// A cell that is entered in this state.
 #[tactic(auto, unfolding(abc_bars_body::specs::Step::entry_step))]
 fn entry_step(alloc: Global, entry: &Entry, cell: &[Token]) -> StepResult
     ensures { IfOk result (λ made. made ≡ entry_step entry.now cell.now) }
@@ -170,8 +170,8 @@ fn entry_step(alloc: Global, entry: &Entry, cell: &[Token]) -> StepResult
     }
 }
 
-/// The fold over the cells of a file header or of a tune, from `Entry::header` or `Entry::tune` on: what each
-/// cell gives and the state after it depend on the state if it is entered, and on nothing else.
+/// The fold over the cells of a file header or of a tune, from `Entry::header` or `Entry::tune` on. The items of a cell, and the
+/// state after it, depend only on the cell and on the state in which it is entered.
 #[derive(Clone, Copy, Debug, Drop)]
 pub struct BarFold;
 

@@ -1,4 +1,4 @@
--- The state of the current voice of a body, if it was written.
+-- The state of the current voice of a body, after it was written.
 use Rattle.std.proofs.Common.{◌≡◌, ℕ, zero, suc, ◌≤◌, ◌<◌, nat_lt, Bool, true, false, cond, List, [], ◌∷◌, length, unwrap_or, refl, sym, ap, ◌∙◌, arith}
 use Rattle.std.specs.Prelude.{Option, None, Some}
 use Rattle.std.proofs.lemmas.Bool.Decides.{nat_tests}
@@ -98,7 +98,7 @@ pub changed_twice : (body : Body) (here : Option VoiceState) (last : VoiceState)
 changed_twice body None last = refl
 changed_twice body (Some first) last = written_twice body first last
 
--- A mentioned voice stays mentioned if its state changes or not.
+-- A mentioned voice stays mentioned, whether its state changes or not.
 pub still_mentioned : (body : Body) (place : ℕ) (here : Option VoiceState) → body.current ≡ At place → after_mention (with_changed body here) ≡ with_changed body here
 still_mentioned body place None is = ap (after_mention_in body) is
 still_mentioned body place (Some state) is = ap (after_mention_in (with_here body state)) (same-current body state place is)

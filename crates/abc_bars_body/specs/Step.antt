@@ -1,4 +1,4 @@
--- What a cell gives if it is entered, and the state after it.
+-- What a cell gives in the state in which it is entered, and the state after it.
 use Rattle.std.specs.Prelude.{ℕ, List, [], ◌∷◌, Option, Some, None}
 use Rattle.abc_fields.specs.Key.{empty_key, key_of, key_or_empty}
 use Rattle.abc_scan.specs.declared.directive.Directive.{Directive}
@@ -92,7 +92,7 @@ abbrev pub file_header_step : Defaults → Option HeaderLine → Entry × Items
 file_header_step defaults None = file_header_step_of (record { defaults = defaults; faults = [] })
 file_header_step defaults (Some line) = file_header_step_of (file_header_result defaults line)
 
--- The state after a cell that is entered there, and what it gives.
+-- The state after a cell that is entered in this state, and what the cell gives.
 unfoldable pub entry_step : Entry → List (Spanned TokenKind) → Entry × Items
 entry_step (entries.FileHeader defaults) cell = file_header_step defaults (line_in cell)
 entry_step (entries.Opening defaults) cell = header_step (opening_header defaults) cell (line_in cell)

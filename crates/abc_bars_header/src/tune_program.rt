@@ -8,7 +8,7 @@ use abc_bars_items::program_of;
 use abc_bars_voice::Same;
 use std::marker::Model;
 
-/// A program of MIDI (SMF 1.0). Contracts see its number.
+/// A program (MIDI 1.0). Contracts see its number.
 #[derive(Clone, Copy)]
 pub struct TuneProgram {
     number: u8,

@@ -36,7 +36,7 @@ append_faults lists more = record lists { faults = lists.faults ++ more }
 abbrev pub IsWithinLongest : Grains → Type 0
 IsWithinLongest length = length.0 ≤ grains_of_the_longest_length
 
--- A tone with a key of MIDI, or a silent one (SMF 1.0), that is not too long, with a velocity of MIDI.
+-- A tone with a key of MIDI, or a silent one (MIDI 1.0), that is not too long, with a velocity of MIDI.
 pub record IsTone (tone : Tone) : Type 0 where
   pub key : IfSome tone.key (λ key. key ≤ HIGHEST_KEY)
   pub length : IsWithinLongest tone.length

@@ -1,4 +1,4 @@
--- Programs of MIDI. SMF 1.0.
+-- Programs (MIDI 1.0).
 use Rattle.std.specs.Prelude.{ℕ, nat_le, if◌then◌else◌, Option, Some, None}
 use Rattle.abc_bars_items.specs.declared.program.TheConstants.{HIGHEST_PROGRAM}
 

@@ -4,7 +4,7 @@ use Rattle.abc_scan.specs.declared.dynamic.Dynamic.{Dynamic}
 use Rattle.abc_scan.specs.Dynamic.{velocity_of as dynamic_velocity}
 use Rattle.abc_bars_items.specs.declared.velocity.TheConstants.{HIGHEST_VELOCITY, USUAL_VELOCITY}
 
--- A velocity with which a note of MIDI begins (SMF 1.0): 0 would end it.
+-- A velocity with which a note of MIDI begins (MIDI 1.0): 0 would end it.
 pub record IsVelocity (velocity : ℕ) : Type 0 where
   pub least : 1 ≤ velocity
   pub most : velocity ≤ HIGHEST_VELOCITY

@@ -7,7 +7,7 @@ use abc_fields::{FaultCode, Meter};
 use abc_scan::BarLine;
 use abc_time::Grains;
 
-/// The highest key of MIDI (SMF 1.0).
+/// The highest key (MIDI 1.0).
 pub const HIGHEST_KEY: u8 = 127;
 
 /// The most notes of a chord that count. Not in ABC 2.1.

@@ -3,7 +3,7 @@
 ghost use Rattle.std.specs.Prelude.{◌≡◌, ◌≤◌, IfSome};
 ghost use Rattle.abc_bars_items.specs.Program.{program_of};
 
-/// The highest program of MIDI (SMF 1.0).
+/// The highest program (MIDI 1.0).
 pub const HIGHEST_PROGRAM: u8 = 127;
 
 /// The program of a directive's number; None above 127, which is refused.

@@ -5,7 +5,7 @@ ghost use Rattle.abc_bars_items.specs.Velocity.{velocity_of, IsVelocity};
 
 use abc_scan::Dynamic;
 
-/// The highest velocity of MIDI (SMF 1.0).
+/// The highest velocity (MIDI 1.0).
 pub const HIGHEST_VELOCITY: u8 = 127;
 
 /// The velocity of notes without a dynamic before them. Not in ABC 2.1.

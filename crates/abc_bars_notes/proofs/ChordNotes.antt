@@ -38,7 +38,7 @@ use Rattle.abc_bars_notes.proofs.ChordTones.{accidentals_after, chord_tone_at, c
 abbrev length_of_tone : Tone → Grains
 length_of_tone tone = tone.length
 
--- what BigChord there will be, if there was one or not
+-- what BigChord there will be, by whether there was one
 abbrev later : Bool → Option (ℕ × FaultCode) → List (ℕ × FaultCode)
 later true o = []
 later false o = option_to_list o

@@ -25,7 +25,7 @@ written_pitch note by = pos (MIDDLE_C + semitones note.letter) +ℤ (OCTAVE *ℤ
 abbrev pub pitch_of : VoiceShift → Note → ℤ → ℤ
 pitch_of shift note by = written_pitch note by +ℤ total_shift shift
 
--- The key of MIDI that a pitch is, from 0 to 127 (SMF 1.0).
+-- The key of MIDI that a pitch is, from 0 to 127 (MIDI 1.0).
 abbrev pub midi_key : ℤ → Option ℕ
 midi_key (pos n) = if nat_le n HIGHEST_KEY then Some n else None
 midi_key (negsuc n) = None

@@ -9,14 +9,14 @@ use abc_bars_items::{
 };
 use abc_bars_voice::LARGEST_TUPLET_NUMBER;
 
-// Keys of MIDI (SMF 1.0, ABC 2.1 section 4.1).
+// Keys (MIDI 1.0, ABC 2.1 section 4.1).
 const _: () = prove!(HIGHEST_KEY == 127);
 
 const _: () = prove!(MIDDLE_C == 60);
 
 const _: () = prove!(OCTAVE == 12);
 
-// Velocities and programs of MIDI (SMF 1.0). The usual velocity is not in ABC 2.1.
+// Velocities and programs (MIDI 1.0). The usual velocity is not in ABC 2.1.
 const _: () = prove!(HIGHEST_VELOCITY == 127);
 
 const _: () = prove!(USUAL_VELOCITY == 80);

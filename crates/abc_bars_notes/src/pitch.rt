@@ -14,7 +14,7 @@ pub(crate) const MIDDLE_C: u8 = 60;
 /// The semitones of an octave.
 pub(crate) const OCTAVE: i64 = 12;
 
-/// The same in as many bits as a total shift.
+/// `OCTAVE` as an `i128`.
 const WIDE_OCTAVE: i128 = 12;
 
 /// The semitones of a letter above the C below it.

@@ -198,7 +198,7 @@ module _ {V : Type 0} where
   none_of_group : (octave : ℤ) (groups : List (ℤ × List (ℤ × V))) → AllAbove (group_of octave) groups → group_at groups octave ≡ []
   none_of_group octave groups above = ap (λ (o : Option (List (ℤ × V))). unwrap_or o []) (none_below (group_of octave) groups above)
 
-  -- A value is put if it would be in the one list.
+  -- A value is put at the place that it would have in the one list.
   one_list_by : (octave : ℤ) (value : V) (first : ℤ × List (ℤ × V)) (groups : List (ℤ × List (ℤ × V))) (r : Ordering) → r ≡ int_cmp (group_of octave) first.0 → AreGrouped (first ∷ groups)
       → octaves_of (with_value groups octave value) ≡ insert_entry int_cmp (octaves_of groups) octave value
       → octaves_of (put_by r octave value first groups) ≡ insert_entry int_cmp (first.1 ++ octaves_of groups) octave value

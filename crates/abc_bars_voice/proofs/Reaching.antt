@@ -75,7 +75,7 @@ pub on_another : (letters : LetterAccidentals) (letter : Letter) (by : ℤ) (oth
 on_another letters letter by other h =
     seen_by letters letter by other false (false_from_ne_true (capital letter == capital other) (λ e. h ((Decides-eqb (capital letter) (capital other)).0 e)))
 
--- an entry is found if it was put
+-- an entry is found at the octave at which it was put
 abbrev Octaves : Type 0
 Octaves = List (ℤ × LetterAccidentals)
 

@@ -56,7 +56,7 @@ impl OctaveGroups {
         }
     }
 
-    /// The same without any group.
+    /// Returns an empty list of groups with the same allocator.
     pub(crate) fn without_groups(&self) -> OctaveGroups
         ensures { result ≡ [] }
     {

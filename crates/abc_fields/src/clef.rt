@@ -17,7 +17,7 @@ pub(crate) fn mark_of(text: &[u8]) -> Option<i64>
     }
 }
 
-/// Returns the same, but 0 for a clef without a mark.
+/// Returns the octave of a clef, in semitones: 0 without a mark.
 pub(crate) fn clef_of(text: &[u8]) -> i64
     ensures { result ≡ clef_of text.now }
 {

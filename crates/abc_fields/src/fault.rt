@@ -9,7 +9,7 @@ ghost use Rattle.abc_fields.specs.Fault.{name_of, number_of};
 
 use std::cmp::Ordering;
 
-/// A fault at a place of a tune book. Faults at one place are listed in this order.
+/// The kind of a fault. Faults at one place are listed in this order.
 #[derive(Clone, Copy, Debug)]
 pub enum FaultCode {
     /// An `X:` without a number from 1.

@@ -134,8 +134,8 @@ impl<F: Fold> Chain<F> {
         })
     }
 
-    /// The same over marked pieces: after a piece whose states and items still hold, the states are not compared at the
-    /// piece that follows it.
+    /// Prepares the chain of a fold over marked pieces. Nothing changes. After a reused piece it compares no states at the piece
+    /// that is marked as following it.
     pub fn prepare_pieces(
         &self,
         fold: &F,

@@ -81,7 +81,8 @@ impl LineBuffer {
         }
     }
 
-    /// Prepares to replace the `removed` lines from index `at` on by copies of `lines`. Nothing changes.
+    /// Prepares to replace the `removed` lines from index `at` on by copies of `lines`. Nothing changes. Refuses, in the order of
+    /// `EditError`: a range outside the text, a bad line, too many lines, out of memory.
     pub fn splice_prepare(
         &self,
         at: usize,

@@ -26,7 +26,7 @@ module _ {State Cell Items Defaults : Type 0} (rules : Rules State Cell Items De
   items_suffice (chain ∷ chains) [] all = absurd all
   items_suffice (chain ∷ chains) (old ∷ reused_tunes) all = (takes_over chain old all.0, items_suffice chains reused_tunes all.1)
 
--- one that is not built if it passes
+-- one that passes is not built
 one_made : (passes : Bool) (reused_tunes : Option ℕ) → (passes ≡ true → IsSome reused_tunes) → built_count_at reused_tunes ≤ cond (not passes) 1 0
 one_made true None some = absurd (subst (λ b. elim b as (λ _. Type 0) [ true ↦ ⊥ | false ↦ Unit {0} ]) (some refl) tt)
 one_made false None some = omega arith

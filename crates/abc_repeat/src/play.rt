@@ -119,7 +119,8 @@ pub fn expand_within(alloc: Global, marks: &[Mark], room: u64) -> Result<Vec<usi
     Ok(play)
 }
 
-/// Returns the places of the played items, in order of play, at most `MOST_PLACES`.
+/// Returns the places of the played items, in order of play (ABC 2.1 sections 4.8 to 4.10), or `TooLong` if there are
+/// more than `MOST_PLACES`.
 pub fn expand(alloc: Global, marks: &[Mark]) -> Result<Vec<usize>, RepeatFault>
     ensures value { IfOk result (λ places. places.items ≡ play_of marks.now) }
     ensures played { IfOk result (λ places. All (IsPlayed marks.now) places.items) }

@@ -110,7 +110,7 @@ pub(crate) fn tokens_in(
 }
 
 /// The tokens of a line, without its carriage return and, but for a directive, its comment. Counts one line scanned, also
-/// if an allocation fails; a blank line and a comment need none. A line of 2^31 bytes or more that has
+/// if an allocation fails; a blank line and a comment allocate nothing. A line of 2^31 bytes or more that has
 /// tokens is refused as out of memory.
 #[tactic(auto, unfolding(crate::specs::Line::tokens_of, crate::specs::Line::covered_of))]
 pub fn scan(alloc: Global, line: &[u8], work: &mut Work) -> Result<Vec<Token>, AllocError>

@@ -140,7 +140,7 @@ fn cells_in(alloc: Global, class: LineClass, text: &[u8]) -> Result<Vec<Cell>, A
 }
 
 /// The cells of a line, by its tokens. Counts one line scanned, also if an allocation fails; a blank line and a comment
-/// need none.
+/// allocate nothing.
 #[tactic(auto, unfolding(crate::specs::Line::tokens_of))]
 pub fn cells_of_line(alloc: Global, line: &[u8], work: &mut Work) -> Result<Vec<Cell>, AllocError>
     ensures value { IfOk result (λ cells. cells.items ≡ cells_of (tokens_of line.now)) }

@@ -33,18 +33,19 @@ pub type Token = Spanned<TokenKind>;
 #[derive(Clone, Drop)]
 pub enum TokenKind {
     Note(Note),
-    /// A rest, with its length.
+    /// A rest, with its length (ABC 2.1 section 4.5).
     Rest(WrittenLength),
-    /// A rest of whole bars, with their number if it is written.
+    /// A rest of whole bars, with their number if it is written (ABC 2.1 section 4.5).
     BarRest(Option<u32>),
     Chord(Shared<Chord>),
     /// A field in a music line, as `[K:G]`.
     InlineField(Shared<Field>),
     Bar(BarLine),
-    /// The passes that an ending is for: bit i - 1 is set for pass i. None if a number is refused.
+    /// The passes that an ending is for: bit i - 1 is set for pass i (ABC 2.1 sections 4.9 and 4.10). None if a number is refused.
     Ending(Option<u32>),
     Tuplet(Tuplet),
     Broken(BrokenRhythm),
+    /// A tie (ABC 2.1 section 4.11).
     Tie,
     /// One space or tab.
     Blank,

@@ -2,7 +2,7 @@
 
 ghost use Rattle.abc_time.specs.Gcd.{IsGcdOfMultiples};
 
-/// The greatest common divisor, by Euclid's steps.
+/// The greatest common divisor, by Euclid's algorithm.
 pub fn gcd(a: u64, b: u64) -> u64
     ensures { IsGcdOfMultiples a b result }
 {

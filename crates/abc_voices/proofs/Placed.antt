@@ -84,7 +84,7 @@ set_at table place other stage P within here there =
       | inr apart ↦ subst (P other) (sym (get_or-set_other table place other (Some stage) None apart)) (there apart)
     ]
 
--- a stage is put if none is
+-- a stage is put if none is there
 pub put_first : (voices : List (List ℕ)) (sections : List Section) (place : ℕ) (before after : List (Option Stage)) (section : Section)
     → AreStages voices sections before → slice_get sections place ≡ Some section → place < length before
     → IsNew voices section place before after

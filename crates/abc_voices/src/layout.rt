@@ -105,7 +105,7 @@ fn first_track(tune: &[&Item], given: &[&Item]) -> usize
     }
 }
 
-/// Returns the sections of a tune. Most tunes have one, which their fields tell.
+/// Returns the sections of a tune. Most tunes have one section, and then only the fields are read.
 fn sections_of<'s, 't>(
     alloc: Global,
     tune: &'s [&'t Item],

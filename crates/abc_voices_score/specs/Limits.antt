@@ -24,7 +24,7 @@ pub record IsChangeWithin (end : Grains) (change : Change) : Type 0 where
   pub before_end : change.at.0 ≤ end.0
   pub writable : IsWritable change.what
 
--- A note from a moment to a later or the same one, not past the end; keys are 0 to 127, velocities 1 to 127 (SMF 1.0).
+-- A note from a moment to a later or the same one, not past the end; keys are 0 to 127, velocities 1 to 127 (MIDI 1.0).
 pub record IsSoundingWithin (end : Grains) (note : Sounding) : Type 0 where
   pub forward : note.on.0 ≤ note.off.0
   pub before_end : note.off.0 ≤ end.0
@@ -37,7 +37,7 @@ pub record IsVoiceWithin (end : Grains) (notes : List Sounding) : Type 0 where
   pub count : length notes ≤ MOST_NOTES
   pub each : All (IsSoundingWithin end) notes
 
--- A program that comes before the end, or at it. Not in ABC 2.1; programs are 0 to 127 (SMF 1.0).
+-- A program that comes before the end, or at it. Not in ABC 2.1; programs are 0 to 127 (MIDI 1.0).
 pub record IsProgramWithin (end : Grains) (change : ProgramChange) : Type 0 where
   pub before_end : change.at.0 ≤ end.0
   pub number : change.number ≤ 127

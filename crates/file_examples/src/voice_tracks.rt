@@ -23,7 +23,7 @@ pub fn velocities()
         ≡ codes "00903C508170803C4000903E698170803E4000904069817080404000FF2F00" }
 {}
 
-/// The softest and the loudest note, and the last of the programs. SMF 1.0.
+/// The softest and the loudest note, and the last of the programs. MIDI 1.0.
 pub fn bounds()
     ensures softest { (note_on 0 60 1 0).bytes ≡ 0x90 ∷ 0x3C ∷ 1 ∷ [] }
     ensures loudest { (note_on 0 60 127 0).bytes ≡ 0x90 ∷ 0x3C ∷ 0x7F ∷ [] }

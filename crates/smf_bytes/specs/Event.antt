@@ -39,16 +39,16 @@ abbrev pub change_event : Change → Event
 change_event change =
     record { tick = tick_at change.at.0; class = class_of change.what; key = 0; bytes = change_bytes change.what }
 
--- Note off, 8c kk vv, with the release velocity 64 (SMF 1.0; the velocity is not in ABC 2.1).
+-- Note off, 8c kk vv, with the release velocity 64 (MIDI 1.0; the velocity is not in ABC 2.1).
 abbrev pub note_off : ℕ → ℕ → ℕ → Event
 note_off channel key tick = record { tick = tick; class = 1; key = key; bytes = (128 + channel) ∷ key ∷ 64 ∷ [] }
 
--- Program change, Cc pp (SMF 1.0). At one tick it comes after the notes off and before the notes on. Not in ABC 2.1.
+-- Program change, Cc pp (MIDI 1.0). At one tick it comes after the notes off and before the notes on. Not in ABC 2.1.
 abbrev pub program_change : ℕ → ℕ → ℕ → Event
 program_change channel number tick =
     record { tick = tick; class = 2; key = 0; bytes = (192 + channel) ∷ number ∷ [] }
 
--- Note on, 9c kk vv, with the velocity vv (SMF 1.0).
+-- Note on, 9c kk vv, with the velocity vv (MIDI 1.0).
 abbrev pub note_on : ℕ → ℕ → ℕ → ℕ → Event
 note_on channel key velocity tick =
     record { tick = tick; class = 3; key = key; bytes = (144 + channel) ∷ key ∷ velocity ∷ [] }

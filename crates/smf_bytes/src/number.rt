@@ -8,10 +8,13 @@ use thiserror::Error;
 /// The reason why bytes do not begin with a variable-length quantity.
 #[derive(Clone, Copy, Debug, PartialEq, Eq, Error)]
 pub enum NumberFault {
+    /// The first byte is 80 in hexadecimal. No quantity in its shortest form begins with it.
     #[error("the quantity begins with a byte 80")]
     Padded,
+    /// The first four bytes have the top bit set, so that a fifth would belong to the quantity.
     #[error("the quantity has more than four bytes")]
     TooLong,
+    /// The bytes end before the quantity does.
     #[error("the quantity is cut off")]
     Truncated,
 }
@@ -52,7 +55,9 @@ pub(crate) fn leading_byte(n: u32) -> u8
     (0x80 + n % 0x80) as u8
 }
 
-/// Reads the variable-length quantity (SMF 1.0) at the front of bytes: returns its number and its count of bytes.
+/// Reads the variable-length quantity (SMF 1.0) at the front of bytes: returns its number and its count of bytes. Refuses, in this
+/// order: `Padded` if the first byte is 80 in hexadecimal, `TooLong` if the first four bytes have the top bit set, `Truncated` if
+/// the bytes end before the quantity does.
 pub fn read_number(bytes: &[u8]) -> Result<(u32, usize), NumberFault>
     ensures ok { (n used : ℕ) → (result ≡ Ok (n, used)) ↔ StartsWithNumber bytes.now n used }
     ensures padded { (result ≡ Err NumberFault.Padded) ↔ IsPadded bytes.now }

@@ -118,7 +118,7 @@ after_mention-in : (body : Body) (current : Current) → here (after_mention (re
 after_mention-in body (Unnamed state) = refl
 after_mention-in body (At place) = refl
 
--- The state of the current voice, if a token mentions it or not.
+-- The state of the current voice, whether a token mentions it or not.
 module _ (values : Defaults) (fields : List HeaderLine) (key : Key) (before : List Element) where
   pub here_mentioned : here (after_mention (body_at (opening_at values fields key) before))
       ≡ voice_state_at (voice_place_of values fields key before).opening (voice_place_of values fields key before).before

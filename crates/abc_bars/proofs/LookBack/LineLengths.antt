@@ -115,7 +115,7 @@ few-at [] few mark at is = absurd is
 few-at (token ∷ cell) few mark zero is = subst HasFewMarks is (All-head AreFew token cell few)
 few-at (token ∷ cell) few mark (suc at) is = few-at cell (All-tail AreFew token cell few) mark at is
 
--- A time token is at the place if it is put.
+-- A time token is at the place at which it is put.
 time-at : (front ahead : CellTokens) (token : Spanned TokenKind) → is_time_token token.kind ≡ true → IsTimeAt (front ++ token ∷ ahead) (length front)
 time-at [] ahead token is = is
 time-at (first ∷ front) ahead token is = time-at front ahead token is

@@ -76,15 +76,15 @@ states_along next state (cell ∷ cells) = state ∷ states_along next (next sta
 abbrev pub tune_state : Steps Entry CellTokens Items → Option (List CellTokens) → Entry
 tune_state steps header = opening_after (option_map (state_after steps.next (entries.FileHeader no_defaults)) header)
 
--- What each cell gives if it is entered.
+-- What each cell gives in the state in which it is entered.
 abbrev pub items_along : {State Cell Items : Type 0} → (State → Cell → State) → (State → Cell → Items) → State → List Cell
     → List Items
 items_along next gives state [] = []
 items_along next gives state (cell ∷ cells) = gives state cell ∷ items_along next gives (next state cell) cells
 
--- From this state at this place on, the steps of a fold along any cells are the look back: each cell is
--- entered in the view of its place, gives what looking back gives there, its faults among it, and after them
--- holds the view of the place after them.
+-- From this state at this place on, the steps of a fold along any cells are the look back. Each cell is entered in
+-- the view of its place, and gives the items and faults of the look back there. The state after the cells is the
+-- view of the place after them.
 pub record IsLookBack (steps : Steps Entry CellTokens Items) (state : Entry) (place : Place) : Type 0 where
   pub entered : (cells : List CellTokens) → states_along steps.next state cells ≡ views_along place cells
   pub given : (cells : List CellTokens) → items_along steps.next steps.gives state cells ≡ results_along place cells

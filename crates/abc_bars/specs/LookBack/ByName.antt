@@ -1,7 +1,7 @@
--- The state of a voice of a tune's body in two sentences, by names. The name of the voice at a place is that of
--- the last accepted V: before it, if that is not one voice too many; else that of the first voice that the header
--- declares, or none. The tokens of a voice are those that are if it is the current one, each V: that names
--- it, and each accepted P:. ABC 2.1 section 7.1; that a P: is every voice's, and the limit, are not in ABC 2.1.
+-- The state of a voice of a tune's body, by names. The current voice at a place is that of the last accepted V: before it that is
+-- not one voice too many. Before any such V: it is the first voice that the header declares, or the one without a name. The tokens
+-- of a voice are each accepted V: that names it, each accepted P:, and each other token while it is the current voice. ABC 2.1
+-- section 7.1; that a P: is every voice's, and the limit, are not in ABC 2.1.
 use Rattle.std.specs.Prelude.{ℕ, Bool, true, if◌then◌else◌, List, [], ◌∷◌, slice_range, bytes_eq, Option, Some, None, unwrap_or}
 use Rattle.std.specs.Prelude.{Result, Ok, Err}
 use Rattle.std.specs.List.{list_any}

@@ -79,7 +79,7 @@ mark_faults old None from = (column_of from, BadTuplet) ∷ []
 mark_faults None (Some new) from = []
 mark_faults (Some old) (Some new) from = (column_of from, NestedTuplet) ∷ []
 
--- The faults of a token at a place of its line, by if it is in its voice.
+-- The faults of a token at a place of its line, by its place in its voice.
 abbrev pub told_in : VoicePlace → ℕ → TokenKind → List (ℕ × FaultCode)
 told_in at from (kinds.Note note) = fault_if (is_none (key_at at [] note)) (column_of from) KeyRange
 told_in at from (kinds.Chord chord) = chord_faults at from chord
@@ -88,7 +88,7 @@ told_in at from (kinds.Tuplet mark) =
     mark_faults (tuplet_at at.opening.meter at.before) (tuplet_by (meter_at at.opening.meter at.before) mark) from
 told_in at from _ = []
 
--- The faults of tokens, each by if it is in its voice.
+-- The faults of tokens, each by its place in its voice.
 abbrev pub told_from : Defaults → List HeaderLine → Key → List Element → List (Spanned TokenKind) → List (ℕ × FaultCode)
 told_from values fields key before [] = []
 told_from values fields key before (token ∷ ahead) =

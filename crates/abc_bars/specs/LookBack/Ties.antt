@@ -58,7 +58,7 @@ tied_in_chord follows earlier (note ∷ later) =
     if follows || note.1 then (earlier, note.0) ∷ tied_in_chord follows (note.0 ∷ earlier) later
     else tied_in_chord follows (note.0 ∷ earlier) later
 
--- The notes of a token from which a tie leads on, if one directly follows the token or not: of a chord those among
+-- The notes of a token from which a tie leads on, whether one directly follows the token or not: of a chord those among
 -- its first sixteen, of a rest none.
 abbrev pub tied_notes : TokenKind → Bool → List (List Note × Note)
 tied_notes (kinds.Note note) follows = if follows then ([], note) ∷ [] else []

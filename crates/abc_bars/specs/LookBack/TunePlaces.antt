@@ -21,7 +21,7 @@ key_among [] = None
 key_among (line ∷ before) = option_or (said_by_line key_said line) (key_among before)
 
 -- A place of a tune that began with these values: it keeps them; no field of its header is a K: while it is in
--- the header; and the key that it keeps in the body is what the header's K: says, or an empty signature where
+-- the header; and the key that it keeps in the body is what the header's K: says, or an empty signature if
 -- music ended the header.
 abbrev pub IsOfTune : Defaults → Place → Type 0
 IsOfTune values (InFileHeader before) = ⊥

@@ -13,10 +13,8 @@ ghost use Rattle.abc_bars_body.specs.declared.entry.Entry.TheVariants as entries
 use crate::bar_fold::BarFold;
 use abc_fold::Fold;
 
-/// The fold is the look back: along any cells, those of a file header from `Entry::header` on and those of a
-/// tune from `Entry::tune` on, each cell is entered in the view of its place and gives what looking back gives
-/// there, items and faults. A tune begins with what the lines of the file header set, if there is one. So it is
-/// from the view of any place on.
+/// The fold is the look back. Along the cells of a file header, of a tune, or after any place, each cell is entered in the view of
+/// its place, and gives the items and faults of the look back there. A tune begins with the values of the file header, if any.
 pub fn views_along()
     ensures file_header { (fold : BarFold) → IsLookBack (⟦<BarFold as Fold>⟧.steps fold) (entries.FileHeader no_defaults)
         file_header_beginning }
@@ -25,9 +23,8 @@ pub fn views_along()
     ensures place { (fold : BarFold) (place : Place) → IsLookBack (⟦<BarFold as Fold>⟧.steps fold) (view place) place }
 {}
 
-/// What cells give, and the state after them, depends on the view at the place that they follow and on nothing
-/// else that is before it: if the views at two places of two texts are the same and the same cells follow,
-/// these give the same items and the same faults at both, and the views after them are the same.
+/// Only the view at a place decides what the cells after it give. If two places of two texts have the same view and the same
+/// cells follow, these give the same items and faults, and the views after them are the same.
 #[tactic(auto, using(crate::proofs::LookBack::Along::same_given, crate::proofs::LookBack::Along::same_after))]
 pub fn views_decide()
     ensures given { (here there : Place) (cells : List CellTokens) → view here ≡ view there →
@@ -43,8 +40,8 @@ pub fn alike_views()
     ensures { (fold : BarFold) (here there : Entry) → IsTrue ((⟦<BarFold as Fold>⟧.steps fold).alike here there) ↔ (here ≡ there) }
 {}
 
-/// What a place of a tune keeps is what is before it in the file header and in its own: the values of the
-/// former, and in the body the key of the latter. A tune is in its header as long as that has no K:.
+/// A place of a tune has the file header's values. While the tune is in its header, no K: is before the place. In the body the key
+/// is that of the header's K:, or an empty signature if music ended the header.
 #[tactic(auto, using(crate::proofs::LookBack::TunePlaces::places_kept))]
 pub fn tune_places()
     ensures { (header : Option (List CellTokens)) (cells : List CellTokens) →

@@ -11,17 +11,15 @@ ghost use Rattle.abc_bars_body.specs.declared.cell.CellResult.{CellResult};
 ghost use Rattle.abc_scan.specs.declared.spanned.Spanned.{Spanned};
 ghost use Rattle.abc_scan.specs.declared.token.TokenKind.{TokenKind};
 
-/// Whatever is before a cell, of a file header or of a tune: if it is entered with what looking back
-/// finds there, the state after it is what looking back finds there, and it gives what each of its tokens
-/// gives where looking back finds the state at that token's own place.
+/// If a cell is entered in the view of its place, the state after it is the view after it. The cell gives what each of its tokens
+/// gives in the view of that token's own place.
 #[tactic(auto, using(crate::proofs::LookBack::Places::stepped_back))]
 pub fn cell_views()
     ensures { (place : Place) (cell : List (Spanned TokenKind)) →
         entry_step (view place) cell ≡ (view (place_following place cell), result_at place cell) }
 {}
 
-/// What a token of a cell leaves, wherever it is in its line and whatever broken rhythm it is in, is
-/// what the element leaves that it is.
+/// A token of a cell leaves the state that its element leaves, wherever it is in its line and in any broken rhythm.
 #[tactic(auto, using(crate::proofs::LookBack::Tokens::token_leaves))]
 pub fn left_by_tokens()
     ensures { (was : CellResult) (body : Body) (token : Spanned TokenKind) (ahead : List (Spanned TokenKind)) →

@@ -2,10 +2,9 @@
 
 ghost use Rattle.abc_bars.specs.LookBack.Lengths.{BarRestsLastThere, ChordsLastThere, NotesLastThere, RestsLastThere};
 
-/// What a cell of music gives, wherever it is: for each of its notes and rests one item, after those of the tokens
-/// in front of it, which lasts as `lengths_of_notes` says, by the unit and the tuplet that looking back finds for its
-/// voice there and by the marks of broken rhythm that act on it in its cell; for a chord one as `notes_of_chords` says; and
-/// for a rest of bars one as `lengths_of_bar_rests` says, by the meter of its voice there.
+/// Each note, rest, rest of bars, and chord with a note gives one item, after those of the tokens before it in its cell.
+/// `lengths_of_notes`, `notes_of_chords` and `lengths_of_bar_rests` say its length. They take the unit, tuplet and meter that
+/// looking back finds for its voice, and the broken rhythm of its cell.
 pub fn lengths_at_places()
     ensures notes { NotesLastThere }
     ensures rests { RestsLastThere }

@@ -7,10 +7,9 @@ ghost use Rattle.abc_bars.specs.LookBack.Held.{roll_of};
 ghost use Rattle.abc_bars.specs.LookBack.Place.{AtEachPlace};
 ghost use Rattle.abc_bars_header.specs.Voices.{voice_at};
 
-/// What looking back finds at a place of a body, said in two sentences. The name of the voice is that of the last
-/// accepted V:, if it is not one voice too many; else that of the first voice of the header, or none. What holds for
-/// a voice is what its tokens leave of what it opened with: those that are if it is the current one, each V:
-/// that names it, and each accepted P:.
+/// The current voice at a place of a body is that of the last accepted V: that is not one voice too many. Before any such V: it is
+/// the first voice of the header, or the one without a name. The state of a voice is what its tokens leave of its opening state.
+/// Its tokens are each accepted V: that names it, each accepted P:, and each other token while it is the current voice.
 pub fn named_voices()
     ensures names { AtEachPlace (λ body start before. (roll_of body).names ≡ (naming_at start before).names) }
     ensures voices { AtEachPlace (λ body start before. (at : ℕ) (name : List ℕ) →

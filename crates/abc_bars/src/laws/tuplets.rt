@@ -2,9 +2,8 @@
 
 ghost use Rattle.abc_bars.specs.LookBack.TupletPlaces.{TupletsByMarks};
 
-/// A place of a voice is in the tuplet of the last accepted mark before it, as long as fewer than r time tokens of the voice
-/// come between; it is in none after these, or before any accepted mark. p, q and r are the numbers of the mark: q that is
-/// not written goes by p and by the meter of the mark's place, r that is not written is p.
+/// A place is in the tuplet of the last accepted mark (p:q:r before it in its voice, until r time tokens have come between. Before
+/// any accepted mark it is in none. Without a q in the mark, p and the meter at the mark determine q. Without an r, r is p.
 pub fn tuplets_at_places()
     ensures { TupletsByMarks }
 {}

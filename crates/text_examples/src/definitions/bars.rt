@@ -15,7 +15,7 @@ ghost use Rattle.text_examples.specs.Bars.{bar_rest, faults_by, in_common, in_co
 ghost use Rattle.text_examples.specs.Bars.{lengths_by, sound, ticks, tone_lengths_by, velocities_by};
 
 /// Keys of notes: letters, octaves, the accidentals of a bar. ABC 2.1 sections 4.1 and 4.2; the MIDI keys 0 to 127 are
-/// in SMF 1.0.
+/// in MIDI 1.0.
 pub fn keys_of_notes()
     ensures letters { keys_by in_common (codes "CDEFGABc") ≡ keys (60 ∷ 62 ∷ 64 ∷ 65 ∷ 67 ∷ 69 ∷ 71 ∷ 72 ∷ []) }
     ensures octaves { keys_by in_common (codes "C,c'C'") ≡ keys (48 ∷ 84 ∷ 72 ∷ []) }

@@ -148,7 +148,7 @@ pub fn letters_of_fields()
     ensures others { map kind_of (codes "xkwWI+ABZ") ≡ replicate 9 Other }
 {}
 
-/// Programs and columns: a program is 0 to 127, the first column is 1. SMF 1.0; the first column, and the bound of 32
+/// Programs and columns: a program is 0 to 127, the first column is 1. MIDI 1.0; the first column, and the bound of 32
 /// bits, are not in ABC 2.1.
 pub fn programs_and_columns()
     ensures first { program_of 0 ≡ Some 0 }
