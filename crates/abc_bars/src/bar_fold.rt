@@ -204,10 +204,6 @@ impl Fold for BarFold {
         a.same(b)
     }
 
-    fn stays(&self, state: &Entry, cell: &Cell, following: &Entry) -> bool {
-        state.stays(cell.tokens(), following)
-    }
-
     fn copy_state(_alloc: Global, state: &Entry) -> Result<Entry, AllocError> {
         state.share()
     }

@@ -1,7 +1,7 @@
 pub mod BodyOpenings
 pub mod CellLoop
+pub mod FieldLaws
 pub mod HereLaws
-pub mod KeepsNames
 pub mod Mentions
 pub mod SilentChords
 pub mod VoicesLemmas

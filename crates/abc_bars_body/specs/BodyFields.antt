@@ -1,5 +1,5 @@
 -- The fields of a tune's body: the state after each, and what it gives.
-use Rattle.std.specs.Prelude.{ℕ, false, if◌then◌else◌, List, [], ◌∷◌, slice_range, Option, Some, None, option_to_list, unwrap_or}
+use Rattle.std.specs.Prelude.{ℕ, Bool, false, true, if◌then◌else◌, List, [], ◌∷◌, slice_range, Option, Some, None, option_to_list, unwrap_or}
 use Rattle.std.specs.Prelude.{Result, Ok, Err}
 use Rattle.std.specs.Char.{is_ascii_uppercase}
 use Rattle.std.specs.Option.{option_map}
@@ -127,6 +127,13 @@ kind_result body kinds.Tempo value place = tempo_by body place (tempo_of value)
 kind_result body kinds.Key value place = key_by body place (key_of value)
 kind_result body kinds.Voice value place = voice_by body place value (voice_of value)
 kind_result body _ value place = without_effect body
+
+-- Whether fields of this kind have an effect in a body.
+abbrev pub has_effect : FieldKind → Bool
+has_effect kinds.Reference = false
+has_effect kinds.Title = false
+has_effect kinds.Other = false
+has_effect _ = true
 
 -- After a field with this letter and value, at this place of its line. ABC 2.1 section 3.
 abbrev pub field_result : Body → ℕ → List ℕ → ℕ → FieldResult

@@ -6,7 +6,6 @@ pub mod BodyLent
 pub mod BodyOpening
 pub mod Cell
 pub mod Entry
-pub mod KeepsNames
 pub mod Mentioned
 pub mod SameEntry
 pub mod Step

@@ -13,9 +13,8 @@ ghost use Rattle.abc_bars_voice.specs.declared.voice_state.VoiceState.{VoiceStat
 ghost use Rattle.abc_scan.specs.declared.directive.Reach.TheVariants.{Pitch};
 
 use crate::body::{Body, Current};
-use crate::body_fields::{FieldItem, kind_result};
+use crate::body_fields::{FieldItem, has_effect, kind_result};
 use crate::entry::Entry;
-use crate::stays::is_surely_same;
 use abc_bars_header::kind_of;
 use abc_bars_voice::{Accidentals, Same, VoiceState};
 use abc_fold::Shared;
@@ -73,6 +72,13 @@ impl BodyStorage {
             BodyStorage::Borrowed { .. } => unreachable!(),
         }
     }
+}
+
+/// Whether two states are equal, if the comparison is cheap.
+fn is_surely_same(state: &VoiceState, other: &VoiceState) -> bool
+    ensures { IsTrue result → state.now ≡ other.now }
+{
+    state.is_small() && state.same(other)
 }
 
 /// The entry of a shared body, in which the current voice has another state, if there is one.
@@ -212,7 +218,8 @@ impl BodyCopy {
         self.storage.body_mut().mention(alloc)
     }
 
-    /// Applies a field of the body, at a place of its line.
+    /// Applies a field of the body, at a place of its line. A field without effect copies nothing.
+    #[tactic(auto, using(crate::proofs::FieldLaws::no_effect))]
     pub(crate) fn field(
         &mut self,
         alloc: Global,
@@ -223,8 +230,11 @@ impl BodyCopy {
             ≡ field_result self.old field.now.letter field.now.value place) }
         ensures range { IfOk result (λ given. IfSome given.item IsItem) }
     {
-        self.storage.copy_all(alloc)?;
         let kind = kind_of(field.letter);
+        if !has_effect(kind) {
+            return Ok(FieldItem::empty());
+        }
+        self.storage.copy_all(alloc)?;
         kind_result(
             alloc,
             self.storage.body_mut(),

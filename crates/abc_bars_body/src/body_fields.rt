@@ -10,7 +10,7 @@ ghost use Rattle.abc_bars_body.specs.declared.body.Body.{Body};
 ghost use Rattle.abc_bars_body.specs.Body.{here, with_here};
 ghost use Rattle.abc_bars_items.specs.Column.{column_of};
 ghost use Rattle.abc_bars_body.specs.BodyFields.{field_result_of, part_of, part_by, meter_by, unit_by, tempo_at, tempo_by, in_key};
-ghost use Rattle.abc_bars_body.specs.BodyFields.{key_item, key_by, voice_by, kind_result};
+ghost use Rattle.abc_bars_body.specs.BodyFields.{has_effect, key_item, key_by, voice_by, kind_result};
 ghost use Rattle.abc_bars_items.specs.Item.{IsCapitalLetter, IsItem};
 
 use crate::body::Body;
@@ -39,7 +39,7 @@ impl FieldItem {
     }
 
     /// Nothing.
-    fn empty() -> FieldItem
+    pub(crate) fn empty() -> FieldItem
         ensures { result ≡ record { item = None; fault = None } }
     {
         FieldItem {
@@ -228,6 +228,16 @@ fn voice_result(
         opening: false,
         name,
     }))
+}
+
+/// Whether fields of this kind have an effect in a body.
+pub(crate) fn has_effect(kind: FieldKind) -> bool
+    ensures { result ≡ has_effect kind }
+{
+    !matches!(
+        kind,
+        FieldKind::Reference | FieldKind::Title | FieldKind::Other
+    )
 }
 
 /// Reads a field of this kind, at a place of its line.

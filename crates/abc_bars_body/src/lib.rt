@@ -9,7 +9,6 @@ mod cell;
 mod entry;
 mod room;
 mod same;
-mod stays;
 
 pub use body::Body;
 pub use body_copy::BodyCopy;

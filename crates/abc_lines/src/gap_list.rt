@@ -127,6 +127,8 @@ impl<T> GapList<T> {
         ensures moved { self.new.moved
             ≡ add_to_tally self.old.moved (distance self.old.gap (length self.old.items)) }
     {
+        // For the prover: the tally is a `u64`.
+        let _ = self.moved();
         let end = self.block.len();
         if self.block.gap() != end {
             self.move_gap(end);

@@ -48,10 +48,6 @@ impl Fold for Abc {
         BarFold::same(a, b)
     }
 
-    fn stays(&self, state: &Entry, cell: &Cell, following: &Entry) -> bool {
-        BarFold.stays(state, cell, following)
-    }
-
     fn copy_state(alloc: Global, state: &Entry) -> Result<Entry, AllocError> {
         BarFold::copy_state(alloc, state)
     }

@@ -4,13 +4,12 @@ ghost use Rattle.std.specs.Prelude.{◌≡◌, All, IfOk};
 ghost use Rattle.std.specs.Borrow.{sem};
 ghost use Rattle.std.specs.Option.{option_copied, option_copied_mut};
 ghost use Rattle.public_surface.specs.Bars.{no_defaults, defaults_of, opening_after, IsItem, viewed_tones, same_defaults};
-ghost use Rattle.public_surface.specs.Bars.{bar_steps, without_accidentals, entry_step, voice_at, lends_voice};
+ghost use Rattle.public_surface.specs.Bars.{bar_steps, without_accidentals, voice_at, lends_voice};
 
 use abc_bars::{
     BarFold, BarLine, Body, Cell, Defaults, Entry, FaultCode, Fold, Grains, Header, Item, ItemText,
-    Items, ItemsBuilder, LocalFault, Meter, Reach, Sequence, Shared, ShortSequence, Token, Tone,
-    Tones, TonesView, TuneMeter, TuneProgram, TuneTempo, UnitLength, VoiceName, VoiceState, Voices,
-    Work,
+    Items, ItemsBuilder, LocalFault, Meter, Reach, Sequence, Shared, ShortSequence, Tone, Tones,
+    TonesView, TuneMeter, TuneProgram, TuneTempo, UnitLength, VoiceName, VoiceState, Voices, Work,
 };
 use std::alloc::{AllocError, Global};
 
@@ -86,13 +85,6 @@ pub fn body_in(entry: &Entry) -> Option<&Shared<Body>> {
         Entry::Body(body) => Some(body),
         Entry::FileHeader(_) | Entry::Opening(_) | Entry::Header(_) => None,
     }
-}
-
-/// Whether a state stays as it is over tokens.
-pub fn entry_stays(entry: &Entry, tokens: &[Token], next: &Entry) -> bool
-    requires { next.now ≡ (entry_step entry.now tokens.now).0 }
-{
-    entry.stays(tokens, next)
 }
 
 /// Returns what is known of a voice.
