@@ -57,11 +57,11 @@ class Document:
     def put(self, start: int, stop: int, text: str) -> None:
         """Replaces the lines from `start` to `stop`, counted from 0 and without `stop`, by those of a text."""
         at_end = stop == len(self.lines)
-        lines = text.split("\n")
-        self.lines[start:stop] = lines
-        told = [utf8(line) for line in lines]
+        texts = text.split("\n")
+        self.lines[start:stop] = texts
+        lines = [utf8(line) for line in texts]
         with suppress(ProgramEnded, ClosedError):  # the next question starts another one
-            self.book.replace(start, min(stop, len(self.book.lines)), without_empty_end(told) if at_end else told)
+            self.book.replace(start, min(stop, len(self.book.lines)), without_empty_end(lines) if at_end else lines)
 
     def change(self, change: Change) -> None:
         """Changes a range of the text, or the whole."""

@@ -24,11 +24,11 @@ class KnownRemarks(Generic[Remark]):
         places = [(lines[remark.line - 1], remark.column, remark.name) for remark in remarks]
         sentences = [sentence_of(remark) for remark in remarks]
         known = Counter(self.places)
-        are_new = [not taken(known, place) for place in places]
-        gone = Counter(sentence for place, sentence in zip(self.places, self.sentences) if taken(known, place) and sentence)
+        are_new = [not take_one(known, place) for place in places]
+        gone = Counter(sentence for place, sentence in zip(self.places, self.sentences) if take_one(known, place) and sentence)
         self.places, self.sentences = places, sentences
         return [
-            (remark, is_new and not taken(gone, sentence)) for remark, is_new, sentence in zip(remarks, are_new, sentences)
+            (remark, is_new and not take_one(gone, sentence)) for remark, is_new, sentence in zip(remarks, are_new, sentences)
         ]
 
 
@@ -37,7 +37,7 @@ def sentence_of(remark: Union[Fault, Hint]) -> str:
     return remark.text if isinstance(remark, Hint) else ""
 
 
-def taken(counts: Counter[Item], item: Item) -> bool:
+def take_one(counts: Counter[Item], item: Item) -> bool:
     """Takes one item away, and returns whether there was one."""
     if counts[item] <= 0:
         return False

@@ -226,10 +226,10 @@ class Server:
         """Sends the diagnostics of a tune book, hints first: of several on a line Neovim shows the last one."""
         document = self.documents[given["uri"]]
         rising = sorted(remarks(document), key=lambda remark: remark.severity != INFO)
-        told = {"uri": given["uri"], "diagnostics": [diagnostic(document, remark) for remark in rising]}
+        report = {"uri": given["uri"], "diagnostics": [diagnostic(document, remark) for remark in rising]}
         if given.get("version") is not None:
-            told["version"] = given["version"]
-        self.notify("textDocument/publishDiagnostics", told)
+            report["version"] = given["version"]
+        self.notify("textDocument/publishDiagnostics", report)
 
     def document(self, params: Json) -> Document:
         """The tune book that a request names."""

@@ -42,19 +42,19 @@ class Request(BaseHTTPRequestHandler):
     disable_nagle_algorithm = True  # an answer follows its headers at once
 
     def do_GET(self) -> None:
-        self.guarded(self.get)
+        self.answer_if_permitted(self.get)
 
     def do_POST(self) -> None:
-        self.guarded(self.post)
+        self.answer_if_permitted(self.post)
 
-    def guarded(self, answer: Callable[[Optional[str]], None]) -> None:
+    def answer_if_permitted(self, answer: Callable[[Optional[str]], None]) -> None:
         """Answers a request that may be made, and refuses any other. The body of a `GET` is not read, so the connection ends."""
         try:
             has_body = "Content-Length" in self.headers or "Transfer-Encoding" in self.headers
             self.close_connection = self.close_connection or has_body or self.command != "GET"
             self.check_sender()
             if not self.is_proof():
-                answer(self.permitted())
+                answer(self.checked_path())
         except Refused as refused:
             self.refuse(refused)
         except (ProgramEnded, ProgramMissing) as error:
@@ -100,7 +100,7 @@ class Request(BaseHTTPRequestHandler):
             raise Refused(403, "This is no page of this book.")
         return True
 
-    def permitted(self) -> Optional[str]:
+    def checked_path(self) -> Optional[str]:
         """The part of the path after the token and its slash, None if the path ends with the token. Refuses another token."""
         path = re.fullmatch("/([^/]*)(?:/(.*))?", self.path)
         if not path or not hmac.compare_digest(path[1].encode(), self.server.token.encode()):
@@ -192,19 +192,19 @@ class Request(BaseHTTPRequestHandler):
             for header, value in {"Content-Type": "application/x-ndjson", "Connection": "close", **SAFE}.items():
                 self.send_header(header, value)
             self.end_headers()
-            told: Optional[Json] = None
+            last_state: Optional[Json] = None
             while True:
-                changes, state = book.news(seen, told, SECONDS_OF_SILENCE)
-                if self.left():
+                changes, state = book.news(seen, last_state, SECONDS_OF_SILENCE)
+                if self.is_closed():
                     return
                 seen = state["version"]
-                news = [{"state": state}] * (state != told) + [{"change": change} for change in changes]
+                news = [{"state": state}] * (state != last_state) + [{"change": change} for change in changes]
                 self.wfile.write(b"".join(json.dumps(new).encode() + b"\n" for new in news) or b"\n")
-                told = state
+                last_state = state
         finally:
             book.end_stream()
 
-    def left(self) -> bool:
+    def is_closed(self) -> bool:
         """Whether the window was closed, which shows only in a connection that is looked at."""
         readable, _, _ = select.select([self.connection], [], [], 0)
         return bool(readable) and not self.connection.recv(1, socket.MSG_PEEK)

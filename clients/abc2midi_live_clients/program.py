@@ -82,8 +82,8 @@ class LiveBook:
         self.report = self.session.apply([Edit(a, b, [line_to_send(line) for line in put]) for a, b, put in sent])
         self.lines = new
         starts, left_out = places_in(lines)
-        self.starts = spliced(self.starts, start, stop, starts, len(lines))
-        self.left_out = spliced(self.left_out, start, stop, left_out, len(lines))
+        self.starts = splice_places(self.starts, start, stop, starts, len(lines))
+        self.left_out = splice_places(self.left_out, start, stop, left_out, len(lines))
         return sent
 
     def build(self) -> Built:
@@ -130,7 +130,7 @@ def places_in(lines: list[bytes]) -> tuple[list[int], list[int]]:
     return [n for n, line in enumerate(lines) if line.startswith(b"X:") and len(line) <= MOST_BYTES], left_out
 
 
-def spliced(places: list[int], start: int, stop: int, put: list[int], count: int) -> list[int]:
+def splice_places(places: list[int], start: int, stop: int, put: list[int], count: int) -> list[int]:
     """Places of a text after the lines from `start` to `stop` became `count` others, which have the places `put`."""
     before, after = bisect_left(places, start), bisect_left(places, stop)
     return places[:before] + [start + n for n in put] + [n + start + count - stop for n in places[after:]]

@@ -57,7 +57,7 @@ class TextReport:
     def change(self, change: Change) -> None:
         """Prints a line on files and numbers, and a line for each fault and hint that is shown."""
         too_many = change.is_opening and len(change.hints) > MOST_HINTS and not self.in_full
-        parts = [named("written", change.written), named("removed", change.removed)]
+        parts = [list_files("written", change.written), list_files("removed", change.removed)]
         if change.failed is not None:
             parts.append(f"failed {change.failed}.mid; the next build retries it and the later ones")
         parts = [part for part in parts if part] or ["no file changed"]
@@ -121,7 +121,7 @@ class JsonReport:
         self.write(json.dumps({"event": event, "book": self.path, **more}))
 
 
-def named(what: str, files: list[File]) -> str:
+def list_files(what: str, files: list[File]) -> str:
     """Files by name, with the titles of their tunes; of many the first ones."""
     names = [f"{number}.mid" + (f" ({printable(title)})" if title else "") for number, title in files]
     return f"{what} {listed(names)}" if names else ""

@@ -97,7 +97,7 @@ def save_book(path: str, data: bytes, expected: Optional[str]) -> None:
         if old is not None:
             refuse_loss(path, os.fstat(old))
         compare(path, expected)
-        new = written(os.path.dirname(path), data, old)
+        new = write_beside(os.path.dirname(path), data, old)
         try:
             put_in_place(new, path, expected)
         finally:
@@ -125,7 +125,7 @@ def compare(path: str, expected: Optional[str]) -> None:
         raise BookChanged(present)
 
 
-def written(folder: str, data: bytes, old: Optional[int]) -> str:
+def write_beside(folder: str, data: bytes, old: Optional[int]) -> str:
     """The name of a new file with these bytes, on the disk, with everything else of the old one. The name is short: the name of a
     book may be as long as names can be."""
     descriptor, name = tempfile.mkstemp(prefix=".abc2midi_live.", dir=folder)

@@ -119,7 +119,7 @@ def drawing(program: str, width: Optional[int], text: bytes) -> bytes:
         except OSError as error:
             raise NoScore(f"abcm2ps cannot be started: {error.strerror}.") from error
         try:
-            data = written(process)
+            data = read_output(process)
         finally:
             end(process)
     if process.returncode in (-signal.SIGXCPU, -signal.SIGKILL):
@@ -129,7 +129,7 @@ def drawing(program: str, width: Optional[int], text: bytes) -> bytes:
     return data
 
 
-def written(process: "subprocess.Popen[bytes]") -> bytes:
+def read_output(process: "subprocess.Popen[bytes]") -> bytes:
     """What a process writes until it ends, or is killed because it takes too long."""
     assert process.stdout
     until = time.monotonic() + SECONDS

@@ -59,10 +59,10 @@ class TuneLine(NamedTuple):
 
 def header_lines(lines: Sequence[str]) -> list[str]:
     """The lines of a file header that may be read: none if the first line but comments is no field and no directive."""
-    told = [line for line in map(printed, lines) if not IS_COMMENT.match(line)]
-    if not told or not HEADER_LINE.match(told[0]):
+    printed_lines = [line for line in map(printed, lines) if not IS_COMMENT.match(line)]
+    if not printed_lines or not HEADER_LINE.match(printed_lines[0]):
         return []
-    found = [(line, FIELD.match(line)) for line in told]
+    found = [(line, FIELD.match(line)) for line in printed_lines]
     kept = [field_line(line, field[1], FILE_FIELDS) if field else directive(line) for line, field in found]
     return [line for line in kept if line != COMMENT]
 

@@ -35,12 +35,12 @@ class Scorer:
         question = question_of(asked)
         program = found_program()  # each time: it may be installed while the page is open
         if not program:
-            return told(INSTALL, missing=True)
+            return refusal_json(INSTALL, missing=True)
         if not self.turn.acquire(timeout=SECONDS_IN_A_ROW):
-            return told("abcm2ps is busy with other tunes.")
+            return refusal_json("abcm2ps is busy with other tunes.")
         try:
             if question not in self.kept:
-                self.kept[question] = self.drawn(program, question)
+                self.kept[question] = self.ask_process(program, question)
             self.kept.move_to_end(question)
             while len(self.kept) > MOST_KEPT:
                 self.kept.popitem(last=False)
@@ -48,7 +48,7 @@ class Scorer:
         finally:
             self.turn.release()
 
-    def drawn(self, program: str, question: Question) -> bytes:
+    def ask_process(self, program: str, question: Question) -> bytes:
         """What the process answers."""
         self.folder = self.folder or tempfile.TemporaryDirectory()
         self.process = self.process or OwnProcess("score", TMPDIR=self.folder.name)
@@ -58,7 +58,7 @@ class Scorer:
         except ENDED:
             self.process.close()
             self.process = None
-            return told("The process that draws scores ended on this tune.")
+            return refusal_json("The process that draws scores ended on this tune.")
         finally:
             if self.is_closed:
                 self.close()
@@ -72,7 +72,7 @@ class Scorer:
             self.folder.cleanup()
 
 
-def told(why: str, **more: bool) -> bytes:
+def refusal_json(why: str, **more: bool) -> bytes:
     """Why there is no score, as JSON."""
     return json.dumps({"why": why, **more}).encode()
 

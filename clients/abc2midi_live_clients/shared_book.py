@@ -184,10 +184,10 @@ class SharedBook:
             self.windows.end_stream()
             self.moved.notify_all()
 
-    def news(self, seen: int, told: Optional[Json], seconds: float) -> tuple[list[Json], Json]:
+    def news(self, seen: int, last_state: Optional[Json], seconds: float) -> tuple[list[Json], Json]:
         """The changes after a version and the state, as soon as either is new, or after so long."""
         with self.moved:
-            self.moved.wait_for(lambda: self.version > seen or self.state() != told, seconds)
+            self.moved.wait_for(lambda: self.version > seen or self.state() != last_state, seconds)
             return [change for change in self.changes if change["version"] > seen], self.state()
 
     def changes_after(self, seen: int) -> Json:
@@ -253,9 +253,9 @@ class SharedBook:
         if edit.stop < len(self.text.lines):
             self.book.replace(*edit)
         else:
-            told = without_empty_end(text.lines)
-            start = min(edit.start, len(told), len(self.book.lines))
-            self.book.replace(start, len(self.book.lines), told[start:])
+            new_lines = without_empty_end(text.lines)
+            start = min(edit.start, len(new_lines), len(self.book.lines))
+            self.book.replace(start, len(self.book.lines), new_lines[start:])
 
     def publish(self, made: list[Json], version: Version, window: object, since: float) -> list[Json]:
         """Lets the windows see a text that edits made of the present one, the last ones of the text first."""

@@ -87,7 +87,7 @@ def begun(words: argparse.Namespace, folder: MidiFolder, report: Report) -> Watc
     return WatchedBook(BookFile(words.book), folder, start, report, player, finder, words.clean, not words.once)
 
 
-def watched(words: argparse.Namespace, folder: MidiFolder, report: Report) -> int:
+def watch(words: argparse.Namespace, folder: MidiFolder, report: Report) -> int:
     """Watches the book until Ctrl-C, or builds it once; the exit status."""
     book = begun(words, folder, report)
     try:
@@ -115,7 +115,7 @@ def main() -> int:
     folder = MidiFolder(words.dir)
     try:
         prepare(folder, report)
-        return watched(words, folder, report)
+        return watch(words, folder, report)
     except KeyboardInterrupt:
         return FAILED if words.once else 0
     except FolderTaken as error:

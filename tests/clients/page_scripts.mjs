@@ -198,7 +198,7 @@ function close() {
 
 /** Whether window and server have this text, and know it. */
 async function agree(link, text, ...lines) {
-  await until(() => link.settled && !link.away && link.state.version === server.changes.length);
+  await until(() => link.isSettled && !link.away && link.state.version === server.changes.length);
   same([text.lines, server.lines], [lines, lines]);
 }
 
@@ -256,7 +256,7 @@ const tests = {
     link.send = async () => {};
     await until(() => !link.away);
     server.late();
-    await until(() => link.settled);
+    await until(() => link.isSettled);
     link.send = send;
     await agree(link, text, "a", "new", "b");
   },

@@ -10,7 +10,7 @@ const { kindsOf, partsOf } = await from("colours");
 const { STARTER, whyBlank, whyNothing } = await from("empty");
 const { Filter, folded } = await from("filter");
 const { Matches, matchesIn, replacedIn, sought } = await from("find");
-const { applied, inverse } = await from("history");
+const { applyEdits, inverse } = await from("history");
 const { keysOf, withKeys } = await from("keys");
 const { grouped } = await from("remarks");
 const { changed, placeOf, without } = await from("rows");
@@ -69,7 +69,7 @@ function storeOf(most = Infinity) {
 
 /** The store of a window over a text, which the server has at a version. */
 function undoStoreOf(text, store, { run = "r", version = 0, changes = [] } = {}) {
-  const link = { state: { run, version }, settled: true };
+  const link = { state: { run, version }, isSettled: true };
   return new UndoStore(text, link, async (since) => ({ changes: changes.filter((change) => change.version > since) }), store);
 }
 
@@ -185,8 +185,8 @@ const tests = {
 
   "a step and its inverse"() {
     const lines = ["a", "b", "c", "d"], step = { edits: [{ start: 0, taken: [], put: ["1"] }, { start: 1, taken: ["b", "c"], put: ["2"] }] };
-    const now = applied(lines, step.edits);
-    same([now, applied(now, inverse(step).edits)], [["1", "a", "2", "d"], lines]);
+    const now = applyEdits(lines, step.edits);
+    same([now, applyEdits(now, inverse(step).edits)], [["1", "a", "2", "d"], lines]);
   },
 
   async "what can be undone is kept while the page is loaded anew"() {

@@ -49,7 +49,7 @@ class Saving(trial.Folder):
     def test_a_book_that_changes_while_it_is_saved(self):
         """Another writer that comes at any time before the replacement is seen, whether it writes the file or replaces it."""
         for write in (self.write, self.replace):
-            for step in ("refuse_loss", "compare", "written", "keep_owner"):
+            for step in ("refuse_loss", "compare", "write_beside", "keep_owner"):
                 self.write(OLD)
                 with self.subTest(step=step), self.meanwhile(step, lambda: write(b"other")):
                     with self.assertRaises(saving.BookChanged) as raised:
@@ -57,7 +57,7 @@ class Saving(trial.Folder):
                     self.assertEqual(raised.exception.present, saving.digest(b"other"))
                     self.assert_is(b"other")
         os.unlink(self.path)
-        with self.meanwhile("written", lambda: self.write(b"other")), self.assertRaises(saving.BookChanged):
+        with self.meanwhile("write_beside", lambda: self.write(b"other")), self.assertRaises(saving.BookChanged):
             self.save(None)
         self.assert_is(b"other")
 

@@ -11,7 +11,6 @@ from unittest import mock
 import browser
 import test_page
 import test_page_in_browser
-import trial
 from abc2midi_live_clients.scorer import INSTALL
 
 DRAWS = shutil.which("abcm2ps")

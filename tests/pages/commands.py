@@ -6,7 +6,6 @@ import re
 import subprocess
 import sys
 from functools import lru_cache
-from pathlib import Path
 from typing import Optional
 
 from .markdown import TOP, code, pages

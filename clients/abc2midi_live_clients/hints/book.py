@@ -9,7 +9,7 @@ from abc2midi_live import Fault
 
 from ..program import Tune
 from .hint import Hint, TuneHint, counted
-from .lines import BLANK, COMMENT, DIRECTIVE, FIELD, MUSIC, content, kind_of
+from .lines import BLANK, FIELD, MUSIC, content, kind_of
 from .reading import Place
 
 LOOKED_AT = 400  # bytes by which a text in UTF-16 is known

@@ -4,7 +4,7 @@
 export const STARTER = ["X:1", "T:My first tune", "M:4/4", "L:1/8", "Q:1/4=120", "K:G", "|: G2 B2 d2 B2 | c2 A2 G4 :|", ""];
 
 /** Whether a text has nothing in it. */
-export const isBlank = (lines) => lines.length < 100 && lines.every((line) => !line.trim());
+const isBlank = (lines) => lines.length < 100 && lines.every((line) => !line.trim());
 
 /** What the page says over an empty sheet. `saved` is the digest of the file that was read or saved last, null if there was none. */
 export function whyBlank(name, saved) {

@@ -6,11 +6,11 @@ const LETTER = /[\p{L}\p{N}_]/u;
 /** What is looked for: an expression, and whether it has to be whole words. Throws an error that says what is wrong with it. */
 export function sought({ words, matchesCase, isWhole, isRegular }) {
   const source = isRegular ? words : words.replace(/[\\^$.*+?()[\]{}|]/g, "\\$&");
-  return { expression: compiled(source, matchesCase ? "g" : "gi"), isWhole, isRegular };
+  return { expression: compile(source, matchesCase ? "g" : "gi"), isWhole, isRegular };
 }
 
 /** An expression by characters, or by halves of pairs if it is not strict enough for that. */
-function compiled(source, flags) {
+function compile(source, flags) {
   try {
     return new RegExp(source, `${flags}u`);
   } catch {

@@ -10,7 +10,7 @@ export function replaced(lines, start, stop, put) {
 }
 
 /** Lines after edits, which are in order and at places of these lines. */
-export function applied(lines, edits) {
+export function applyEdits(lines, edits) {
   if (edits.length === 1) return replaced(lines, edits[0].start, edits[0].start + edits[0].taken.length, edits[0].put);
   const now = [];
   let from = 0;
@@ -50,7 +50,7 @@ function movedSelection(selection, stop, more) {
 }
 
 /** A step and the edits of others, both of one text: the step after them, and them after the step; null if they meet. */
-function passed(step, others) {
+function rebaseStep(step, others) {
   let { edits, before, after } = step;
   const then = [];
   for (const { start, stop, count } of others) {
@@ -76,11 +76,11 @@ function passed(step, others) {
 
 /** Steps, of which the last one applies to the present text and the others follow it, after edits of others. Those that meet
  * one are left out. */
-export function movedOver(steps, edits) {
+function movedOver(steps, edits) {
   const kept = [];
   let others = edits;
   for (const step of steps.slice().reverse()) {
-    const both = passed(step, others);
+    const both = rebaseStep(step, others);
     if (both) kept.push(both.step);
     others = both ? both.others : [...regions(inverse(step)), ...others];
   }

@@ -27,13 +27,13 @@ export class Link {
   }
 
   /** Whether the server has all that was typed. */
-  get settled() {
+  get isSettled() {
     return !this.sent && !this.text.pending;
   }
 
   /** Whether the text is another one than the file. */
   get isUnsaved() {
-    return Boolean(this.state) && (this.state.unsaved || !this.settled);
+    return Boolean(this.state) && (this.state.unsaved || !this.isSettled);
   }
 
   /** Whether the server refused the text as it is now: it is not sent again until it is another one. */
@@ -230,11 +230,11 @@ export class Link {
 
   /** Waits till the server has all that was typed. */
   async flush() {
-    while (!this.settled && !this.away && !this.isStuck) {
+    while (!this.isSettled && !this.away && !this.isStuck) {
       this.send();
       await new Promise((done) => setTimeout(done, 30));
     }
-    if (!this.settled || this.away) throw new Error(this.away ? `the server is away (${this.away})` : "the server does not take the last edit");
+    if (!this.isSettled || this.away) throw new Error(this.away ? `the server is away (${this.away})` : "the server does not take the last edit");
   }
 
   /** Saves the book, or loads it from disk; `over` names the content of the file on disk, if it was changed by another program. */

@@ -323,7 +323,7 @@ link.told = () => {
   } else {
     questions.withdraw("slow");
   }
-  if (link.state && !link.away && link.settled) drafts?.forget();
+  if (link.state && !link.away && link.isSettled) drafts?.forget();
 };
 link.refused = (why) => {
   keep();
@@ -494,7 +494,7 @@ addEventListener("pagehide", () => {
 });
 document.addEventListener("selectionchange", () => staves.caret(sheet.caret()));
 addEventListener("beforeunload", (event) => {
-  if (link.state && !link.settled) event.preventDefault();
+  if (link.state && !link.isSettled) event.preventDefault();
 });
 document.addEventListener("visibilitychange", () => {
   if (!document.hidden) link.hurry();

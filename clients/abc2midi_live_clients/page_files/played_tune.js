@@ -13,7 +13,7 @@ const isRepeat = ({ kind, closes, opens }) => kind === "bar" && (closes > 0 || o
 const isDouble = ({ kind, double }) => kind === "bar" && double;
 
 /** The strains of a voice in a section: a common part, endings, and how often the strain is passed. */
-export function strainsOf(marks) {
+function strainsOf(marks) {
   const strains = [];
   let at = 0, opened = false;
   while (at < marks.length) {

@@ -42,14 +42,14 @@ export class Player {
   /** Plays a score from a tick on, after the clicks of a count-in: { length, clicks: [{ at, isFirst }] }, in ticks. */
   async play(score, tick = 0, count = null) {
     this.stop();
-    this.audio ??= this.opened();
+    this.audio ??= this.openAudio();
     this.enter({ score, tick: this.inLoop(tick), time: this.audio.currentTime });
     await this.audio.resume();
     if (this.score === score) this.begin(score, tick, count);
   }
 
   /** The way to the loudspeaker. */
-  opened() {
+  openAudio() {
     const audio = new AudioContext();
     this.out = audio.createDynamicsCompressor();
     this.out.connect(audio.destination);

@@ -19,7 +19,7 @@ export function nameOf(key) {
 export function drawRoll(roll) {
   const { scroller, score } = roll;
   const wide = scroller.clientWidth, high = scroller.clientHeight;
-  const pen = cleared(roll.canvas, wide, high);
+  const pen = clear(roll.canvas, wide, high);
   if (!score) return;
   const style = getComputedStyle(scroller);
   const view = {
@@ -38,7 +38,7 @@ export function drawRoll(roll) {
 }
 
 /** Returns the drawing context of an empty canvas of this size in pixels. */
-function cleared(canvas, wide, high) {
+function clear(canvas, wide, high) {
   const scale = devicePixelRatio;
   if (canvas.width !== Math.round(wide * scale) || canvas.height !== Math.round(high * scale)) {
     canvas.width = Math.round(wide * scale);

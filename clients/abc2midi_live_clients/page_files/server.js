@@ -27,13 +27,13 @@ export class Server {
 
   /** Asks the server; its answer, or an error with its status. */
   async ask(name, body) {
-    const answer = await fetched(this.address(name), this.lost.signal, body && { method: "POST", body: JSON.stringify(body) });
-    return told(answer);
+    const answer = await fetchOrFail(this.address(name), this.lost.signal, body && { method: "POST", body: JSON.stringify(body) });
+    return objectOf(answer);
   }
 
   /** The bytes of a file, or null. */
   async bytes(name) {
-    const answer = await fetched(this.address(name), this.lost.signal);
+    const answer = await fetchOrFail(this.address(name), this.lost.signal);
     return answer.ok ? answer.arrayBuffer() : null;
   }
 
@@ -46,8 +46,8 @@ export class Server {
     };
     wait();
     try {
-      const answer = await fetched(this.address(name), control.signal);
-      if (!answer.ok) await told(answer);
+      const answer = await fetchOrFail(this.address(name), control.signal);
+      if (!answer.ok) await objectOf(answer);
       const reader = answer.body.pipeThrough(new TextDecoderStream()).getReader();
       for (let rest = ""; ; ) {
         const { done, value } = await reader.read();
@@ -76,13 +76,13 @@ export class Server {
   async prove() {
     if (!this.canProve) throw new Error("open the address that it prints when it is started again");
     const nonce = hex(crypto.getRandomValues(new Uint8Array(16)));
-    const { run, proof } = await asked(`/proof/${nonce}`);
+    const { run, proof } = await askWithoutToken(`/proof/${nonce}`);
     if (!/^[0-9a-f]{16}$/.test(run) || !/^[0-9a-f]{64}$/.test(proof)) throw stranger();
     const key = await crypto.subtle.importKey("raw", bytes(this.key), { name: "HMAC", hash: "SHA-256" }, false, ["sign", "verify"]);
     const message = (who) => new TextEncoder().encode(`${who} ${this.port} ${run} ${nonce}`);
     if (!(await crypto.subtle.verify("HMAC", key, bytes(proof), message("server")))) throw stranger();
     const own = hex(new Uint8Array(await crypto.subtle.sign("HMAC", key, message("page"))));
-    const { token } = await asked(`/proof/${nonce}/${own}`);
+    const { token } = await askWithoutToken(`/proof/${nonce}/${own}`);
     if (token === this.token) return;
     this.token = token;
     this.renewed();
@@ -90,10 +90,10 @@ export class Server {
 }
 
 /** Asks without a token. */
-async function asked(path) {
-  const answer = await fetched(path, AbortSignal.timeout(PATIENCE));
+async function askWithoutToken(path) {
+  const answer = await fetchOrFail(path, AbortSignal.timeout(PATIENCE));
   try {
-    return { ...(await told(answer)) };
+    return { ...(await objectOf(answer)) };
   } catch {
     throw stranger();
   }
@@ -103,14 +103,14 @@ function stranger() {
   return new Error("another program has its port. Nothing is sent to that one; do not load this page anew");
 }
 
-async function fetched(path, signal, options) {
+async function fetchOrFail(path, signal, options) {
   return fetch(path, { ...options, signal, redirect: "error" }).catch(() => {
     throw new Error(NO_ANSWER);
   });
 }
 
 /** The object of an answer. */
-async function told(answer) {
+async function objectOf(answer) {
   const object = await answer.json().catch(() => {
     throw new Error(NO_ANSWER);
   });

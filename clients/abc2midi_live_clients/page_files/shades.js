@@ -6,7 +6,7 @@ const LEAST = 3.2, MOST = 6.5; // contrast of the softest and of the loudest not
 const STEPS = 100; // of lightness
 
 /** Red, green and blue, from 0 to 1, of a hue in degrees, a saturation and a lightness. */
-export function rgbOf(hue, saturation, lightness) {
+function rgbOf(hue, saturation, lightness) {
   const reach = saturation * Math.min(lightness, 1 - lightness);
   return [0, 8, 4].map((n) => {
     const k = (n + hue / 30) % 12;
@@ -27,7 +27,7 @@ export function contrast(one, other) {
 }
 
 /** A colour as it is written in style sheets, #rgb or #rrggbb. */
-export function rgbOfText(text) {
+function rgbOfText(text) {
   const digits = /^\s*#([0-9a-f]+)\s*$/i.exec(text)?.[1] ?? "000000";
   const parts = digits.length < 6 ? [...digits].map((digit) => digit + digit) : digits.match(/../g);
   return parts.slice(0, 3).map((part) => parseInt(part, 16) / 255);

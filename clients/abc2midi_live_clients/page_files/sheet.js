@@ -31,7 +31,7 @@ export class Sheet {
   listen() {
     const area = this.area;
     this.scroller.addEventListener("scroll", () => this.look());
-    new ResizeObserver(() => this.resized()).observe(this.scroller);
+    new ResizeObserver(() => this.resize()).observe(this.scroller);
     area.addEventListener("input", () => this.read());
     area.addEventListener("compositionend", () => this.look());
     area.addEventListener("beforeinput", (event) => this.before(event));
@@ -113,7 +113,7 @@ export class Sheet {
   }
 
   /** The view has another height. The line of the caret stays in it, as when faults appear below the text. */
-  resized() {
+  resize() {
     const { scrollTop, clientHeight } = this.scroller, before = this.high;
     this.high = clientHeight;
     const end = (this.caret().line + 1) * this.height + ROOM;

@@ -1,6 +1,6 @@
 // The text of the book as its lines, what can be undone, and what the server does not have yet.
 
-import { History, applied, replaced } from "./history.js";
+import { History, applyEdits, replaced } from "./history.js";
 
 /** Where two lists of lines differ: lines start..stop of the old one became `put`; null where they are the same. */
 export function difference(old, now) {
@@ -73,7 +73,7 @@ export class Text {
   put(edits) {
     const last = edits[edits.length - 1], start = edits[0].start, stop = last.start + last.taken.length;
     const count = edits.reduce((sum, { taken, put }) => sum + put.length - taken.length, stop - start);
-    this.lines = applied(this.lines, edits);
+    this.lines = applyEdits(this.lines, edits);
     this.pending = grown(this.pending, start, stop, count);
     this.edited(start, stop, count);
   }

@@ -17,7 +17,7 @@ export class UndoStore {
     const { run, version, print, steps } = kept;
     const changes = print === printOf(this.text.lines) ? [] : await this.changes(run, version);
     const { past, future } = this.text.history;
-    if (!changes || past.length || future.length || !this.link.settled) return;
+    if (!changes || past.length || future.length || !this.link.isSettled) return;
     this.text.history.restore(steps);
     for (const { edit } of changes) this.text.history.others(edit.start, edit.stop, edit.lines.length);
   }
@@ -48,7 +48,7 @@ export class UndoStore {
   /** Keeps what can be undone, if the server has all that was typed. */
   keep() {
     clearTimeout(this.timer);
-    if (!this.key || !this.link.state || !this.link.settled) return;
+    if (!this.key || !this.link.state || !this.link.isSettled) return;
     const { run, version } = this.link.state;
     const { lines, history } = this.text;
     try {
