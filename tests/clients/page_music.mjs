@@ -2,7 +2,8 @@
 // line, `ok` or `FAILED`, with its name. All wanted values are worked out by hand: a quarter note has 480 ticks, and C is 60.
 
 import { pathToFileURL } from "node:url";
-import { isDeepStrictEqual } from "node:util";
+
+import { run, same } from "./testing.mjs";
 
 const folder = process.argv[2];
 const script = (name) => import(pathToFileURL(`${folder}/${name}.js`));
@@ -11,10 +12,6 @@ const { Grid, beatOf } = await script("grid");
 const { lanesOf } = await script("lanes");
 const { Shades } = await script("shades");
 const { scoreOf } = await script("midi");
-
-function same(found, wanted) {
-  if (!isDeepStrictEqual(found, wanted)) throw new Error(`${JSON.stringify(found)}, wanted ${JSON.stringify(wanted)}`);
-}
 
 /** The score of a file: each track has notes from a tick to a tick, with a key. A track without notes is no voice. */
 function scoreWith(...tracks) {
@@ -265,11 +262,4 @@ const tests = {
   },
 };
 
-for (const [name, test] of Object.entries(tests)) {
-  try {
-    await test();
-    console.log(`ok ${name}`);
-  } catch (error) {
-    console.log(`FAILED ${name}: ${error.stack}`);
-  }
-}
+await run(tests);

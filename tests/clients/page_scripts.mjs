@@ -2,7 +2,8 @@
 // or `FAILED`, with its name.
 
 import { pathToFileURL } from "node:url";
-import { isDeepStrictEqual } from "node:util";
+
+import { run, same } from "./testing.mjs";
 
 const folder = process.argv[2];
 const { Drafts } = await import(pathToFileURL(`${folder}/drafts.js`));
@@ -159,10 +160,6 @@ async function until(comes) {
     if (Date.now() > end) throw new Error(`waited ${SECONDS} seconds in vain for ${comes}`);
     await new Promise((done) => setTimeout(done, 5));
   }
-}
-
-function same(found, wanted) {
-  if (!isDeepStrictEqual(found, wanted)) throw new Error(`${JSON.stringify(found)}, wanted ${JSON.stringify(wanted)}`);
 }
 
 /** A window that has the book of a fresh server. */
@@ -435,13 +432,5 @@ const tests = {
   },
 };
 
-for (const [name, test] of Object.entries(tests)) {
-  try {
-    await test();
-    console.log(`ok ${name}`);
-  } catch (error) {
-    console.log(`FAILED ${name}: ${error.stack}`);
-  }
-  close();
-}
+await run(tests, close);
 process.exit(0);

@@ -2,7 +2,8 @@
 // filter, and what the page says. The folder that has them is the argument. Each test prints `ok` or `FAILED`, with its name.
 
 import { pathToFileURL } from "node:url";
-import { isDeepStrictEqual } from "node:util";
+
+import { run, same } from "./testing.mjs";
 
 const folder = process.argv[2];
 const from = (name) => import(pathToFileURL(`${folder}/${name}.js`));
@@ -18,10 +19,6 @@ const { Text } = await from("text");
 const { UndoStore, printOf } = await from("undo_store");
 
 const PLACE = { start: { line: 0, column: 0 }, end: { line: 0, column: 0 }, direction: "forward" };
-
-function same(found, wanted) {
-  if (!isDeepStrictEqual(found, wanted)) throw new Error(`${JSON.stringify(found)}, wanted ${JSON.stringify(wanted)}`);
-}
 
 /** Numbers below a limit, the same ones in each run. */
 function chances(seed) {
@@ -360,12 +357,5 @@ const tests = {
   },
 };
 
-for (const [name, test] of Object.entries(tests)) {
-  try {
-    await test();
-    console.log(`ok ${name}`);
-  } catch (error) {
-    console.log(`FAILED ${name}: ${error.stack}`);
-  }
-}
+await run(tests);
 process.exit(0);

@@ -2,7 +2,8 @@
 // `ok` or `FAILED`, with its name.
 
 import { pathToFileURL } from "node:url";
-import { isDeepStrictEqual } from "node:util";
+
+import { run, same } from "./testing.mjs";
 
 /** An element, as much of it as the scripts use. */
 class Element {
@@ -51,10 +52,6 @@ globalThis.setTimeout = (act, time) => wait(act, time / 20);
 const folder = process.argv[2];
 const { Score, tuneOf } = await import(pathToFileURL(`${folder}/score.js`));
 const { laidOut } = await import(pathToFileURL(`${folder}/score_tree.js`));
-
-function same(found, wanted) {
-  if (!isDeepStrictEqual(found, wanted)) throw new Error(`${JSON.stringify(found)} instead of ${JSON.stringify(wanted)}`);
-}
 
 const place = (row, column, kind = "note") => ["place", { row, column, kind, x: "1", y: "2", width: "3", height: "4" }];
 const image = (...inside) => ["svg", { width: "9", height: "9" }, ...inside];
@@ -177,12 +174,5 @@ const tests = {
   },
 };
 
-for (const [name, test] of Object.entries(tests)) {
-  try {
-    await test();
-    console.log(`ok ${name}`);
-  } catch (error) {
-    console.log(`FAILED ${name}: ${error.stack}`);
-  }
-}
+await run(tests);
 process.exit(0);

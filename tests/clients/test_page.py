@@ -35,9 +35,7 @@ class Page(trial.Folder):
         super().setUp()
         self.path = self.folder / "book.abc"
         self.path.write_bytes(self.opening)
-        starter = self.folder / "program"
-        starter.write_text(f'#!/bin/sh\necho $$ >"{self.folder}/pid"\nexec "{trial.program}" "$@"\n')
-        starter.chmod(0o755)
+        self.write_starter()
         self.start(str(self.path))
 
     def start(self, *words, port="0", descriptors=1024, hints=False):

@@ -228,6 +228,10 @@ class Browser(test_page.Page):
         """Waits till the server has this text."""
         self.wait(lambda: "\n".join(self.book()["lines"]) == lines)
 
+    def wait_for_lines(self, *lines: str):
+        """Waits till the server has a text of these lines."""
+        self.settled("\n".join(lines))
+
     def answer(self, name: str):
         """Answers a question, which then is gone."""
         self.wait(lambda: self.run_script(ANSWER, name))

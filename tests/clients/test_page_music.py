@@ -2,49 +2,25 @@
 
 import json
 import random
-import shutil
-import subprocess
-import unittest
-from pathlib import Path
+from collections.abc import Sequence
 
+import page_in_node
 import trial
 
-NODE = shutil.which("node")
-TESTS = Path(__file__).resolve().parent
 LENGTHS = ["", "", "", "2", "/", "3/2", "/4"]
 BARS = ["|", "|", "|", "|:", ":|", "::", "||", "|]", "|1 ", ":|2 ", "|2 ", "|1,3 ", "\n"]
 FIELDS = ["[K:G]", "[K:Fm]", "[M:6/8]", "[L:1/4]", "[V:1]", "[V:2]", "[K:clef=bass-8]", "\nP:A\n", "\nP:B\n", "\nV:2\n", "\nV:1 octave=-1\n", "[Q:1/4=90]"]
 
 
-class Copied(trial.Folder):
-    """The scripts of the page are copied to where node takes them for modules."""
-
-    def setUp(self):
-        super().setUp()
-        for path in (trial.CLIENTS / "abc2midi_live_clients/page_files").glob("*.js"):
-            shutil.copy(path, self.files)
-        (self.files / "package.json").write_text('{"type": "module"}')
-
-    def node(self, script: str, words: str = "") -> list:
-        """What a script prints, line by line."""
-        asked = subprocess.run([NODE, TESTS / script, self.files], input=words, capture_output=True, text=True, timeout=trial.SECONDS)
-        self.assertEqual(asked.returncode, 0, asked.stderr)
-        return asked.stdout.splitlines()
+class Scripts(page_in_node.PageScripts):
+    def test_scripts(self) -> None:
+        self.assert_ok("page_music.mjs", 6)
 
 
-@unittest.skipIf(not NODE, "node is not installed")
-class Scripts(Copied):
-    def test_scripts(self):
-        told = self.node("page_music.mjs")
-        self.assertEqual([line for line in told if not line.startswith("ok ")], [])
-        self.assertGreater(len(told), 5)
-
-
-@unittest.skipIf(not NODE, "node is not installed")
-class Places(Copied):
+class Places(page_in_node.PageScripts):
     """Each note of a file has its place in the text, whatever the text is."""
 
-    def known(self, tunes: list, header=()):
+    def known(self, tunes: list[list[str]], header: Sequence[str] = ()) -> int:
         """All voices of these tunes are known from beginning to end."""
         lines = [line for tune in tunes for line in [*tune, ""]]
         book = "\n".join([*header, *([""] if header else []), *lines]).encode()
@@ -57,11 +33,11 @@ class Places(Copied):
             self.assertEqual((found["whole"], found["notes"]), (found["voices"], found["all"]), "\n".join(tune))
         return sum(found["all"] for found in told)
 
-    def test_tunes_at_random(self):
+    def test_tunes_at_random(self) -> None:
         chance = random.Random(trial.seed)
         self.known([without_blank_lines(trial.random_tune(chance, number)) for number in range(1, 10 * trial.tunes)])
 
-    def test_music_at_random(self):
+    def test_music_at_random(self) -> None:
         """Much that is played, with repeats, endings, parts, voices, chords, ties and tuplets."""
         chance = random.Random(trial.seed)
         notes = 0
@@ -69,7 +45,7 @@ class Places(Copied):
             notes += self.known([random_music(chance, number) for number in range(1, 4 * trial.tunes)], header)
         self.assertGreater(notes, 20 * trial.tunes)
 
-    def test_examples(self):
+    def test_examples(self) -> None:
         """The tunes of the examples."""
         for name in ("four_tunes", "sounds"):
             lines = (trial.CLIENTS.parent / f"examples/{name}.abc").read_text().split("\n")
@@ -79,21 +55,26 @@ class Places(Copied):
             self.assertGreater(self.known(tunes, header), 100)
 
 
-def without_blank_lines(lines: list) -> list:
+def without_blank_lines(lines: list[str]) -> list[str]:
     """The lines of a tune up to the first blank one."""
     return lines[: next((n for n, line in enumerate(lines) if not line.strip(" \t")), len(lines))]
 
 
-def random_music(chance: random.Random, number: int) -> list:
+def random_note(chance: random.Random) -> str:
+    """A note with an accidental, an octave and a length, or without."""
+    letter = chance.choice(["", "", "", "^", "_", "="]) + chance.choice("CDEFGABcdefg")
+    return letter + chance.choice(["", "", "'", ","]) + chance.choice(LENGTHS)
+
+
+def random_music(chance: random.Random, number: int) -> list[str]:
     """The lines of a tune that sounds."""
-    note = lambda: chance.choice(["", "", "", "^", "_", "="]) + chance.choice("CDEFGABcdefg") + chance.choice(["", "", "'", ","]) + chance.choice(LENGTHS)  # noqa: E731
     body = ""
     for _ in range(chance.randrange(5, 60)):
         kind = chance.random()
         if kind < 0.55:
-            body += note() + chance.choice(["", "", "", "-", " ", ">", "<"])
+            body += random_note(chance) + chance.choice(["", "", "", "-", " ", ">", "<"])
         elif kind < 0.65:
-            body += f"[{note()}{note()}]{chance.choice(['', '2', '-'])}"
+            body += f"[{random_note(chance)}{random_note(chance)}]{chance.choice(['', '2', '-'])}"
         elif kind < 0.7:
             body += chance.choice(["z", "z2", "Z", "x/", "(3", "(5", "(2", '"Am"', "{g}"])
         else:

@@ -1,8 +1,8 @@
 """Scripts of the page that work on the text, in node. They are skipped if it is not installed."""
 
-import test_page_scripts
-import trial
+import page_in_node
 
 
-class Scripts(test_page_scripts.Scripts):
-    tests = trial.CLIENTS.parent / "tests/clients/page_text_scripts.mjs"
+class Scripts(page_in_node.PageScripts):
+    def test_scripts(self) -> None:
+        self.assert_ok("page_text_scripts.mjs", 6)

@@ -13,6 +13,7 @@ import unittest
 from pathlib import Path
 from unittest import mock
 
+import page_in_node
 import trial
 from abc2midi_live_clients import score, score_markup, score_text
 from abc2midi_live_clients.score import NoScore, Question
@@ -565,16 +566,8 @@ class Limits(trial.Folder):
                 drawn(*tune)
 
 
-@unittest.skipIf(not shutil.which("node"), "node is not installed")
-class Scripts(trial.Folder):
+class Scripts(page_in_node.PageScripts):
     """What the page makes of a drawing, in node."""
 
-    def test_scripts(self):
-        for path in (trial.CLIENTS / "abc2midi_live_clients/page_files").glob("score*.js"):
-            shutil.copy(path, self.files)
-        (self.files / "package.json").write_text('{"type": "module"}')
-        tests = Path(__file__).resolve().parent / "score_scripts.mjs"
-        asked = subprocess.run(["node", tests, self.files], capture_output=True, text=True, timeout=trial.SECONDS)
-        told = asked.stdout.splitlines()
-        self.assertEqual((asked.returncode, [line for line in told if not line.startswith("ok ")]), (0, []), asked.stderr)
-        self.assertEqual(len(told), 6)
+    def test_scripts(self) -> None:
+        self.assert_ok("score_scripts.mjs", 6)

@@ -8,9 +8,10 @@ import sys
 import tempfile
 import threading
 import unittest
+from collections.abc import Iterator
 from contextlib import contextmanager
 from pathlib import Path
-from typing import NamedTuple
+from typing import Any, NamedTuple, Optional
 
 TOP = Path(__file__).resolve().parent.parent.parent
 CLIENTS = TOP / "clients"
@@ -18,12 +19,12 @@ SECONDS = 300  # that a process may take, on a slow machine too
 sys.path[:0] = [str(CLIENTS), str(TOP / "python")]
 
 program = ""
-oracle = []  # the command of the program whose answers are expected
+oracle: list[str] = []  # the command of the program whose answers are expected
 saves, tunes, changes, seed = 25, 20, 60, 1
 
 
 @contextmanager
-def home():
+def home() -> Iterator[None]:
     """A home for the clients and the browser, so that the tests leave nothing in the user's."""
     with tempfile.TemporaryDirectory() as folder:
         before = dict(os.environ)
@@ -38,11 +39,11 @@ class Fresh(NamedTuple):
     """What a program makes of a book from nothing: its files by name, and (line, column, name) of each fault that the clients
     show: of `BadByte` at each byte of a character the first."""
 
-    files: dict
-    faults: list
+    files: dict[str, bytes]
+    faults: list[tuple[int, int, str]]
 
 
-def fresh(book: bytes, command=None) -> Fresh:
+def fresh(book: bytes, command: Optional[list[str]] = None) -> Fresh:
     """What a program of its own makes of a book."""
     with tempfile.TemporaryDirectory() as directory:
         path = Path(directory, "book")
@@ -52,11 +53,17 @@ def fresh(book: bytes, command=None) -> Fresh:
         words = [*(command or oracle), "--dir", str(folder), str(path)]
         asked = subprocess.run(words, input=b"build\nfaults\n", capture_output=True, check=True)
         answers = asked.stdout.decode().splitlines()
-        places = [line.split() for line in answers[answers.index("end") + 1 : -1]]
-        faults = [(*map(int, place.split(":")), name) for place, name in places]
+        faults = [fault_of(row) for row in answers[answers.index("end") + 1 : -1]]
         lines = book.removeprefix(b"\xef\xbb\xbf").split(b"\n")
         shown = [fault for fault in faults if fault[2] != "BadByte" or begins_a_character(lines[fault[0] - 1], fault[1])]
         return Fresh(files_in(folder), shown)
+
+
+def fault_of(row: str) -> tuple[int, int, str]:
+    """The fault of a row as `3:5 BadByte`: its line, its column and its name."""
+    place, name = row.split()
+    line, column = place.split(":")
+    return int(line), int(column), name
 
 
 def begins_a_character(line: bytes, column: int) -> bool:
@@ -69,12 +76,12 @@ def begins_a_character(line: bytes, column: int) -> bool:
     return at == column
 
 
-def files_in(folder) -> dict:
+def files_in(folder: Path) -> dict[str, bytes]:
     """The files of a folder by name."""
     return {entry.name: Path(entry.path).read_bytes() for entry in os.scandir(folder)}
 
 
-def hear_of_the_terminal(test: unittest.TestCase):
+def hear_of_the_terminal(test: unittest.TestCase) -> None:
     """Lets the processes that a test starts hear when their terminal is closed, also if this one was started by `nohup`."""
     before = signal.signal(signal.SIGHUP, signal.SIG_DFL)
     test.addCleanup(signal.signal, signal.SIGHUP, before)
@@ -86,14 +93,20 @@ class Folder(unittest.TestCase):
     maxDiff = 2000
     seconds = SECONDS  # that a process of these tests has, beside its random changes
 
-    def setUp(self):
+    def setUp(self) -> None:
         kept = tempfile.TemporaryDirectory()
         self.addCleanup(kept.cleanup)
         self.folder = Path(kept.name)
         self.files = self.folder / "files"
         self.files.mkdir()
 
-    def limit(self, process: subprocess.Popen):
+    def write_starter(self) -> None:
+        """Writes a script that starts the program, and leaves the number of its process in `pid`."""
+        starter = self.folder / "program"
+        starter.write_text(f'#!/bin/sh\necho $$ >"{self.folder}/pid"\nexec "{program}" "$@"\n')
+        starter.chmod(0o755)
+
+    def limit(self, process: "subprocess.Popen[Any]") -> None:
         """Ends a process with its test, and when it takes too long: then nothing more is read of it."""
         limit = threading.Timer(self.seconds + 3 * changes, process.kill)
         limit.start()
@@ -120,7 +133,7 @@ def random_line(chance: random.Random) -> str:
     return chance.choice(COMMANDS) if kind < 0.9 else ""
 
 
-def random_tune(chance: random.Random, number: int) -> list:
+def random_tune(chance: random.Random, number: int) -> list[str]:
     """The lines of a tune, with a blank one after them."""
     body = [random_line(chance) or "C" for _ in range(chance.randrange(1, 8))]
     return [f"X:{number}", f"T:Tune {number} {chance.randrange(1000)}", "M:4/4", f"K:{chance.choice('CDEFGAB')}", *body, ""]

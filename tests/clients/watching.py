@@ -70,9 +70,7 @@ class Process(trial.Folder):
     def setUp(self):
         super().setUp()
         self.path = self.folder / "book.abc"
-        starter = self.folder / "program"
-        starter.write_text(f'#!/bin/sh\necho $$ >"{self.folder}/pid"\nexec "{trial.program}" "$@"\n')
-        starter.chmod(0o755)
+        self.write_starter()
 
     def start(self, *words, files=None):
         """Starts it, with a program that tells its process. Behind a shell's `&` Ctrl-C is ignored; it is not here."""

@@ -161,22 +161,24 @@ class TuneText:
     # ---- the body
 
     def _read_body(self, first: int) -> None:
-        """Reads the body."""
-        for name in self.declared:
-            self._voice_named(name)
+        """Reads the body, after which unfinished tuplets are short."""
+        self.voices = {name: Voice(self.meter, self.unit) for name in self.declared}
         self.current = self.declared[0] if self.declared else UNNAMED
         self.voice = self._voice_named(self.current)
         for n in range(first, len(self.lines)):
-            kind = self.kinds[n]
-            if kind == FIELD:
-                self._read_field(Place(n, 0), content(self.lines[n]))
-            elif kind == DIRECTIVE:
-                self.programs.append((Place(n, 0), self.current))
-            elif kind == MUSIC and n not in self.in_block:
-                self._read_music(n, content(self.lines[n]))
-        for voice in self.voices.values():
-            if voice.tuplet and not voice.tuplet.passed_bar:
-                self.short_tuplets.append(voice.tuplet)
+            self._read_line(n)
+        tuplets = [voice.tuplet for voice in self.voices.values()]
+        self.short_tuplets += [tuplet for tuplet in tuplets if tuplet and not tuplet.passed_bar]
+
+    def _read_line(self, n: int) -> None:
+        """Reads a line of the body."""
+        kind = self.kinds[n]
+        if kind == FIELD:
+            self._read_field(Place(n, 0), content(self.lines[n]))
+        elif kind == DIRECTIVE:
+            self.programs.append((Place(n, 0), self.current))
+        elif kind == MUSIC and n not in self.in_block:
+            self._read_music(n, content(self.lines[n]))
 
     def _voice_named(self, name: bytes) -> Voice:
         """Returns a voice, which begins if it is not there."""

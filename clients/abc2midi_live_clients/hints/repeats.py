@@ -4,6 +4,7 @@ from __future__ import annotations
 
 from collections.abc import Iterator
 from dataclasses import dataclass, field
+from itertools import chain
 from typing import Optional
 
 from .hint import TuneHint
@@ -94,8 +95,7 @@ def repeats_of(tune: TuneText, voice: Voice) -> Iterator[TuneHint]:
     """Yields the hints about repeats of a voice."""
     sections = [(number, Strains(items).found) for number, items in sorted(voice.sections.items())]
     for (_, strains), (after, next_strains) in zip(sections, [*sections[1:], (0, [Strain()])]):
-        for strain in strains:
-            yield from lost_endings(strain)
+        yield from chain.from_iterable(map(lost_endings, strains))
         if strains[-1].is_left_open() and next_strains[0].closes:
             yield TuneHint(
                 tune.parts[after - 1],
@@ -103,10 +103,14 @@ def repeats_of(tune: TuneText, voice: Voice) -> Iterator[TuneHint]:
                 "this part begins inside a repeat, which does not reach over it; each part is played on its own",
             )
             strains = strains[:-1]
-        for strain in strains:
-            if strain.opening and strain.is_left_open():
-                text = "nothing closes this repeat, so it is played once; write `:|` at its end"
-                yield TuneHint(strain.opening.place, "OpenRepeat", text)
+        yield from chain.from_iterable(map(open_repeat, strains))
+
+
+def open_repeat(strain: Strain) -> Iterator[TuneHint]:
+    """Yields the hint about a repeat that nothing closes."""
+    if strain.opening and strain.is_left_open():
+        text = "nothing closes this repeat, so it is played once; write `:|` at its end"
+        yield TuneHint(strain.opening.place, "OpenRepeat", text)
 
 
 def lost_endings(strain: Strain) -> Iterator[TuneHint]:

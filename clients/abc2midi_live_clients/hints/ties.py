@@ -2,7 +2,7 @@
 
 from __future__ import annotations
 
-from collections.abc import Iterator
+from collections.abc import Generator, Iterator
 from typing import NamedTuple, Optional
 
 from .hint import TuneHint
@@ -87,21 +87,33 @@ def ties_of(tune: TuneText, voice: Voice) -> Iterator[TuneHint]:
     pitches = Pitches(tune.signature, tune.reach)
     for _, items in sorted(voice.sections.items()):
         pitches.written.clear()
-        waiting: Optional[Tied] = None
-        for item in items:
-            if item.kind == PLAYED:
-                for token in timed_tokens(item.text):
-                    tones = pitches.tones(token)
-                    if waiting and token.kind in TIMED:
-                        yield from loose(waiting, tones)
-                    waiting = tied_of(item, token, tones)
-                continue
-            if item.kind == BAR:
-                pitches.written.clear()
-            elif item.kind == KEY:
-                pitches.change_key(item.signature)
-            if item.kind in (ENDING, FAULT) or item.kind == BAR and bar_line(item.text)[:2] != (0, 0):
-                waiting = None
+        yield from ties_in(items, pitches)
+
+
+def ties_in(items: list[Item], pitches: Pitches) -> Iterator[TuneHint]:
+    """Yields the ties that join nothing among the items of a section."""
+    waiting: Optional[Tied] = None
+    for item in items:
+        if item.kind == PLAYED:
+            waiting = yield from ties_at(item, pitches, waiting)
+        elif item.kind == BAR:
+            pitches.written.clear()
+        elif item.kind == KEY:
+            pitches.change_key(item.signature)
+        if item.kind in (ENDING, FAULT) or item.kind == BAR and bar_line(item.text)[:2] != (0, 0):
+            waiting = None
+
+
+def ties_at(item: Item, pitches: Pitches, before: Optional[Tied]) -> Generator[TuneHint, None, Optional[Tied]]:
+    """Yields the ties that the notes of an item do not join, and returns the tones that its last note ties, if any. `before` are
+    the tied tones before the item."""
+    waiting = before
+    for token in timed_tokens(item.text):
+        tones = pitches.tones(token)
+        if waiting and token.kind in TIMED:
+            yield from loose(waiting, tones)
+        waiting = tied_of(item, token, tones)
+    return waiting
 
 
 def tied_of(item: Item, token: TimedToken, tones: list[Tone]) -> Optional[Tied]:

@@ -15,12 +15,17 @@ export function applyEdits(lines, edits) {
   const now = [];
   let from = 0;
   for (const { start, taken, put } of edits) {
-    for (; from < start; from += 1) now.push(lines[from]);
-    for (const line of put) now.push(line);
+    append(now, lines, from, start);
+    append(now, put, 0, put.length);
     from = start + taken.length;
   }
-  for (; from < lines.length; from += 1) now.push(lines[from]);
+  append(now, lines, from, lines.length);
   return now;
+}
+
+/** Appends the lines from a place to another, one by one: `push` does not take all lines of a long book at once. */
+function append(now, lines, from, to) {
+  for (let n = from; n < to; n += 1) now.push(lines[n]);
 }
 
 /** The step that takes a step back. */

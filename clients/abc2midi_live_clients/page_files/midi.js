@@ -20,46 +20,56 @@ export function scoreOf(buffer) {
 
 /** Adds the events of a track. A track with notes is a voice. */
 function readTrack(bytes, score) {
-  const programs = new Array(16).fill(0);
-  const open = new Map();
-  const notes = [];
-  let at = 0, tick = 0, status = 0;
-  const number = () => {
-    let value = 0, byte;
-    do { byte = bytes.getUint8(at++); value = value * 128 + (byte & 127); } while (byte & 128);
-    return value;
-  };
-  while (at < bytes.byteLength) {
-    tick += number();
-    if (bytes.getUint8(at) & 128) status = bytes.getUint8(at++);
-    const kind = status >> 4, channel = status & 15;
-    if (status >= 0xf0) {
-      const type = status === 0xff ? bytes.getUint8(at++) : 0;
-      const length = number();
-      if (type === 0x51) score.tempos.push({ tick, micros: bytes.getUint16(at) * 256 + bytes.getUint8(at + 2) });
-      if (type === 0x58) score.meters.push({ tick, over: bytes.getUint8(at), under: 2 ** bytes.getUint8(at + 1) });
-      at += length;
-    } else {
-      const first = bytes.getUint8(at++);
-      const second = kind === 12 || kind === 13 ? 0 : bytes.getUint8(at++);
-      const id = channel * 128 + first;
-      if (kind === 12) programs[channel] = first;
-      if ((kind === 8 || kind === 9) && open.has(id)) {
-        open.get(id).end = tick;
-        open.delete(id);
-      }
-      if (kind === 9 && second > 0) {
-        const note = { start: tick, end: tick, key: first, velocity: second, program: programs[channel], drum: channel === DRUMS };
-        notes.push(note);
-        open.set(id, note);
-      }
-    }
+  const track = { bytes, at: 0, tick: 0, status: 0, programs: new Array(16).fill(0), open: new Map() };
+  const count = score.notes.length;
+  while (track.at < bytes.byteLength) readEvent(track, score);
+  const hasNotes = score.notes.length > count;
+  score.end = Math.max(score.end, track.tick);
+  score.tracks.push({ voice: hasNotes ? score.voices : null });
+  if (hasNotes) score.voices += 1;
+}
+
+/** Adds the next event of a track. One without a status has that of the event before it. */
+function readEvent(track, score) {
+  track.tick += readNumber(track);
+  if (track.bytes.getUint8(track.at) & 128) track.status = track.bytes.getUint8(track.at++);
+  if (track.status >= 0xf0) readMeta(track, score);
+  else readMessage(track, score);
+}
+
+/** Reads a number of one or more bytes, of seven bits each. */
+function readNumber(track) {
+  let value = 0, byte;
+  do { byte = track.bytes.getUint8(track.at++); value = value * 128 + (byte & 127); } while (byte & 128);
+  return value;
+}
+
+/** Adds a tempo or a meter. Other events of the file, and messages to one system, are skipped. */
+function readMeta(track, score) {
+  const { bytes, tick } = track;
+  const type = track.status === 0xff ? bytes.getUint8(track.at++) : 0;
+  const length = readNumber(track), { at } = track;
+  if (type === 0x51) score.tempos.push({ tick, micros: bytes.getUint16(at) * 256 + bytes.getUint8(at + 2) });
+  if (type === 0x58) score.meters.push({ tick, over: bytes.getUint8(at), under: 2 ** bytes.getUint8(at + 1) });
+  track.at += length;
+}
+
+/** Takes a message to a channel: a note begins or ends, or the program changes. */
+function readMessage(track, score) {
+  const { bytes, tick, programs, open } = track, kind = track.status >> 4, channel = track.status & 15;
+  const first = bytes.getUint8(track.at++);
+  const second = kind === 12 || kind === 13 ? 0 : bytes.getUint8(track.at++);
+  const id = channel * 128 + first;
+  if (kind === 12) programs[channel] = first;
+  if ((kind === 8 || kind === 9) && open.has(id)) {
+    open.get(id).end = tick;
+    open.delete(id);
   }
-  score.end = Math.max(score.end, tick);
-  score.tracks.push({ voice: notes.length ? score.voices : null });
-  if (notes.length) {
-    for (const note of notes) score.notes.push({ ...note, voice: score.voices });
-    score.voices += 1;
+  if (kind === 9 && second > 0) {
+    const sound = { velocity: second, program: programs[channel], drum: channel === DRUMS };
+    const note = { start: tick, end: tick, key: first, ...sound, voice: score.voices };
+    score.notes.push(note);
+    open.set(id, note);
   }
 }
 

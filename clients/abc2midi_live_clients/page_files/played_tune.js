@@ -11,15 +11,17 @@ export const tickAt = (moment) => Math.floor(moment / TICK);
 
 const isRepeat = ({ kind, closes, opens }) => kind === "bar" && (closes > 0 || opens > 0);
 const isDouble = ({ kind, double }) => kind === "bar" && double;
+const endsEnding = (mark) => mark.kind === "ending" || isRepeat(mark) || isDouble(mark);
 
 /** The strains of a voice in a section: a common part, endings, and how often the strain is passed. */
 function strainsOf(marks) {
   const strains = [];
   let at = 0, opened = false;
   while (at < marks.length) {
-    const strain = { common: [], endings: [], closes: 0, opens: 0 };
-    const endsCommon = (mark) => mark.kind === "ending" || isRepeat(mark) || (isDouble(mark) && !opened);
-    for (; at < marks.length && !endsCommon(marks[at]); at += 1) if (marks[at].kind === "time") strain.common.push(marks[at]);
+    const endsCommon = opened ? (mark) => mark.kind === "ending" || isRepeat(mark) : endsEnding;
+    const end = placeFrom(marks, at, endsCommon);
+    const strain = { common: timesOf(marks, at, end), endings: [], closes: 0, opens: 0 };
+    at = end;
     if (marks[at]?.kind === "ending") at = readEndings(marks, at, strain);
     else if (marks[at]) at = closeStrain(marks[at], strain, at);
     const named = strain.endings.map(({ passes }) => Math.max(...passes));
@@ -40,20 +42,28 @@ function closeStrain(bar, strain, at) {
 function readEndings(marks, from, strain) {
   let at = from;
   while (marks[at]?.kind === "ending") {
-    const ending = { passes: marks[at].passes, marks: [] };
-    strain.endings.push(ending);
-    at += 1;
-    for (; at < marks.length && marks[at].kind !== "ending" && !isRepeat(marks[at]) && !isDouble(marks[at]); at += 1) {
-      if (marks[at].kind === "time") ending.marks.push(marks[at]);
-    }
+    const end = placeFrom(marks, at + 1, endsEnding);
+    strain.endings.push({ passes: marks[at].passes, marks: timesOf(marks, at + 1, end) });
+    at = end;
     if (marks[at]?.kind !== "bar") continue;
     at = closeStrain(marks[at], strain, at);
     if (strain.opens) break;
-    let ahead = at;
-    while (marks[ahead]?.kind === "bar" && !isRepeat(marks[ahead]) && !isDouble(marks[ahead])) ahead += 1;
+    const ahead = placeFrom(marks, at, (mark) => mark.kind !== "bar" || endsEnding(mark));
     if (marks[ahead]?.kind === "ending") at = ahead;
   }
   return at;
+}
+
+/** The place of the first mark from a place on that `isWanted` accepts, or the end. */
+function placeFrom(marks, from, isWanted) {
+  let at = from;
+  while (at < marks.length && !isWanted(marks[at])) at += 1;
+  return at;
+}
+
+/** The marks that take time, from a place to another. */
+function timesOf(marks, from, to) {
+  return marks.slice(from, to).filter(({ kind }) => kind === "time");
 }
 
 /** What a voice plays of a section, each with the pass that it belongs to. */

@@ -1,0 +1,80 @@
+"""Copies of the book under other names, in a real browser."""
+
+import test_page_in_browser
+from browser_keys import CONTROL, END, ENTER, ESCAPE, SHIFT
+
+COPY = "return document.getElementById('copy').open"
+WRONG = "return document.getElementById('copy-wrong').textContent"
+DOWNLOADS = "window.downloads = []; HTMLAnchorElement.prototype.click = function () { downloads.push(this.download); };"
+
+
+class CopiesInBrowser(test_page_in_browser.Browser):
+    """Saving under another name."""
+
+    opening = b"X:1\nK:C\nC\n"
+
+    def named(self, name: str):
+        """Asks for a copy under a name."""
+        self.wait(lambda: self.run_script(COPY))
+        self.press("a", CONTROL)
+        self.press(name)
+        self.press(ENTER)
+
+    def test_a_copy(self):
+        self.type("% mine\n")
+        self.press("s", CONTROL, SHIFT)
+        self.wait(lambda: self.run_script(COPY))
+        self.assertEqual(self.run_script("return document.getElementById('copy-name').value"), "book copy.abc")
+        self.named("other")
+        copy = self.folder / "other.abc"
+        self.wait(copy.exists)
+        self.wait(lambda: not self.run_script(COPY))
+        self.assertEqual((copy.read_bytes(), self.path.read_bytes()), (b"% mine\nX:1\nK:C\nC\n", self.opening))
+        self.assertEqual(self.text("status"), "Saved a copy as other.abc. This page goes on with book.abc.")
+        self.assertTrue(self.is_unsaved())
+        self.press("more")
+        self.wait(lambda: self.book()["lines"][1] == "moreX:1")
+
+    def test_the_caret_comes_back(self):
+        self.type(END, CONTROL)
+        for key, name in ((ENTER, "one"), (ESCAPE, "two")):
+            self.press("x")
+            self.press("s", CONTROL, SHIFT)
+            self.wait(lambda: self.run_script(COPY))
+            self.press(name + key)
+            self.wait(lambda: not self.run_script(COPY) and self.run_script("return document.activeElement.tagName") == "TEXTAREA")
+            self.press("y")
+        self.wait_for_lines("X:1", "K:C", "C", "xyxy")
+
+    def test_a_name_that_is_taken(self):
+        """The file is replaced only when the user says so."""
+        there = self.folder / "there.abc"
+        there.write_bytes(b"mine")
+        self.run_script("document.getElementById('save-as').click()")
+        self.named("there.abc")
+        self.wait(lambda: self.run_script(WRONG) == "There is a file there.abc in this folder.")
+        self.assertEqual(there.read_bytes(), b"mine")
+        self.press("x")
+        self.wait(lambda: self.run_script("return document.getElementById('copy-over').hidden"))
+        self.named("there.abc")
+        self.wait(lambda: not self.run_script("return document.getElementById('copy-over').hidden"))
+        self.driver.find_element("id", "copy-over").click()
+        self.wait(lambda: there.read_bytes() == self.opening)
+
+    def test_names_that_are_refused(self):
+        self.run_script("document.getElementById('save-as').click()")
+        for name, words in (("../out.abc", "Not saved: a name has no slash"), (".x.abc", "Not saved: a name does not begin with a dot"), ("book.abc", "Not saved: this is the book itself"), (" ", "Not saved: the copy needs a name")):
+            self.named(name)
+            self.wait(lambda words=words: self.run_script(WRONG).startswith(words))
+        self.press(ESCAPE)
+        self.wait(lambda: not self.run_script(COPY))
+        self.assertEqual(sorted(one.name for one in self.folder.iterdir()), ["book.abc", "files", "pid", "program", "state"])
+
+    def test_downloads(self):
+        self.run_script(DOWNLOADS)
+        self.run_script("document.getElementById('save-as').click()")
+        self.press("a", CONTROL)
+        self.press("mine")
+        self.driver.find_element("id", "copy-download").click()
+        self.wait(lambda: self.run_script("return downloads") == ["mine.abc"])
+        self.assertFalse(self.run_script(COPY))
