@@ -62,7 +62,7 @@ if TYPE_CHECKING:
     __version__: str
 else:
 
-    def __getattr__(name):
+    def __getattr__(name: str) -> object:
         """What is looked up only when it is asked for: some installations of Python have no `ctypes` for the library."""
         if name == "LibrarySession":
             from .library import LibrarySession

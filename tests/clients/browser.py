@@ -4,6 +4,7 @@ import os
 import shutil
 import sys
 import time
+from typing import Any, Callable
 
 SECONDS = 300  # that a step may take, on a slow machine too
 OWN = """
@@ -21,7 +22,7 @@ addEventListener("beforeunload", (event) => event.stopImmediatePropagation());
 
 def lacking() -> str:
     """What is not installed here, or nothing."""
-    for more in ([], ["/usr/lib/python3/dist-packages"]):
+    for more in ((), ("/usr/lib/python3/dist-packages",)):
         sys.path.extend(more)
         try:
             import selenium.webdriver.chrome.webdriver  # noqa: F401
@@ -37,7 +38,7 @@ class NotStarted(Exception):
     """No browser started."""
 
 
-def started():
+def started() -> Any:
     """A browser."""
     from selenium.common.exceptions import WebDriverException
     from urllib3.exceptions import HTTPError
@@ -48,7 +49,7 @@ def started():
         raise NotStarted(str(error)) from error
 
 
-def made_ready():
+def made_ready() -> Any:
     """A browser whose windows are as large as the tests want, and whose pages begin with the script above."""
     from selenium import webdriver
     from selenium.webdriver.chrome.service import Service
@@ -69,7 +70,7 @@ def made_ready():
     return driver
 
 
-def wait(comes):
+def wait(comes: Callable[[], Any]) -> Any:
     """Waits till something comes about, and gives it."""
     until = time.monotonic() + SECONDS
     while not (found := comes()):
@@ -79,7 +80,7 @@ def wait(comes):
     return found
 
 
-def type_keys(driver, words: str, *held):
+def type_keys(driver: Any, words: str, *held: str) -> None:
     """Types into whatever has the focus, while some keys are held down."""
     from selenium.webdriver.common.action_chains import ActionChains
 
@@ -92,14 +93,14 @@ def type_keys(driver, words: str, *held):
     actions.perform()
 
 
-def press_button(driver, element):
+def press_button(driver: Any, element: Any) -> None:
     """Moves the mouse to an element, and presses its button there."""
     from selenium.webdriver.common.action_chains import ActionChains
 
     ActionChains(driver).move_to_element(element).click_and_hold().perform()
 
 
-def release_button(driver):
+def release_button(driver: Any) -> None:
     """Releases the button of the mouse at its present place."""
     from selenium.webdriver.common.action_chains import ActionChains
 

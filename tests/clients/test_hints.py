@@ -2,7 +2,7 @@
 
 import random
 import re
-from typing import NamedTuple
+from typing import NamedTuple, Optional
 
 import trial
 from abc2midi_live_clients.faults import sentences
@@ -16,11 +16,11 @@ class Example(NamedTuple):
     """A text, the hint that it is an example of, and the hints that it must give."""
 
     name: str
-    wanted: list
-    lines: list
+    wanted: list[Hint]
+    lines: list[bytes]
 
 
-def examples() -> list:
+def examples() -> list[Example]:
     """The examples of the file."""
     text = (trial.TOP / "tests/clients/hints.txt").read_text("utf-8")
     return [example(part) for part in text.split("\n### ")[1:]]
@@ -34,7 +34,7 @@ def example(part: str) -> Example:
     return Example(name, [hint_of(row) for row in rows if row], data.split(b"\n") if data else [])
 
 
-def byte_of(found: re.Match) -> bytes:
+def byte_of(found: "re.Match[bytes]") -> bytes:
     """The byte that a mark means."""
     return b"\r" if found[1] == b"CR" else bytes.fromhex(found[1].decode())
 
@@ -42,52 +42,53 @@ def byte_of(found: re.Match) -> bytes:
 def hint_of(row: str) -> Hint:
     """A hint as it is written: `LINE:COLUMN NAME: TEXT`."""
     found = re.fullmatch(r"(\d+):(\d+) (\w+): (.+)", row)
+    assert found, row
     return Hint(int(found[1]), int(found[2]), found[3], found[4])
 
 
 class Examples(trial.Folder):
-    def setUp(self):
+    def setUp(self) -> None:
         super().setUp()
         self.book = LiveBook(trial.program, str(self.files))
         self.limit(self.book.process)
 
-    def test_examples(self):
+    def test_examples(self) -> None:
         for name, wanted, lines in examples():
             self.book.replace(0, len(self.book.lines), lines)
             found = hints(lines, self.book.tunes(), self.book.faults())
             self.assertEqual(found, wanted, f"{name}: {lines}")
 
-    def test_each_hint_has_an_example_that_gives_it_and_one_that_does_not(self):
+    def test_each_hint_has_an_example_that_gives_it_and_one_that_does_not(self) -> None:
         given = {name for name, wanted, _ in examples() if name in [hint.name for hint in wanted]}
         not_given = {name for name, wanted, _ in examples() if name not in [hint.name for hint in wanted]}
         self.assertEqual(given, set(NAMES) - {NO_EXAMPLE})
         self.assertEqual(not_given, set(NAMES) - {NO_EXAMPLE})
 
-    def test_description(self):
+    def test_description(self) -> None:
         """The page has a row for each hint in the order of the list, with the text of its first example."""
         rows = re.findall(r"^\| `(\w+)` \| (.+?) \| ", (trial.TOP / "docs/hints.md").read_text("utf-8"), re.M)
         self.assertEqual([name for name, _ in rows], list(NAMES))
-        first = {}
+        first: dict[str, Optional[str]] = {}
         for name, wanted, _ in examples():
             first.setdefault(name, next((hint.text for hint in wanted if hint.name == name), None))
         shown = {name: text.replace("\\|", "|") for name, text in rows if name != NO_EXAMPLE}
         self.assertEqual(shown, first)
 
-    def test_names_of_hints_are_not_those_of_faults(self):
+    def test_names_of_hints_are_not_those_of_faults(self) -> None:
         self.assertEqual(len(set(NAMES)), len(NAMES))
         self.assertFalse(set(NAMES) & set(sentences()))
 
-    def test_random_changes(self):
+    def test_random_changes(self) -> None:
         """Looking again gives what looking at the whole text gives, in order."""
         chance = random.Random(trial.seed)
         tunes = [trial.random_tune(chance, chance.randrange(1, 9)) for _ in range(8)]
-        lines = ["M:3/4", "", *(line for tune in tunes for line in tune)]
-        lines = [line.encode() for line in lines]
+        lines = [line.encode() for line in ["M:3/4", "", *(line for tune in tunes for line in tune)]]
         finder = Finder()
         for change in range(100):
             start = chance.randrange(len(lines) + 1)
             stop = min(len(lines), start + chance.choice([0, 0, 1, 1, 2, 9]))
-            put = chance.choice([[], ["X:3"], [trial.random_line(chance)], trial.random_tune(chance, 2), ["M:6/8"]])
+            choices: list[list[str]] = [[], ["X:3"], [trial.random_line(chance)], trial.random_tune(chance, 2), ["M:6/8"]]
+            put = chance.choice(choices)
             if chance.random() < 0.1:
                 start = stop = 0
             lines[start:stop] = [line.encode() for line in put]
@@ -97,14 +98,14 @@ class Examples(trial.Folder):
             self.assertEqual(found, Finder().hints(lines, *told), f"change {change}: {lines}")
             self.assertEqual(found, sorted(found))
 
-    def test_lines_that_nothing_closes(self):
+    def test_lines_that_nothing_closes(self) -> None:
         """Long lines of bytes that begin a token and end none are read to their end."""
         for piece in (b"{", b"[K:", b'"', b"!", b"[", b"[1", b"(3:", b":", b"^", b"C/", b"[|", b"\xff", b"-", b"(", b"}{"):
             lines = [b"X:1", b"M:4/4", b"K:C", piece * (9_000 // len(piece)) + b"|"]
             found = hints(lines, [Tune(1, "", 1)], [])
             self.assertEqual([hint for hint in found if not 1 <= hint.column <= 9_001], [])
 
-    def test_a_book_of_very_many_tunes(self):
+    def test_a_book_of_very_many_tunes(self) -> None:
         numbers = [*range(1, 10_001), 1, 10_002]
         lines = [line for number in numbers for line in (b"X:%d" % number, b"K:C", b"|:C|", b"")]
         tunes = [Tune(number, "", 4 * n + 1) for n, number in enumerate(numbers)]

@@ -13,8 +13,8 @@ COMMANDS = ["watch", "page", "language_server"]
 
 class Types(unittest.TestCase):
     @unittest.skipIf(not MYPY, "mypy is not installed")
-    def test_types(self):
-        words = [MYPY, "--strict", "--scripts-are-modules", "--python-version", "3.9", "--cache-dir", "/dev/null"]
+    def test_types(self) -> None:
+        words = ["mypy", "--strict", "--scripts-are-modules", "--python-version", "3.9", "--cache-dir", "/dev/null"]
         path = {**os.environ, "MYPYPATH": str(trial.TOP / "python")}
         names = ["abc2midi_live_clients", *COMMANDS]
         asked = subprocess.run([*words, *names], cwd=trial.CLIENTS, env=path, capture_output=True, text=True)

@@ -8,12 +8,12 @@ from abc2midi_live import edits as edits_module
 from abc2midi_live.edits import Edit, edits, few_edits, joined
 
 
-def lines(text: str) -> list:
+def lines(text: str) -> list[bytes]:
     return [letter.encode() for letter in text]
 
 
 class Edits(setting.Room):
-    def check(self, old: list, new: list) -> list:
+    def check(self, old: list[bytes], new: list[bytes]) -> list[Edit]:
         """The edits of two texts, which must make the one of the other, and leave a line between any two."""
         found = edits(old, new)
         made = list(old)
@@ -24,7 +24,7 @@ class Edits(setting.Room):
         self.assertTrue(all(edit.stop > edit.start or edit.lines for edit in found))
         return found
 
-    def test_fewest_edits(self):
+    def test_fewest_edits(self) -> None:
         self.assertEqual(self.check(lines("abc"), lines("abc")), [])
         self.assertEqual(self.check(lines("abcd"), lines("abXd")), [Edit(2, 3, [b"X"])])
         self.assertEqual(self.check(lines("abcd"), lines("ad")), [Edit(1, 3, [])])
@@ -34,7 +34,7 @@ class Edits(setting.Room):
         self.assertEqual(self.check(lines("ab"), []), [Edit(0, 2, [])])
         self.assertEqual(self.check(lines("abcdef"), lines("Xbcdef")[:4] + lines("Yf")), [Edit(0, 1, [b"X"]), Edit(4, 5, [b"Y"])])
 
-    def test_random_texts(self):
+    def test_random_texts(self) -> None:
         chance = random.Random(setting.seed)
         for _ in range(400):
             old = [bytes([chance.choice(b"abcdefgh")]) for _ in range(chance.randrange(20))]
@@ -44,14 +44,14 @@ class Edits(setting.Room):
                 new[at : at + chance.randrange(3)] = [b"%d" % chance.randrange(9)] * chance.randrange(3)
             self.check(old, new)
 
-    def test_a_large_text(self):
+    def test_a_large_text(self) -> None:
         old = [b"%d" % (n // 2 if n % 3 else n % 7) for n in range(20_000)]
         one = old[:10_000] + [b"a"] + old[10_001:]
         self.assertEqual(self.check(old, one), [Edit(10_000, 10_001, [b"a"])])
         self.assertEqual(len(self.check(old, [b"a", *one, b"b"])), 3)
         self.check(old, [line for line in old for _ in range(2)])
 
-    def test_edits_that_are_joined(self):
+    def test_edits_that_are_joined(self) -> None:
         """Those of one tune, and those nearest to each other where there are too many. Here `T` begins a tune."""
         old, new = ([b"X:" if line == b"T" else line for line in lines(text)] for text in ("aTcdefgTijkTmn", "ATcDeFgTIjkTmN"))
         found = self.check(old, new)
@@ -65,7 +65,7 @@ class Edits(setting.Room):
         found = self.check(old, [line for line in old if line != b"X:"])
         self.assertEqual((len(found), joined(found, old, 9)), (3, [Edit(1, 12, lines("cdefgijk"))]))
 
-    def test_a_text_that_is_nearly_too_large(self):
+    def test_a_text_that_is_nearly_too_large(self) -> None:
         """Several edits, made one after another, could have too many lines on the way; one has not."""
         old, new = (
             [b"X:" if line == b"T" else line for line in lines(text)] for text in ("abTcdTefgh", "abXYTcdTZ")
