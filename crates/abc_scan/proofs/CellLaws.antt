@@ -1,18 +1,15 @@
 -- The cells of a line are its tokens, cut exactly after each bar line.
-use Rattle.std.proofs.Common.{◌≡◌, ℕ, Bool, cond, suc, ◌+◌, ◌-◌, ◌<◌, true, false, List, [], ◌∷◌, ◌++◌, length, take, drop, refl, sym, ap, ◌∙◌, subst, arith, append_assoc, append-nil}
-use Rattle.std.specs.Prelude.{All, ◌==◌}
-use Rattle.std.proofs.lemmas.Bool.{cond-true, cond-false, cond_both, eqb-true, false≢true}
-use Rattle.std.proofs.lemmas.List.Elements.{All-nil, All-cons, All-head, All-tail, All-append}
+use Rattle.std.proofs.Common.{◌≡◌, ℕ, Bool, cond, suc, ◌-◌, ◌<◌, true, false, List, [], ◌∷◌, ◌++◌, length, take, drop, refl, sym, ap, ◌∙◌, subst, arith, append_assoc, append-nil}
+use Rattle.std.specs.Prelude.{All, slice_range, ◌==◌}
+use Rattle.std.proofs.lemmas.List.{take_all}
+use Rattle.std.proofs.lemmas.Bool.{cond_both, eqb-true, false≢true}
+use Rattle.std.proofs.lemmas.List.Elements.{All-nil, All-cons, All-head, All-tail}
 use Rattle.abc_scan.specs.declared.class.LineClass.{LineClass}
 use Rattle.abc_scan.specs.declared.class.LineClass.TheVariants as classes
 use Rattle.abc_scan.specs.declared.spanned.Spanned.{Spanned}
 use Rattle.abc_scan.specs.declared.token.TokenKind.{TokenKind}
-use Rattle.abc_scan.specs.Cell.{ends_cell, IsCell, EndsWithBar, but_last, AreCells, put_first, cells_of, first_size, HasNoBar, GoOnWith}
-use Rattle.abc_scan.specs.Cutting.{part_at, cutting_from}
-use Rattle.abc_scan.specs.Front.{IsFront}
+use Rattle.abc_scan.specs.Cell.{ends_cell, IsCell, EndsWithBar, but_last, AreCells, put_first, cells_of, first_size}
 use Rattle.abc_scan.specs.Line.{has_tokens, tokens_in}
-use Rattle.abc_scan.specs.Token.{is_bar, line_reader, next_token}
-use Rattle.abc_scan.proofs.Cuttings.{cut_more}
 
 abbrev pub Tokens : Type 0
 Tokens = List (Spanned TokenKind)
@@ -108,59 +105,12 @@ pub no_more : (done all : List Tokens) (rest : Tokens) → (length rest == 0) �
 no_more done all [] none e = sym (append-nil done) ∙ e
 no_more done all (t ∷ ts) none e = let n = eqb-true (length (t ∷ ts)) 0 none in absurd (omega (arith, n))
 
--- a bar line ends the cell of tokens without one
-bar_ends : (front : Tokens) (bar : Spanned TokenKind) (rest : Tokens) → HasNoBar front → ends_cell bar ≡ true → cells_of (front ++ bar ∷ rest) ≡ (front ++ bar ∷ []) ∷ cells_of rest
-bar_ends [] bar rest plain is = cond-true (ends_cell bar) ((bar ∷ []) ∷ cells_of rest) (put_first bar (cells_of rest)) is
-bar_ends (t ∷ ts) bar rest plain is =
-    let tokens = ts ++ bar ∷ rest in
-    cond-false (ends_cell t) ((t ∷ []) ∷ cells_of tokens) (put_first t (cells_of tokens)) (All-head (λ u. ends_cell u ≡ false) t ts plain)
-    ∙ ap (put_first t) (bar_ends ts bar rest (All-tail (λ u. ends_cell u ≡ false) t ts plain) is)
-
--- tokens without a bar line are one cell
-pub open_cell : (ts : Tokens) → HasNoBar ts → 0 < length ts → cells_of ts ≡ ts ∷ []
-open_cell [] plain some = absurd (omega arith)
-open_cell (t ∷ []) plain some = cond-false (ends_cell t) ((t ∷ []) ∷ []) (put_first t []) (All-head (λ u. ends_cell u ≡ false) t [] plain)
-open_cell (t ∷ u ∷ us) plain some =
-    cond-false (ends_cell t) ((t ∷ []) ∷ cells_of (u ∷ us)) (put_first t (cells_of (u ∷ us))) (All-head (λ v. ends_cell v ≡ false) t (u ∷ us) plain)
-    ∙ ap (put_first t) (open_cell (u ∷ us) (All-tail (λ v. ends_cell v ≡ false) t (u ∷ us) plain) (omega arith))
-
--- one token is one cell
-pub single_cell : (ts : Tokens) → 0 < length ts → length ts < 2 → cells_of ts ≡ ts ∷ []
-single_cell [] some few = absurd (omega arith)
-single_cell (t ∷ []) some few = cond_both (ends_cell t) ((t ∷ []) ∷ []) (put_first t []) (λ cells. cells ≡ (t ∷ []) ∷ []) (λ e. refl) (λ e. refl)
-single_cell (t ∷ u ∷ us) some few = absurd (omega arith)
-
--- another token stays in the begun cell
-pub stays : (token : Spanned TokenKind) (cells : List Tokens) (begun more : Tokens) → more ≡ begun ++ token ∷ [] → GoOnWith token cells begun cells more
-stays token cells begun more e rest = ap (λ l. cells ++ cells_of l) (ap (λ l. l ++ rest) e ∙ append_assoc begun (token ∷ []) rest)
-
-pub still_no_bar : (token : Spanned TokenKind) (begun : Tokens) → HasNoBar begun → ends_cell token ≡ false → HasNoBar (begun ++ token ∷ [])
-still_no_bar token begun none plain = All-append (λ t. ends_cell t ≡ false) begun (token ∷ []) none (All-cons (λ t. ends_cell t ≡ false) token [] plain (All-nil (λ t. ends_cell t ≡ false)))
-
--- a bar line closes the begun cell
-pub is_closed : (token : Spanned TokenKind) (cells all : List Tokens) (begun more : Tokens) → HasNoBar begun → ends_cell token ≡ true → all ≡ cells ++ (begun ++ token ∷ []) ∷ [] → more ≡ []
-    → GoOnWith token cells begun all more
-is_closed token cells all begun more plain bar e none rest =
-    (λ i. e i ++ cells_of (none i ++ rest))
-    ∙ append_assoc cells ((begun ++ token ∷ []) ∷ []) (cells_of rest)
-    ∙ ap (λ l. cells ++ l) (sym (bar_ends begun token rest plain bar))
-
 -- a line of a class without tokens has none
 pub none_in : (class : LineClass) (text : List ℕ) → has_tokens class ≡ false → tokens_in class text ≡ []
 none_in classes.Blank text none = refl
 none_in classes.Comment text none = refl
 none_in _ text none = absurd (false≢true (sym none))
 
--- one turn of a loop that cuts cells
-pub cells_more : (text : List ℕ) (after_bar : Bool) (at : ℕ) (cells more_cells all : List Tokens) (begun more_begun : Tokens) (token : Spanned TokenKind) (r : TokenKind × ℕ) → at < length text
-    → IsFront (take (length text - at) (drop at text)) r.1 → r ≡ next_token after_bar (take (length text - at) (drop at text)) → token ≡ part_at at r → GoOnWith token cells begun more_cells more_begun
-    → cells ++ cells_of (begun ++ cutting_from line_reader after_bar at 0 (drop at text)) ≡ all
-    → more_cells ++ cells_of (more_begun ++ cutting_from line_reader (is_bar r.0) (at + r.1) 0 (drop (at + r.1) text)) ≡ all
-cells_more text after_bar at cells more_cells all begun more_begun token r inside some read is on before =
-    let rest = cutting_from line_reader (is_bar r.0) (at + r.1) 0 (drop (at + r.1) text) in
-    let first : part_at at r ∷ rest ≡ cutting_from line_reader after_bar at 0 (drop at text) = cut_more line_reader after_bar text [] (part_at at r ∷ []) _ at (at + r.1) at r (λ i. at +
-    r.1) inside some read refl refl in
-    on rest
-    ∙ ap (λ t. cells ++ cells_of (begun ++ t ∷ rest)) is
-    ∙ ap (λ l. cells ++ cells_of (begun ++ l)) first
-    ∙ before
+-- all tokens of a line
+pub whole_range : (tokens : Tokens) → slice_range tokens 0 (length tokens) ≡ tokens
+whole_range tokens = take_all (length tokens - 0) tokens (omega arith)

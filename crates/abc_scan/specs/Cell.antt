@@ -50,13 +50,3 @@ cells_of (t ∷ ts) = if ends_cell t then (t ∷ []) ∷ cells_of ts else put_fi
 abbrev pub first_size : List (Spanned TokenKind) → ℕ
 first_size [] = 0
 first_size (t ∷ ts) = if ends_cell t then 1 else suc (first_size ts)
-
--- No bar line is among the tokens.
-abbrev pub HasNoBar : List (Spanned TokenKind) → Type 0
-HasNoBar tokens = All (λ t. ends_cell t ≡ false) tokens
-
--- One more token after cells and the tokens of an open one, before any text.
-abbrev pub GoOnWith : Spanned TokenKind → List (List (Spanned TokenKind)) → List (Spanned TokenKind)
-    → List (List (Spanned TokenKind)) → List (Spanned TokenKind) → Type 0
-GoOnWith token cells begun more_cells more_begun =
-    (rest : List (Spanned TokenKind)) → more_cells ++ cells_of (more_begun ++ rest) ≡ cells ++ cells_of (begun ++ token ∷ rest)

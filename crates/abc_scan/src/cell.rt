@@ -1,6 +1,6 @@
 //! The cells of a line.
 
-ghost use Rattle.std.specs.Prelude.{◌≡◌, ◌≤◌, IfOk, length};
+ghost use Rattle.std.specs.Prelude.{◌≡◌, ◌≤◌, [], IfOk, IsOk, length};
 ghost use Rattle.abc_scan.specs.Cell.{AreCells, cells_of, first_size};
 
 use crate::token::{Token, is_bar};
@@ -10,45 +10,67 @@ use std::alloc::{AllocError, Global};
 use std::marker::Model;
 
 /// A field line, or the tokens of a music line up to and with a bar line or the line's end. It holds its tokens with
-/// their values, so no caller reads the line again. A copy shares them. Contracts see the tokens.
+/// their values, so no caller reads the line again. The cells of a line share its tokens, and so does a copy. Contracts
+/// see the tokens of the cell.
 #[derive(Drop)]
 pub struct Cell {
-    tokens: Shared<Sequence<Token>>,
+    line: Shared<Sequence<Token>>,
+    from: u32,
+    to: u32,
 }
 
 impl Model for Cell {
-    ghost use Rattle.std.specs.Prelude.{List};
+    ghost use Rattle.std.specs.Prelude.{◌≤◌, List, length, slice_range};
     ghost use Rattle.abc_scan.specs.declared.spanned.Spanned.{Spanned};
     ghost use Rattle.abc_scan.specs.declared.token.TokenKind.{TokenKind};
 
     ghost Value = { List (Spanned TokenKind) };
 
-    ghost view = { λ cell. cell.tokens };
+    ghost view = { λ cell. slice_range cell.line cell.from cell.to };
+
+    ghost invariant = { λ cell. (cell.from ≤ cell.to) × (cell.to ≤ length cell.line) };
 }
 
 impl Cell {
     /// The cell of these tokens.
+    #[tactic(auto, using(crate::proofs::CellLaws::whole_range))]
     pub fn new(alloc: Global, tokens: Vec<Token>) -> Result<Cell, AllocError>
         ensures { IfOk result (λ cell. cell ≡ tokens.items) }
     {
-        let tokens = Shared::new(alloc, Sequence::from(tokens))?;
-        Ok(Cell { tokens })
+        let to = count_of(&tokens)?;
+        let line = Shared::new(alloc, Sequence::from(tokens))?;
+        Ok(Cell { line, from: 0, to })
     }
 
     /// The tokens in order.
     pub fn tokens(&self) -> &[Token]
         ensures { result.now ≡ self.now }
     {
-        self.tokens.get().as_slice()
+        &self.line.get().as_slice()[self.from as usize..self.to as usize]
     }
 
     /// A copy, which shares the tokens.
     pub fn share(&self) -> Result<Cell, AllocError>
         ensures { IfOk result (λ copy. copy ≡ self.now) }
     {
-        let tokens = self.tokens.share()?;
-        Ok(Cell { tokens })
+        let line = self.line.share()?;
+        Ok(Cell {
+            line,
+            from: self.from,
+            to: self.to,
+        })
     }
+}
+
+/// Returns the number of these tokens. A line with more than a `u32` can count is refused as out of memory.
+fn count_of(tokens: &[Token]) -> Result<u32, AllocError>
+    ensures value { IfOk result (λ count. count ≡ length tokens.now) }
+    ensures silent { tokens.now ≡ [] → IsOk result }
+{
+    if tokens.len() > u32::MAX as usize {
+        return Err(AllocError);
+    }
+    Ok(tokens.len() as u32)
 }
 
 /// Returns the number of these tokens that are in the first cell.
@@ -71,15 +93,53 @@ fn copy_of(token: &Token) -> Result<Token, AllocError>
     token.clone()
 }
 
-/// The cell of copies of these tokens.
-fn cell_of(alloc: Global, tokens: &[Token]) -> Result<Cell, AllocError>
-    ensures { IfOk result (λ cell. cell ≡ tokens.now) }
+/// Copies of these tokens.
+fn copies_of(alloc: Global, tokens: &[Token]) -> Result<Vec<Token>, AllocError>
+    ensures { IfOk result (λ copies. copies.items ≡ tokens.now) }
 {
     let mut copies = Vec::with_capacity(alloc, tokens.len())?;
     for token in tokens {
         copies.push(copy_of(token)?)?;
     }
-    Cell::new(alloc, copies)
+    Ok(copies)
+}
+
+/// The cells of a line of some tokens, which they share, in a list with room for `room` cells at first.
+fn share_cells(
+    alloc: Global,
+    line: &Shared<Sequence<Token>>,
+    count: u32,
+    room: usize,
+) -> Result<Vec<Cell>, AllocError>
+    requires { count ≡ length line.now }
+    ensures { IfOk result (λ cells. cells.items ≡ cells_of line.now) }
+{
+    let mut cells = Vec::with_capacity(alloc, room)?;
+    let mut from = 0;
+    while from < count {
+        let to = from + first_size(&line.get().as_slice()[from as usize..]) as u32;
+        let line = line.share()?;
+        cells.push(Cell { line, from, to })?;
+        from = to;
+    }
+    Ok(cells)
+}
+
+/// The cells of a line of these tokens, in a list with room for `room` cells at first. A line without tokens has none.
+pub(crate) fn cells_with_room(
+    alloc: Global,
+    tokens: Vec<Token>,
+    room: usize,
+) -> Result<Vec<Cell>, AllocError>
+    ensures value { IfOk result (λ cells. cells.items ≡ cells_of tokens.items) }
+    ensures silent { tokens.items ≡ [] → IsOk result }
+{
+    if tokens.is_empty() {
+        return Ok(Vec::new(alloc));
+    }
+    let count = count_of(&tokens)?;
+    let line = Shared::new(alloc, Sequence::from(tokens))?;
+    share_cells(alloc, &line, count, room)
 }
 
 /// The cells of a line, by its tokens: a line without tokens has none.
@@ -87,12 +147,7 @@ pub fn cells(alloc: Global, tokens: &[Token]) -> Result<Vec<Cell>, AllocError>
     ensures value { IfOk result (λ cells. cells.items ≡ cells_of tokens.now) }
     ensures cells { IfOk result (λ cells. AreCells tokens.now cells.items) }
 {
-    let mut cells = Vec::new(alloc);
-    let mut rest = tokens;
-    while !rest.is_empty() {
-        let (first, following) = rest.split_at(first_size(rest));
-        cells.push(cell_of(alloc, first)?)?;
-        rest = following;
-    }
+    let copies = copies_of(alloc, tokens)?;
+    let cells = cells_with_room(alloc, copies, 1)?;
     Ok(cells)
 }

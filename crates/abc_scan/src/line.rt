@@ -2,7 +2,7 @@
 
 ghost use Rattle.std.specs.Prelude.{◌≡◌, ◌+◌, ◌<◌, ◌^◌, IfOk, IsOk, All, length, false};
 ghost use Rattle.abc_fold.specs.Work.{raised};
-ghost use Rattle.abc_scan.specs.Cutting.{IsSpan, JoinFromTo};
+ghost use Rattle.abc_scan.specs.Cutting.{IsSpan, JoinFromTo, part_at};
 ghost use Rattle.abc_scan.specs.Class.{class_of};
 ghost use Rattle.abc_scan.specs.Directive.{directive_of};
 ghost use Rattle.abc_scan.specs.Line.{cutting_of, directive_token, field_token, whole_token};
@@ -15,7 +15,7 @@ use crate::field::field_of;
 use crate::known_absent::KnownAbsent;
 use crate::spanned::Spanned;
 use crate::text::without_comment;
-use crate::token::{Token, TokenKind, is_bar, next_token};
+use crate::token::{Token, TokenKind, is_bar, next_token, short_token_at};
 use abc_fold::{Shared, Work};
 use abc_text::without_return;
 use std::alloc::{AllocError, Global};
@@ -24,7 +24,7 @@ use std::alloc::{AllocError, Global};
 const LONGEST_CUT: usize = (1 << 31) - 1;
 
 /// Returns a text, if it is not too long for `scan`.
-pub(crate) fn check_length(text: &[u8]) -> Result<&[u8], AllocError>
+fn check_length(text: &[u8]) -> Result<&[u8], AllocError>
     ensures same { IfOk result (λ short. short.now ≡ text.now) }
     ensures short { IfOk result (λ short. length short.now < 2 ^ 31) }
 {
@@ -35,7 +35,19 @@ pub(crate) fn check_length(text: &[u8]) -> Result<&[u8], AllocError>
     }
 }
 
-/// A text cut from left to right.
+/// The token of `size` bytes at index `at` of a line.
+fn token_at(at: usize, kind: TokenKind, size: usize) -> Token
+    requires { at + size < 2 ^ 31 }
+    ensures { result ≡ part_at at (kind, size) }
+{
+    Spanned {
+        kind,
+        from: at as u32,
+        to: (at + size) as u32,
+    }
+}
+
+/// A text cut from left to right. Most tokens are short: these are read by a quick way.
 #[tactic(auto, using(crate::proofs::Closings::absent_next))]
 fn cut(alloc: Global, text: &[u8]) -> Result<Vec<Token>, AllocError>
     requires { length text.now < 2 ^ 31 }
@@ -46,14 +58,19 @@ fn cut(alloc: Global, text: &[u8]) -> Result<Vec<Token>, AllocError>
     let mut after_bar = false;
     let mut at = 0;
     while at < text.len() {
-        let (kind, size) = next_token(alloc, after_bar, &text[at..], &mut absent)?;
-        after_bar = is_bar(&kind);
-        tokens.push(Spanned {
-            kind,
-            from: at as u32,
-            to: (at + size) as u32,
-        })?;
-        at += size;
+        match short_token_at(&text[at..]) {
+            Some((kind, size)) => {
+                tokens.push(token_at(at, kind, size))?;
+                after_bar = false;
+                at += size;
+            }
+            None => {
+                let (kind, size) = next_token(alloc, after_bar, &text[at..], &mut absent)?;
+                after_bar = is_bar(&kind);
+                tokens.push(token_at(at, kind, size))?;
+                at += size;
+            }
+        }
     }
     Ok(tokens)
 }

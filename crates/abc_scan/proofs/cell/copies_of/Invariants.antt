@@ -1,5 +1,5 @@
 use Rattle.std.proofs.Common.{◌≡◌, take}
-use Rattle.abc_scan.proofs.cell.cell_of.Given as goal
+use Rattle.abc_scan.proofs.cell.copies_of.Given as goal
 
 -- copies of the tokens so far
 abbrev pub invariant-loop-token : goal.invariant-loop-token

@@ -1,6 +1,6 @@
 use Rattle.std.proofs.Common.{◌≡◌, ◌+◌, ◌++◌, [], ◌∷◌, take, get_or, sym, ◌∙◌}
 use Rattle.std.proofs.lemmas.List.{take_more}
-use Rattle.abc_scan.proofs.cell.cell_of.Goals as goal
+use Rattle.abc_scan.proofs.cell.copies_of.Goals as goal
 
 pub loop-token-preserved : goal.loop-token-preserved
 loop-token-preserved c =
