@@ -7,10 +7,10 @@ from dataclasses import dataclass, field
 from pathlib import Path
 
 # Processor seconds of a crate's proof, fitted to the times of a whole `./check`; the order is not exact, the sum is.
-SECONDS_OF_A_CRATE = 15.0
-SECONDS_OF_A_LINE_OF_CODE = 0.09
-SECONDS_OF_A_LINE_OF_PROOF = 0.03
-SECONDS_OF_AN_EDIT = 30.0  # and of the first of several as much as the proof of the crate
+SECONDS_OF_A_CRATE = 10.0
+SECONDS_OF_A_LINE_OF_CODE = 0.06
+SECONDS_OF_A_LINE_OF_PROOF = 0.02
+SECONDS_OF_AN_EDIT = 20.0  # and of the first of several as much as the proof of the crate
 
 
 @dataclass
