@@ -29,7 +29,7 @@ class Texts(trial.Folder):
         self.assertEqual([places.text_of(b"caf\xe9"), places.text_of("café".encode())], ["café", "café"])
 
     def test_each_fault_has_a_sentence(self):
-        source = Path(trial.TOP, "crates/abc_fields/src/fault.rt").read_text("utf-8")
+        source = Path(trial.TOP, "crates/abc_fields/src/fault_code.rt").read_text("utf-8")
         names = re.findall(r'=> "(\w+)"', source)
         self.assertGreater(len(names), 20)
         found = sentences()

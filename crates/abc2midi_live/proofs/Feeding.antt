@@ -17,12 +17,12 @@ use Rattle.abc2midi_live.specs.Machine.{change_between, future_of_bytes, Machine
 use Rattle.abc2midi_live.specs.Outcome.{RunEnds, Outlets, outlets, Serves, Tells, TellsFirst, FailsToFeed, FailsToServe, FailsAtEnd}
 use Rattle.abc2midi_live.specs.Outcome.{AnswersInput, Turn, Leaves, Within, AtTheEnd, InHand, LastInHand, read_counts, Reads}
 use Rattle.abc2midi_live.specs.Outcome.{Failed, read_faults}
-use Rattle.abc2midi_live.specs.Storing.{StoreAnswer, StoreSeen, Follows}
+use Rattle.abc2midi_live.specs.Storing.{StoreAnswer, StoreView, Follows}
 use Rattle.abc2midi_live.specs.RunOutput.{Extent, Whole, SoFar, Stopped, RunOutput, run_output, with_text_before, is_whole}
 use Rattle.abc2midi_live.specs.RunOutput.{nothing_more}
 use Rattle.abc2midi_live.specs.Transcript.{input_lines, most_kept}
-use Rattle.abc2midi_live.specs.declared.fault.RunFault.{RunFault}
-use Rattle.abc2midi_live.specs.declared.fault.RunFault.TheVariants.{Read, Write, Memory}
+use Rattle.abc2midi_live.specs.declared.run_fault.RunFault.{RunFault}
+use Rattle.abc2midi_live.specs.declared.run_fault.RunFault.TheVariants.{Read, Write, Memory}
 use Rattle.abc2midi_live.proofs.Counts.{raised_none, raised_twice}
 use Rattle.abc2midi_live.proofs.InputLines.{input_lines-line, input_lines-kept, input_lines-begun, input_lines-last}
 use Rattle.abc2midi_live.proofs.InputLines.{input_lines-nil}
@@ -80,7 +80,7 @@ piece_kept future d begun piece begun' clean clean_piece e extent rest later =
     ∙ sym (no_text_before (future_of_bytes future begun' extent rest later))
 
 -- nothing is asked for before the store answers
-pub unasked_ahead : (future : OfLines) (d : Directory) (begun bytes : List ℕ) (s : StoreSeen)
+pub unasked_ahead : (future : OfLines) (d : Directory) (begun bytes : List ℕ) (s : StoreView)
     → ((lines : List (List ℕ)) → AsksNothing d (future Stopped lines)) → CarriesOut d (future_of_bytes future begun Stopped bytes) s s
 unfolding future_of_bytes
 unasked_ahead future d begun bytes s none =
@@ -166,7 +166,7 @@ tells_all before mid d e piece old new served none =
     (tells_after before mid d e piece SoFar [] old new new served ([], run_output [] e, none, Appends-nil new.output, follows_none new.store e))
 
 -- a piece that the store has answered is carried out, if nothing is to be written yet after it
-pub carried_all : {X : Type 0} (before after : Future X) (d e : Directory) (piece : List X) (stored : List StoreAnswer) (text : List ℕ) (old new : StoreSeen)
+pub carried_all : {X : Type 0} (before after : Future X) (d e : Directory) (piece : List X) (stored : List StoreAnswer) (text : List ℕ) (old new : StoreView)
     → Answers (future_change before after e) piece stored text true → Follows old new stored d e → after SoFar [] [] ≡ Some (run_output [] e) → CarriesOut d (before SoFar piece) old new
 carried_all before after d e piece stored text old new says follows none =
     subst (λ p. CarriesOut d (before SoFar p) old new) (append-nil piece) (
@@ -236,10 +236,10 @@ fed_all {before} {mid} after {d} {e} {piece} {rest} {line} {old} {new} fed is sa
 -- what is written first, after a piece that is served
 pub first_after : (before mid : Ahead) (d e : Directory) (piece front next : List ℕ) (old w new : Outlets) → Serves d (future_change before mid e) piece old w true
     → TellsFirst e (mid SoFar front) (mid Stopped (front ++ next)) w new → TellsFirst d (before SoFar (piece ++ front)) (before Stopped ((piece ++ front) ++ next)) old new
-first_after before mid d e piece front next old w new (text, stored, wrote, says, follows) (stored', t, change_between, is, wrote', follows', (more, t', is', follows'')) = (
+first_after before mid d e piece front next old w new (text, stored, wrote, says, follows) (stored', t, middle, is, wrote', follows', (more, t', is', follows'')) = (
   stored ++ stored',
   run_output (text ++ t.text) t.directory,
-  change_between,
+  middle,
   continued_with before mid e piece stored stored' text t SoFar front says is,
   Appends-trans old.output w.output new.output text t.text wrote wrote',
   follows_both old.store w.store change_between stored stored' d e t.directory follows follows',
@@ -278,7 +278,7 @@ fed_broken {before} {mid} {d} {e} next back {old} {w} new fed is one kept asked 
 )
 
 -- a line that a piece ends is carried out, or so far as the run goes
-line_carried : (before before' : LineState) (begun piece line : List ℕ) (extent : Extent) (old new : StoreSeen) → before' ≡ before → IsClean begun
+line_carried : (before before' : LineState) (begun piece line : List ℕ) (extent : Extent) (old new : StoreView) → before' ≡ before → IsClean begun
     → IsClean piece → line ≡ take most_kept (begun ++ piece) → CarriesOut before'.directory (before'.future extent (line ∷ [])) old new
     → CarriesOut before.directory (future_of_bytes before.future begun extent (piece ++ 10 ∷ [])) old new
 line_carried before before' begun piece line extent old new same clean clean_piece is (stored, t, says, follows) = (
@@ -365,7 +365,7 @@ fed_fault line back new Memory fed is clean h none =
     fed_broken (line ++ 10 ∷ []) back new fed (is ∙ sym (append_assoc line (10 ∷ []) back)) (line, clean, inr refl) h.0 h.1 none
 
 -- the last line is carried out, or so far as the run goes
-last_carried : (before before' : LineState) (begun line : List ℕ) (extent : Extent) (old new : StoreSeen) → before' ≡ before → line ≡ begun → IsClean begun → length begun ≤ most_kept
+last_carried : (before before' : LineState) (begun line : List ℕ) (extent : Extent) (old new : StoreView) → before' ≡ before → line ≡ begun → IsClean begun → length begun ≤ most_kept
     → CarriesOut before'.directory (before'.future extent (line ∷ [])) old new → CarriesOut before.directory (future_of_bytes before.future begun extent (10 ∷ [])) old new
 last_carried before before' begun line extent old new same is clean short (stored, t, says, follows) = (
   stored,

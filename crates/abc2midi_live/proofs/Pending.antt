@@ -8,7 +8,7 @@ use Rattle.std.specs.Result.{result_unwrap_or}
 use Rattle.std.proofs.lemmas.Bool.{cases_eq, false≢true, true≢false}
 use Rattle.std.proofs.lemmas.Bool.Decides.{nat_tests}
 use Rattle.abc_lines.specs.Text.{Text}
-use Rattle.abc_publish.specs.Publisher.{Directory, Jobs, Publishing, Slots, maps_of, with_job, differs, without_job, is_pending}
+use Rattle.abc_publish.specs.Publisher.{Directory, Jobs, PublisherView, Slots, maps_of, with_job, differs, without_job, is_pending}
 use Rattle.abc_publish.specs.Publisher.{is_wanted, stored_as, with_entry, HasNone, IsNext}
 use Rattle.abc_publish.specs.declared.slot.Stored.{Stored}
 use Rattle.abc_publish.specs.declared.slot.Stored.TheVariants.{Unknown}
@@ -18,7 +18,7 @@ use Rattle.abc2midi_live.specs.Book.{files_of}
 use Rattle.abc2midi_live.specs.Building.{answer_line, answer_of, entry_after, numbers_from, pending_from, pending_numbers, stage}
 use Rattle.abc2midi_live.specs.Building.{build_outcome, build_outcome_at, Builds, BuildStops, Stage, IsIdle, StopsAtOnce, StopsBy}
 use Rattle.abc2midi_live.specs.Building.{Stores, StoresOne, StoresOneAtMost}
-use Rattle.abc2midi_live.specs.Storing.{StoreAnswer, Done, Fault, StoreSeen, Follows, file_name}
+use Rattle.abc2midi_live.specs.Storing.{StoreAnswer, Done, Fault, StoreView, Follows, file_name}
 use Rattle.abc2midi_live.specs.Streams.{Puts, TakesOut, KeepsOthers, faults}
 use Rattle.abc2midi_live.specs.declared.streams.StoreFault.{StoreFault}
 use Rattle.abc2midi_live.proofs.Storing.{follows_put, follows_removed, follows_fault, follows_none, follows_same, follows_both}
@@ -78,7 +78,7 @@ pending_after d files m entry n h =
     ap (λ s. differs s (file_at files n)) (sym e)
 
 -- with no job under way, what is pending is wanted
-wanted_idle : (p : Publishing) (files : Files) (n : ℕ) → IsIdle p → is_wanted p files n ≡ is_pending p.directory files n
+wanted_idle : (p : PublisherView) (files : Files) (n : ℕ) → IsIdle p → is_wanted p files n ≡ is_pending p.directory files n
 wanted_idle p files n idle = ap (λ j. is_pending p.directory files n && is_none j) (idle n) ∙ both (is_pending p.directory files n) where
   both : (b : Bool) → b && true ≡ b
   both true = refl
@@ -104,7 +104,7 @@ pending_next d files m None small h =
 pending_next d files m (Some n) small h = let same : m + 1 ≡ n = sym h.1 in ap (λ k. filter (is_pending d files) (numbers_from k (2 ^ 32 - k))) same
 
 -- the first of what is pending is the least, and an entry there leaves the others
-first_pending : (p : Publishing) (files : Files) (from m : ℕ) (next : Option ℕ) (entry : Option Stored) → IsIdle p → IsNext p files from m → m < 2 ^ 32 → IsNumberAfter m next
+first_pending : (p : PublisherView) (files : Files) (from m : ℕ) (next : Option ℕ) (entry : Option Stored) → IsIdle p → IsNext p files from m → m < 2 ^ 32 → IsNumberAfter m next
     → pending_from p.directory files (Some from) ≡ m ∷ pending_from (with_entry p.directory m entry) files next
 unfolding pending_from
 first_pending p files from m next entry idle is small next_is =
@@ -116,19 +116,19 @@ first_pending p files from m next entry idle is small next_is =
     ∙ ap (λ ns. m ∷ ns) (same_kept (is_pending d files) (is_pending (with_entry d m entry) files) (m + 1) (2 ^ 32 - (m + 1)) (λ n h. pending_after d files m entry n h)
     ∙ pending_next (with_entry d m entry) files m next small next_is)
 
-none_pending : (p : Publishing) (files : Files) (from : ℕ) → from < 2 ^ 32 → IsIdle p → HasNone p files from → pending_from p.directory files (Some from) ≡ []
+none_pending : (p : PublisherView) (files : Files) (from : ℕ) → from < 2 ^ 32 → IsIdle p → HasNone p files from → pending_from p.directory files (Some from) ≡ []
 unfolding pending_from
 none_pending p files from small idle none = none_kept (is_pending p.directory files) from (2 ^ 32 - from) (λ n above below. sym (wanted_idle p files n idle) ∙ none n above (omega arith))
 
 -- none is pending, and the build ends
-pub stores_none : (text : Text) (p : Publishing) (files : Files) (from : ℕ) → files ≡ files_of text → from < 2 ^ 32 → IsIdle p
+pub stores_none : (text : Text) (p : PublisherView) (files : Files) (from : ℕ) → files ≡ files_of text → from < 2 ^ 32 → IsIdle p
     → HasNone p files from → Stores text (stage p.directory (Some from)) [] [] (stage p.directory None)
 unfolding build_outcome pending_from
 stores_none text p files from e small idle none = λ extent later.
     ap (λ ns. build_outcome extent text p.directory ns later) (none_pending p (files_of text) from small idle (subst (λ fs. HasNone p fs from) e none))
 
 -- the file of the least number is stored, and the build goes on after it
-pub stores_done : (text : Text) (p : Publishing) (files : Files) (from m : ℕ) (bytes : Option (List ℕ)) (next : Option ℕ) → files ≡ files_of text → m < 2 ^ 32 → IsIdle p → IsNext p files from m
+pub stores_done : (text : Text) (p : PublisherView) (files : Files) (from m : ℕ) (bytes : Option (List ℕ)) (next : Option ℕ) → files ≡ files_of text → m < 2 ^ 32 → IsIdle p → IsNext p files from m
     → bytes ≡ file_at files m → IsNumberAfter m next
     → Stores text (stage p.directory (Some from)) (Done ∷ []) (stored_line m bytes) (stage (with_entry p.directory m (stored_as bytes)) next)
 unfolding build_outcome
@@ -143,7 +143,7 @@ some_next : (m : ℕ) → (next : Option ℕ) × IsNumberAfter m next
 some_next m = ⊎_elim (λ fits. (Some (m + 1), (fits, refl))) (λ not. (None, not)) (fits_or_not m)
 
 -- the store failed, and the build ends
-pub stores_fault : (text : Text) (p : Publishing) (files : Files) (from m : ℕ) → files ≡ files_of text → m < 2 ^ 32 → IsIdle p → IsNext p files from m
+pub stores_fault : (text : Text) (p : PublisherView) (files : Files) (from m : ℕ) → files ≡ files_of text → m < 2 ^ 32 → IsIdle p → IsNext p files from m
     → Stores text (stage p.directory (Some from)) (Fault ∷ []) (failed_line m) (stage (with_entry p.directory m (Some Unknown)) None)
 unfolding build_outcome pending_from
 stores_fault text p files from m e small idle is = λ extent later.
@@ -178,11 +178,11 @@ unfolding pending_from pending_numbers build_outcome
 builds_all text d e now run_output stores = λ extent later. stores extent later
 
 -- a build that stops, and the answers that the store has given
-abbrev pub StopsWith : Text → Stage → List StoreAnswer → StoreSeen → StoreSeen → Type 0
+abbrev pub StopsWith : Text → Stage → List StoreAnswer → StoreView → StoreView → Type 0
 StopsWith text at now old new = (stopped : StopsBy at.directory (build_outcome_at Stopped text at) old new) × (stopped.0 ≡ now)
 
 -- it stops before the store answers
-pub stops_first : (text : Text) (at : Stage) (s : StoreSeen) → StopsWith text at [] s s
+pub stops_first : (text : Text) (at : Stage) (s : StoreView) → StopsWith text at [] s s
 stops_first text at s =
     let d = at.directory in
     let none = storing_unasked text d (pending_from d (files_of text) at.from) in
@@ -190,7 +190,7 @@ stops_first text at s =
 
 -- it stops after what was stored
 pub stops_after : (text : Text) (d e : Directory) (at next : Option ℕ) (now more : List StoreAnswer) (run_output : List ℕ)
-    (old mid new : StoreSeen) → Stores text (stage d at) now run_output (stage e next) → Follows old mid now d e
+    (old mid new : StoreView) → Stores text (stage d at) now run_output (stage e next) → Follows old mid now d e
     → StopsWith text (stage e next) more mid new → StopsWith text (stage d at) (now ++ more) old new
 stops_after text d e at next now more run_output old mid new stores follows ((later, a, is, left, follows'), same) = (
   (
@@ -203,24 +203,24 @@ stops_after text d e at next now more run_output old mid new stores follows ((la
   ap (λ l. now ++ l) same,
 )
 
-pub stops_uncalled : (text : Text) (at : Stage) (s : StoreSeen) → StopsAtOnce text at s s
+pub stops_uncalled : (text : Text) (at : Stage) (s : StoreView) → StopsAtOnce text at s s
 stops_uncalled text at s =
     let first = stops_first text at s in
     let none : length first.0.0 ≡ 0 = ap length first.1 in
     (first.0, omega arith)
 
-stops_called : (text : Text) (at : Stage) (answer : StoreAnswer) (old new : StoreSeen) → StopsWith text at (answer ∷ []) old new → StopsAtOnce text at old new
+stops_called : (text : Text) (at : Stage) (answer : StoreAnswer) (old new : StoreView) → StopsWith text at (answer ∷ []) old new → StopsAtOnce text at old new
 stops_called text at answer old new h =
     let one : length h.0.0 ≡ 1 = ap length h.1 in
     (h.0, omega arith)
 
 -- It was called for the least number, if it was called.
-pub stops_once : (text : Text) (p : Publishing) (from m : ℕ) (bytes : Option (List ℕ)) (old new : StoreSeen) → m < 2 ^ 32 → IsIdle p
+pub stops_once : (text : Text) (p : PublisherView) (from m : ℕ) (bytes : Option (List ℕ)) (old new : StoreView) → m < 2 ^ 32 → IsIdle p
     → IsNext p (files_of text) from m × (bytes ≡ file_at (files_of text) m)
     → StoresOneAtMost old new m bytes → StopsAtOnce text (stage p.directory (Some from)) old new
 stops_once text p from m bytes old new small idle least (inl same) =
     let at = stage p.directory (Some from) in
-    subst (λ (new : StoreSeen). StopsAtOnce text at old new) (sym same) (stops_uncalled text at old)
+    subst (λ (new : StoreView). StopsAtOnce text at old new) (sym same) (stops_uncalled text at old)
 stops_once text p from m bytes old new small idle least (inr (Done, one)) =
     let d = p.directory in
     let e = with_entry d m (stored_as bytes) in
@@ -259,21 +259,21 @@ onward from m None low h = tt
 onward from m (Some n) low h = let e : n ≡ m + 1 = h.1 in (omega arith, let fits : m + 1 < 2 ^ 32 = h.0 in omega arith)
 
 -- the file of a number was put, or the store failed
-pub follows_stored : (r : Result (Unit {0}) StoreFault) (old new : StoreSeen) (d : Directory) (n : ℕ) (name bytes : List ℕ) → n < 2 ^ 32 → name ≡ file_name n
+pub follows_stored : (r : Result (Unit {0}) StoreFault) (old new : StoreView) (d : Directory) (n : ℕ) (name bytes : List ℕ) → n < 2 ^ 32 → name ≡ file_name n
     → MatchResult r (λ _. Puts old.contents new.contents name bytes) (λ _. KeepsOthers old.contents new.contents name) → new.failures ≡ raised old.failures (faults r) → new.calls ≡ raised old.calls 1
     → Follows old new (answer_of (is_ok r) ∷ []) d (with_entry d n (entry_after (answer_of (is_ok r)) (Some bytes)))
 follows_stored (Ok x) old new d n name bytes small e put counted called = follows_put old new d n name bytes small e put counted called
 follows_stored (Err x) old new d n name bytes small e kept counted called = follows_fault old new d n name small e kept counted called
 
 -- it was removed, or the store failed
-pub follows_taken : (r : Result (Unit {0}) StoreFault) (old new : StoreSeen) (d : Directory) (n : ℕ) (name : List ℕ) → n < 2 ^ 32 → name ≡ file_name n
+pub follows_taken : (r : Result (Unit {0}) StoreFault) (old new : StoreView) (d : Directory) (n : ℕ) (name : List ℕ) → n < 2 ^ 32 → name ≡ file_name n
     → MatchResult r (λ _. TakesOut old.contents new.contents name) (λ _. KeepsOthers old.contents new.contents name) → new.failures ≡ raised old.failures (faults r) → new.calls ≡ raised old.calls 1
     → Follows old new (answer_of (is_ok r) ∷ []) d (with_entry d n (entry_after (answer_of (is_ok r)) None))
 follows_taken (Ok x) old new d n name small e taken counted called = follows_removed old new d n name small e taken counted called
 follows_taken (Err x) old new d n name small e kept counted called = follows_fault old new d n name small e kept counted called
 
 -- the same of the number and the bytes of a job
-pub follows_job : (old new : StoreSeen) (d : Directory) (n m : ℕ) (done stored : Bool) (bytes file : Option (List ℕ)) → n ≡ m → bytes ≡ file → done ≡ stored
+pub follows_job : (old new : StoreView) (d : Directory) (n m : ℕ) (done stored : Bool) (bytes file : Option (List ℕ)) → n ≡ m → bytes ≡ file → done ≡ stored
     → Follows old new (answer_of stored ∷ []) d (with_entry d n (entry_after (answer_of stored) bytes))
     → Follows old new (answer_of done ∷ []) d (with_entry d m (entry_after (answer_of done) file))
 follows_job old new d n m done stored bytes file e f s h =
@@ -282,19 +282,19 @@ follows_job old new d n m done stored bytes file e f s h =
     (subst (λ (k : ℕ). Follows old new (answer_of stored ∷ []) d (with_entry d k (entry_after (answer_of stored) bytes))) e h))
 
 -- the same if the answer cannot be written
-pub stores_job : (old new : StoreSeen) (n m : ℕ) (stored : Bool) (bytes file : Option (List ℕ)) → n ≡ m → bytes ≡ file
+pub stores_job : (old new : StoreView) (n m : ℕ) (stored : Bool) (bytes file : Option (List ℕ)) → n ≡ m → bytes ≡ file
     → StoresOne old new (answer_of stored) n bytes → StoresOneAtMost old new m file
 stores_job old new n m stored bytes file e f h = inr (answer_of stored, λ d. follows_job old new d n m stored stored bytes file e f refl (h d))
 
 -- the publisher after a job that was done
-pub ends_done : (r : Result Bool AllocError) (p q : Publishing) (n : ℕ) (bytes : Option (List ℕ)) → result_unwrap_or r false ≡ true → q ≡ without_job p n (stored_as bytes)
+pub ends_done : (r : Result Bool AllocError) (p q : PublisherView) (n : ℕ) (bytes : Option (List ℕ)) → result_unwrap_or r false ≡ true → q ≡ without_job p n (stored_as bytes)
     → IfOk r (λ stored. q ≡ without_job p n (entry_after (answer_of stored) bytes))
 ends_done (Ok true) p q n bytes is e = e
 ends_done (Ok false) p q n bytes is e = absurd (false≢true is)
 ends_done (Err x) p q n bytes is e = tt
 
 -- and after one that failed
-pub ends_failed : (r : Result Bool AllocError) (p q : Publishing) (n : ℕ) (bytes : Option (List ℕ)) → result_unwrap_or r false ≡ false → q ≡ without_job p n (Some Unknown)
+pub ends_failed : (r : Result Bool AllocError) (p q : PublisherView) (n : ℕ) (bytes : Option (List ℕ)) → result_unwrap_or r false ≡ false → q ≡ without_job p n (Some Unknown)
     → IfOk r (λ stored. q ≡ without_job p n (entry_after (answer_of stored) bytes))
 ends_failed (Ok true) p q n bytes is e = absurd (true≢false is)
 ends_failed (Ok false) p q n bytes is e = e
@@ -311,30 +311,30 @@ in_error (Ok stored) P p = tt
 in_error (Err x) P p = p
 
 -- the directory that a store follows is that of the publisher
-pub follows_ended : (r : Result Bool AllocError) (old new : StoreSeen) (p q : Publishing) (n : ℕ) (bytes : Option (List ℕ))
+pub follows_ended : (r : Result Bool AllocError) (old new : StoreView) (p q : PublisherView) (n : ℕ) (bytes : Option (List ℕ))
     → IfOk r (λ stored. q ≡ without_job p n (entry_after (answer_of stored) bytes))
     → IfOk r (λ stored. (d : Directory) → Follows old new (answer_of stored ∷ []) d (with_entry d n (entry_after (answer_of stored) bytes)))
     → IfOk r (λ stored. Follows old new (answer_of stored ∷ []) p.directory q.directory)
-follows_ended (Ok stored) old new p q n bytes e h = subst (λ (q : Publishing). Follows old new (answer_of stored ∷ []) p.directory q.directory) (sym e) (h p.directory)
+follows_ended (Ok stored) old new p q n bytes e h = subst (λ (q : PublisherView). Follows old new (answer_of stored ∷ []) p.directory q.directory) (sym e) (h p.directory)
 follows_ended (Err x) old new p q n bytes e h = tt
 
 -- no job is under way after the end of the only one
-pub idle_again : (p q r : Publishing) (n : ℕ) (bytes : Option (List ℕ)) → IsIdle p → q ≡ with_job p n bytes → r.jobs ≡ with_entry q.jobs n None → IsIdle r
-idle_again p q r n bytes idle e f = λ k. ap (λ (j : Jobs). j k) f ∙ ap (λ (q : Publishing). with_entry q.jobs n None k) e ∙ none k (cases_eq k n) where
+pub idle_again : (p q r : PublisherView) (n : ℕ) (bytes : Option (List ℕ)) → IsIdle p → q ≡ with_job p n bytes → r.jobs ≡ with_entry q.jobs n None → IsIdle r
+idle_again p q r n bytes idle e f = λ k. ap (λ (j : Jobs). j k) f ∙ ap (λ (q : PublisherView). with_entry q.jobs n None k) e ∙ none k (cases_eq k n) where
   none : (k : ℕ) → (k ≡ n) ⊎ (k ≢ n) → with_entry (with_entry p.jobs n (Some bytes)) n None k ≡ None
   none k (inl same) = grind (arith, nat_tests)
   none k (inr other) = let i : p.jobs k ≡ None = idle k in grind (arith, nat_tests)
 
 -- a job is under way once it has begun
-pub under_way : (p q : Publishing) (n : ℕ) (bytes : Option (List ℕ)) → q ≡ with_job p n bytes → q.jobs n ≡ Some bytes
-under_way p q n bytes e = ap (λ (q : Publishing). q.jobs n) e ∙ here where
+pub under_way : (p q : PublisherView) (n : ℕ) (bytes : Option (List ℕ)) → q ≡ with_job p n bytes → q.jobs n ≡ Some bytes
+under_way p q n bytes e = ap (λ (q : PublisherView). q.jobs n) e ∙ here where
   here : with_entry p.jobs n (Some bytes) n ≡ Some bytes
   here = grind (arith, nat_tests)
 
 -- the directory after the job that was begun
-pub directory_after : (p q r : Publishing) (n : ℕ) (bytes : Option (List ℕ)) (entry : Option Stored) → q ≡ with_job p n bytes
+pub directory_after : (p q r : PublisherView) (n : ℕ) (bytes : Option (List ℕ)) (entry : Option Stored) → q ≡ with_job p n bytes
     → r ≡ without_job q n entry → r.directory ≡ with_entry p.directory n entry
-directory_after p q r n bytes entry e f = ap (λ (r : Publishing). r.directory) f ∙ ap (λ (q : Publishing). with_entry q.directory n entry) e
+directory_after p q r n bytes entry e f = ap (λ (r : PublisherView). r.directory) f ∙ ap (λ (q : PublisherView). with_entry q.directory n entry) e
 
 pub at_none : {T : Type 0} (o : Option T) (A : Type 0) (B : T → Type 0) → o ≡ None → MatchOption o A B → A
 at_none o A B e h = subst (λ o. MatchOption o A B) e h
@@ -345,9 +345,9 @@ at_some o x A B e h = subst (λ o. MatchOption o A B) e h
 -- The visible state of a build: the text that it has written, and the store.
 pub record BuildSeen : Type 0 where
   pub text : List ℕ
-  pub store : StoreSeen
+  pub store : StoreView
 
-abbrev pub build_seen : List ℕ → StoreSeen → BuildSeen
+abbrev pub build_seen : List ℕ → StoreView → BuildSeen
 build_seen text store = record { text = text; store = store }
 
 -- the step over one more file
@@ -356,19 +356,19 @@ Advances text before after old new =
     (now : List StoreAnswer) × (run_output : List ℕ) × (new.text ≡ old.text ++ run_output) × Stores text before now run_output after
     × Follows old.store new.store now before.directory after.directory
 
-pub next_none : (text : Text) (p q : Slots) (s : StoreSeen) (from : ℕ) (old : List ℕ) → from < 2 ^ 32 → IsIdle (maps_of p) → HasNone (maps_of p) (files_of text) from → q ≡ p
+pub next_none : (text : Text) (p q : Slots) (s : StoreView) (from : ℕ) (old : List ℕ) → from < 2 ^ 32 → IsIdle (maps_of p) → HasNone (maps_of p) (files_of text) from → q ≡ p
     → Advances text (stage (maps_of p).directory (Some from)) (stage (maps_of q).directory None) (build_seen old s) (build_seen old s)
 next_none text p q s from old small idle none e =
     subst (λ (q : Slots). Advances text (stage (maps_of p).directory (Some from)) (stage (maps_of q).directory None) (build_seen old s) (build_seen old s)) (sym e)
     ([], [], sym (append-nil old), stores_none text (maps_of p) (files_of text) from refl small idle none, follows_none s (maps_of p).directory)
 
-pub next_done : (text : Text) (p q r : Slots) (s t : StoreSeen) (from m : ℕ) (bytes : Option (List ℕ)) (next : Option ℕ) (old new : List ℕ) (done : Bool) → done ≡ true → m < 2 ^ 32
+pub next_done : (text : Text) (p q r : Slots) (s t : StoreView) (from m : ℕ) (bytes : Option (List ℕ)) (next : Option ℕ) (old new : List ℕ) (done : Bool) → done ≡ true → m < 2 ^ 32
     → IsIdle (maps_of p) → IsNext (maps_of p) (files_of text) from m × (bytes ≡ file_at (files_of text) m) → IsNumberAfter m next → maps_of q ≡ with_job (maps_of p) m bytes
     → maps_of r ≡ without_job (maps_of q) m (entry_after (answer_of done) bytes)
     → new ≡ old ++ answer_line (answer_of done) m bytes → Follows s t (answer_of done ∷ []) (maps_of q).directory (maps_of r).directory
     → Advances text (stage (maps_of p).directory (Some from)) (stage (maps_of r).directory next) (build_seen old s) (build_seen new t)
 next_done text p q r s t from m bytes next old new done is small idle least next_is taken over run_output follows =
-    let before : (maps_of q).directory ≡ (maps_of p).directory = ap (λ (x : Publishing). x.directory) taken in
+    let before : (maps_of q).directory ≡ (maps_of p).directory = ap (λ (x : PublisherView). x.directory) taken in
     let over : maps_of r ≡ without_job (maps_of q) m (stored_as bytes) = subst (λ b. maps_of r ≡ without_job (maps_of q) m (entry_after (answer_of b) bytes)) is over in
     let after : (maps_of r).directory ≡ with_entry (maps_of p).directory m (stored_as bytes) = directory_after (maps_of p) (maps_of q) (maps_of r) m bytes (stored_as bytes) taken over in (
       Done ∷ [],
@@ -379,13 +379,13 @@ next_done text p q r s t from m bytes next old new done is small idle least next
       subst (λ (d : Directory). Follows s t (Done ∷ []) d (maps_of r).directory) before (subst (λ b. Follows s t (answer_of b ∷ []) (maps_of q).directory (maps_of r).directory) is follows),
     )
 
-pub next_fault : (text : Text) (p q r : Slots) (s t : StoreSeen) (from m : ℕ) (bytes : Option (List ℕ)) (old new : List ℕ) (done : Bool) → done ≡ false → m < 2 ^ 32
+pub next_fault : (text : Text) (p q r : Slots) (s t : StoreView) (from m : ℕ) (bytes : Option (List ℕ)) (old new : List ℕ) (done : Bool) → done ≡ false → m < 2 ^ 32
     → IsIdle (maps_of p) → IsNext (maps_of p) (files_of text) from m × (bytes ≡ file_at (files_of text) m) → maps_of q ≡ with_job (maps_of p) m bytes
     → maps_of r ≡ without_job (maps_of q) m (entry_after (answer_of done) bytes)
     → new ≡ old ++ answer_line (answer_of done) m bytes → Follows s t (answer_of done ∷ []) (maps_of q).directory (maps_of r).directory
     → Advances text (stage (maps_of p).directory (Some from)) (stage (maps_of r).directory None) (build_seen old s) (build_seen new t)
 next_fault text p q r s t from m bytes old new done is small idle least taken over run_output follows =
-    let before : (maps_of q).directory ≡ (maps_of p).directory = ap (λ (x : Publishing). x.directory) taken in
+    let before : (maps_of q).directory ≡ (maps_of p).directory = ap (λ (x : PublisherView). x.directory) taken in
     let over : maps_of r ≡ without_job (maps_of q) m (Some Unknown) = subst (λ b. maps_of r ≡ without_job (maps_of q) m (entry_after (answer_of b) bytes)) is over in
     let after : (maps_of r).directory ≡ with_entry (maps_of p).directory m (Some Unknown) = directory_after (maps_of p) (maps_of q) (maps_of r) m bytes (Some Unknown) taken over in (
       Fault ∷ [],
@@ -397,14 +397,14 @@ next_fault text p q r s t from m bytes old new done is small idle least taken ov
     )
 
 -- what a build has stored so far
-abbrev pub StoresSoFar : Text → Directory → StoreSeen → Stage → BuildSeen → Type 0
+abbrev pub StoresSoFar : Text → Directory → StoreView → Stage → BuildSeen → Type 0
 StoresSoFar text first start at seen =
     (now : List StoreAnswer) × Stores text (stage first (Some 0)) now seen.text at × Follows start seen.store now first at.directory
 
-pub so_far_none : (text : Text) (d : Directory) (s : StoreSeen) → StoresSoFar text d s (stage d (Some 0)) (build_seen [] s)
+pub so_far_none : (text : Text) (d : Directory) (s : StoreView) → StoresSoFar text d s (stage d (Some 0)) (build_seen [] s)
 so_far_none text d s = ([], stores_first text d (Some 0), follows_none s d)
 
-pub so_far_more : (text : Text) (first : Directory) (p r : Publishing) (old new : List ℕ) (start s t : StoreSeen) (at : Option ℕ) (from : ℕ) (next : Option ℕ) → at ≡ Some from
+pub so_far_more : (text : Text) (first : Directory) (p r : PublisherView) (old new : List ℕ) (start s t : StoreView) (at : Option ℕ) (from : ℕ) (next : Option ℕ) → at ≡ Some from
     → StoresSoFar text first start (stage p.directory at) (build_seen old s) → Advances text (stage p.directory (Some from)) (stage r.directory next) (build_seen old s) (build_seen new t)
     → StoresSoFar text first start (stage r.directory next) (build_seen new t)
 so_far_more text first p r old new start s t at from next is h step =
@@ -415,7 +415,7 @@ so_far_more text first p r old new start s t at from next is h step =
       follows_both start s t h.0 step.0 first p.directory r.directory h.2 step.4,
     )
 
-pub so_far_all : (text : Text) (first after : Directory) (run_output answer : List ℕ) (start s : StoreSeen) (at : Option ℕ) → at ≡ None → answer ≡ run_output ++ end_line
+pub so_far_all : (text : Text) (first after : Directory) (run_output answer : List ℕ) (start s : StoreView) (at : Option ℕ) → at ≡ None → answer ≡ run_output ++ end_line
     → StoresSoFar text first start (stage after at) (build_seen run_output s) → (now : List StoreAnswer) × Builds text first now answer after × Follows start s now first after
 so_far_all text first after run_output answer start s at is e h = (
   h.0,
@@ -424,7 +424,7 @@ so_far_all text first after run_output answer start s at is e h = (
 )
 
 -- a build that stops
-pub so_far_stops : (text : Text) (first d : Directory) (run_output : List ℕ) (start s t : StoreSeen) (at : Option ℕ)
+pub so_far_stops : (text : Text) (first d : Directory) (run_output : List ℕ) (start s t : StoreView) (at : Option ℕ)
     → StoresSoFar text first start (stage d at) (build_seen run_output s) → StopsBy d (build_outcome_at Stopped text (stage d at)) s t
     → BuildStops text first start t
 unfolding pending_from pending_numbers

@@ -17,7 +17,7 @@ use Rattle.abc2midi_live.specs.Answer.{report_line, refusal}
 use Rattle.abc2midi_live.specs.Command.{line_count, command_of}
 use Rattle.abc_publish.specs.Publisher.{Directory, Slots, maps_of}
 use Rattle.abc2midi_live.specs.Building.{Builds, BuildStops, StopsBy}
-use Rattle.abc2midi_live.specs.Storing.{StoreAnswer, StoreSeen}
+use Rattle.abc2midi_live.specs.Storing.{StoreAnswer, StoreView}
 use Rattle.abc2midi_live.specs.RunOutput.{RequestOutcome, Extent, Whole, Stopped, DialogueView, RunOutput, request_outcome}
 use Rattle.abc2midi_live.specs.RunOutput.{with_text_before, dialogue_view, nothing_more, run_output}
 use Rattle.abc2midi_live.specs.Transcript.{edit_answer, Request, Edits, CutOff, request_of, requests, outcome_of, answers, goes_on}
@@ -77,7 +77,7 @@ edited_answer old new d splice text t n = (
 )
 
 -- an edit is replied to, and the store is not called
-pub replies_change : (old new : Text) (p q : Slots) (request : Request) (splice : Option Splice) (text : Vec ℕ) (s : StoreSeen) → request ≡ Edits splice
+pub replies_change : (old new : Text) (p q : Slots) (request : Request) (splice : Option Splice) (text : Vec ℕ) (s : StoreView) → request ≡ Edits splice
     → text.items ≡ edit_answer old (edited old splice) → new ≡ result_unwrap_or (edited old splice) old → q ≡ p
     → RespondsBy (dialogue_view old (maps_of p).directory) (dialogue_view new (maps_of q).directory) request (Answer text) s s
 replies_change old new p q request splice text s is t n same =
@@ -262,11 +262,11 @@ pub few_lines : (command : Command) (lines : Text) → leb (line_count command) 
 few_lines command lines e = grind (arith, nat_tests)
 
 -- a request that stops before the store is called
-pub stops_unasked : (h : DialogueView) (request : Request) (s : StoreSeen) → StopsBy h.directory (outcome_of Stopped h request) s s
+pub stops_unasked : (h : DialogueView) (request : Request) (s : StoreView) → StopsBy h.directory (outcome_of Stopped h request) s s
 stops_unasked h request s = let none = request_unasked h request in ([], none.0, none.1, none.2, follows_same s h.directory none.0.after.directory none.3)
 
 -- a build that stops
-pub stops_build : (h : DialogueView) (command : Command) (lines : Text) (old new : StoreSeen) → command ≡ Build
+pub stops_build : (h : DialogueView) (command : Command) (lines : Text) (old new : StoreView) → command ≡ Build
     → BuildStops h.text h.directory old new → StopsBy h.directory (outcome_of Stopped h (request_of command lines)) old new
 unfolding request_of outcome_of
 stops_build h command lines old new is stops = subst (λ c. StopsBy h.directory (outcome_of Stopped h (request_of c lines)) old new) (sym is) stops
@@ -277,7 +277,7 @@ nothing_after h true = refl
 nothing_after h false = refl
 
 -- a command with all its lines that stops
-pub stops_whole : (h : DialogueView) (command : Command) (lines : Text) (old new : StoreSeen) → length lines ≡ line_count command
+pub stops_whole : (h : DialogueView) (command : Command) (lines : Text) (old new : StoreView) → length lines ≡ line_count command
     → StopsBy h.directory (outcome_of Stopped h (request_of command lines)) old new
     → CarriesOut h.directory (dialogue_future h (Some (record { command = command; lines = lines })) Stopped []) old new
 unfolding output_after
@@ -293,10 +293,10 @@ stops_whole h command lines old new whole (stored, a, is, left, follows) =
     )
 
 -- no store has been called
-pub carried_none : (d : Directory) (outputs : List StoreAnswer → Option RunOutput) (s : StoreSeen) → AsksNothing d outputs → CarriesOut d outputs s s
+pub carried_none : (d : Directory) (outputs : List StoreAnswer → Option RunOutput) (s : StoreView) → AsksNothing d outputs → CarriesOut d outputs s s
 carried_none d outputs s (t, is, same) = ([], t, is, follows_same s d t.directory same)
 
 -- a request that is written in the same words is carried out
-pub carried_as : (d : Directory) (f g : List StoreAnswer → Option RunOutput) (old new : StoreSeen)
+pub carried_as : (d : Directory) (f g : List StoreAnswer → Option RunOutput) (old new : StoreView)
     → ((stored : List StoreAnswer) → f stored ≡ g stored) → CarriesOut d g old new → CarriesOut d f old new
 carried_as d f g old new same (stored, t, is, follows) = (stored, t, same stored ∙ is, follows)

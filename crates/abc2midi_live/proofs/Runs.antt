@@ -15,11 +15,11 @@ use Rattle.abc2midi_live.specs.Dialogue.{BegunCommand, dialogue_future, Opens}
 use Rattle.abc2midi_live.specs.Outcome.{RunEnds, Outlets, outlets, Completes, AnswersInput, InHand, LastInHand, Leaves, LeavesRun}
 use Rattle.abc2midi_live.specs.Outcome.{TellsFirst, FailsToOpen, Within, AtTheEnd, ReadCounts, Reads, RunView, Runs, write_faults}
 use Rattle.abc2midi_live.specs.Machine.{CarriesOut, Future}
-use Rattle.abc2midi_live.specs.Storing.{StoreAnswer, StoreSeen, Follows}
+use Rattle.abc2midi_live.specs.Storing.{StoreAnswer, StoreView, Follows}
 use Rattle.abc2midi_live.specs.RunOutput.{Extent, Whole, SoFar, Stopped, DialogueView, dialogue_view, is_whole, RunOutput, run_output}
 use Rattle.abc2midi_live.specs.RunOutput.{with_text_before}
-use Rattle.abc2midi_live.specs.declared.fault.RunFault.{RunFault}
-use Rattle.abc2midi_live.specs.declared.fault.RunFault.TheVariants.{Read, Write, Memory}
+use Rattle.abc2midi_live.specs.declared.run_fault.RunFault.{RunFault}
+use Rattle.abc2midi_live.specs.declared.run_fault.RunFault.TheVariants.{Read, Write, Memory}
 use Rattle.abc2midi_live.proofs.Storing.{mirrors_first, follows_none}
 use Rattle.abc2midi_live.proofs.Feeding.{fault_is, none_ends}
 use Rattle.abc2midi_live.proofs.RunOutputs.{no_text_before}
@@ -76,7 +76,7 @@ module _ (book : Option (List ℕ)) (text : List ℕ) (h : DialogueView) (begun 
   whole_after_book stored t (Some bytes) old mid new wrote said = (sym (whole bytes stored) ∙ ap (with_text_before text) said.0, Appends-trans old mid new text t.text wrote said.1)
 
   -- the store's answers follow from the empty directory
-  from_empty : (old new : StoreSeen) (stored : List StoreAnswer) (after : Directory) → Follows old new stored h.directory after → Follows old new stored no_directory after
+  from_empty : (old new : StoreView) (stored : List StoreAnswer) (after : Directory) → Follows old new stored h.directory after → Follows old new stored no_directory after
   from_empty old new stored after follows = subst (λ d. Follows old new stored d after) empty follows
 
   all_after_book : (input left : Option (List ℕ)) (old new : Outlets) (mid : Option (List ℕ)) → Appends old.output mid text
@@ -94,7 +94,7 @@ module _ (book : Option (List ℕ)) (text : List ℕ) (h : DialogueView) (begun 
       }
 
   -- what is carried out, after the tune book
-  carried_run : (bytes : List ℕ) (old new : StoreSeen) → CarriesOut h.directory (ahead SoFar bytes) old new → CarriesOut no_directory (transcript_of book SoFar bytes) old new
+  carried_run : (bytes : List ℕ) (old new : StoreView) → CarriesOut h.directory (ahead SoFar bytes) old new → CarriesOut no_directory (transcript_of book SoFar bytes) old new
   carried_run bytes old new (stored, t, is, follows) =
       (stored, run_output (text ++ t.text) t.directory, sym (so_far SoFar bytes stored) ∙ ap (with_text_before text) is, from_empty old new stored t.directory follows)
 
@@ -158,7 +158,7 @@ not_begun None input old new kept = inl (InHand [] [] [] (Consumes-nil input) no
 not_begun (Some bytes) input old new kept = inr (refl, Keeps-refl input, kept, refl)
 
 -- a tune book asks the store for nothing
-book_carried : (book : Option (List ℕ)) (s : StoreSeen) → CarriesOut no_directory (transcript_of book SoFar []) s s
+book_carried : (book : Option (List ℕ)) (s : StoreView) → CarriesOut no_directory (transcript_of book SoFar []) s s
 unfolding transcript_of input_lines requests answers outcome_of
 book_carried None s = ([], run_output [] no_directory, refl, follows_none s no_directory)
 book_carried (Some bytes) s = ([], run_output (edit_answer [] (edited [] (insertion 1 (book_lines bytes))) ++ []) no_directory, refl, follows_none s no_directory)

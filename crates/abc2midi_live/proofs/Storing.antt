@@ -19,7 +19,7 @@ use Rattle.abc_publish.specs.declared.slot.Stored.{Stored}
 use Rattle.abc_publish.specs.declared.slot.Stored.TheVariants.{Unknown}
 use Rattle.abc2midi_live.specs.Streams.{Contents, Puts, TakesOut, KeepsOthers}
 use Rattle.abc2midi_live.specs.Storing.{StoreAnswer, Done, Fault, faults_among, file_name, IsStored, Mirrors, MirrorsWhereTold}
-use Rattle.abc2midi_live.specs.Storing.{HasNoFiles, StoreSeen, Follows}
+use Rattle.abc2midi_live.specs.Storing.{HasNoFiles, StoreView, Follows}
 use Rattle.abc2midi_live.specs.Transcript.{no_directory}
 use Rattle.abc2midi_live.proofs.Counts.{raised_none, raised_twice}
 
@@ -95,7 +95,7 @@ mirrors_fault (Some f) (Some o) None d n small p m = absurd p
 mirrors_fault (Some f) (Some o) (Some c) d n small p m = changed f o c d n (Some Unknown) small m tt p
 
 -- A file was put.
-pub follows_put : (old new : StoreSeen) (d : Directory) (n : ℕ) (name bytes : List ℕ) → n < 2 ^ 32 → name ≡ file_name n → Puts old.contents new.contents name bytes
+pub follows_put : (old new : StoreView) (d : Directory) (n : ℕ) (name bytes : List ℕ) → n < 2 ^ 32 → name ≡ file_name n → Puts old.contents new.contents name bytes
     → new.failures ≡ raised old.failures 0 → new.calls ≡ raised old.calls 1 → Follows old new (Done ∷ []) d (with_entry d n (stored_as (Some bytes)))
 follows_put old new d n name bytes small e p counted called = record {
   failures = counted;
@@ -104,7 +104,7 @@ follows_put old new d n name bytes small e p counted called = record {
 }
 
 -- A file was removed.
-pub follows_removed : (old new : StoreSeen) (d : Directory) (n : ℕ) (name : List ℕ) → n < 2 ^ 32 → name ≡ file_name n → TakesOut old.contents new.contents name
+pub follows_removed : (old new : StoreView) (d : Directory) (n : ℕ) (name : List ℕ) → n < 2 ^ 32 → name ≡ file_name n → TakesOut old.contents new.contents name
     → new.failures ≡ raised old.failures 0 → new.calls ≡ raised old.calls 1 → Follows old new (Done ∷ []) d (with_entry d n (stored_as None))
 follows_removed old new d n name small e p counted called = record {
   failures = counted;
@@ -113,7 +113,7 @@ follows_removed old new d n name small e p counted called = record {
 }
 
 -- The store failed.
-pub follows_fault : (old new : StoreSeen) (d : Directory) (n : ℕ) (name : List ℕ) → n < 2 ^ 32 → name ≡ file_name n → KeepsOthers old.contents new.contents name
+pub follows_fault : (old new : StoreView) (d : Directory) (n : ℕ) (name : List ℕ) → n < 2 ^ 32 → name ≡ file_name n → KeepsOthers old.contents new.contents name
     → new.failures ≡ raised old.failures 1 → new.calls ≡ raised old.calls 1 → Follows old new (Fault ∷ []) d (with_entry d n (Some Unknown))
 follows_fault old new d n name small e p counted called = record {
   failures = counted;
@@ -122,10 +122,10 @@ follows_fault old new d n name small e p counted called = record {
 }
 
 -- The store was not called.
-pub follows_none : (s : StoreSeen) (d : Directory) → Follows s s [] d d
+pub follows_none : (s : StoreView) (d : Directory) → Follows s s [] d d
 follows_none s d = record { failures = sym (raised_none s.failures); calls = sym (raised_none s.calls); contents = λ first m. m }
 
-pub follows_same : (s : StoreSeen) (d after : Directory) → after ≡ d → Follows s s [] d after
+pub follows_same : (s : StoreView) (d after : Directory) → after ≡ d → Follows s s [] d after
 follows_same s d after same = subst (λ e. Follows s s [] d e) (sym same) (follows_none s d)
 
 faults_among-append : (a b : List StoreAnswer) → faults_among (a ++ b) ≡ faults_among a + faults_among b
@@ -134,7 +134,7 @@ faults_among-append (Done ∷ a) b = faults_among-append a b
 faults_among-append (Fault ∷ a) b = omega (arith, faults_among-append a b)
 
 -- Two steps make one.
-pub follows_both : (old mid new : StoreSeen) (a b : List StoreAnswer) (d e f : Directory) → Follows old mid a d e → Follows mid new b e f → Follows old new (a ++ b) d f
+pub follows_both : (old mid new : StoreView) (a b : List StoreAnswer) (d e f : Directory) → Follows old mid a d e → Follows mid new b e f → Follows old new (a ++ b) d f
 follows_both old mid new a b d e f first second = record {
   failures = second.failures ∙ ap (λ c. raised c (faults_among b)) first.failures ∙ raised_twice old.failures (faults_among a) (faults_among b)
       ∙ ap (raised old.failures) (sym (faults_among-append a b));

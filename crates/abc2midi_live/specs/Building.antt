@@ -2,13 +2,13 @@
 use Rattle.std.specs.Prelude.{◌≡◌, ℕ, ◌≤◌, zero, suc, ◌+◌, ◌-◌, ◌^◌, Bool, true, false, List, [], ◌∷◌, ◌++◌, filter, length}
 use Rattle.std.specs.Prelude.{Option, Some, None, ◌⊎◌}
 use Rattle.abc_lines.specs.Text.{Text}
-use Rattle.abc_publish.specs.Publisher.{Directory, Publishing, Slots, is_pending, maps_of, stored_as, with_entry}
+use Rattle.abc_publish.specs.Publisher.{Directory, PublisherView, Slots, is_pending, maps_of, stored_as, with_entry}
 use Rattle.abc_publish.specs.declared.slot.Stored.{Stored}
 use Rattle.abc_publish.specs.declared.slot.Stored.TheVariants.{Unknown}
 use Rattle.abc_tune_compiler.specs.Files.{Files, file_at}
 use Rattle.abc2midi_live.specs.Answer.{end_line, failed_line, stored_line}
 use Rattle.abc2midi_live.specs.Book.{files_of}
-use Rattle.abc2midi_live.specs.Storing.{StoreAnswer, StoreSeen, Follows, Done, Fault}
+use Rattle.abc2midi_live.specs.Storing.{StoreAnswer, StoreView, Follows, Done, Fault}
 use Rattle.abc2midi_live.specs.RunOutput.{RequestOutcome, Extent, Stopped, request_outcome, dialogue_view, line_before}
 use Rattle.abc2midi_live.specs.RunOutput.{outcome_if_stopped}
 
@@ -53,16 +53,16 @@ entry_after Done bytes = stored_as bytes
 entry_after Fault bytes = Some Unknown
 
 -- A store gave one answer to the file of a number, and what the directory is known to hold is then what that leaves.
-abbrev pub StoresOne : StoreSeen → StoreSeen → StoreAnswer → ℕ → Option (List ℕ) → Type 0
+abbrev pub StoresOne : StoreView → StoreView → StoreAnswer → ℕ → Option (List ℕ) → Type 0
 StoresOne old new answer number bytes =
     (directory : Directory) → Follows old new (answer ∷ []) directory (with_entry directory number (entry_after answer bytes))
 
 -- A store was not called, or it gave one answer to the file of a number.
-abbrev pub StoresOneAtMost : StoreSeen → StoreSeen → ℕ → Option (List ℕ) → Type 0
+abbrev pub StoresOneAtMost : StoreView → StoreView → ℕ → Option (List ℕ) → Type 0
 StoresOneAtMost old new number bytes = (new ≡ old) ⊎ ((answer : StoreAnswer) × StoresOne old new answer number bytes)
 
 -- no job is under way
-abbrev pub IsIdle : Publishing → Type 0
+abbrev pub IsIdle : PublisherView → Type 0
 IsIdle p = (n : ℕ) → p.jobs n ≡ None
 
 -- A stage of a build: what is known of the directory, and the number to go on from, if there is one.
@@ -78,7 +78,7 @@ stage_of publisher from = stage (maps_of publisher).directory from
 
 -- A text is an old one, and then this.
 abbrev pub Extends : List ℕ → List ℕ → List ℕ → Type 0
-Extends old new run_output = new ≡ old ++ run_output
+Extends old new answer = new ≡ old ++ answer
 
 -- what is written of the numbers that are pending at a stage, for what the store answers
 abbrev pub build_outcome_at : Extent → Text → Stage → List StoreAnswer → Option RequestOutcome
@@ -88,41 +88,41 @@ build_outcome_at extent text at answers =
 -- Whatever the store answers after these answers: what is written of the numbers pending at one stage is the text, and
 -- then what is written of those pending at another.
 abbrev pub Stores : Text → Stage → List StoreAnswer → List ℕ → Stage → Type 0
-Stores text before now run_output after =
+Stores text before now answer after =
     (extent : Extent) (later : List StoreAnswer) → build_outcome_at extent text before (now ++ later)
-    ≡ line_before run_output (build_outcome_at extent text after later)
+    ≡ line_before answer (build_outcome_at extent text after later)
 
 -- Whatever the store answers after these answers: bringing the directory up to date writes this text, and leads to
 -- this directory.
 abbrev pub Builds : Text → Directory → List StoreAnswer → List ℕ → Directory → Type 0
-Builds text before now run_output after =
+Builds text before now answer after =
     (extent : Extent) (later : List StoreAnswer)
     → build_outcome extent text before (pending_numbers before (files_of text)) (now ++ later)
-    ≡ Some (request_outcome run_output (dialogue_view text after) later)
+    ≡ Some (request_outcome answer (dialogue_view text after) later)
 
 -- The answers of a store led from one stage of a build to another, with a text for them.
-abbrev pub StoresBy : Text → Stage → Stage → (List ℕ → Type 0) → StoreSeen → StoreSeen → Type 0
-StoresBy text before after Tells old new =
-    (now : List StoreAnswer) × (run_output : List ℕ) × Tells run_output × Stores text before now run_output after
+abbrev pub StoresBy : Text → Stage → Stage → (List ℕ → Type 0) → StoreView → StoreView → Type 0
+StoresBy text before after IsAnswer old new =
+    (now : List StoreAnswer) × (answer : List ℕ) × IsAnswer answer × Stores text before now answer after
     × Follows old new now before.directory after.directory
 
 -- A failed allocation stops what a request leads to: the store gave these answers, each to what the request asks for,
 -- and was called for nothing else.
-abbrev pub StopsBy : Directory → (List StoreAnswer → Option RequestOutcome) → StoreSeen → StoreSeen → Type 0
+abbrev pub StopsBy : Directory → (List StoreAnswer → Option RequestOutcome) → StoreView → StoreView → Type 0
 StopsBy before answered old new =
     (stored : List StoreAnswer) × (a : RequestOutcome) × (answered stored ≡ Some a) × (a.left ≡ [])
     × Follows old new stored before a.after.directory
 
 -- A build stops: the store was called for the first of the files of the numbers that are pending.
-abbrev pub BuildStops : Text → Directory → StoreSeen → StoreSeen → Type 0
+abbrev pub BuildStops : Text → Directory → StoreView → StoreView → Type 0
 BuildStops text directory old new =
     StopsBy directory (build_outcome Stopped text directory (pending_numbers directory (files_of text))) old new
 
 -- A build stops at a stage: the store was called for the first of the files that are pending there, if for any.
-abbrev pub StopsAtOnce : Text → Stage → StoreSeen → StoreSeen → Type 0
+abbrev pub StopsAtOnce : Text → Stage → StoreView → StoreView → Type 0
 StopsAtOnce text at old new = (stopped : StopsBy at.directory (build_outcome_at Stopped text at) old new) × (length stopped.0 ≤ 1)
 
 -- The answers of a store brought the directory up to date, with this text for them.
-abbrev pub BuildsBy : Text → Directory → Directory → List ℕ → StoreSeen → StoreSeen → Type 0
-BuildsBy text before after run_output old new = (now : List StoreAnswer) × Builds text before now run_output after
+abbrev pub BuildsBy : Text → Directory → Directory → List ℕ → StoreView → StoreView → Type 0
+BuildsBy text before after answer old new = (now : List StoreAnswer) × Builds text before now answer after
     × Follows old new now before after

@@ -6,7 +6,7 @@ use Rattle.abc2midi_live.specs.Command.{line_count, command_of}
 use Rattle.abc2midi_live.specs.Building.{StopsBy}
 use Rattle.abc2midi_live.specs.Machine.{CarriesOut, Future, FutureChange, future_change}
 use Rattle.abc_publish.specs.Publisher.{Directory}
-use Rattle.abc2midi_live.specs.Storing.{StoreAnswer, StoreSeen, Follows}
+use Rattle.abc2midi_live.specs.Storing.{StoreAnswer, StoreView, Follows}
 use Rattle.abc2midi_live.specs.RunOutput.{Extent, Stopped, DialogueView, request_outcome, with_text_before, nothing_more}
 use Rattle.abc2midi_live.specs.Transcript.{Request, Edits, ListsFaults, ListsTitles, Shows, Builds, Misspelled, CutOff, Ends}
 use Rattle.abc2midi_live.specs.Transcript.{request_of, requests, book_requests, answers, outcome_of, empty_dialogue, goes_on}
@@ -78,19 +78,19 @@ Opens book text h begun =
     ≡ with_text_before text (dialogue_future h begun extent lines stored)
 
 -- The answers to the lines that come are this reply, for the store's answers, and then the text written after it.
-abbrev pub SaysBy : FutureChange (List ℕ) → Directory → Reply → StoreSeen → StoreSeen → Type 0
+abbrev pub SaysBy : FutureChange (List ℕ) → Directory → Reply → StoreView → StoreView → Type 0
 SaysBy t before reply old new = (stored : List StoreAnswer) × Says t stored reply × Follows old new stored before t.directory
 
 -- A whole request is replied to, for the store's answers.
-abbrev pub RespondsBy : DialogueView → DialogueView → Request → Reply → StoreSeen → StoreSeen → Type 0
+abbrev pub RespondsBy : DialogueView → DialogueView → Request → Reply → StoreView → StoreView → Type 0
 RespondsBy before after request reply old new =
     (stored : List StoreAnswer) × Responds before after request stored reply
     × Follows old new stored before.directory after.directory
 
 -- A request stops: the store was called for the first of what it asks for.
-abbrev pub RequestStops : DialogueView → Request → StoreSeen → StoreSeen → Type 0
+abbrev pub RequestStops : DialogueView → Request → StoreView → StoreView → Type 0
 RequestStops before request old new = StopsBy before.directory (outcome_of Stopped before request) old new
 
 -- The same of a command that has the first of its lines.
-abbrev pub CommandStops : DialogueView → BegunCommand → StoreSeen → StoreSeen → Type 0
+abbrev pub CommandStops : DialogueView → BegunCommand → StoreView → StoreView → Type 0
 CommandStops before begun old new = CarriesOut before.directory (dialogue_future before (Some begun) Stopped []) old new

@@ -2,7 +2,7 @@
 use Rattle.std.specs.Prelude.{◌≡◌, ◌⊎◌, ℕ, Bool, true, false, if◌then◌else◌, List, [], ◌∷◌, ◌++◌, ◌==◌, All, Option, Some}
 use Rattle.abc_publish.specs.Publisher.{Directory}
 use Rattle.abc_text.specs.Byte.{line_feed}
-use Rattle.abc2midi_live.specs.Storing.{Follows, StoreAnswer, StoreSeen}
+use Rattle.abc2midi_live.specs.Storing.{Follows, StoreAnswer, StoreView}
 use Rattle.abc2midi_live.specs.RunOutput.{Extent, RunOutput, with_text_before, is_whole, nothing_more}
 use Rattle.abc2midi_live.specs.Transcript.{input_lines}
 use Rattle.abc2midi_live.specs.declared.machine.Reply.{Reply}
@@ -49,13 +49,13 @@ Replies t line now (Answer text) = Answers t (line ∷ []) now text.items true
 Replies t line now End = Answers t (line ∷ []) now [] false
 
 -- A line is taken: the reply goes with the store's answers.
-abbrev pub TakesLine : MachineState (List ℕ) → MachineState (List ℕ) → List ℕ → StoreSeen → StoreSeen → Reply → Type 0
+abbrev pub TakesLine : MachineState (List ℕ) → MachineState (List ℕ) → List ℕ → StoreView → StoreView → Reply → Type 0
 TakesLine before after line old new reply =
     (stored : List StoreAnswer) × Replies (change_between before after) line stored reply
     × Follows old new stored before.directory after.directory
 
 -- The input is carried out for these answers of a store. The definition leaves open what is written.
-abbrev pub CarriesOut : Directory → (List StoreAnswer → Option RunOutput) → StoreSeen → StoreSeen → Type 0
+abbrev pub CarriesOut : Directory → (List StoreAnswer → Option RunOutput) → StoreView → StoreView → Type 0
 CarriesOut before answered old new =
     (stored : List StoreAnswer) × (run_output : RunOutput) × (answered stored ≡ Some run_output)
     × Follows old new stored before run_output.directory

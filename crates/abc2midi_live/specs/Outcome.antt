@@ -5,13 +5,13 @@ use Rattle.std.specs.Io.KnownBytes.{Appends, Consumes, IsAtEnd, Keeps}
 use Rattle.abc_publish.specs.Publisher.{Directory}
 use Rattle.abc_text.specs.Byte.{line_feed}
 use Rattle.abc2midi_live.specs.Machine.{change_between, Answers, CarriesOut, EndsOneAtMost, Future, MachineState, FutureChange}
-use Rattle.abc2midi_live.specs.Storing.{Follows, HasNoFiles, MirrorsWhereTold, StoreAnswer, StoreSeen, faults_among}
+use Rattle.abc2midi_live.specs.Storing.{Follows, HasNoFiles, MirrorsWhereTold, StoreAnswer, StoreView, faults_among}
 use Rattle.abc2midi_live.specs.RunOutput.{Extent, Whole, SoFar, Stopped, RunOutput, is_whole}
 use Rattle.abc2midi_live.specs.Transcript.{input_lines, no_directory, transcript, transcript_of}
 use Rattle.abc_fold.specs.Work.{raised}
-use Rattle.abc2midi_live.specs.declared.reading.TheConstants.{MOST_READS}
-use Rattle.abc2midi_live.specs.declared.fault.RunFault.{RunFault}
-use Rattle.abc2midi_live.specs.declared.fault.RunFault.TheVariants.{Read, Write, Memory}
+use Rattle.abc2midi_live.specs.declared.run_loop.TheConstants.{MOST_READS}
+use Rattle.abc2midi_live.specs.declared.run_fault.RunFault.{RunFault}
+use Rattle.abc2midi_live.specs.declared.run_fault.RunFault.TheVariants.{Read, Write, Memory}
 
 -- how many faults of the writer a result reports
 abbrev pub write_faults : {T : Type 0} → Result T RunFault → ℕ
@@ -21,12 +21,12 @@ write_faults _ = 0
 -- The visible state of a writer and of a store: the bytes written, if they are known, and the store.
 pub record Outlets : Type 0 where
   pub output : Option (List ℕ)
-  pub store : StoreSeen
+  pub store : StoreView
 
-abbrev pub outlets : Option (List ℕ) → StoreSeen → Outlets
+abbrev pub outlets : Option (List ℕ) → StoreView → Outlets
 outlets output store = record { output = output; store = store }
 
-abbrev pub outlets_of : {W S : Type 0} → (W → Option (List ℕ)) → (S → StoreSeen) → W → S → Outlets
+abbrev pub outlets_of : {W S : Type 0} → (W → Option (List ℕ)) → (S → StoreView) → W → S → Outlets
 outlets_of contents seen writer store = outlets (contents writer) (seen store)
 
 -- The result of a fault while a tune book is taken: an allocation fails before anything is written of its answer.
@@ -85,10 +85,10 @@ TellsOrFails before old new result =
 abbrev pub TellsFirst : Directory → (List StoreAnswer → Option RunOutput) → (List StoreAnswer → Option RunOutput) → Outlets
     → Outlets → Type 0
 TellsFirst before answered in_hand old new =
-    (stored : List StoreAnswer) × (run_output : RunOutput) × (change_between : StoreSeen) × (answered stored ≡ Some run_output)
+    (stored : List StoreAnswer) × (run_output : RunOutput) × (middle : StoreView) × (answered stored ≡ Some run_output)
     × Appends old.output new.output run_output.text
-    × Follows old.store change_between stored before run_output.directory
-    × CarriesOut run_output.directory (λ more. in_hand (stored ++ more)) change_between new.store
+    × Follows old.store middle stored before run_output.directory
+    × CarriesOut run_output.directory (λ more. in_hand (stored ++ more)) middle new.store
 
 -- The result of a fault while a piece of the input is served. If an answer cannot be written, a front of the piece is
 -- carried out. If an allocation fails, a front of it is answered, and the run stops within the command of the next line.
@@ -112,10 +112,10 @@ pub record RunEnds : Type 0 where
   pub input : Option (List ℕ)
   pub out : Outlets
 
-abbrev pub run_ends : Option (List ℕ) → Option (List ℕ) → StoreSeen → RunEnds
+abbrev pub run_ends : Option (List ℕ) → Option (List ℕ) → StoreView → RunEnds
 run_ends input output store = record { input = input; out = outlets output store }
 
-abbrev pub run_ends_of : {R W S : Type 0} → (R → Option (List ℕ)) → (W → Option (List ℕ)) → (S → StoreSeen) → R → W → S → RunEnds
+abbrev pub run_ends_of : {R W S : Type 0} → (R → Option (List ℕ)) → (W → Option (List ℕ)) → (S → StoreView) → R → W → S → RunEnds
 run_ends_of remaining contents seen reader writer store = run_ends (remaining reader) (contents writer) (seen store)
 
 -- The commands that were carried out if an answer could not be written, the one in hand among them. The store was
@@ -247,7 +247,7 @@ pub record RunView : Type 0 where
   pub writes : ℕ
 
 abbrev pub run_view_of : {R W S : Type 0} → (R → Option (List ℕ)) → (R → ℕ) → (R → ℕ) → (W → Option (List ℕ)) → (W → ℕ)
-    → (S → StoreSeen) → R → W → S → RunView
+    → (S → StoreView) → R → W → S → RunView
 run_view_of remaining failures calls contents faults seen reader writer store = record {
   ends = run_ends_of remaining contents seen reader writer store;
   reads = read_counts (failures reader) (calls reader);

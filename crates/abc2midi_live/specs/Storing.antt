@@ -46,17 +46,17 @@ HasNoFiles None = ⊤
 HasNoFiles (Some contents) = (n : ℕ) → n < 2 ^ 32 → get contents (file_name n) ≡ None
 
 -- The visible state of a store: how often it failed, how often it was called, and its contents, if they are known.
-pub record StoreSeen : Type 0 where
+pub record StoreView : Type 0 where
   pub failures : ℕ
   pub calls : ℕ
   pub contents : Option Contents
 
-abbrev pub store_seen : ℕ → ℕ → Option Contents → StoreSeen
-store_seen failures calls contents = record { failures = failures; calls = calls; contents = contents }
+abbrev pub store_view : ℕ → ℕ → Option Contents → StoreView
+store_view failures calls contents = record { failures = failures; calls = calls; contents = contents }
 
 -- A store returned these answers, was called once for each of them, and had no other fault. If it mirrored a directory
 -- before, it mirrors another one after them.
-pub record Follows (old new : StoreSeen) (answers : List StoreAnswer) (before after : Directory) : Type 0 where
+pub record Follows (old new : StoreView) (answers : List StoreAnswer) (before after : Directory) : Type 0 where
   pub failures : new.failures ≡ raised old.failures (faults_among answers)
   pub calls : new.calls ≡ raised old.calls (length answers)
   pub contents : (first : Option Contents) → MirrorsWhereTold first old.contents before → MirrorsWhereTold first new.contents after

@@ -13,7 +13,7 @@ ghost use Rattle.abc2midi_live.specs.Dialogue.{CommandStops, RequestStops, Respo
 
 use crate::answer::{fault_list, hex_line, refusal, report_line, title_list};
 use crate::book_lines::book_lines;
-use crate::building::build;
+use crate::build_command::build;
 use crate::command::Command;
 use crate::machine::{Machine, Reply};
 use crate::streams::Store;

@@ -4,14 +4,14 @@
 mod answer;
 mod book_fault;
 mod book_lines;
-mod building;
+mod build_command;
 mod command;
 mod cut;
 mod dialogue;
-mod fault;
 mod listener;
 mod machine;
-mod reading;
+mod run_fault;
+mod run_loop;
 mod streams;
 mod transcript;
 
@@ -19,7 +19,7 @@ pub use abc_fold::Work;
 pub use abc_lines::EditError;
 pub use book_fault::fault_of_book;
 pub use command::Command;
-pub use fault::RunFault;
-pub use reading::MOST_READS;
+pub use run_fault::RunFault;
+pub use run_loop::MOST_READS;
 pub use streams::{Piped, Sink, Source, Store, StoreFault, StreamFault};
 pub use transcript::{run, run_before_exit};

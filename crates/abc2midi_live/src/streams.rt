@@ -6,7 +6,7 @@ ghost use Rattle.std.specs.Io.{ReadsAtMost};
 ghost use Rattle.std.specs.IoError.{error_kind};
 ghost use Rattle.std.specs.Io.KnownBytes.{Appends, ReadConsumes};
 ghost use Rattle.abc_fold.specs.Work.{raised};
-ghost use Rattle.abc2midi_live.specs.Storing.{StoreSeen};
+ghost use Rattle.abc2midi_live.specs.Storing.{StoreView};
 ghost use Rattle.abc2midi_live.specs.Streams.{faults, Puts, TakesOut, KeepsOthers};
 
 use std::io::{Error, ErrorKind, Read, Write};
@@ -58,7 +58,7 @@ pub trait Sink {
 /// A store of files by their names.
 pub trait Store {
     // How many calls failed, how many there were, and the bytes under each name, if they are known.
-    ghost seen: { Self → StoreSeen };
+    ghost seen: { Self → StoreView };
 
     /// Stores the bytes under the name, instead of the old ones. A fault leaves the other names.
     fn put(&mut self, name: &str, bytes: &[u8]) -> Result<(), StoreFault>

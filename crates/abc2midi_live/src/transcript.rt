@@ -8,8 +8,8 @@ ghost use Rattle.abc2midi_live.specs.DialogueState.{OpensOrFails};
 ghost use Rattle.abc2midi_live.specs.Transcript.{no_directory};
 
 use crate::dialogue::Dialogue;
-use crate::fault::RunFault;
-use crate::reading::listen;
+use crate::run_fault::RunFault;
+use crate::run_loop::listen;
 use crate::streams::{Sink, Source, Store};
 use abc_fold::Work;
 use std::alloc::Global;

@@ -13,7 +13,7 @@ use Rattle.abc_text.specs.declared.letter.Letter.{Letter}
 use Rattle.abc_text.specs.declared.letter.Letter.TheVariants.{A}
 use Rattle.abc_text.specs.Letter.{capital}
 use Rattle.abc_text.specs.Word.{words_of}
-use Rattle.abc_fields.specs.declared.fault.FaultCode.TheVariants.{BadKey}
+use Rattle.abc_fields.specs.declared.fault_code.FaultCode.TheVariants.{BadKey}
 use Rattle.abc_fields.specs.declared.key.Key.{Key}
 use Rattle.abc_fields.specs.declared.shift.Shift.{Shift}
 use Rattle.abc_fields.specs.Key.{complete_key, key_after, key_in, key_with, spelled_key, start_by, start_of, tonal_start}
@@ -21,7 +21,7 @@ use Rattle.abc_fields.specs.Mode.{front_of, mode_named, mode_of}
 use Rattle.abc_fields.specs.Shift.{no_shift, shift_of}
 use Rattle.abc_fields.specs.Signature.{signature_of}
 use Rattle.abc_fields.specs.Spelling.Tonic.{IsTonic}
-use Rattle.abc_fields.specs.Tonic.{basis_at, basis_by}
+use Rattle.abc_fields.specs.Tonic.{key_mode_at, key_mode_by}
 use Rattle.abc_fields.proofs.Tonics.{run_read, tonic_to}
 use Rattle.abc_bars.specs.KeyFieldLaws.{BeginsWith, NamesMode, lydian, major, ionian, mixolydian, dorian, minor, aeolian, letter_m, phrygian, locrian, IsTonicWithRun, NamesNone, NamedModesAdd}
 use Rattle.abc_bars.specs.KeyFieldLaws.{OthersAreMajor, OtherRunsAreRefused}
@@ -102,7 +102,7 @@ tonic_no_none : (letter : Letter) → capital letter ≡ 110 → ⊥
 tonic_no_none A e = omega arith
 tonic_no_none _ e = omega arith
 
-tonic_key : (value : List ℕ) (sharps : ℤ) (following : List ℕ) → IsTonic value sharps following → key_in value ≡ spelled_key (tonal_start sharps (basis_at following))
+tonic_key : (value : List ℕ) (sharps : ℤ) (following : List ℕ) → IsTonic value sharps following → key_in value ≡ spelled_key (tonal_start sharps (key_mode_at following))
 unfolding key_in start_of
 tonic_key value sharps following is =
     let some : eqb (length value) 0 ≡ false = ap (λ l. eqb (length l) 0) is.spelling ∙ ne_eqb (suc (length is.following)) 0 (λ e. omega (arith, e)) in
@@ -113,7 +113,7 @@ tonic_key value sharps following is =
     ∙ ap (λ o. spelled_key (start_by value o)) (tonic_to value sharps following is)
 
 read_tonic : (value blanks run : List ℕ) (sharps : ℤ) (is : IsTonicWithRun value sharps blanks run)
-    → key_in value ≡ spelled_key (tonal_start sharps (basis_by (mode_of run) (length blanks) run is.following is.rest))
+    → key_in value ≡ spelled_key (tonal_start sharps (key_mode_by (mode_of run) (length blanks) run is.following is.rest))
 read_tonic value blanks run sharps is =
     tonic_key value sharps is.following is.tonic ∙ ap (λ o. spelled_key (tonal_start sharps o)) (run_read is.following blanks run is.rest is.letters)
 
@@ -146,11 +146,11 @@ small x is = let parts = and_parts (nat_le 97 x) (nat_le x 122) is in (leb-true 
 
 module _ (sharps : ℤ) (blanks : ℕ) (run text rest : List ℕ) where
   by_letters : (x y z : ℕ) → (nat_le 97 x && nat_le x 122) ≡ true → (nat_le 97 y && nat_le y 122) ≡ true → (nat_le 97 z && nat_le z 122) ≡ true → BeginsWith (three x y z) run
-      → tonal_start sharps (basis_by (mode_of run) blanks run text rest) ≡ tonal_start sharps (basis_by (mode_named (three x y z)) blanks run text rest)
-  by_letters x y z p q r h = ap (λ o. tonal_start sharps (basis_by o blanks run text rest)) (small_letters x y z run (small x p) (small y q) (small z r) h)
+      → tonal_start sharps (key_mode_by (mode_of run) blanks run text rest) ≡ tonal_start sharps (key_mode_by (mode_named (three x y z)) blanks run text rest)
+  by_letters x y z p q r h = ap (λ o. tonal_start sharps (key_mode_by o blanks run text rest)) (small_letters x y z run (small x p) (small y q) (small z r) h)
 
   mode_sharps : (added : ℤ) (is_minor : Bool) → NamesMode run added is_minor
-      → tonal_start sharps (basis_by (mode_of run) blanks run text rest) ≡ option_map (λ first. (first, rest)) (key_with (sharps +ℤ added) is_minor)
+      → tonal_start sharps (key_mode_by (mode_of run) blanks run text rest) ≡ option_map (λ first. (first, rest)) (key_with (sharps +ℤ added) is_minor)
   unfolding mode_of mode_named
   mode_sharps _ _ (lydian h) = by_letters 108 121 100 refl refl refl h
   mode_sharps _ _ (major h) = by_letters 109 97 106 refl refl refl h
@@ -159,7 +159,7 @@ module _ (sharps : ℤ) (blanks : ℕ) (run text rest : List ℕ) where
   mode_sharps _ _ (dorian h) = by_letters 100 111 114 refl refl refl h
   mode_sharps _ _ (minor h) = by_letters 109 105 110 refl refl refl h
   mode_sharps _ _ (aeolian h) = by_letters 97 101 111 refl refl refl h
-  mode_sharps _ _ (letter_m h) = ap (λ r. tonal_start sharps (basis_by (mode_of r) blanks run text rest)) h
+  mode_sharps _ _ (letter_m h) = ap (λ r. tonal_start sharps (key_mode_by (mode_of r) blanks run text rest)) h
   mode_sharps _ _ (phrygian h) = by_letters 112 104 114 refl refl refl h
   mode_sharps _ _ (locrian h) = by_letters 108 111 99 refl refl refl h
 
@@ -175,10 +175,10 @@ plain_sharps : (sharps : ℤ) → sharps +ℤ pos 0 ≡ sharps
 plain_sharps sharps = omega (arith, ints)
 
 by_default : (sharps : ℤ) (blanks : ℕ) (run text rest : List ℕ) → (run ≡ []) ⊎ ((0 < blanks) × (run ≢ codes "exp"))
-    → tonal_start sharps (basis_by None blanks run text rest) ≡ option_map (λ first. (first, text)) (key_with sharps false)
+    → tonal_start sharps (key_mode_by None blanks run text rest) ≡ option_map (λ first. (first, text)) (key_with sharps false)
 by_default sharps blanks run text rest why =
     ⊎_elim
-    (λ nil. ap (λ r. tonal_start sharps (basis_by None blanks r text rest)) nil)
+    (λ nil. ap (λ r. tonal_start sharps (key_mode_by None blanks r text rest)) nil)
     (λ later. ⊎_elim
     (λ t. ap (tonal_start sharps) (cond-true (length run == 0) _ _ t))
     (λ t. ap (tonal_start sharps)
@@ -193,7 +193,7 @@ pub others_are_major : OthersAreMajor
 others_are_major value blanks run sharps key is none why read =
     with_mode sharps false is.following key
     (ap spelled_key (sym (by_default sharps (length blanks) run is.following is.rest why))
-    ∙ ap (λ o. spelled_key (tonal_start sharps (basis_by o (length blanks) run is.following is.rest))) (sym (none_named run none))
+    ∙ ap (λ o. spelled_key (tonal_start sharps (key_mode_by o (length blanks) run is.following is.rest))) (sym (none_named run none))
     ∙ sym (read_tonic value blanks run sharps is)
     ∙ read_some (key_in value) key read)
 
@@ -201,5 +201,5 @@ pub other_runs_are_refused : OtherRunsAreRefused
 other_runs_are_refused value run sharps is none some =
     ap (λ o. ok_or o BadKey)
     (read_tonic value [] run sharps is
-    ∙ ap (λ o. spelled_key (tonal_start sharps (basis_by o 0 run is.following is.rest))) (none_named run none)
+    ∙ ap (λ o. spelled_key (tonal_start sharps (key_mode_by o 0 run is.following is.rest))) (none_named run none)
     ∙ ap (λ o. spelled_key (tonal_start sharps o)) (cond-false (length run == 0) _ _ (ne_eqb (length run) 0 (λ e. omega arith))))

@@ -11,7 +11,7 @@ pub mod FaultsOfLengths
 pub mod FaultsOfSpelling
 pub mod Fields
 pub mod Flags
-pub mod Held
+pub mod BodyState
 pub mod Keys
 pub mod Lengths
 pub mod LineLengths

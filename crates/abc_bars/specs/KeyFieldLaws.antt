@@ -6,7 +6,7 @@ use Rattle.abc_text.specs.declared.letter.Letter.{Letter}
 use Rattle.abc_text.specs.Accidental.{spelling, alteration as semitones}
 use Rattle.abc_text.specs.Letter.{IsLetter}
 use Rattle.abc_text.specs.Word.{AreWords}
-use Rattle.abc_fields.specs.declared.fault.FaultCode.TheVariants.{BadKey}
+use Rattle.abc_fields.specs.declared.fault_code.FaultCode.TheVariants.{BadKey}
 use Rattle.abc_fields.specs.declared.key.Key.{Key}
 use Rattle.abc_fields.specs.declared.signature.Signature.{Signature}
 use Rattle.abc_fields.specs.Key.{key_of}

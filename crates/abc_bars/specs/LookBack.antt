@@ -1,6 +1,7 @@
 pub mod After
 pub mod AfterBody
 pub mod Along
+pub mod BodyState
 pub mod ByName
 pub mod CellFaults
 pub mod CellPlace
@@ -11,7 +12,6 @@ pub mod Faults
 pub mod Fields
 pub mod Flags
 pub mod Header
-pub mod Held
 pub mod Keys
 pub mod Lengths
 pub mod LineLengths

@@ -8,8 +8,8 @@ use Rattle.std.specs.List.{flat_map, list_any, position}
 use Rattle.std.specs.Map.{keys_of}
 use Rattle.std_collections.proofs.Entries.{keys_set_value_at}
 use Rattle.std_collections.proofs.HashLookup.{keys_push}
-use Rattle.abc_fields.specs.declared.fault.FaultCode.{FaultCode}
-use Rattle.abc_fields.specs.declared.fault.FaultCode.TheVariants.{BadBroken, BadProgram, BadVoice, LooseTie, TempoRange, TooManyVoices}
+use Rattle.abc_fields.specs.declared.fault_code.FaultCode.{FaultCode}
+use Rattle.abc_fields.specs.declared.fault_code.FaultCode.TheVariants.{BadBroken, BadProgram, BadVoice, LooseTie, TempoRange, TooManyVoices}
 use Rattle.abc_fields.specs.declared.key.Key.{Key}
 use Rattle.abc_fields.specs.declared.meter.Meter.{Meter}
 use Rattle.abc_fields.specs.declared.shift.Shift.{Shift}
@@ -78,10 +78,10 @@ use Rattle.abc_bars_items.specs.declared.item.TheConstants.{MOST_VOICES}
 use Rattle.abc_bars_voice.specs.declared.voice_state.VoiceState.{VoiceState}
 use Rattle.abc_text.proofs.Words.{first_word_is}
 use Rattle.abc_text.specs.Word.{bytes_before_blank, first_word, leading_blanks, words_of}
-use Rattle.abc_bars_body.specs.Mentioned.{AreNamed, IsNamed, Mentioned, MentionsFew, NamesVoices, after_item, after_items, after_name, preceding_time, items_of_cells}
+use Rattle.abc_bars_body.specs.Mentioned.{AreNamed, IsNamed, MentionedVoices, MentionsFew, NamesVoices, after_item, after_items, after_name, preceding_time, items_of_cells}
 
 -- what is mentioned by more items
-past_append : (known : Mentioned) (tune more : List Item) → after_items known (tune ++ more) ≡ after_items (after_items known tune) more
+past_append : (known : MentionedVoices) (tune more : List Item) → after_items known (tune ++ more) ≡ after_items (after_items known tune) more
 past_append known [] more = refl
 past_append known (item ∷ tune) more = past_append (after_item known item) tune more
 
@@ -93,23 +93,23 @@ abbrev pub is_placed : Current → Bool
 is_placed (Unnamed state) = false
 is_placed (At at) = true
 
-abbrev pub known_of : Body → Mentioned
+abbrev pub known_of : Body → MentionedVoices
 known_of body = (keys_of body.voices, is_placed body.current)
 
 -- what is mentioned after items, which name their voices, is no more than before or than may be
-record Tells (before after : Mentioned) (given : List Item) : Type 0 where
+record Tells (before after : MentionedVoices) (given : List Item) : Type 0 where
   value : after ≡ after_items before given
   named : AreNamed given
   few : length before.0 ≤ MOST_VOICES → length after.0 ≤ MOST_VOICES
 
-nothing_told : (before after : Mentioned) → after ≡ before → Tells before after []
-nothing_told before after same = record { value = same; named = tt; few = subst (λ (k : Mentioned). length k.0 ≤ MOST_VOICES) (sym same) }
+nothing_told : (before after : MentionedVoices) → after ≡ before → Tells before after []
+nothing_told before after same = record { value = same; named = tt; few = subst (λ (k : MentionedVoices). length k.0 ≤ MOST_VOICES) (sym same) }
 
-one_told : (before after : Mentioned) (item : Item) → after ≡ after_item before item → IsNamed item
+one_told : (before after : MentionedVoices) (item : Item) → after ≡ after_item before item → IsNamed item
     → (length before.0 ≤ MOST_VOICES → length after.0 ≤ MOST_VOICES) → Tells before after (item ∷ [])
 one_told before after item value named few = record { value = value; named = (named, tt); few = few }
 
-both_told : (a b c : Mentioned) (xs ys : List Item) → Tells a b xs → Tells b c ys → Tells a c (xs ++ ys)
+both_told : (a b c : MentionedVoices) (xs ys : List Item) → Tells a b xs → Tells b c ys → Tells a c (xs ++ ys)
 both_told a b c xs ys first then = record {
   value = then.value ∙ ap (λ k. after_items k ys) first.value ∙ sym (past_append a xs ys);
   named = named_append xs ys first.named then.named;
@@ -117,9 +117,9 @@ both_told a b c xs ys first then = record {
 }
 
 -- an item that mentions none
-silent_told : (before after : Mentioned) (item : Item) → after ≡ before → after_item before item ≡ before → IsNamed item → Tells before after (item ∷ [])
+silent_told : (before after : MentionedVoices) (item : Item) → after ≡ before → after_item before item ≡ before → IsNamed item → Tells before after (item ∷ [])
 silent_told before after item same quiet named =
-    one_told before after item (same ∙ sym quiet) named (subst (λ (k : Mentioned). length k.0 ≤ MOST_VOICES) (sym same))
+    one_told before after item (same ∙ sym quiet) named (subst (λ (k : MentionedVoices). length k.0 ≤ MOST_VOICES) (sym same))
 
 -- there are as many names as voices
 pub keys_long : {S : Type 0} (voices : List (List ℕ × S)) → length (keys_of voices) ≡ length voices
@@ -146,7 +146,7 @@ mentioned_by voices (At at) another = refl
 mentioned_known : (body : Body) → known_of (after_mention body) ≡ preceding_time (known_of body)
 mentioned_known body = mentioned_by body.voices body.current body.another
 
-note_few : (known : Mentioned) → length known.0 ≤ MOST_VOICES → length (preceding_time known).0 ≤ MOST_VOICES
+note_few : (known : MentionedVoices) → length known.0 ≤ MOST_VOICES → length (preceding_time known).0 ≤ MOST_VOICES
 note_few (names, true) few = few
 note_few (names, false) few = lit≤ tt
 
@@ -155,13 +155,13 @@ note_told : (body : Body) (state : VoiceState) (item : Item) → after_item (kno
     → Tells (known_of body) (known_of (with_here (after_mention body) state)) (item ∷ [])
 note_told body state item heard named =
     let same = here_known (after_mention body) state ∙ mentioned_known body in
-    one_told (known_of body) _ item (same ∙ sym heard) named (λ few. subst (λ (k : Mentioned). length k.0 ≤ MOST_VOICES) (sym same) (note_few (known_of body) few))
+    one_told (known_of body) _ item (same ∙ sym heard) named (λ few. subst (λ (k : MentionedVoices). length k.0 ≤ MOST_VOICES) (sym same) (note_few (known_of body) few))
 
 rest_told : (body : Body) (item : Item) → after_item (known_of body) item ≡ preceding_time (known_of body) → IsNamed item
     → Tells (known_of body) (known_of (after_mention body)) (item ∷ [])
 rest_told body item heard named =
     let same = mentioned_known body in
-    one_told (known_of body) _ item (same ∙ sym heard) named (λ few. subst (λ (k : Mentioned). length k.0 ≤ MOST_VOICES) (sym same) (note_few (known_of body) few))
+    one_told (known_of body) _ item (same ∙ sym heard) named (λ few. subst (λ (k : MentionedVoices). length k.0 ≤ MOST_VOICES) (sym same) (note_few (known_of body) few))
 
 -- a name of a V: is a word
 some_bytes : (name : List ℕ) → 0 < length name → bytes_eq name [] ≡ false
@@ -237,7 +237,7 @@ made_told body place name said named (Some at) found =
     let same : known_of (after_move body at said) ≡ (keys_of body.voices, true) = here_known moved (record (here moved) { shift = with_properties (here moved).shift said }) in
     one_told (known_of body) (known_of (after_move body at said)) (items.Voice false name)
     (same ∙ ap (λ (names : List (List ℕ)). (names, true)) (sym (name_known name (keys_of body.voices) at found))) named
-    (subst (λ (k : Mentioned). length k.0 ≤ MOST_VOICES) (sym same))
+    (subst (λ (k : MentionedVoices). length k.0 ≤ MOST_VOICES) (sym same))
 made_told body place name said named None found = by (nat_lt (length body.voices) MOST_VOICES) refl
   where
     by : (b : Bool) → nat_lt (length body.voices) MOST_VOICES ≡ b
@@ -434,7 +434,7 @@ abbrev is_some_name : List (List ℕ) → Bool
 is_some_name [] = false
 is_some_name (name ∷ names) = true
 
-abbrev known_in_header : Header → Mentioned
+abbrev known_in_header : Header → MentionedVoices
 known_in_header header = (keys_of header.voices, is_some_name (keys_of header.voices))
 
 some_among : (name : List ℕ) (names : List (List ℕ)) → list_any (bytes_eq name) names ≡ true → is_some_name names ≡ true
@@ -449,7 +449,7 @@ abbrev option_items : Option Item → List Item
 option_items None = []
 option_items (Some item) = item ∷ []
 
-quiet_tempo : (known : Mentioned) (unit : Ratio) (tempo : Option Tempo) → after_item known (opening_tempo_by unit tempo) ≡ known
+quiet_tempo : (known : MentionedVoices) (unit : Ratio) (tempo : Option Tempo) → after_item known (opening_tempo_by unit tempo) ≡ known
 quiet_tempo known unit None = refl
 quiet_tempo known unit (Some tempo) = refl
 
@@ -457,21 +457,21 @@ tempo_named : (unit : Ratio) (tempo : Option Tempo) → IsNamed (opening_tempo_b
 tempo_named unit None = tt
 tempo_named unit (Some tempo) = tt
 
-opening_told : (known : Mentioned) (defaults : Defaults) → Tells known known (opening_tempo defaults ∷ opening_meter defaults ∷ [])
+opening_told : (known : MentionedVoices) (defaults : Defaults) → Tells known known (opening_tempo defaults ∷ opening_meter defaults ∷ [])
 opening_told known defaults = record {
   value = sym (quiet_tempo known (unit_in defaults) defaults.tempo);
   named = (tempo_named (unit_in defaults) defaults.tempo, (tt, tt));
   few = λ few. few;
 }
 
-items_told : (before after : Mentioned) (item : Option Item) (defaults : Defaults) → Tells before after (option_items item) → Tells before after (items_with item defaults)
+items_told : (before after : MentionedVoices) (item : Option Item) (defaults : Defaults) → Tells before after (option_items item) → Tells before after (items_with item defaults)
 items_told before after None defaults own = both_told before after after [] _ own (opening_told after defaults)
 items_told before after (Some item) defaults own = both_told before after after (item ∷ []) _ own (opening_told after defaults)
 
 abbrev OwnTells : Header → OwnResult → Type 0
 OwnTells header own = Tells (known_in_header header) (known_in_header own.header) (option_items own.item)
 
-abbrev with_some : List (List ℕ) → Mentioned
+abbrev with_some : List (List ℕ) → MentionedVoices
 with_some names = (names, is_some_name names)
 
 same_keys : (before after : List (List ℕ × Shift)) → keys_of after ≡ keys_of before
@@ -553,7 +553,7 @@ line_told header (FieldLine field) = own_told header (kind_of field.letter) fiel
 line_told header (DirectiveLine directive) = directed_told header directive
 
 -- a program tells of no voice
-program_told : (before after : Mentioned) (given : List Item) (program : Option ℕ) → Tells before after given → Tells before after (append_program given program)
+program_told : (before after : MentionedVoices) (given : List Item) (program : Option ℕ) → Tells before after given → Tells before after (append_program given program)
 program_told before after given None told = told
 program_told before after given (Some program) told =
     both_told before after after given (items.Program true (Some program) ∷ []) told (silent_told after after (items.Program true (Some program)) refl refl tt)
@@ -567,7 +567,7 @@ body_known : (header : Header) (key : Key) → known_of (body_from header key) �
 body_known header key = λ i. (opening_names header key i, placed_in header.voices (opening_another header key) i)
 
 -- what is mentioned at a place of a tune
-abbrev known_in : Entry → Mentioned
+abbrev known_in : Entry → MentionedVoices
 known_in (entries.FileHeader defaults) = ([], false)
 known_in (entries.Opening defaults) = ([], false)
 known_in (entries.Header header) = known_in_header header
@@ -581,7 +581,7 @@ after_line_known : (header : Header) (line : HeaderLine) → known_in (following
 after_line_known header (FieldLine field) = after_known header (kind_of field.letter) field.value
 after_line_known header (DirectiveLine directive) = refl
 
-abbrev StepTells : Mentioned → Entry × Items → Type 0
+abbrev StepTells : MentionedVoices → Entry × Items → Type 0
 StepTells before step = Tells before (known_in step.0) step.1.items
 
 body_told : (body : Body) (cell : List (Spanned TokenKind)) → StepTells (known_of body) (body_step body cell)
@@ -591,13 +591,13 @@ body_told body cell =
 
 header_told : (header : Header) (cell : List (Spanned TokenKind)) (line : Option HeaderLine) → StepTells (known_in_header header) (header_step header cell line)
 header_told header cell None =
-    subst (λ (known : Mentioned). StepTells known (body_step (body_from header empty_key) cell)) (body_known header empty_key)
+    subst (λ (known : MentionedVoices). StepTells known (body_step (body_from header empty_key) cell)) (body_known header empty_key)
     (body_told (body_from header empty_key) cell)
 header_told header cell (Some line) =
     let own = own_line_result header line in
     let program = line_program line header.defaults in
     let given = items_with own.item own.header.defaults in
-    subst (λ (known : Mentioned). Tells (known_in_header header) known (append_program given program)) (sym (after_line_known own.header line))
+    subst (λ (known : MentionedVoices). Tells (known_in_header header) known (append_program given program)) (sym (after_line_known own.header line))
     (program_told (known_in_header header) (known_in_header own.header) given program
     (items_told (known_in_header header) (known_in_header own.header) own.item own.header.defaults (line_told header line)))
 
@@ -612,13 +612,13 @@ step_told (entries.Opening defaults) cell = header_told (opening_header defaults
 step_told (entries.Header header) cell = header_told header cell (line_in cell)
 step_told (entries.Body body) cell = body_told body cell
 
-cells_told : (entry : Entry) (cells : List (List (Spanned TokenKind))) → (after : Mentioned) × Tells (known_in entry) after (flat_map (λ given. given.items) (items_from bar_steps entry cells))
+cells_told : (entry : Entry) (cells : List (List (Spanned TokenKind))) → (after : MentionedVoices) × Tells (known_in entry) after (flat_map (λ given. given.items) (items_from bar_steps entry cells))
 cells_told entry [] = (known_in entry, nothing_told (known_in entry) (known_in entry) refl)
 cells_told entry (cell ∷ cells) =
     let rest = cells_told (entry_step entry cell).0 cells in
     (rest.0, both_told (known_in entry) (known_in (entry_step entry cell).0) rest.0 (entry_step entry cell).1.items _ (step_told entry cell) rest.1)
 
-tune_told : (opening : Defaults) (cells : List (List (Spanned TokenKind))) → (after : Mentioned) × Tells ([], false) after (items_of_cells opening cells)
+tune_told : (opening : Defaults) (cells : List (List (Spanned TokenKind))) → (after : MentionedVoices) × Tells ([], false) after (items_of_cells opening cells)
 tune_told opening cells = cells_told (entries.Opening opening) cells
 
 pub names_voices : NamesVoices
@@ -627,4 +627,4 @@ names_voices opening cells = (tune_told opening cells).1.named
 pub mentions_few : MentionsFew
 mentions_few opening cells =
     let told = tune_told opening cells in
-    omega (arith, ap (λ (k : Mentioned). length k.0) told.1.value, told.1.few (lit≤ tt))
+    omega (arith, ap (λ (k : MentionedVoices). length k.0) told.1.value, told.1.few (lit≤ tt))

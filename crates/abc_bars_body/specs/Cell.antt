@@ -1,8 +1,9 @@
 -- The cells of a tune's body: what the tokens of a cell give, and the state after them.
 use Rattle.std.specs.Prelude.{ℕ, Bool, true, false, if◌then◌else◌, List, [], ◌∷◌, ◌++◌, Option, Some, None, is_none}
-use Rattle.abc_fields.specs.declared.fault.FaultCode.{FaultCode}
-use Rattle.abc_fields.specs.declared.fault.FaultCode.TheVariants.{BadBroken, BadByte, BadEnding, BadProgram, LooseTie, Unclosed}
-use Rattle.abc_scan.specs.declared.bar.BarLine.{BarLine}
+use Rattle.abc_fields.specs.declared.fault_code.FaultCode.{FaultCode}
+use Rattle.abc_fields.specs.declared.fault_code.FaultCode.TheVariants.{BadBroken, BadByte, BadEnding, BadProgram, LooseTie}
+use Rattle.abc_fields.specs.declared.fault_code.FaultCode.TheVariants.{Unclosed}
+use Rattle.abc_scan.specs.declared.bar_line.BarLine.{BarLine}
 use Rattle.abc_scan.specs.declared.chord.Chord.{Chord}
 use Rattle.abc_scan.specs.declared.directive.Directive.{Directive}
 use Rattle.abc_scan.specs.declared.directive.Directive.TheVariants as directives

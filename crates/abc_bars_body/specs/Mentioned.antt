@@ -12,27 +12,27 @@ use Rattle.abc_scan.specs.declared.spanned.Spanned.{Spanned}
 use Rattle.abc_scan.specs.declared.token.TokenKind.{TokenKind}
 
 -- The voices that are mentioned, in the order of their first mention, and whether one is.
-abbrev pub Mentioned : Type 0
-Mentioned = List (List ℕ) × Bool
+abbrev pub MentionedVoices : Type 0
+MentionedVoices = List (List ℕ) × Bool
 
 -- After the name of a voice: it is one more, unless it is mentioned already.
 abbrev pub after_name : List (List ℕ) → List ℕ → List (List ℕ)
 after_name names name = if list_any (bytes_eq name) names then names else names ++ name ∷ []
 
 -- After a note, chord or rest: it mentions the voice without a name if none is mentioned. Not in ABC 2.1.
-abbrev pub preceding_time : Mentioned → Mentioned
+abbrev pub preceding_time : MentionedVoices → MentionedVoices
 preceding_time (names, true) = (names, true)
 preceding_time (names, false) = ([] ∷ [], true)
 
 -- After an item.
-abbrev pub after_item : Mentioned → Item → Mentioned
+abbrev pub after_item : MentionedVoices → Item → MentionedVoices
 after_item known (items.Tone tones length) = preceding_time known
 after_item known (items.Rest length bar) = preceding_time known
 after_item known (items.Voice opening name) = (after_name known.0 name, true)
 after_item known _ = known
 
 -- After items.
-abbrev pub after_items : Mentioned → List Item → Mentioned
+abbrev pub after_items : MentionedVoices → List Item → MentionedVoices
 after_items known [] = known
 after_items known (item ∷ tune) = after_items (after_item known item) tune
 

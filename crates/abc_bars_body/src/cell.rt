@@ -101,7 +101,7 @@ impl CellResult {
     }
 
     /// Adds the item of a token, if there is one.
-    fn some_item(&mut self, item: Option<Item>) -> Result<(), AllocError>
+    fn push_item_if_any(&mut self, item: Option<Item>) -> Result<(), AllocError>
         requires { IfSome item IsItem }
         ensures { OnOk result (self.new ≡ with_items self.old (option_to_list item)) }
     {
@@ -112,7 +112,7 @@ impl CellResult {
     }
 
     /// Adds the fault of a token with its column, if there is one.
-    fn some_local_fault(&mut self, fault: Option<LocalFault>) -> Result<(), AllocError>
+    fn push_local_fault_if_any(&mut self, fault: Option<LocalFault>) -> Result<(), AllocError>
         ensures { OnOk result (self.new ≡ with_faults self.old (option_to_list fault)) }
     {
         if let Some(fault) = fault {
@@ -140,7 +140,11 @@ impl CellResult {
     }
 
     /// Adds the fault of a token, if there is one.
-    fn some_fault(&mut self, place: usize, fault: Option<FaultCode>) -> Result<(), AllocError>
+    fn push_fault_if_any(
+        &mut self,
+        place: usize,
+        fault: Option<FaultCode>,
+    ) -> Result<(), AllocError>
         ensures { OnOk result (self.new ≡ with_some_fault self.old place fault) }
     {
         if let Some(code) = fault {
@@ -239,7 +243,7 @@ impl CellResult {
         self.body.mention(alloc)?;
         let (item, fault) = bar_rest_of(self.body.here().meter, bars);
         self.item(item)?;
-        self.some_fault(place, fault)?;
+        self.push_fault_if_any(place, fault)?;
         Ok(())
     }
 
@@ -248,8 +252,8 @@ impl CellResult {
         ensures { OnOk result (self.new ≡ with_field self.old place field.now) }
     {
         let FieldItem { item, fault } = self.body.field(alloc, field, place)?;
-        self.some_item(item)?;
-        self.some_local_fault(fault)?;
+        self.push_item_if_any(item)?;
+        self.push_local_fault_if_any(fault)?;
         Ok(())
     }
 
@@ -281,7 +285,7 @@ impl CellResult {
         let (open, fault) = begin_tuplet(here.meter, here.tuplet, mark);
         here.tuplet = open;
         self.body.put_here(here);
-        self.some_fault(place, fault)?;
+        self.push_fault_if_any(place, fault)?;
         Ok(())
     }
 

@@ -2,8 +2,8 @@
 use Rattle.std.specs.Prelude.{ℕ, nat_lt, true, if◌then◌else◌, List, [], ◌∷◌, ◌++◌, length, slice_range, Option, Some, None, Result}
 use Rattle.std.specs.Prelude.{Ok, Err}
 use Rattle.std.specs.Option.{option_or}
-use Rattle.abc_fields.specs.declared.fault.FaultCode.{FaultCode}
-use Rattle.abc_fields.specs.declared.fault.FaultCode.TheVariants.{TooManyVoices}
+use Rattle.abc_fields.specs.declared.fault_code.FaultCode.{FaultCode}
+use Rattle.abc_fields.specs.declared.fault_code.FaultCode.TheVariants.{TooManyVoices}
 use Rattle.abc_fields.specs.declared.key.Key.{Key}
 use Rattle.abc_fields.specs.declared.shift.Shift.{Shift}
 use Rattle.abc_fields.specs.declared.voice.Voice.{Voice}

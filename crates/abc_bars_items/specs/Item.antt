@@ -1,6 +1,6 @@
 -- Items of cells, and what items can hold.
 use Rattle.std.specs.Prelude.{ℕ, ◌≡◌, ◌≤◌, IfSome, All, List, [], ◌∷◌, ◌++◌, length, Ok}
-use Rattle.abc_fields.specs.declared.fault.FaultCode.{FaultCode}
+use Rattle.abc_fields.specs.declared.fault_code.FaultCode.{FaultCode}
 use Rattle.abc_fields.specs.Meter.{IsMeterInRange}
 use Rattle.abc_fields.specs.Parts.{parts_of}
 use Rattle.abc_fields.specs.Signature.{IsSharps}

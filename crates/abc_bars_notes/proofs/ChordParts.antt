@@ -2,8 +2,8 @@
 use Rattle.std.proofs.Common.{◌≡◌, ◌∙◌, ℕ, Bool, true, false, List, [], ◌++◌, refl, ap, append-nil}
 use Rattle.std.specs.Prelude.{if◌then◌else◌, filter}
 use Rattle.std.proofs.lemmas.List.Elements.{filter-append}
-use Rattle.abc_fields.specs.declared.fault.FaultCode.{FaultCode}
-use Rattle.abc_fields.specs.declared.fault.FaultCode.TheVariants.{BadLength, EmptyChord, KeyRange}
+use Rattle.abc_fields.specs.declared.fault_code.FaultCode.{FaultCode}
+use Rattle.abc_fields.specs.declared.fault_code.FaultCode.TheVariants.{BadLength, EmptyChord, KeyRange}
 use Rattle.abc_scan.specs.declared.chord_part.ChordPartKind.{ChordPartKind}
 use Rattle.abc_scan.specs.declared.spanned.Spanned.{Spanned}
 use Rattle.abc_bars_items.specs.Column.{column_of}

@@ -6,8 +6,8 @@ use Rattle.std.specs.List.{Contains, slice_index_or}
 use Rattle.std.specs.Result.{result_ok}
 use Rattle.std.proofs.lemmas.Bool.Decides.{nat_tests}
 use Rattle.abc_text.proofs.Powers.{power_least, power_most}
-use Rattle.abc_fields.specs.declared.fault.FaultCode.{FaultCode}
-use Rattle.abc_fields.specs.declared.fault.FaultCode.TheVariants.{BadLength, KeyRange}
+use Rattle.abc_fields.specs.declared.fault_code.FaultCode.{FaultCode}
+use Rattle.abc_fields.specs.declared.fault_code.FaultCode.TheVariants.{BadLength, KeyRange}
 use Rattle.abc_scan.specs.declared.broken.BrokenRhythm.{BrokenRhythm}
 use Rattle.abc_scan.specs.declared.broken.Direction.{Direction}
 use Rattle.abc_scan.specs.declared.broken.Direction.TheVariants.{Right, Left}

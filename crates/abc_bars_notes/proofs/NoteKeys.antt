@@ -14,7 +14,7 @@ use Rattle.abc_text.specs.Accidental.{alteration as accidental_alteration}
 use Rattle.abc_text.specs.Letter.{capital}
 use Rattle.abc_bars_voice.specs.declared.accidentals.Accidentals.{Accidentals}
 use Rattle.abc_bars_voice.specs.declared.voice_state.VoiceState.{VoiceState}
-use Rattle.abc_bars_voice.specs.declared.tied.TiedNote.{TiedNote}
+use Rattle.abc_bars_voice.specs.declared.tied_note.TiedNote.{TiedNote}
 use Rattle.abc_bars_voice.specs.Accidentals.{written_on}
 use Rattle.abc_bars_voice.specs.Alteration.{alteration_of, goes_on_in, tied_alteration}
 use Rattle.abc_bars_notes.specs.NoteKeys.{IsSame, IsAltered, NotesSoundTheirKeys}

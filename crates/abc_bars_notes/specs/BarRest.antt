@@ -1,8 +1,8 @@
 -- Rests of whole bars. ABC 2.1 section 4.5.
 use Rattle.std.specs.Prelude.{◌≡◌, ◌≤◌, ℕ, ◌*◌, ◌/◌, true, [], ◌∷◌, Option, Some, None, option_and_then}
 use Rattle.std.specs.Result.{result_ok}
-use Rattle.abc_fields.specs.declared.fault.FaultCode.{FaultCode}
-use Rattle.abc_fields.specs.declared.fault.FaultCode.TheVariants.{BadLength, FreeBarRest}
+use Rattle.abc_fields.specs.declared.fault_code.FaultCode.{FaultCode}
+use Rattle.abc_fields.specs.declared.fault_code.FaultCode.TheVariants.{BadLength, FreeBarRest}
 use Rattle.abc_fields.specs.declared.meter.Meter.{Meter}
 use Rattle.abc_fields.specs.declared.meter.Meter.TheVariants.{Free, Of}
 use Rattle.abc_time.specs.declared.grains.Grains.{Grains}

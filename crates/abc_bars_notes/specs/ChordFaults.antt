@@ -1,7 +1,7 @@
 -- The notes of a chord with BadLength, apart from how it is read. ABC 2.1 sections 4.3 and 4.17.
 use Rattle.std.specs.Prelude.{◌≡◌, ℕ, ◌+◌, ◌==◌, Bool, List, [], ◌∷◌, filter, take, Some}
-use Rattle.abc_fields.specs.declared.fault.FaultCode.{FaultCode}
-use Rattle.abc_fields.specs.declared.fault.FaultCode.TheVariants.{BadLength}
+use Rattle.abc_fields.specs.declared.fault_code.FaultCode.{FaultCode}
+use Rattle.abc_fields.specs.declared.fault_code.FaultCode.TheVariants.{BadLength}
 use Rattle.abc_fields.specs.Fault.{number_of}
 use Rattle.abc_scan.specs.declared.chord.Chord.{Chord}
 use Rattle.abc_scan.specs.declared.note.Note.{Note}

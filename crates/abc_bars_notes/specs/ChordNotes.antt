@@ -1,8 +1,8 @@
 -- Which notes of a chord sound, and how long, apart from how they are read. ABC 2.1 section 4.17.
 use Rattle.std.specs.Prelude.{◌≡◌, ◌<◌, ℕ, ◌+◌, ◌==◌, Bool, true, min, List, [], ◌∷◌, length, filter, Option, Some, IsSomeAnd}
 use Rattle.std.specs.Prelude.{slice_get, option_map, option_to_list}
-use Rattle.abc_fields.specs.declared.fault.FaultCode.{FaultCode}
-use Rattle.abc_fields.specs.declared.fault.FaultCode.TheVariants.{BigChord}
+use Rattle.abc_fields.specs.declared.fault_code.FaultCode.{FaultCode}
+use Rattle.abc_fields.specs.declared.fault_code.FaultCode.TheVariants.{BigChord}
 use Rattle.abc_fields.specs.Fault.{number_of}
 use Rattle.abc_scan.specs.declared.chord.Chord.{Chord}
 use Rattle.abc_scan.specs.declared.note.Note.{Note}

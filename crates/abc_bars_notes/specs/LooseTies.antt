@@ -1,7 +1,7 @@
 -- Which ties of a chord are loose, by what is directly before them. ABC 2.1 section 4.11.
 use Rattle.std.specs.Prelude.{◌≡◌, ℕ, ◌+◌, ◌==◌, ◌&&◌, not, Bool, false, List, ◌∷◌, map, filter, zip, Option, Some, None}
-use Rattle.abc_fields.specs.declared.fault.FaultCode.{FaultCode}
-use Rattle.abc_fields.specs.declared.fault.FaultCode.TheVariants.{LooseTie}
+use Rattle.abc_fields.specs.declared.fault_code.FaultCode.{FaultCode}
+use Rattle.abc_fields.specs.declared.fault_code.FaultCode.TheVariants.{LooseTie}
 use Rattle.abc_fields.specs.Fault.{number_of}
 use Rattle.abc_scan.specs.declared.chord.Chord.{Chord}
 use Rattle.abc_scan.specs.declared.chord_part.ChordPartKind.{ChordPartKind}

@@ -1,7 +1,7 @@
 -- Notes as they sound.
 use Rattle.std.specs.Prelude.{ℕ, Bool, true, false, is_none, if◌then◌else◌, Option, List, [], ◌∷◌, ◌++◌}
-use Rattle.abc_fields.specs.declared.fault.FaultCode.{FaultCode}
-use Rattle.abc_fields.specs.declared.fault.FaultCode.TheVariants.{BadLength, KeyRange}
+use Rattle.abc_fields.specs.declared.fault_code.FaultCode.{FaultCode}
+use Rattle.abc_fields.specs.declared.fault_code.FaultCode.TheVariants.{BadLength, KeyRange}
 use Rattle.abc_scan.specs.declared.length.WrittenLength.{WrittenLength}
 use Rattle.abc_scan.specs.declared.note.Note.{Note}
 use Rattle.abc_time.specs.declared.grains.Grains.{Grains}
@@ -11,7 +11,7 @@ use Rattle.abc_bars_items.specs.declared.item.Tone.{Tone}
 use Rattle.abc_bars_voice.specs.declared.voice_state.VoiceState.{VoiceState}
 use Rattle.abc_bars_notes.specs.declared.sound.NoteContext.{NoteContext}
 use Rattle.abc_bars_notes.specs.declared.sound.ChordBuilder.{ChordBuilder}
-use Rattle.abc_bars_voice.specs.declared.tied.TiedNote.{TiedNote}
+use Rattle.abc_bars_voice.specs.declared.tied_note.TiedNote.{TiedNote}
 use Rattle.abc_bars_voice.specs.Alteration.{alteration_of, with_own}
 use Rattle.abc_bars_notes.specs.Lengths.{length_or_unit, texts_of}
 use Rattle.abc_bars_notes.specs.Pitch.{midi_key, pitch_of}

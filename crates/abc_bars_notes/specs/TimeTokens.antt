@@ -1,7 +1,7 @@
 -- Notes, chords and rests: what each gives and what it leaves for its voice.
 use Rattle.std.specs.Prelude.{ℕ, ◌==◌, Bool, true, false, not, ◌&&◌, if◌then◌else◌, None, is_none, List, [], ◌∷◌, ◌++◌, length}
-use Rattle.abc_fields.specs.declared.fault.FaultCode.{FaultCode}
-use Rattle.abc_fields.specs.declared.fault.FaultCode.TheVariants.{BadLength, EmptyChord, KeyRange}
+use Rattle.abc_fields.specs.declared.fault_code.FaultCode.{FaultCode}
+use Rattle.abc_fields.specs.declared.fault_code.FaultCode.TheVariants.{BadLength, EmptyChord, KeyRange}
 use Rattle.abc_scan.specs.declared.chord.Chord.{Chord}
 use Rattle.abc_scan.specs.declared.length.WrittenLength.{WrittenLength}
 use Rattle.abc_scan.specs.declared.note.Note.{Note}
@@ -20,7 +20,7 @@ use Rattle.abc_bars_notes.specs.Sound.{fault_if, length_in, no_notes, with_note}
 use Rattle.abc_bars_notes.specs.TokenRole.{has_note}
 use Rattle.abc_bars_voice.specs.Alteration.{with_own}
 use Rattle.abc_bars_voice.specs.Tuplet.{count_down}
-use Rattle.abc_bars_voice.specs.declared.tied.TiedNote.{TiedNote}
+use Rattle.abc_bars_voice.specs.declared.tied_note.TiedNote.{TiedNote}
 
 -- The state of the voice after a token, and what the token gives.
 pub record TimeTokenResult : Type 0 where

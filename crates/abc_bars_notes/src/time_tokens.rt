@@ -2,7 +2,7 @@
 
 ghost use Rattle.std.specs.Prelude.{◌≡◌, ℕ, List, ◌∷◌, ◌++◌, [], false, All, IfOk, IsTrue, None, OnErr, OnOk, is_none, unwrap_or};
 ghost use Rattle.abc_time.specs.declared.ratio.Ratio.{Ratio};
-ghost use Rattle.abc_fields.specs.declared.fault.FaultCode.TheVariants.{BadLength, EmptyChord, KeyRange};
+ghost use Rattle.abc_fields.specs.declared.fault_code.FaultCode.TheVariants.{BadLength, EmptyChord, KeyRange};
 ghost use Rattle.abc_bars_items.specs.Column.{column_of};
 ghost use Rattle.abc_bars_items.specs.Item.{AreTones, IsTone, IsWithinLongest, append_faults, append_item};
 ghost use Rattle.abc_bars_notes.specs.Sound.{fault_if, length_in, tied_note_in, tone_in};

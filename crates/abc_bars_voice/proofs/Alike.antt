@@ -7,23 +7,23 @@ use Rattle.abc_fields.specs.declared.signature.Signature.{Signature}
 use Rattle.abc_text.specs.contracts.letter.Letter.{the_type}
 use Rattle.abc_text.specs.declared.letter.Letter.{Letter}
 use Rattle.abc_bars_voice.specs.declared.accidentals.LetterAccidentals.{LetterAccidentals}
-use Rattle.abc_bars_voice.specs.declared.tied.TiedNote.{TiedNote}
-use Rattle.abc_bars_voice.specs.Equality.{Equality, by_parts, options, pairs, sevens, threes, wholes}
+use Rattle.abc_bars_voice.specs.declared.tied_note.TiedNote.{TiedNote}
+use Rattle.abc_bars_voice.specs.Equality.{Equality, by_parts, options, pairs, sevens, threes, integers}
 
 -- What `==` compares of a signature, of a shift and of a tied note.
 abbrev pub signatures : Equality Signature
-signatures = by_parts (sevens wholes) (λ s. (s.a, (s.b, (s.c, (s.d, (s.e, (s.f, s.g)))))))
+signatures = by_parts (sevens integers) (λ s. (s.a, (s.b, (s.c, (s.d, (s.e, (s.f, s.g)))))))
     (λ p. record { a = p.0; b = p.1.0; c = p.1.1.0; d = p.1.1.1.0; e = p.1.1.1.1.0; f = p.1.1.1.1.1.0; g = p.1.1.1.1.1.1 }) (λ _. refl)
 
 abbrev pub shifts : Equality Shift
 shifts =
-    by_parts (threes (options wholes)) (λ s. (s.clef, (s.octave, s.transpose))) (λ p. record { clef = p.0; octave = p.1.0; transpose = p.1.1 }) (λ _. refl)
+    by_parts (threes (options integers)) (λ s. (s.clef, (s.octave, s.transpose))) (λ p. record { clef = p.0; octave = p.1.0; transpose = p.1.1 }) (λ _. refl)
 
 abbrev letters : Equality Letter
 letters = record { same = sameb the_type; exact = λ a b. (same_true the_type tt a b, true_same the_type a b) }
 
 abbrev pub tied_notes : Equality TiedNote
-tied_notes = by_parts (pairs wholes (pairs letters wholes)) (λ t. (t.octave, (t.letter, t.alteration)))
+tied_notes = by_parts (pairs integers (pairs letters integers)) (λ t. (t.octave, (t.letter, t.alteration)))
     (λ p. record { octave = p.0; letter = p.1.0; alteration = p.1.1 }) (λ _. refl)
 
 -- Accidentals that alter each letter in the same way are equal.

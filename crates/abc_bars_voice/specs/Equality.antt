@@ -17,8 +17,8 @@ pub record Equality (A : Type 0) : Type 0 where
   pub exact : (a b : A) → Decides (same a b) (a ≡ b)
 
 -- Whole numbers.
-abbrev pub wholes : Equality ℤ
-wholes = record { same = int_eq; exact = signed_Decides }
+abbrev pub integers : Equality ℤ
+integers = record { same = int_eq; exact = signed_Decides }
 
 module _ {A B : Type 0} (first : Equality A) (second : Equality B) where
   abbrev pub same_pair : A × B → A × B → Bool

@@ -6,7 +6,7 @@ use Rattle.std.specs.Int.Signed.{◌<ℤ◌}
 use Rattle.std.specs.Map.{lookup}
 use Rattle.std.specs.Ordering.{int_cmp}
 use Rattle.abc_bars_voice.specs.declared.accidentals.LetterAccidentals.{LetterAccidentals}
-use Rattle.abc_bars_voice.specs.Equality.{Equality, by_parts, lists, options, pairs, sevens, wholes}
+use Rattle.abc_bars_voice.specs.Equality.{Equality, by_parts, lists, options, pairs, sevens, integers}
 
 -- The number of the group of an octave.
 abbrev pub group_of : ℤ → ℤ
@@ -48,7 +48,7 @@ AreGrouped (group ∷ groups) = AllAbove group.0 groups × LieIn group.0 group.1
 
 -- The accidentals on letters, letter by letter.
 abbrev pub letters_equality : Equality LetterAccidentals
-letters_equality = by_parts (sevens (options wholes)) (λ l. (l.c, (l.d, (l.e, (l.f, (l.g, (l.a, l.b)))))))
+letters_equality = by_parts (sevens (options integers)) (λ l. (l.c, (l.d, (l.e, (l.f, (l.g, (l.a, l.b)))))))
     (λ p. record {
       c = p.0;
       d = p.1.0;
@@ -61,4 +61,4 @@ letters_equality = by_parts (sevens (options wholes)) (λ l. (l.c, (l.d, (l.e, (
 
 -- The accidentals of octaves, octave by octave.
 abbrev pub octaves_equality : Equality (List (ℤ × LetterAccidentals))
-octaves_equality = lists (pairs wholes letters_equality)
+octaves_equality = lists (pairs integers letters_equality)

@@ -4,7 +4,7 @@ ghost use Rattle.std.specs.Prelude.{◌≡◌, OnErr, OnOk};
 ghost use Rattle.abc_bars_voice.specs.Alteration.{alteration_of, goes_on_in, own_alteration, tied_alteration, with_own};
 
 use crate::accidentals::Accidentals;
-use crate::tied::TiedNote;
+use crate::tied_note::TiedNote;
 use crate::voice_state::VoiceState;
 use abc_fields::alteration;
 use abc_scan::Note;

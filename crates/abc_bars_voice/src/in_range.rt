@@ -1,7 +1,7 @@
 //! Values of fields within their bounds.
 
 ghost use Rattle.std.specs.Prelude.{◌≡◌, List, Result, IfOk, ℕ};
-ghost use Rattle.abc_fields.specs.declared.fault.FaultCode.{FaultCode as Fault};
+ghost use Rattle.abc_fields.specs.declared.fault_code.FaultCode.{FaultCode as Fault};
 
 use abc_fields::FaultCode;
 use std::alloc::AllocError;

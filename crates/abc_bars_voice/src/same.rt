@@ -3,10 +3,10 @@
 ghost use Rattle.std.specs.Prelude.{◌≡◌, ◌↔◌, IsTrue};
 
 use crate::accidentals::{Accidentals, LetterAccidentals};
-use crate::meter::TuneMeter;
-use crate::tempo::TuneTempo;
-use crate::tied::TiedNote;
-use crate::unit::UnitLength;
+use crate::tied_note::TiedNote;
+use crate::tune_meter::TuneMeter;
+use crate::tune_tempo::TuneTempo;
+use crate::unit_length::UnitLength;
 use crate::voice_shift::VoiceShift;
 use crate::voice_state::VoiceState;
 use abc_fields::{Shift, Signature};

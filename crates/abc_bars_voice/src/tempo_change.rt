@@ -4,8 +4,8 @@ ghost use Rattle.std.specs.Prelude.{◌≡◌};
 ghost use Rattle.abc_bars_items.specs.Item.{IsItem};
 ghost use Rattle.abc_bars_voice.specs.TempoItem.{is_out_of_range, tempo_item};
 
-use crate::tempo::TuneTempo;
-use crate::unit::UnitLength;
+use crate::tune_tempo::TuneTempo;
+use crate::unit_length::UnitLength;
 use abc_bars_items::Item;
 use abc_fields::Tempo;
 

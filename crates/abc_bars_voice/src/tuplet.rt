@@ -5,8 +5,8 @@ ghost use Rattle.abc_bars_voice.specs.Tuplet.{is_tuplet_number, is_compound, def
 ghost use Rattle.abc_bars_voice.specs.Tuplet.{count_down, tuplet_ratio};
 ghost use Rattle.abc_time.specs.Ratio.{IsRatio};
 
-use crate::meter::TuneMeter;
 use crate::same::Same;
+use crate::tune_meter::TuneMeter;
 use abc_fields::{FaultCode, Meter};
 use abc_scan::Tuplet;
 use abc_time::Ratio;

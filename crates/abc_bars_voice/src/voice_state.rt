@@ -4,10 +4,10 @@ ghost use Rattle.std.specs.Prelude.{◌≡◌};
 ghost use Rattle.abc_bars_voice.specs.VoiceState.{without_accidentals};
 
 use crate::accidentals::Accidentals;
-use crate::meter::TuneMeter;
-use crate::tied::TiedNote;
+use crate::tied_note::TiedNote;
+use crate::tune_meter::TuneMeter;
 use crate::tuplet::OpenTuplet;
-use crate::unit::UnitLength;
+use crate::unit_length::UnitLength;
 use crate::voice_shift::VoiceShift;
 use abc_fields::Signature;
 use abc_scan::Dynamic;

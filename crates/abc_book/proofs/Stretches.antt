@@ -4,7 +4,7 @@ use Rattle.std.specs.Prelude.{nat_le, nat_lt}
 use Rattle.std.proofs.lemmas.Bool.{lt-ltb, le-ltb, le-leb, lt-leb}
 use Rattle.std.proofs.lemmas.List.{append-nil, length-append}
 use Rattle.std.proofs.lemmas.List.Elements.{filter-append}
-use Rattle.abc_scan.specs.declared.class.LineClass.{LineClass}
+use Rattle.abc_scan.specs.declared.line_class.LineClass.{LineClass}
 use Rattle.abc_book.specs.declared.block.Block.{Block}
 use Rattle.abc_book.specs.Block.{blocks_of}
 use Rattle.abc_book.specs.Laws.{move_block, RiseFromTo}

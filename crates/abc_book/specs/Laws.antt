@@ -1,8 +1,8 @@
 -- Laws of the blocks of every text.
 use Rattle.std.specs.Prelude.{◌≡◌, ℕ, ◌+◌, ◌<◌, ◌≤◌, ◌↔◌, Bool, ◌&&◌, nat_le, nat_lt, IsTrue, Some, List, [], ◌∷◌, ◌++◌, length}
 use Rattle.std.specs.Prelude.{map, All, count_by, slice_get}
-use Rattle.abc_scan.specs.declared.class.LineClass.{LineClass}
-use Rattle.abc_scan.specs.declared.class.LineClass.TheVariants.{Blank, Comment, Field}
+use Rattle.abc_scan.specs.declared.line_class.LineClass.{LineClass}
+use Rattle.abc_scan.specs.declared.line_class.LineClass.TheVariants.{Blank, Comment, Field}
 use Rattle.abc_book.specs.declared.block.Block.{Block}
 use Rattle.abc_book.specs.declared.block.BlockKind.TheVariants.{Tune}
 use Rattle.abc_book.specs.declared.pass.OpenBlock.TheVariants.{Nothing}

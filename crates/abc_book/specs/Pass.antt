@@ -1,7 +1,7 @@
 -- The blocks of a text by one recursion over its lines.
 use Rattle.std.specs.Prelude.{ℕ, ◌+◌, List, [], ◌∷◌, ◌++◌, if◌then◌else◌, ◌==◌}
-use Rattle.abc_scan.specs.declared.class.LineClass.{LineClass}
-use Rattle.abc_scan.specs.declared.class.LineClass.TheVariants.{Blank, Comment, Field, Directive, Music}
+use Rattle.abc_scan.specs.declared.line_class.LineClass.{LineClass}
+use Rattle.abc_scan.specs.declared.line_class.LineClass.TheVariants.{Blank, Comment, Field, Directive, Music}
 use Rattle.abc_book.specs.declared.block.Block.{Block}
 use Rattle.abc_book.specs.declared.block.BlockKind.{BlockKind}
 use Rattle.abc_book.specs.declared.block.BlockKind.TheVariants.{FileHeader, Tune, Free}

@@ -1,6 +1,6 @@
 -- The stretch of a text that an edit changes, and the blocks after the edit. Not in ABC 2.1.
 use Rattle.std.specs.Prelude.{◌≡◌, ◌⊎◌, ℕ, ◌+◌, ◌-◌, IsTrue, nat_le, nat_lt, List, [], ◌∷◌, ◌++◌, filter, length, map}
-use Rattle.abc_scan.specs.declared.class.LineClass.{LineClass}
+use Rattle.abc_scan.specs.declared.line_class.LineClass.{LineClass}
 use Rattle.abc_book.specs.declared.block.Block.{Block}
 use Rattle.abc_book.specs.Block.{is_x_line, blocks_of}
 use Rattle.abc_book.specs.Laws.{move_block}

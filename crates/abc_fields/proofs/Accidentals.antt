@@ -13,7 +13,7 @@ use Rattle.abc_text.specs.declared.letter.Letter.{Letter}
 use Rattle.abc_text.specs.Accidental.{spelling as spelled, accidental_of}
 use Rattle.abc_text.specs.Letter.{letter_of}
 use Rattle.abc_text.proofs.Letters.{accidental_of-is, letter_exact}
-use Rattle.abc_fields.specs.declared.accidental.Change.{Change}
+use Rattle.abc_fields.specs.declared.accidental.SignatureChange.{SignatureChange}
 use Rattle.abc_fields.specs.Accidental.{is_letter, and_change, at_letter, changes_with, changes_of}
 use Rattle.abc_fields.specs.Spelling.Accidental.{IsChange, AreChanges}
 use Rattle.abc_fields.proofs.Readings.{bound, map_some}
@@ -22,10 +22,10 @@ abbrev first : List ℕ → ℕ
 first text = position_or_len is_letter text
 
 -- the changes of a text that begins with a known letter after a known accidental
-abbrev Following : Option Accidental → Option (List Change) → Letter → Option (List Change)
+abbrev Following : Option Accidental → Option (List SignatureChange) → Letter → Option (List SignatureChange)
 Following accidental following letter = option_and_then (and_change letter following) accidental
 
-abbrev Read : List ℕ → List ℕ → ℕ → Option (List Change)
+abbrev Read : List ℕ → List ℕ → ℕ → Option (List SignatureChange)
 Read text marks n = option_and_then (Following (accidental_of (marks ++ take n text)) (changes_of (drop (n + 1) text))) (letter_of (get_or text n 0))
 
 letter_there : (o : Option Letter) → is_some o ≡ true → (letter : Letter) × (o ≡ Some letter)
@@ -88,7 +88,7 @@ change_at text at e =
     let found = cond_some (ltb (first text) (length text)) (first text) at (sym e) in
     subst (λ n. changes_with text [] ≡ Read text [] n) found.1 (marks_first text [] (ltb-true _ _ found.0))
 
-none_after : (following : Option (List Change)) (o : Option Letter) → option_and_then (Following None following) o ≡ None
+none_after : (following : Option (List SignatureChange)) (o : Option Letter) → option_and_then (Following None following) o ≡ None
 none_after following None = refl
 none_after following (Some letter) = refl
 
@@ -111,15 +111,15 @@ change_first text at accidental letter e is known =
     ∙ ap (option_and_then (Following (Some accidental) (changes_of (drop (at + 1) text)))) (sym known)
 
 -- changes are read as they are written
-record First (text : List ℕ) (changes : List Change) : Type 0 where
-  change : Change
-  more : List Change
+record First (text : List ℕ) (changes : List SignatureChange) : Type 0 where
+  change : SignatureChange
+  more : List SignatureChange
   rest : List ℕ
   here : IsChange text change rest
   there : changes_of rest ≡ Some more
   are : changes ≡ change ∷ more
 
-first_of_changes : (text : List ℕ) (changes : List Change) → changes_of text ≡ Some changes → ((text ≡ []) × (changes ≡ [])) ⊎ First text changes
+first_of_changes : (text : List ℕ) (changes : List SignatureChange) → changes_of text ≡ Some changes → ((text ≡ []) × (changes ≡ [])) ⊎ First text changes
 unfolding changes_of
 first_of_changes [] changes e = inl (refl, cc)
 first_of_changes (b ∷ bs) changes e = ⊎_elim
@@ -129,8 +129,8 @@ first_of_changes (b ∷ bs) changes e = ⊎_elim
     let following = changes_of (drop (at + 1) text) in
     let letter = bound (Following (accidental_of (take at text)) following) (letter_of (get_or text at 0)) changes (sym (marks_first text [] inside) ∙ e) in
     let accidental = bound (and_change letter.0 following) (accidental_of (take at text)) changes letter.2 in
-    let change : Change = record { accidental = accidental.0; letter = letter.0 } in
-    let more = map_some (λ (more : List Change). change ∷ more) following changes accidental.2 in
+    let change : SignatureChange = record { accidental = accidental.0; letter = letter.0 } in
+    let more = map_some (λ (more : List SignatureChange). change ∷ more) following changes accidental.2 in
     inr record {
       change = change;
       more = more.0;
@@ -146,7 +146,7 @@ first_of_changes (b ∷ bs) changes e = ⊎_elim
     (λ past. let none : None ≡ Some changes = sym (no_letter (b ∷ bs) [] past (omega arith)) ∙ e in cc)
     (cases_lt (first (b ∷ bs)) (length (b ∷ bs)))
 
-changes_read : (changes : List Change) (text : List ℕ) → changes_of text ≡ Some changes → AreChanges text changes
+changes_read : (changes : List SignatureChange) (text : List ℕ) → changes_of text ≡ Some changes → AreChanges text changes
 changes_read [] text e = ⊎_elim (λ h. h.0) (λ h. absurd (let are : [] ≡ h.change ∷ h.more = h.are in cc)) (first_of_changes text [] e)
 changes_read (change ∷ changes) text e = ⊎_elim
     (λ h. absurd (let no : change ∷ changes ≡ [] = h.1 in cc))
@@ -166,13 +166,13 @@ known_by Natural byte letter rest e = ap (λ o. at_letter o (Some Natural) (chan
 known_by Sharp byte letter rest e = ap (λ o. at_letter o (Some Sharp) (changes_with rest []) (changes_with rest (codes "^" ++ byte ∷ []))) e
 known_by DoubleSharp byte letter rest e = ap (λ o. at_letter o (Some DoubleSharp) (changes_with rest []) (changes_with rest (codes "^^" ++ byte ∷ []))) e
 
-change_known : (text : List ℕ) (change : Change) (rest : List ℕ) → IsChange text change rest → changes_of text ≡ and_change change.letter (changes_of rest) change.accidental
+change_known : (text : List ℕ) (change : SignatureChange) (rest : List ℕ) → IsChange text change rest → changes_of text ≡ and_change change.letter (changes_of rest) change.accidental
 change_known text change rest is = ap changes_of is.spelling ∙ known_by change.accidental is.byte change.letter rest ((letter_exact is.byte change.letter).1 is.letter)
 
-changes_known : (changes : List Change) (text : List ℕ) → AreChanges text changes → changes_of text ≡ Some changes
+changes_known : (changes : List SignatureChange) (text : List ℕ) → AreChanges text changes → changes_of text ≡ Some changes
 unfolding changes_of
 changes_known [] text are = ap changes_of are
 changes_known (change ∷ changes) text are = change_known text change are.0 are.1 ∙ ap (λ more. and_change change.letter more change.accidental) (changes_known changes are.0 are.2)
 
-pub changes_exact : (text : List ℕ) (changes : List Change) → (changes_of text ≡ Some changes) ↔ AreChanges text changes
+pub changes_exact : (text : List ℕ) (changes : List SignatureChange) → (changes_of text ≡ Some changes) ↔ AreChanges text changes
 changes_exact text changes = (changes_read changes text, changes_known changes text)

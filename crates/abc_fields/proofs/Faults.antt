@@ -1,9 +1,9 @@
 -- Each fault has a number of its own.
 use Rattle.std.proofs.Common.{◌≡◌, ℕ, ◌-◌, List, [], ◌∷◌, get_or, refl, sym, ap, ◌∙◌}
-use Rattle.abc_fields.specs.declared.fault.FaultCode.{FaultCode}
-use Rattle.abc_fields.specs.declared.fault.FaultCode.TheVariants.{BadReference, BadMeter, BadUnit, BadTempo, BadKey, BadOrder, BadPart, BadVoice, TooManyVoices, BadByte, Unclosed, BadLength}
-use Rattle.abc_fields.specs.declared.fault.FaultCode.TheVariants.{BadTuplet, NestedTuplet, BadBroken, LooseTie, EmptyChord, BigChord, BadEnding, FreeBarRest, KeyRange, MissingKey, TempoRange}
-use Rattle.abc_fields.specs.declared.fault.FaultCode.TheVariants.{UnknownPart, UnevenVoices, TuneTooLong, BadProgram}
+use Rattle.abc_fields.specs.declared.fault_code.FaultCode.{FaultCode}
+use Rattle.abc_fields.specs.declared.fault_code.FaultCode.TheVariants.{BadReference, BadMeter, BadUnit, BadTempo, BadKey, BadOrder, BadPart, BadVoice, TooManyVoices, BadByte, Unclosed, BadLength}
+use Rattle.abc_fields.specs.declared.fault_code.FaultCode.TheVariants.{BadTuplet, NestedTuplet, BadBroken, LooseTie, EmptyChord, BigChord, BadEnding, FreeBarRest, KeyRange, MissingKey, TempoRange}
+use Rattle.abc_fields.specs.declared.fault_code.FaultCode.TheVariants.{UnknownPart, UnevenVoices, TuneTooLong, BadProgram}
 use Rattle.abc_fields.specs.Fault.{number_of}
 
 in_order : List FaultCode

@@ -11,9 +11,9 @@ use Rattle.std.proofs.Math.Nat.{pow-suc, pow-le-pow_right}
 use Rattle.abc_text.proofs.Decimals.{digit_range}
 use Rattle.abc_fields.specs.declared.parts.LastItem.{LastItem}
 use Rattle.abc_fields.specs.declared.parts.LastItem.TheVariants.{Nothing, Item}
-use Rattle.abc_fields.specs.declared.parts.Place.{Place}
+use Rattle.abc_fields.specs.declared.parts.OrderState.{OrderState}
 use Rattle.abc_fields.specs.Parts.{is_ignored, order_bytes, ends_item, begins_item, with_digit, place_at, following_digit, next, next_of, ends_order, is_order, parts_of}
-use Rattle.abc_fields.specs.Letters.{Played, nothing_played, count_or_once, letters_so_far, with_item, close_group, count_on, play_on, letters_of, is_order_byte, read_on, front_of}
+use Rattle.abc_fields.specs.Letters.{OrderLetters, nothing_played, count_or_once, letters_so_far, with_item, close_group, count_on, play_on, letters_of, is_order_byte, read_on, front_of}
 use Rattle.abc_fields.proofs.LetterLaws.{plays_letter, plays_open, plays_close, plays_digit}
 use Rattle.abc_fields.proofs.Orders.{order_lost, begins_too, positive_step, guarded_digit, Follows, by_letter, by_open, by_close, by_digit, follows, accepts}
 
@@ -25,13 +25,13 @@ CountFits (Item digits positive) None = (digits ≡ 0) × (positive ≡ false)
 CountFits (Item digits positive) (Some n) = (0 < digits) × (digits ≤ 9) × (n < 10 ^ digits) × (positive ≡ ltb 0 n)
 
 -- the play of the front is at this place
-record Fits (place : Place) (played : Played) : Type 0 where
+record Fits (place : OrderState) (played : OrderLetters) : Type 0 where
   groups : length played.around ≡ place.depth
   few : place.depth ≤ 32
   counted : CountFits place.before played.count
 
 -- the state before a byte that an order has there
-pub record Accepts (played : Played) (b : ℕ) : Type 0 where
+pub record Accepts (played : OrderLetters) (b : ℕ) : Type 0 where
   pub room : b ≡ 40 → length played.around < 32
   pub short : is_ascii_digit b ≡ true → count_on played.count b < 10 ^ 9
   pub counted : is_order_byte b ≡ true → is_ascii_digit b ≡ false → 0 < count_or_once played.count
@@ -72,9 +72,9 @@ short_count digits positive n fits =
     omega (arith, below, wide)
 
 -- the step: the state before a byte and after it
-record Step (place : Place) (played : Played) (b : ℕ) (rest : List ℕ) : Type 0 where
+record Step (place : OrderState) (played : OrderLetters) (b : ℕ) (rest : List ℕ) : Type 0 where
   accepts_it : Accepts played b
-  following : Place
+  following : OrderState
   fits_after : Fits following (read_on played b)
   ends_after : ends_order (fold next_of (Some following) (order_bytes rest)) ≡ true
   reads : fold play_on played (order_bytes (b ∷ rest)) ≡ fold play_on (read_on played b) (order_bytes rest)
@@ -96,7 +96,7 @@ order_digit b digit = or_right _ (is_ascii_digit b) digit
 silent_byte : (b : ℕ) → is_ignored b ≡ true → is_order_byte b ≡ false
 silent_byte b ignored = grind (arith, nat_tests)
 
-ignored_step : (place : Place) (played : Played) (b : ℕ) (rest : List ℕ) → Fits place played → is_ignored b ≡ true
+ignored_step : (place : OrderState) (played : OrderLetters) (b : ℕ) (rest : List ℕ) → Fits place played → is_ignored b ≡ true
     → ends_order (fold next_of (Some place) (order_bytes (b ∷ rest))) ≡ true → Step place played b rest
 unfolding read_on
 ignored_step place played b rest fits ignored ends =
@@ -116,24 +116,24 @@ ignored_step place played b rest fits ignored ends =
     }
 
 -- the effect of each byte of a text
-pub reads_silent : (played : Played) (b : ℕ) → is_order_byte b ≡ false → read_on played b ≡ played
+pub reads_silent : (played : OrderLetters) (b : ℕ) → is_order_byte b ≡ false → read_on played b ≡ played
 unfolding read_on
 reads_silent played b silent = ap (λ t. cond t (play_on played b) played) silent
 
-reads_order : (played : Played) (b : ℕ) → is_order_byte b ≡ true → read_on played b ≡ play_on played b
+reads_order : (played : OrderLetters) (b : ℕ) → is_order_byte b ≡ true → read_on played b ≡ play_on played b
 unfolding read_on
 reads_order played b says = ap (λ t. cond t (play_on played b) played) says
 
-pub reads_letter : (played : Played) (b : ℕ) → is_ascii_uppercase b ≡ true → read_on played b ≡ with_item played.around (letters_so_far played) (b ∷ [])
+pub reads_letter : (played : OrderLetters) (b : ℕ) → is_ascii_uppercase b ≡ true → read_on played b ≡ with_item played.around (letters_so_far played) (b ∷ [])
 reads_letter played b upper = reads_order played b (order_letter b upper) ∙ plays_letter played b upper
 
-pub reads_open : (played : Played) → read_on played 40 ≡ with_item (letters_so_far played ∷ played.around) [] []
+pub reads_open : (played : OrderLetters) → read_on played 40 ≡ with_item (letters_so_far played ∷ played.around) [] []
 reads_open played = reads_order played 40 refl ∙ plays_open played
 
-pub reads_close : (played : Played) → read_on played 41 ≡ close_group played.around (letters_so_far played)
+pub reads_close : (played : OrderLetters) → read_on played 41 ≡ close_group played.around (letters_so_far played)
 reads_close played = reads_order played 41 refl ∙ plays_close played
 
-pub reads_digit : (played : Played) (b : ℕ) → is_ascii_digit b ≡ true → read_on played b ≡ record played { count = Some (count_on played.count b) }
+pub reads_digit : (played : OrderLetters) (b : ℕ) → is_ascii_digit b ≡ true → read_on played b ≡ record played { count = Some (count_on played.count b) }
 reads_digit played b digit = reads_order played b (order_digit b digit) ∙ plays_digit played b digit
 
 pub upper_between : (b : ℕ) → 65 ≤ b → b ≤ 90 → is_ascii_uppercase b ≡ true
@@ -152,7 +152,7 @@ pub silent_high : (b : ℕ) → 90 < b → is_order_byte b ≡ false
 silent_high b high = grind (arith, nat_tests)
 
 -- a byte that leads on
-record Leads (played : Played) (b : ℕ) (after : Place) : Type 0 where
+record Leads (played : OrderLetters) (b : ℕ) (after : OrderState) : Type 0 where
   says : is_order_byte b ≡ true
   accepts_it : Accepts played b
   fits_after : Fits after (play_on played b)
@@ -163,7 +163,8 @@ not_digit_upper b upper = grind (arith, nat_tests)
 not_open_upper : (b : ℕ) → is_ascii_uppercase b ≡ true → b ≡ 40 → ⊥
 not_open_upper b upper e = both_ways (is_ascii_uppercase b) (subst (λ k. is_ascii_uppercase k ≡ false) (sym e) refl) upper
 
-letter_leads : (place : Place) (played : Played) (b : ℕ) → Fits place played → is_ascii_uppercase b ≡ true → begins_item place.before ≡ true → Leads played b (place_at place.depth (Item 0 false))
+letter_leads : (place : OrderState) (played : OrderLetters) (b : ℕ) → Fits place played → is_ascii_uppercase b ≡ true → begins_item place.before ≡ true
+    → Leads played b (place_at place.depth (Item 0 false))
 letter_leads place played b fits upper begins = record {
   says = order_letter b upper;
   accepts_it = record {
@@ -175,7 +176,7 @@ letter_leads place played b fits upper begins = record {
       subst (Fits (place_at place.depth (Item 0 false))) (sym (plays_letter played b upper)) (record { groups = fits.groups; few = fits.few; counted = (refl, refl) });
 }
 
-open_leads : (place : Place) (played : Played) → Fits place played → begins_item place.before ≡ true → place.depth < 32 → Leads played 40 (place_at (place.depth + 1) Nothing)
+open_leads : (place : OrderState) (played : OrderLetters) → Fits place played → begins_item place.before ≡ true → place.depth < 32 → Leads played 40 (place_at (place.depth + 1) Nothing)
 open_leads place played fits begins room = record {
   says = refl;
   accepts_it = record {
@@ -191,7 +192,7 @@ closed_fits : (depth : ℕ) (around : List (List ℕ)) (item : List ℕ) → len
 closed_fits depth [] item groups few some = absurd (omega arith)
 closed_fits depth (before ∷ around) item groups few some = record { groups = omega arith; few = omega arith; counted = (refl, refl) }
 
-close_leads : (place : Place) (played : Played) → Fits place played → ends_item place.before ≡ true → 0 < place.depth → Leads played 41 (place_at (place.depth - 1) (Item 0 false))
+close_leads : (place : OrderState) (played : OrderLetters) → Fits place played → ends_item place.before ≡ true → 0 < place.depth → Leads played 41 (place_at (place.depth - 1) (Item 0 false))
 close_leads place played fits ends some = record {
   says = refl;
   accepts_it = record {
@@ -206,7 +207,7 @@ close_leads place played fits ends some = record {
 not_open_digit : (b : ℕ) → is_ascii_digit b ≡ true → b ≡ 40 → ⊥
 not_open_digit b digit e = both_ways (is_ascii_digit b) (subst (λ k. is_ascii_digit k ≡ false) (sym e) refl) digit
 
-digit_leads : (depth : ℕ) (before : LastItem) (played : Played) (b : ℕ) (after : Place) → Fits (place_at depth before) played → is_ascii_digit b ≡ true
+digit_leads : (depth : ℕ) (before : LastItem) (played : OrderLetters) (b : ℕ) (after : OrderState) → Fits (place_at depth before) played → is_ascii_digit b ≡ true
     → following_digit depth (with_digit before b) ≡ Some after → Leads played b after
 digit_leads depth Nothing played b after fits digit e = cc
 digit_leads depth (Item digits positive) played b after fits digit e =
@@ -225,7 +226,7 @@ digit_leads depth (Item digits positive) played b after fits digit e =
           (subst (Fits (place_at depth longer)) (sym (plays_digit played b digit)) (record { groups = fits.groups; few = fits.few; counted = counted }));
     }
 
-next_leads : (place : Place) (played : Played) (b : ℕ) (after : Place) → Fits place played → Follows place b after → Leads played b after
+next_leads : (place : OrderState) (played : OrderLetters) (b : ℕ) (after : OrderState) → Fits place played → Follows place b after → Leads played b after
 next_leads place played b after fits (by_letter upper begins to) = subst (Leads played b) to (letter_leads place played b fits upper begins)
 next_leads place played b after fits (by_open is begins few to) =
     subst (λ k. Leads played k after) (sym is) (subst (Leads played 40) to (open_leads place played fits begins few))
@@ -234,7 +235,7 @@ next_leads place played b after fits (by_close is ends some to) =
 next_leads place played b after fits (by_digit digit to) = digit_leads place.depth place.before played b after fits digit to
 
 -- a byte that is not ignored
-read_step : (place : Place) (played : Played) (b : ℕ) (rest : List ℕ) → Fits place played → is_ignored b ≡ false
+read_step : (place : OrderState) (played : OrderLetters) (b : ℕ) (rest : List ℕ) → Fits place played → is_ignored b ≡ false
     → ends_order (fold next_of (Some place) (order_bytes (b ∷ rest))) ≡ true → Step place played b rest
 unfolding read_on
 read_step place played b rest fits read ends =
@@ -255,7 +256,7 @@ read_step place played b rest fits read ends =
           }
     ] refl on
 
-one_step : (place : Place) (played : Played) (b : ℕ) (rest : List ℕ) → Fits place played
+one_step : (place : OrderState) (played : OrderLetters) (b : ℕ) (rest : List ℕ) → Fits place played
     → ends_order (fold next_of (Some place) (order_bytes (b ∷ rest))) ≡ true → Step place played b rest
 one_step place played b rest fits ends =
     elim (is_ignored b) as (λ t. is_ignored b ≡ t → Step place played b rest) [
@@ -264,7 +265,7 @@ one_step place played b rest fits ends =
     ] refl
 
 -- the places before each byte of an order
-accepts_from : (text : List ℕ) (place : Place) (played : Played) → Fits place played → ends_order (fold next_of (Some place) (order_bytes text)) ≡ true
+accepts_from : (text : List ℕ) (place : OrderState) (played : OrderLetters) → Fits place played → ends_order (fold next_of (Some place) (order_bytes text)) ≡ true
     → (i : ℕ) → i < length text → Accepts (fold read_on played (take i text)) (get_or text i 0)
 accepts_from [] place played fits ends i inside = absurd (omega arith)
 accepts_from (b ∷ text) place played fits ends zero inside = (one_step place played b text fits ends).accepts_it
@@ -273,7 +274,7 @@ accepts_from (b ∷ text) place played fits ends (suc i) inside =
     accepts_from text step.following (read_on played b) step.fits_after step.ends_after i (omega arith)
 
 -- the end of an order
-pub record Whole (played : Played) : Type 0 where
+pub record Whole (played : OrderLetters) : Type 0 where
   pub outside : played.around ≡ []
   pub counted : 0 < count_or_once played.count
 
@@ -281,7 +282,7 @@ no_groups : (around : List (List ℕ)) (depth : ℕ) → length around ≡ depth
 no_groups [] depth groups none = refl
 no_groups (x ∷ around) depth groups none = absurd (omega arith)
 
-whole_from : (text : List ℕ) (place : Place) (played : Played) → Fits place played → ends_order (fold next_of (Some place) (order_bytes text)) ≡ true
+whole_from : (text : List ℕ) (place : OrderState) (played : OrderLetters) → Fits place played → ends_order (fold next_of (Some place) (order_bytes text)) ≡ true
     → Whole (fold read_on played text) × (fold read_on played text ≡ fold play_on played (order_bytes text))
 whole_from [] place played fits ends =
     let both = and_parts (place.depth == 0) (ends_item place.before) ends in (

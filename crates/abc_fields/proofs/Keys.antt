@@ -7,18 +7,18 @@ use Rattle.std.specs.Str.{bytes_eq}
 use Rattle.std.proofs.lemmas.Bool.{cond-true, cond-false, or_cases, or_parts, or_from, false_from_ne_true, both_ways}
 use Rattle.std.proofs.lemmas.Int.{ints}
 use Rattle.std.proofs.lemmas.Slice.Eq.{bytes_eq-Decides}
-use Rattle.abc_fields.specs.declared.fault.FaultCode.{FaultCode}
-use Rattle.abc_fields.specs.declared.fault.FaultCode.TheVariants.{BadKey}
+use Rattle.abc_fields.specs.declared.fault_code.FaultCode.{FaultCode}
+use Rattle.abc_fields.specs.declared.fault_code.FaultCode.TheVariants.{BadKey}
 use Rattle.abc_fields.specs.declared.key.Key.{Key}
 use Rattle.abc_fields.specs.declared.signature.Signature.{Signature}
-use Rattle.abc_fields.specs.declared.tonic.Basis.{Basis}
-use Rattle.abc_fields.specs.declared.tonic.Basis.TheVariants.{Named, Explicit}
+use Rattle.abc_fields.specs.declared.tonic.KeyMode.{KeyMode}
+use Rattle.abc_fields.specs.declared.tonic.KeyMode.TheVariants.{Named, Explicit}
 use Rattle.abc_fields.specs.Listed.{with_accidentals}
 use Rattle.abc_fields.specs.Mode.{added_sharps, is_minor}
 use Rattle.abc_fields.specs.Shift.{IsSmallShift, no_shift, shift_of}
 use Rattle.abc_fields.specs.Spelling.Shift.{IsShift}
 use Rattle.abc_fields.specs.Signature.{IsSharps, IsSignature, signature_of}
-use Rattle.abc_fields.specs.Tonic.{tonic_at, basis_at}
+use Rattle.abc_fields.specs.Tonic.{tonic_at, key_mode_at}
 use Rattle.abc_fields.specs.Spelling.Tonic.{IsTonic}
 use Rattle.abc_text.specs.Letter.{letter_of}
 use Rattle.abc_text.specs.Word.{IsFirstWord, words_of}
@@ -30,7 +30,7 @@ use Rattle.abc_fields.specs.Spelling.Key.IsStart.{tonal, listed, properties}
 use Rattle.abc_fields.specs.Spelling.Key.IsKey.{nothing, spelled}
 use Rattle.abc_text.proofs.Words.{words_exact}
 use Rattle.abc_fields.proofs.Shifts.{shift_exact, shift_small}
-use Rattle.abc_fields.proofs.Tonics.{no_length, tonic_from, tonic_to, basis_from, basis_to}
+use Rattle.abc_fields.proofs.Tonics.{no_length, tonic_from, tonic_to, key_mode_from, key_mode_to}
 use Rattle.abc_fields.proofs.Starts.{begins_from, begins_to, sets_from, sets_to}
 use Rattle.abc_fields.proofs.Signatures.{natural_range, signature_of_range}
 use Rattle.abc_fields.proofs.Listings.{listed_from, listed_to, listed_range}
@@ -63,11 +63,11 @@ with_to : (sharps : ℤ) (minor : Bool) → IsSharps sharps → key_with sharps 
 unfolding key_with
 with_to sharps minor h = cond-false _ None (Some (key_of_sharps sharps minor)) (or_from (int_lt sharps (negsuc 6)) (int_lt (pos 7) sharps) (not_below sharps h) (not_above sharps h))
 
-key_on_from : (major : ℤ) (basis : Basis) (key : Key) → key_on major basis ≡ Some key → IsKeyOn major basis key
+key_on_from : (major : ℤ) (key_mode : KeyMode) (key : Key) → key_on major key_mode ≡ Some key → IsKeyOn major key_mode key
 key_on_from major Explicit key e = cc
 key_on_from major (Named mode) key e = with_from (major +ℤ added_sharps mode) (is_minor mode) key e
 
-key_on_to : (major : ℤ) (basis : Basis) (key : Key) → IsKeyOn major basis key → key_on major basis ≡ Some key
+key_on_to : (major : ℤ) (key_mode : KeyMode) (key : Key) → IsKeyOn major key_mode key → key_on major key_mode ≡ Some key
 key_on_to major Explicit key h = ap Some (sym h)
 key_on_to major (Named mode) key h = with_to (major +ℤ added_sharps mode) (is_minor mode) h.0 ∙ ap Some (sym h.1)
 
@@ -103,17 +103,17 @@ by_words value found (first ∷ rest) w toneless e =
     let start = map_some {A = Key} {B = Key × List ℕ} (λ key. (key, value)) (toneless_start first) found e in
     subst (λ (p : Key × List ℕ). IsStart value p.0 p.1) (sym start.2) (toneless_from value first is.0 start.0 toneless is.1 start.1)
 
-tonal_from : (value : List ℕ) (found : Key × List ℕ) (major : ℤ) (following : List ℕ) (o : Option (Basis × List ℕ)) → basis_at following ≡ o → IsTonic value major following
+tonal_from : (value : List ℕ) (found : Key × List ℕ) (major : ℤ) (following : List ℕ) (o : Option (KeyMode × List ℕ)) → key_mode_at following ≡ o → IsTonic value major following
     → tonal_start major o ≡ Some found → IsStart value found.0 found.1
 tonal_from value found major following None b is e = cc
-tonal_from value found major following (Some basis) b is e =
-    let key = map_some {A = Key} {B = Key × List ℕ} (λ key. (key, basis.1)) (key_on major basis.0) found e in
+tonal_from value found major following (Some key_mode) b is e =
+    let key = map_some {A = Key} {B = Key × List ℕ} (λ key. (key, key_mode.1)) (key_on major key_mode.0) found e in
     subst (λ (p : Key × List ℕ). IsStart value p.0 p.1) (sym key.2)
-    (tonal major following basis.0 is (basis_from following basis.0 basis.1 b) (key_on_from major basis.0 key.0 key.1))
+    (tonal major following key_mode.0 is (key_mode_from following key_mode.0 key_mode.1 b) (key_on_from major key_mode.0 key.0 key.1))
 
 by_tonic : (value : List ℕ) (found : Key × List ℕ) (o : Option (ℤ × List ℕ)) → tonic_at value ≡ o → start_by value o ≡ Some found → IsStart value found.0 found.1
 by_tonic value found None t e = by_words value found (words_of value) refl (no_tonic_from value t) e
-by_tonic value found (Some tonic) t e = tonal_from value found tonic.0 tonic.1 (basis_at tonic.1) refl (tonic_from value tonic.0 tonic.1 t) e
+by_tonic value found (Some tonic) t e = tonal_from value found tonic.0 tonic.1 (key_mode_at tonic.1) refl (tonic_from value tonic.0 tonic.1 t) e
 
 start_from : (value : List ℕ) (found : Key × List ℕ) → start_of value ≡ Some found → IsStart value found.0 found.1
 unfolding start_of
@@ -128,10 +128,10 @@ toneless_to value first following start toneless is e =
 
 start_to : (value : List ℕ) (start : Key) (text : List ℕ) → IsStart value start text → start_of value ≡ Some (start, text)
 unfolding start_of
-start_to value start text (tonal major following basis is b k) =
+start_to value start text (tonal major following key_mode is b k) =
     ap (start_by value) (tonic_to value major following is)
-    ∙ ap (tonal_start major) (basis_to following basis text b)
-    ∙ ap (option_map {T = Key} {U = Key × List ℕ} (λ key. (key, text))) (key_on_to major basis start k)
+    ∙ ap (tonal_start major) (key_mode_to following key_mode text b)
+    ∙ ap (option_map {T = Key} {U = Key × List ℕ} (λ key. (key, text))) (key_on_to major key_mode start k)
 start_to value start text (listed first following toneless is begins s t) =
     toneless_to value first following empty_key toneless is (cond-true (begins_accidental first) _ _ (begins_to first begins)) ∙ (λ i. Some (sym s i, sym t i))
 start_to value start text (properties first following toneless is other sets s t) =
@@ -237,12 +237,12 @@ no_shift_small = record { clef = tt; octave = tt; transpose = tt }
 pub no_key_range : IsInRange empty_key
 no_key_range = record { sharps = no_sharps; signature = natural_range; shift = no_shift_small }
 
-key_on_range : (major : ℤ) (basis : Basis) (key : Key) → IsKeyOn major basis key → IsInRange key
+key_on_range : (major : ℤ) (key_mode : KeyMode) (key : Key) → IsKeyOn major key_mode key → IsInRange key
 key_on_range major Explicit key h = subst IsInRange (sym h) no_key_range
 key_on_range major (Named mode) key h = subst IsInRange (sym h.1) (record { sharps = h.0; signature = signature_of_range (major +ℤ added_sharps mode); shift = no_shift_small })
 
 start_range : (value : List ℕ) (start : Key) (text : List ℕ) → IsStart value start text → IsInRange start
-start_range value start text (tonal major following basis is b k) = key_on_range major basis start k
+start_range value start text (tonal major following key_mode is b k) = key_on_range major key_mode start k
 start_range value start text (listed first following toneless is begins s t) = subst IsInRange (sym s) no_key_range
 start_range value start text (properties first following toneless is other sets s t) = subst IsInRange (sym s) (record { sharps = no_sharps; signature = tt; shift = no_shift_small })
 

@@ -8,23 +8,23 @@ use Rattle.std.proofs.lemmas.List.Elements.{All-head, All-tail}
 use Rattle.abc_text.specs.Number.{IsNumber}
 use Rattle.abc_text.proofs.Decimals.{digit_range}
 use Rattle.abc_fields.specs.Spelling.Parts.{IsCount, once, times, IsOrder, part, group, following, IsParts}
-use Rattle.abc_fields.specs.Letters.{Played, nothing_played, letters_so_far, with_item, close_group, count_on, play_on, letters_of}
+use Rattle.abc_fields.specs.Letters.{OrderLetters, nothing_played, letters_so_far, with_item, close_group, count_on, play_on, letters_of}
 use Rattle.abc_fields.proofs.Orders.{below_upper, number_after}
 
 -- the four kinds of bytes
-pub plays_letter : (played : Played) (letter : ℕ) → is_ascii_uppercase letter ≡ true → play_on played letter ≡ with_item played.around (letters_so_far played) (letter ∷ [])
+pub plays_letter : (played : OrderLetters) (letter : ℕ) → is_ascii_uppercase letter ≡ true → play_on played letter ≡ with_item played.around (letters_so_far played) (letter ∷ [])
 unfolding play_on
 plays_letter played letter upper = rw upper refl
 
-pub plays_open : (played : Played) → play_on played 40 ≡ with_item (letters_so_far played ∷ played.around) [] []
+pub plays_open : (played : OrderLetters) → play_on played 40 ≡ with_item (letters_so_far played ∷ played.around) [] []
 unfolding play_on
 plays_open played = refl
 
-pub plays_close : (played : Played) → play_on played 41 ≡ close_group played.around (letters_so_far played)
+pub plays_close : (played : OrderLetters) → play_on played 41 ≡ close_group played.around (letters_so_far played)
 unfolding play_on
 plays_close played = refl
 
-pub plays_digit : (played : Played) (b : ℕ) → is_ascii_digit b ≡ true → play_on played b ≡ record played { count = Some (count_on played.count b) }
+pub plays_digit : (played : OrderLetters) (b : ℕ) → is_ascii_digit b ≡ true → play_on played b ≡ record played { count = Some (count_on played.count b) }
 unfolding play_on
 plays_digit played b digit =
     let range = digit_range b digit in
@@ -34,7 +34,7 @@ plays_digit played b digit =
     rw (upper, opens, closes) refl
 
 -- a count
-abbrev counted : List (List ℕ) → List ℕ → List ℕ → ℕ → Played
+abbrev counted : List (List ℕ) → List ℕ → List ℕ → ℕ → OrderLetters
 counted around before item n = record { around = around; before = before; item = item; count = Some n }
 
 plays_digits : (digits : List ℕ) (around : List (List ℕ)) (before item : List ℕ) (n : ℕ) → AllPass is_ascii_digit digits
@@ -65,7 +65,7 @@ one_letter : (n letter : ℕ) → concat (replicate n (letter ∷ [])) ≡ repli
 one_letter zero letter = refl
 one_letter (suc n) letter = ap (λ letters. letter ∷ letters) (one_letter n letter)
 
-plays_order : {depth : ℕ} {text letters : List ℕ} → IsOrder depth text letters → (played : Played)
+plays_order : {depth : ℕ} {text letters : List ℕ} → IsOrder depth text letters → (played : OrderLetters)
     → ((fold play_on played text).around ≡ played.around) × (letters_so_far (fold play_on played text) ≡ letters_so_far played ++ letters)
 plays_order (part {depth} {letter} {n} {count} upper times_is) played =
     let begun = ap (λ p. fold play_on p count) (plays_letter played letter upper) in
@@ -73,7 +73,7 @@ plays_order (part {depth} {letter} {n} {count} upper times_is) played =
     (ap (λ p. p.around) begun ∙ rest.0, ap letters_so_far begun ∙ rest.1 ∙ ap (λ l. letters_so_far played ++ l) (one_letter n letter))
 plays_order (group {depth} {n} {inner} {count} {letters} few order times_is) played =
     let outside = letters_so_far played in
-    let begun : Played = with_item (outside ∷ played.around) [] [] in
+    let begun : OrderLetters = with_item (outside ∷ played.around) [] [] in
     let within = plays_order order begun in
     let last = fold play_on begun inner in
     let closed : play_on last 41 ≡ with_item played.around outside letters =

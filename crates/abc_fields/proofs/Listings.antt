@@ -5,7 +5,7 @@ use Rattle.std.proofs.lemmas.Int.{ints}
 use Rattle.abc_text.specs.declared.accidental.Accidental.{Accidental}
 use Rattle.abc_text.specs.declared.accidental.Accidental.TheVariants.{DoubleFlat, Flat, Natural, Sharp, DoubleSharp}
 use Rattle.abc_text.specs.Accidental.{alteration}
-use Rattle.abc_fields.specs.declared.accidental.Change.{Change}
+use Rattle.abc_fields.specs.declared.accidental.SignatureChange.{SignatureChange}
 use Rattle.abc_fields.specs.declared.signature.Signature.{Signature}
 use Rattle.abc_fields.specs.Accidental.{changes_of}
 use Rattle.abc_fields.specs.Spelling.Accidental.{AreChanges}
@@ -32,11 +32,11 @@ unfolding with_accidentals
 accidentals_none signature words e = ap (with_accidentals signature) e
 
 -- the changes of a word, and their grammar
-changed_by : (signature : Signature) (word : List ℕ) (o : Option (List Change)) → changes_of word ≡ o → IsChanged signature word (changed_or signature signature o)
+changed_by : (signature : Signature) (word : List ℕ) (o : Option (List SignatureChange)) → changes_of word ≡ o → IsChanged signature word (changed_or signature signature o)
 changed_by signature word None e = inr ((λ changes are. let known : Some changes ≡ None = sym ((changes_exact word changes).1 are) ∙ e in cc), refl)
 changed_by signature word (Some changes) e = inl (changes, (changes_exact word changes).0 e, refl)
 
-changed_to : (signature : Signature) (word : List ℕ) (changed : Signature) (o : Option (List Change)) → changes_of word ≡ o → IsChanged signature word changed
+changed_to : (signature : Signature) (word : List ℕ) (changed : Signature) (o : Option (List SignatureChange)) → changes_of word ≡ o → IsChanged signature word changed
     → changed ≡ changed_or signature signature o
 changed_to signature word changed None e h = ⊎_elim
     (λ is. let known : Some is.0 ≡ None = sym ((changes_exact word is.0).1 is.1) ∙ e in cc)
@@ -68,13 +68,13 @@ alteration_range Natural = (omega (arith, ints), omega (arith, ints))
 alteration_range Sharp = (omega (arith, ints), omega (arith, ints))
 alteration_range DoubleSharp = (omega (arith, ints), omega (arith, ints))
 
-changes_range : (changes : List Change) (word : List ℕ) (signature : Signature) → AreChanges word changes → IsSignature signature → IsSignature (with_changes signature changes)
+changes_range : (changes : List SignatureChange) (word : List ℕ) (signature : Signature) → AreChanges word changes → IsSignature signature → IsSignature (with_changes signature changes)
 changes_range [] word signature are h = h
 changes_range (change ∷ changes) word signature are h =
     changes_range changes are.0 (with_change signature change) are.2
     (altered_range signature change.letter (alteration change.accidental) h (alteration_range change.accidental))
 
-word_range : (signature : Signature) (word : List ℕ) (o : Option (List Change)) → changes_of word ≡ o → IsSignature signature → IsSignature (changed_or signature signature o)
+word_range : (signature : Signature) (word : List ℕ) (o : Option (List SignatureChange)) → changes_of word ≡ o → IsSignature signature → IsSignature (changed_or signature signature o)
 word_range signature word None e h = h
 word_range signature word (Some changes) e h = changes_range changes word signature ((changes_exact word changes).0 e) h
 

@@ -12,17 +12,17 @@ use Rattle.std.proofs.lemmas.List.Elements.{All-head, All-tail, All-append, All-
 use Rattle.abc_text.specs.Digit.{decimal}
 use Rattle.abc_text.specs.Number.{IsNumber}
 use Rattle.abc_text.proofs.Decimals.{digit_range}
-use Rattle.abc_fields.specs.declared.fault.FaultCode.{FaultCode}
-use Rattle.abc_fields.specs.declared.fault.FaultCode.TheVariants.{BadOrder}
+use Rattle.abc_fields.specs.declared.fault_code.FaultCode.{FaultCode}
+use Rattle.abc_fields.specs.declared.fault_code.FaultCode.TheVariants.{BadOrder}
 use Rattle.abc_fields.specs.declared.parts.LastItem.{LastItem}
 use Rattle.abc_fields.specs.declared.parts.LastItem.TheVariants.{Nothing, Item}
-use Rattle.abc_fields.specs.declared.parts.Place.{Place}
+use Rattle.abc_fields.specs.declared.parts.OrderState.{OrderState}
 use Rattle.abc_fields.specs.Parts.{is_ignored, order_bytes, ends_item, begins_item, with_digit, place_at, following_digit, next, next_of, is_whole, place_following, ends_order, is_order, parts_of}
 use Rattle.abc_fields.specs.Spelling.Parts.{IsCount, once, times, IsOrder, part, group, following, IsParts}
 use Rattle.abc_fields.proofs.Readings.{branches}
 
 -- the place after a text, from this place on
-abbrev read : Option Place → List ℕ → Option Place
+abbrev read : Option OrderState → List ℕ → Option OrderState
 read place text = fold next_of place text
 
 -- a letter, parentheses and a digit are four kinds of bytes
@@ -59,12 +59,12 @@ digit_next depth b digits positive digit few =
 pub order_lost : (text : List ℕ) → fold next_of None text ≡ None
 order_lost text = fold_stays next_of None (λ b. refl) text
 
-one_read : (place : Option Place) (b : ℕ) (rest : List ℕ) (ignored : Bool)
+one_read : (place : Option OrderState) (b : ℕ) (rest : List ℕ) (ignored : Bool)
     → fold next_of place (cond (not ignored) (b ∷ rest) rest) ≡ cond ignored (fold next_of place rest) (fold next_of (next_of place b) rest)
 one_read place b rest true = refl
 one_read place b rest false = refl
 
-pub order_step : (place : Option Place) (value : List ℕ) (i : ℕ) → i < length value
+pub order_step : (place : Option OrderState) (value : List ℕ) (i : ℕ) → i < length value
     → fold next_of place (order_bytes (drop i value)) ≡ cond (is_ignored (get_or value i 0)) (fold next_of place (order_bytes (drop (i + 1) value)))
     (fold next_of (next_of place (get_or value i 0)) (order_bytes (drop (i + 1) value)))
 order_step place value i inside =
@@ -73,7 +73,7 @@ order_step place value i inside =
 
 -- From the grammar to the places: an order leads from a place for the beginning of an item to one for its end, at the
 -- same depth.
-abbrev Ends : ℕ → Option Place → Type 0
+abbrev Ends : ℕ → Option OrderState → Type 0
 Ends depth place = (before : LastItem) × (place ≡ Some (place_at depth before)) × (ends_item before ≡ true)
 
 pub begins_too : (before : LastItem) → ends_item before ≡ true → begins_item before ≡ true
@@ -277,14 +277,15 @@ after_digit b (at_item {depth} {digits} {positive} {outer} {inner} {bare} {count
     (at_item opened is_inner is_bare (begun_more count digits positive b begun digit few))
 
 -- the text leads to the place
-abbrev Leads : List ℕ → Place → Type 0
+abbrev Leads : List ℕ → OrderState → Type 0
 Leads text place = Reached place.depth place.before text
 
-pub guarded_digit : (t : Bool) (depth : ℕ) (before : LastItem) (after : Place) → following_digit depth (cond t (Some before) None) ≡ Some after → (t ≡ true) × (place_at depth before ≡ after)
+pub guarded_digit : (t : Bool) (depth : ℕ) (before : LastItem) (after : OrderState) → following_digit depth (cond t (Some before) None) ≡ Some after → (t ≡ true) × (place_at depth before ≡ after)
 guarded_digit true depth before after e = (refl, cc)
 guarded_digit false depth before after e = cc
 
-digit_leads : (depth : ℕ) (before : LastItem) (b : ℕ) (text : List ℕ) (after : Place) → Reached depth before text → is_ascii_digit b ≡ true → following_digit depth (with_digit before b) ≡ Some after
+digit_leads : (depth : ℕ) (before : LastItem) (b : ℕ) (text : List ℕ) (after : OrderState) → Reached depth before text → is_ascii_digit b ≡ true
+    → following_digit depth (with_digit before b) ≡ Some after
     → Leads (text ++ b ∷ []) after
 digit_leads depth Nothing b text after reached digit e = cc
 digit_leads depth (Item digits positive) b text after reached digit e =
@@ -292,13 +293,13 @@ digit_leads depth (Item digits positive) b text after reached digit e =
     subst (Leads (text ++ b ∷ [])) given.1 (after_digit b reached digit (ltb-true digits 9 given.0))
 
 -- the kinds of a byte that may come at a place, and the place after it
-pub data Follows (place : Place) (b : ℕ) (after : Place) : Type 0 where
+pub data Follows (place : OrderState) (b : ℕ) (after : OrderState) : Type 0 where
   by_letter : is_ascii_uppercase b ≡ true → begins_item place.before ≡ true → place_at place.depth (Item 0 false) ≡ after → Follows place b after
   by_open : b ≡ 40 → begins_item place.before ≡ true → place.depth < 32 → place_at (place.depth + 1) Nothing ≡ after → Follows place b after
   by_close : b ≡ 41 → ends_item place.before ≡ true → 0 < place.depth → place_at (place.depth - 1) (Item 0 false) ≡ after → Follows place b after
   by_digit : is_ascii_digit b ≡ true → following_digit place.depth (with_digit place.before b) ≡ Some after → Follows place b after
 
-pub follows : (place : Place) (b : ℕ) (after : Place) → next place b ≡ Some after → Follows place b after
+pub follows : (place : OrderState) (b : ℕ) (after : OrderState) → next place b ≡ Some after → Follows place b after
 unfolding next
 follows place b after e = ⊎_elim
     (λ letter. let given = cond_some (begins_item place.before) (place_at place.depth (Item 0 false)) after letter.1 in by_letter letter.0 given.0 given.1)
@@ -320,7 +321,7 @@ follows place b after e = ⊎_elim
     (branches (b == 40) _ _ _ other.1))
     (branches (is_ascii_uppercase b) _ _ _ e)
 
-leads_on : (place : Place) (b : ℕ) (text : List ℕ) (after : Place) → Leads text place → Follows place b after → Leads (text ++ b ∷ []) after
+leads_on : (place : OrderState) (b : ℕ) (text : List ℕ) (after : OrderState) → Leads text place → Follows place b after → Leads (text ++ b ∷ []) after
 leads_on place b text after reached (by_letter upper begins to) = subst (Leads (text ++ b ∷ [])) to (after_letter place.depth b place.before text reached begins upper)
 leads_on place b text after reached (by_open is begins few to) =
     subst (λ c. Leads (text ++ c ∷ []) after) (sym is) (subst (Leads (text ++ 40 ∷ [])) to (after_open place.depth place.before text reached begins few))
@@ -328,7 +329,7 @@ leads_on place b text after reached (by_close is ends some to) =
     subst (λ c. Leads (text ++ c ∷ []) after) (sym is) (subst (Leads (text ++ 41 ∷ [])) to (after_close place.depth place.before text reached ends some))
 leads_on place b text after reached (by_digit digit to) = digit_leads place.depth place.before b text after reached digit to
 
-leads_through : (rest text : List ℕ) (place after : Place) → Leads text place → read (Some place) rest ≡ Some after → Leads (text ++ rest) after
+leads_through : (rest text : List ℕ) (place after : OrderState) → Leads text place → read (Some place) rest ≡ Some after → Leads (text ++ rest) after
 leads_through [] text place after reached e = let same : place ≡ after = cc in subst (λ t. Leads t after) (sym (append-nil text)) (subst (Leads text) same reached)
 leads_through (b ∷ rest) text place after reached e =
     elim (next place b) as (λ o. next place b ≡ o → read o rest ≡ Some after → Leads (text ++ b ∷ rest) after) [
@@ -339,7 +340,7 @@ leads_through (b ∷ rest) text place after reached e =
           subst (λ t. Leads t after) (append_assoc text (b ∷ []) rest) (leads_through rest (text ++ b ∷ []) between after further leads)
     ] refl e
 
-order_from : (text : List ℕ) (place : Place) → Leads text place → is_whole place ≡ true → (letters : List ℕ) × IsOrder 0 text letters
+order_from : (text : List ℕ) (place : OrderState) → Leads text place → is_whole place ≡ true → (letters : List ℕ) × IsOrder 0 text letters
 order_from text place reached whole =
     let both = and_parts (place.depth == 0) (ends_item place.before) whole in
     let h = finishes reached both.1 in
@@ -348,10 +349,10 @@ order_from text place reached whole =
     (h.letters, subst (λ t. IsOrder 0 t h.letters) (sym same) (subst (λ d. IsOrder d h.inner h.letters) shallow h.is_order))
 
 -- the order of parts and its grammar
-ends_well : (place : Option Place) → Ends 0 place → ends_order place ≡ true
+ends_well : (place : Option OrderState) → Ends 0 place → ends_order place ≡ true
 ends_well place h = ap ends_order h.1 ∙ h.2
 
-last_of : (place : Option Place) → ends_order place ≡ true → (last : Place) × (place ≡ Some last) × (is_whole last ≡ true)
+last_of : (place : Option OrderState) → ends_order place ≡ true → (last : OrderState) × (place ≡ Some last) × (is_whole last ≡ true)
 last_of None e = cc
 last_of (Some last) e = (last, refl, e)
 

@@ -13,8 +13,8 @@ use Rattle.std.proofs.lemmas.Option.{cond_some}
 use Rattle.std.proofs.lemmas.Slice.Eq.{bytes_eq-Decides}
 use Rattle.abc_fields.specs.declared.mode.Mode.{Mode}
 use Rattle.abc_fields.specs.declared.mode.Mode.TheVariants.{Ionian}
-use Rattle.abc_fields.specs.declared.tonic.Basis.{Basis}
-use Rattle.abc_fields.specs.declared.tonic.Basis.TheVariants.{Named, Explicit}
+use Rattle.abc_fields.specs.declared.tonic.KeyMode.{KeyMode}
+use Rattle.abc_fields.specs.declared.tonic.KeyMode.TheVariants.{Named, Explicit}
 use Rattle.abc_text.specs.declared.letter.Letter.{Letter}
 use Rattle.abc_text.specs.Blank.{is_blank}
 use Rattle.abc_text.specs.Letter.{capital, letter_of}
@@ -23,10 +23,10 @@ use Rattle.abc_text.proofs.Letters.{letter_of-capital}
 use Rattle.abc_fields.proofs.Readings.{bound, branches, map_some}
 use Rattle.abc_fields.specs.Mode.{mode_named, mode_of}
 use Rattle.abc_fields.specs.Spelling.Mode.{IsMode}
-use Rattle.abc_fields.specs.Tonic.{if_capital, tonic_letter, major_sharps, sign_at, tonic_at, basis_by, basis_at}
-use Rattle.abc_fields.specs.Spelling.Tonic.{HasNoSign, IsSign, IsTonic, StopsAt, IsRun, IsBasis}
+use Rattle.abc_fields.specs.Tonic.{if_capital, tonic_letter, major_sharps, sign_at, tonic_at, key_mode_by, key_mode_at}
+use Rattle.abc_fields.specs.Spelling.Tonic.{HasNoSign, IsSign, IsTonic, StopsAt, IsRun, IsKeyMode}
 use Rattle.abc_fields.specs.Spelling.Tonic.IsSign.{sharp, flat, none}
-use Rattle.abc_fields.specs.Spelling.Tonic.IsBasis.{named, explicit, major}
+use Rattle.abc_fields.specs.Spelling.Tonic.IsKeyMode.{named, explicit, major}
 use Rattle.abc_fields.proofs.Modes.{mode_from, mode_to}
 
 -- the letter of a tonic
@@ -116,8 +116,8 @@ run_of text =
       no_more_letters = stops_following is_ascii_alphabetic following;
     }
 
-pub run_read : (text blanks run rest : List ℕ) → IsRun text blanks run rest → basis_at text ≡ basis_by (mode_of run) (length blanks) run text rest
-unfolding basis_at
+pub run_read : (text blanks run rest : List ℕ) → IsRun text blanks run rest → key_mode_at text ≡ key_mode_by (mode_of run) (length blanks) run text rest
+unfolding key_mode_at
 run_read text blanks run rest is =
     let n : prefix_len is_blank text ≡ length blanks = ap (prefix_len is_blank) is.spelling ∙ front_len is_blank blanks (run ++ rest) is.are_blanks is.no_more_blanks in
     let following : drop (prefix_len is_blank text) text ≡ run ++ rest = (λ i. drop (n i) (is.spelling i)) ∙ drop-append_seam blanks (run ++ rest) in
@@ -125,9 +125,9 @@ run_read text blanks run rest is =
     ap (prefix_len is_ascii_alphabetic) following ∙ front_len is_ascii_alphabetic run rest is.are_letters is.no_more_letters in
     let letters = (λ i. take (m i) (following i)) ∙ take-append_seam run rest in
     let more = (λ i. drop (m i) (following i)) ∙ drop-append_seam run rest in
-    λ i. basis_by (mode_of (letters i)) (n i) (letters i) text (more i)
+    λ i. key_mode_by (mode_of (letters i)) (n i) (letters i) text (more i)
 
--- the basis of a signature
+-- the mode of a key
 no_mode : (run : List ℕ) (o : Option Mode) → mode_of run ≡ o → ((mode : Mode) → IsMode run mode → ⊥) → o ≡ None
 no_mode run None e h = refl
 no_mode run (Some mode) e h = absurd (h mode (mode_from run mode e))
@@ -145,35 +145,35 @@ some_length text some = ne_eqb (length text) 0 (λ e. omega (arith, e, some))
 not_exp : (run : List ℕ) → run ≢ codes "exp" → bytes_eq run (codes "exp") ≡ false
 not_exp run other = false_from_ne_true (bytes_eq run (codes "exp")) (λ t. other ((bytes_eq-Decides run (codes "exp")).0 t))
 
-by_default : (blanks : ℕ) (run text rest : List ℕ) → (blanks == 0) ≡ false → bytes_eq run (codes "exp") ≡ false → basis_by None blanks run text rest ≡ Some (Named Ionian, text)
+by_default : (blanks : ℕ) (run text rest : List ℕ) → (blanks == 0) ≡ false → bytes_eq run (codes "exp") ≡ false → key_mode_by None blanks run text rest ≡ Some (Named Ionian, text)
 by_default blanks run text rest some other = ⊎_elim
     (λ t. cond-true (length run == 0) _ _ t)
     (λ t. cond-false (length run == 0) _ _ t ∙ cond-false (blanks == 0) _ _ some ∙ cond-false (bytes_eq run (codes "exp")) _ _ other)
     (cases_Bool (length run == 0))
 
-pub basis_to : (text : List ℕ) (basis : Basis) (rest : List ℕ) → IsBasis text basis rest → basis_at text ≡ Some (basis, rest)
-basis_to text basis rest (named blanks run mode is m e) =
-    run_read text blanks run rest is ∙ ap (λ o. basis_by o (length blanks) run text rest) (mode_to run mode m) ∙ (λ i. Some (sym e i, rest))
-basis_to text basis rest (explicit blanks is some e) =
+pub key_mode_to : (text : List ℕ) (key_mode : KeyMode) (rest : List ℕ) → IsKeyMode text key_mode rest → key_mode_at text ≡ Some (key_mode, rest)
+key_mode_to text key_mode rest (named blanks run mode is m e) =
+    run_read text blanks run rest is ∙ ap (λ o. key_mode_by o (length blanks) run text rest) (mode_to run mode m) ∙ (λ i. Some (sym e i, rest))
+key_mode_to text key_mode rest (explicit blanks is some e) =
     run_read text blanks (codes "exp") rest is
-    ∙ ap (λ o. basis_by o (length blanks) (codes "exp") text rest) exp_is_no_mode
+    ∙ ap (λ o. key_mode_by o (length blanks) (codes "exp") text rest) exp_is_no_mode
     ∙ cond-false (length blanks == 0) _ _ (some_length blanks some)
     ∙ (λ i. Some (sym e i, rest))
-basis_to text basis rest (major blanks run following is nameless why e all) =
+key_mode_to text key_mode rest (major blanks run following is nameless why e all) =
     run_read text blanks run following is
-    ∙ ap (λ o. basis_by o (length blanks) run text following) (no_mode run (mode_of run) refl nameless)
+    ∙ ap (λ o. key_mode_by o (length blanks) run text following) (no_mode run (mode_of run) refl nameless)
     ∙ ⊎_elim
-    (λ nil. ap (λ r. basis_by None (length blanks) r text following) nil)
+    (λ nil. ap (λ r. key_mode_by None (length blanks) r text following) nil)
     (λ later. by_default (length blanks) run text following (some_length blanks later.0) (not_exp run later.1))
     why
     ∙ (λ i. Some (sym e i, sym all i))
 
-at_pair : (text : List ℕ) (a b : Basis × List ℕ) → Some a ≡ Some b → IsBasis text a.0 a.1 → IsBasis text b.0 b.1
-at_pair text a b e h = let same : a ≡ b = cc in subst (λ (p : Basis × List ℕ). IsBasis text p.0 p.1) same h
+at_pair : (text : List ℕ) (a b : KeyMode × List ℕ) → Some a ≡ Some b → IsKeyMode text a.0 a.1 → IsKeyMode text b.0 b.1
+at_pair text a b e h = let same : a ≡ b = cc in subst (λ (p : KeyMode × List ℕ). IsKeyMode text p.0 p.1) same h
 
-basis_later : (text blanks run following : List ℕ) (found : Basis × List ℕ) → IsRun text blanks run following → ((mode : Mode) → IsMode run mode → ⊥) → (length blanks == 0) ≡ false
-    → cond (bytes_eq run (codes "exp")) (Some (Explicit, following)) (Some (Named Ionian, text)) ≡ Some found → IsBasis text found.0 found.1
-basis_later text blanks run following found is nameless some e = ⊎_elim
+key_mode_later : (text blanks run following : List ℕ) (found : KeyMode × List ℕ) → IsRun text blanks run following → ((mode : Mode) → IsMode run mode → ⊥) → (length blanks == 0) ≡ false
+    → cond (bytes_eq run (codes "exp")) (Some (Explicit, following)) (Some (Named Ionian, text)) ≡ Some found → IsKeyMode text found.0 found.1
+key_mode_later text blanks run following found is nameless some e = ⊎_elim
     (λ h. at_pair text (Explicit, following) found h.1 (explicit blanks (subst (λ r. IsRun text blanks r following) ((bytes_eq-Decides run (codes "exp")).0 h.0) is) (some_blanks blanks some) refl))
     (λ h. at_pair text (Named Ionian, text) found h.1
     (major blanks run following is nameless (inr (some_blanks blanks some, λ same. both_ways (bytes_eq run (codes "exp")) h.0 ((bytes_eq-Decides run (codes "exp")).1 same))) refl refl))
@@ -183,20 +183,20 @@ basis_later text blanks run following found is nameless some e = ⊎_elim
     some_blanks [] t = cc
     some_blanks (b ∷ bs) t = omega arith
 
-basis_by_mode : (text blanks run following : List ℕ) (found : Basis × List ℕ) (o : Option Mode) → mode_of run ≡ o → IsRun text blanks run following
-    → basis_by o (length blanks) run text following ≡ Some found → IsBasis text found.0 found.1
-basis_by_mode text blanks run following found (Some mode) o is e = at_pair text (Named mode, following) found e (named blanks run mode is (mode_from run mode o) refl)
-basis_by_mode text blanks run following found None o is e =
+key_mode_by_mode : (text blanks run following : List ℕ) (found : KeyMode × List ℕ) (o : Option Mode) → mode_of run ≡ o → IsRun text blanks run following
+    → key_mode_by o (length blanks) run text following ≡ Some found → IsKeyMode text found.0 found.1
+key_mode_by_mode text blanks run following found (Some mode) o is e = at_pair text (Named mode, following) found e (named blanks run mode is (mode_from run mode o) refl)
+key_mode_by_mode text blanks run following found None o is e =
     let nameless : (mode : Mode) → IsMode run mode → ⊥ = λ mode m. let known : Some mode ≡ None = sym (mode_to run mode m) ∙ o in cc in
     ⊎_elim
     (λ h. at_pair text (Named Ionian, text) found h.1 (major blanks run following is nameless (inl (no_length run h.0)) refl refl))
     (λ h. ⊎_elim
     (λ k. let none : None ≡ Some found = k.1 in cc)
-    (λ k. basis_later text blanks run following found is nameless k.0 k.1)
+    (λ k. key_mode_later text blanks run following found is nameless k.0 k.1)
     (branches (length blanks == 0) _ _ _ h.1))
     (branches (length run == 0) _ _ _ e)
 
-pub basis_from : (text : List ℕ) (basis : Basis) (rest : List ℕ) → basis_at text ≡ Some (basis, rest) → IsBasis text basis rest
-basis_from text basis rest e =
+pub key_mode_from : (text : List ℕ) (key_mode : KeyMode) (rest : List ℕ) → key_mode_at text ≡ Some (key_mode, rest) → IsKeyMode text key_mode rest
+key_mode_from text key_mode rest e =
     let is = run_of text in
-    basis_by_mode text _ _ _ (basis, rest) _ refl is (sym (run_read text _ _ _ is) ∙ e)
+    key_mode_by_mode text _ _ _ (key_mode, rest) _ refl is (sym (run_read text _ _ _ is) ∙ e)

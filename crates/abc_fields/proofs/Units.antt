@@ -4,8 +4,8 @@ use Rattle.std.specs.Prelude.{◌==◌, ◌⊎◌, codes, option_map}
 use Rattle.std.proofs.lemmas.Bool.{eqb-true, cases_Bool, cond-true, cond-false}
 use Rattle.abc_time.specs.declared.ratio.Ratio.{Ratio}
 use Rattle.abc_time.specs.Ratio.{IsRatio}
-use Rattle.abc_fields.specs.declared.fault.FaultCode.{FaultCode}
-use Rattle.abc_fields.specs.declared.fault.FaultCode.TheVariants.{BadUnit}
+use Rattle.abc_fields.specs.declared.fault_code.FaultCode.{FaultCode}
+use Rattle.abc_fields.specs.declared.fault_code.FaultCode.TheVariants.{BadUnit}
 use Rattle.abc_text.specs.Number.{number_of}
 use Rattle.abc_fields.specs.Unit.{part_after_one, part_of, part_as_unit, unit_in, unit_of}
 use Rattle.abc_fields.specs.Spelling.Unit.{IsPartOfWhole, IsUnit}

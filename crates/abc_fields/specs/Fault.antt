@@ -1,11 +1,12 @@
 -- The names and numbers of faults.
 use Rattle.std.specs.Prelude.{ℕ, List, codes}
-use Rattle.abc_fields.specs.declared.fault.FaultCode.{FaultCode}
-use Rattle.abc_fields.specs.declared.fault.FaultCode.TheVariants.{BadReference, BadMeter, BadUnit, BadTempo, BadKey, BadOrder}
-use Rattle.abc_fields.specs.declared.fault.FaultCode.TheVariants.{BadPart, BadVoice, TooManyVoices, BadByte, Unclosed, BadLength}
-use Rattle.abc_fields.specs.declared.fault.FaultCode.TheVariants.{BadTuplet, NestedTuplet, BadBroken, LooseTie, EmptyChord}
-use Rattle.abc_fields.specs.declared.fault.FaultCode.TheVariants.{BigChord, BadEnding, FreeBarRest, KeyRange, MissingKey}
-use Rattle.abc_fields.specs.declared.fault.FaultCode.TheVariants.{TempoRange, UnknownPart, UnevenVoices, TuneTooLong, BadProgram}
+use Rattle.abc_fields.specs.declared.fault_code.FaultCode.{FaultCode}
+use Rattle.abc_fields.specs.declared.fault_code.FaultCode.TheVariants.{BadReference, BadMeter, BadUnit, BadTempo, BadKey, BadOrder}
+use Rattle.abc_fields.specs.declared.fault_code.FaultCode.TheVariants.{BadPart, BadVoice, TooManyVoices, BadByte, Unclosed}
+use Rattle.abc_fields.specs.declared.fault_code.FaultCode.TheVariants.{BadLength, BadTuplet, NestedTuplet, BadBroken, LooseTie}
+use Rattle.abc_fields.specs.declared.fault_code.FaultCode.TheVariants.{EmptyChord, BigChord, BadEnding, FreeBarRest, KeyRange}
+use Rattle.abc_fields.specs.declared.fault_code.FaultCode.TheVariants.{MissingKey, TempoRange, UnknownPart, UnevenVoices}
+use Rattle.abc_fields.specs.declared.fault_code.FaultCode.TheVariants.{TuneTooLong, BadProgram}
 
 -- The name that the list of faults prints.
 abbrev pub name_of : FaultCode → List ℕ

@@ -4,18 +4,18 @@ use Rattle.std.specs.Prelude.{length, codes, Option, Some, None, Result, Ok, Err
 use Rattle.std.specs.List.{list_any}
 use Rattle.std.specs.Option.{is_some, option_map, ok_or}
 use Rattle.std.specs.Str.{bytes_eq}
-use Rattle.abc_fields.specs.declared.fault.FaultCode.{FaultCode}
-use Rattle.abc_fields.specs.declared.fault.FaultCode.TheVariants.{BadKey}
+use Rattle.abc_fields.specs.declared.fault_code.FaultCode.{FaultCode}
+use Rattle.abc_fields.specs.declared.fault_code.FaultCode.TheVariants.{BadKey}
 use Rattle.abc_fields.specs.declared.key.Key.{Key}
 use Rattle.abc_fields.specs.declared.shift.Shift.{Shift}
-use Rattle.abc_fields.specs.declared.tonic.Basis.{Basis}
-use Rattle.abc_fields.specs.declared.tonic.Basis.TheVariants.{Named, Explicit}
+use Rattle.abc_fields.specs.declared.tonic.KeyMode.{KeyMode}
+use Rattle.abc_fields.specs.declared.tonic.KeyMode.TheVariants.{Named, Explicit}
 use Rattle.abc_fields.specs.Clef.{is_clef_name, mark_of}
 use Rattle.abc_fields.specs.Listed.{with_accidentals}
 use Rattle.abc_fields.specs.Mode.{added_sharps, is_minor}
 use Rattle.abc_fields.specs.Shift.{IsSmallShift, no_shift, shift_of}
 use Rattle.abc_fields.specs.Signature.{IsSharps, IsSignature, natural, signature_of}
-use Rattle.abc_fields.specs.Tonic.{tonic_at, basis_at}
+use Rattle.abc_fields.specs.Tonic.{tonic_at, key_mode_at}
 use Rattle.abc_text.specs.Word.{words_of}
 use Rattle.abc_text.specs.Byte.{equals_sign, caret, underscore}
 
@@ -40,8 +40,8 @@ key_with sharps minor =
     if int_lt sharps (negsuc 6) || int_lt (pos 7) sharps then None
     else Some (record { signature = Some (signature_of sharps); sharps = sharps; minor = minor; shift = no_shift })
 
--- The key of a basis on the tonic whose major key has these sharps.
-abbrev pub key_on : ℤ → Basis → Option Key
+-- The key of a mode on the tonic whose major key has these sharps.
+abbrev pub key_on : ℤ → KeyMode → Option Key
 key_on major Explicit = Some empty_key
 key_on major (Named mode) = key_with (major +ℤ added_sharps mode) (is_minor mode)
 
@@ -63,9 +63,9 @@ toneless_start first =
     else None)
 
 -- The beginning of a key on a tonic, and the text with its other words.
-abbrev pub tonal_start : ℤ → Option (Basis × List ℕ) → Option (Key × List ℕ)
+abbrev pub tonal_start : ℤ → Option (KeyMode × List ℕ) → Option (Key × List ℕ)
 tonal_start major None = None
-tonal_start major (Some basis) = option_map (λ key. (key, basis.1)) (key_on major basis.0)
+tonal_start major (Some key_mode) = option_map (λ key. (key, key_mode.1)) (key_on major key_mode.0)
 
 -- The beginning of a value without a tonic, by its words, which all complete it.
 abbrev pub start_by_words : List ℕ → List (List ℕ) → Option (Key × List ℕ)
@@ -75,7 +75,7 @@ start_by_words value (first ∷ rest) = option_map (λ key. (key, value)) (tonel
 -- The beginning of a value, by its tonic and the text after it, or without a tonic.
 abbrev pub start_by : List ℕ → Option (ℤ × List ℕ) → Option (Key × List ℕ)
 start_by value None = start_by_words value (words_of value)
-start_by value (Some tonic) = tonal_start tonic.0 (basis_at tonic.1)
+start_by value (Some tonic) = tonal_start tonic.0 (key_mode_at tonic.1)
 
 -- The key at the front of a value, and the text with its other words.
 unfoldable pub start_of : List ℕ → Option (Key × List ℕ)

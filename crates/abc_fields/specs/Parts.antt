@@ -3,11 +3,11 @@ use Rattle.std.specs.Prelude.{ℕ, ◌+◌, ◌-◌, Bool, true, false, not, ◌
 use Rattle.std.specs.Prelude.{Option, Some, None, Result, Ok, Err}
 use Rattle.std.specs.Char.{is_ascii_digit, is_ascii_uppercase}
 use Rattle.abc_text.specs.Blank.{is_blank}
-use Rattle.abc_fields.specs.declared.fault.FaultCode.{FaultCode}
-use Rattle.abc_fields.specs.declared.fault.FaultCode.TheVariants.{BadOrder}
+use Rattle.abc_fields.specs.declared.fault_code.FaultCode.{FaultCode}
+use Rattle.abc_fields.specs.declared.fault_code.FaultCode.TheVariants.{BadOrder}
 use Rattle.abc_fields.specs.declared.parts.LastItem.{LastItem}
 use Rattle.abc_fields.specs.declared.parts.LastItem.TheVariants.{Nothing, Item}
-use Rattle.abc_fields.specs.declared.parts.Place.{Place}
+use Rattle.abc_fields.specs.declared.parts.OrderState.{OrderState}
 use Rattle.abc_text.specs.Byte.{open_parenthesis, close_parenthesis, dot, digit_zero}
 
 -- A dot or a blank, which is ignored anywhere in an order, also inside a count.
@@ -35,17 +35,17 @@ with_digit (Item digits positive) digit =
     if nat_lt digits 9 then Some (Item (digits + 1) (positive || not (digit == digit_zero))) else None
 
 -- The place at this depth after this item.
-abbrev pub place_at : ℕ → LastItem → Place
+abbrev pub place_at : ℕ → LastItem → OrderState
 place_at depth before = record { depth = depth; before = before }
 
 -- The place after a digit.
-abbrev pub following_digit : ℕ → Option LastItem → Option Place
+abbrev pub following_digit : ℕ → Option LastItem → Option OrderState
 following_digit depth None = None
 following_digit depth (Some before) = Some (place_at depth before)
 
 -- The place after a byte that may come at this place. The byte is a letter or the beginning of a group if an item may
 -- begin; the end of a group if its last item may end; or a digit of a count.
-unfoldable pub next : Place → ℕ → Option Place
+unfoldable pub next : OrderState → ℕ → Option OrderState
 next place b =
     if is_ascii_uppercase b then (if begins_item place.before then Some (place_at place.depth (Item 0 false)) else None)
     else (if b == open_parenthesis
@@ -55,20 +55,20 @@ next place b =
     else (if is_ascii_digit b then following_digit place.depth (with_digit place.before b) else None)))
 
 -- The same for an optional place.
-abbrev pub next_of : Option Place → ℕ → Option Place
+abbrev pub next_of : Option OrderState → ℕ → Option OrderState
 next_of None b = None
 next_of (Some place) b = next place b
 
 -- Whether an order may end at a place.
-abbrev pub is_whole : Place → Bool
+abbrev pub is_whole : OrderState → Bool
 is_whole place = (place.depth == 0) && ends_item place.before
 
 -- The place after a text, if an order may begin with it.
-abbrev pub place_following : List ℕ → Option Place
+abbrev pub place_following : List ℕ → Option OrderState
 place_following text = fold next_of (Some (place_at 0 Nothing)) (order_bytes text)
 
 -- The same for an optional place.
-abbrev pub ends_order : Option Place → Bool
+abbrev pub ends_order : Option OrderState → Bool
 ends_order None = false
 ends_order (Some place) = is_whole place
 

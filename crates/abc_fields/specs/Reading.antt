@@ -1,6 +1,6 @@
 -- The results of the readers of field values.
 use Rattle.std.specs.Prelude.{◌≡◌, ◌↔◌, Result, Ok, Err}
-use Rattle.abc_fields.specs.declared.fault.FaultCode.{FaultCode}
+use Rattle.abc_fields.specs.declared.fault_code.FaultCode.{FaultCode}
 
 -- A reader returns a value exactly if the grammar gives the text that value, and the fault exactly if it gives none.
 pub record IsReading {V : Type 0} (Says : V → Type 0) (fault : FaultCode) (result : Result V FaultCode) : Type 0 where

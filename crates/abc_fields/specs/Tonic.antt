@@ -7,8 +7,8 @@ use Rattle.std.specs.Str.{bytes_eq}
 use Rattle.std.specs.Char.{is_ascii_alphabetic}
 use Rattle.abc_fields.specs.declared.mode.Mode.{Mode}
 use Rattle.abc_fields.specs.declared.mode.Mode.TheVariants.{Ionian}
-use Rattle.abc_fields.specs.declared.tonic.Basis.{Basis}
-use Rattle.abc_fields.specs.declared.tonic.Basis.TheVariants.{Named, Explicit}
+use Rattle.abc_fields.specs.declared.tonic.KeyMode.{KeyMode}
+use Rattle.abc_fields.specs.declared.tonic.KeyMode.TheVariants.{Named, Explicit}
 use Rattle.abc_text.specs.declared.letter.Letter.{Letter}
 use Rattle.abc_text.specs.declared.letter.Letter.TheVariants.{B}
 use Rattle.abc_text.specs.Blank.{is_blank}
@@ -53,18 +53,18 @@ tonic_at (b ∷ following) =
 abbrev pub IsMajor : ℤ → Type 0
 IsMajor sharps = (negsuc 7 ≤ℤ sharps) × (sharps ≤ℤ pos 12)
 
--- The basis of a signature, if a run of letters follows `blanks` blanks of a text.
-abbrev pub basis_by : Option Mode → ℕ → List ℕ → List ℕ → List ℕ → Option (Basis × List ℕ)
-basis_by (Some mode) blanks run text rest = Some (Named mode, rest)
-basis_by None blanks run text rest =
+-- The mode of a key, if a run of letters follows `blanks` blanks of a text.
+abbrev pub key_mode_by : Option Mode → ℕ → List ℕ → List ℕ → List ℕ → Option (KeyMode × List ℕ)
+key_mode_by (Some mode) blanks run text rest = Some (Named mode, rest)
+key_mode_by None blanks run text rest =
     if length run == 0 then Some (Named Ionian, text)
     else (if blanks == 0 then None
     else (if bytes_eq run (codes "exp") then Some (Explicit, rest) else Some (Named Ionian, text)))
 
--- The basis of a signature, by the text after the tonic, and the rest with the other words.
-unfoldable pub basis_at : List ℕ → Option (Basis × List ℕ)
-basis_at text =
+-- The mode of a key, by the text after the tonic, and the rest with the other words.
+unfoldable pub key_mode_at : List ℕ → Option (KeyMode × List ℕ)
+key_mode_at text =
     let blanks = prefix_len is_blank text in
     let following = drop blanks text in
     let letters = prefix_len is_ascii_alphabetic following in
-    basis_by (mode_of (take letters following)) blanks (take letters following) text (drop letters following)
+    key_mode_by (mode_of (take letters following)) blanks (take letters following) text (drop letters following)

@@ -1,8 +1,8 @@
 -- The unit note length of a field L:. ABC 2.1 section 3.1.7.
 use Rattle.std.specs.Prelude.{ℕ, ◌+◌, ◌==◌, if◌then◌else◌, List, [], ◌∷◌, Option, Some, None, option_map, Result, ok_or}
 use Rattle.abc_time.specs.declared.ratio.Ratio.{Ratio}
-use Rattle.abc_fields.specs.declared.fault.FaultCode.{FaultCode}
-use Rattle.abc_fields.specs.declared.fault.FaultCode.TheVariants.{BadUnit}
+use Rattle.abc_fields.specs.declared.fault_code.FaultCode.{FaultCode}
+use Rattle.abc_fields.specs.declared.fault_code.FaultCode.TheVariants.{BadUnit}
 use Rattle.abc_text.specs.Number.{number_of}
 use Rattle.abc_text.specs.Byte.{slash, digit_zero}
 use Rattle.abc_text.specs.Power.{power_up_to}

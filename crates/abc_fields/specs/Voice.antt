@@ -1,8 +1,8 @@
 -- The voice of a field V:. ABC 2.1 section 7.1.
 use Rattle.std.specs.Prelude.{ℕ, Option, Result, List, drop}
 use Rattle.std.specs.Option.{ok_or, option_and_then, option_map}
-use Rattle.abc_fields.specs.declared.fault.FaultCode.{FaultCode}
-use Rattle.abc_fields.specs.declared.fault.FaultCode.TheVariants.{BadVoice}
+use Rattle.abc_fields.specs.declared.fault_code.FaultCode.{FaultCode}
+use Rattle.abc_fields.specs.declared.fault_code.FaultCode.TheVariants.{BadVoice}
 use Rattle.abc_fields.specs.declared.voice.Voice.{Voice}
 use Rattle.abc_text.specs.Word.{first_word, words_of}
 use Rattle.abc_fields.specs.Shift.{shift_of}

@@ -2,7 +2,7 @@
 
 ghost use Rattle.std.specs.Prelude.{◌≡◌, ◌↔◌, ◌⊎◌, ◌<◌, ◌∷◌, [], List, length, position, MatchOption, IfSome, Some, None};
 ghost use Rattle.std.specs.Option.{option_map};
-ghost use Rattle.abc_fields.specs.declared.accidental.Change.{Change};
+ghost use Rattle.abc_fields.specs.declared.accidental.SignatureChange.{SignatureChange};
 ghost use Rattle.abc_fields.specs.Accidental.{is_letter, changes_of};
 ghost use Rattle.abc_fields.specs.Spelling.Accidental.{AreChanges};
 
@@ -10,7 +10,7 @@ use abc_text::{Accidental, Letter, accidental_of, letter_of};
 
 /// A change of a signature: an accidental in front of a letter.
 #[derive(Clone, Copy)]
-pub(crate) struct Change {
+pub(crate) struct SignatureChange {
     pub(crate) accidental: Accidental,
     pub(crate) letter: Letter,
 }
@@ -31,14 +31,14 @@ fn first_letter(text: &[u8]) -> Option<usize>
 }
 
 /// Returns the first change of a text, and the rest after it.
-pub(crate) fn next_change(text: &[u8]) -> Option<(Change, &[u8])>
+pub(crate) fn next_change(text: &[u8]) -> Option<(SignatureChange, &[u8])>
     ensures changes { MatchOption result ((text.now ≡ []) ⊎ (changes_of text.now ≡ None))
         (λ p. changes_of text.now ≡ option_map (λ more. p.0 ∷ more) (changes_of p.1.now)) }
     ensures shorter { IfSome result (λ p. length p.1.now < length text.now) }
-    ensures grammar { (changes : List Change) → (changes_of text.now ≡ Some changes) ↔ AreChanges text.now changes }
+    ensures grammar { (changes : List SignatureChange) → (changes_of text.now ≡ Some changes) ↔ AreChanges text.now changes }
 {
     let at = first_letter(text)?;
     let accidental = accidental_of(&text[..at])?;
     let letter = letter_of(text[at])?;
-    Some((Change { accidental, letter }, &text[at + 1..]))
+    Some((SignatureChange { accidental, letter }, &text[at + 1..]))
 }

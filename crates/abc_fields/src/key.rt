@@ -4,19 +4,19 @@ ghost use Rattle.std.specs.Prelude.{◌≡◌, ◌+ℤ◌, Some, None, MatchOpti
 ghost use Rattle.abc_fields.specs.declared.key.Key.{Key};
 ghost use Rattle.abc_text.specs.Word.{words_of};
 ghost use Rattle.abc_fields.specs.Mode.{added_sharps};
-ghost use Rattle.abc_fields.specs.Tonic.{IsMajor, basis_at};
+ghost use Rattle.abc_fields.specs.Tonic.{IsMajor, key_mode_at};
 ghost use Rattle.abc_fields.specs.Key.{complete_key, key_with, key_on, begins_accidental, sets_properties, toneless_start};
 ghost use Rattle.abc_fields.specs.Key.{tonal_start, start_of, key_in, key_of, key_or_empty, IsInRange};
 ghost use Rattle.abc_fields.specs.Reading.{IsReading};
 ghost use Rattle.abc_fields.specs.Spelling.Key.{IsKey};
 
 use crate::clef::{is_clef_name, mark_of};
-use crate::fault::FaultCode;
+use crate::fault_code::FaultCode;
 use crate::listed::with_accidentals;
 use crate::mode::Mode;
 use crate::shift::{NO_SHIFT, Shift, shift_in};
 use crate::signature::{NATURAL, Signature, signature_of};
-use crate::tonic::{Basis, basis_at, tonic_at};
+use crate::tonic::{KeyMode, key_mode_at, tonic_at};
 use abc_text::next_word;
 
 /// A key and its properties (ABC 2.1 section 3.1.14).
@@ -72,14 +72,14 @@ fn key_with(sharps: i8, minor: bool) -> Option<Key>
     })
 }
 
-/// The key of a basis on the tonic whose major key has these sharps.
-fn key_on(major: i8, basis: Basis) -> Option<Key>
+/// The key of a mode on the tonic whose major key has these sharps.
+fn key_on(major: i8, key_mode: KeyMode) -> Option<Key>
     requires { IsMajor major }
-    ensures { result ≡ key_on major basis }
+    ensures { result ≡ key_on major key_mode }
 {
-    match basis {
-        Basis::Named(mode) => key_with(sharps_in(major, mode), mode.is_minor()),
-        Basis::Explicit => Some(EMPTY_KEY),
+    match key_mode {
+        KeyMode::Named(mode) => key_with(sharps_in(major, mode), mode.is_minor()),
+        KeyMode::Explicit => Some(EMPTY_KEY),
     }
 }
 
@@ -114,11 +114,11 @@ fn toneless_start(first: &[u8]) -> Option<Key>
 /// Returns the beginning of a key on a tonic, by the text after the tonic, and the text with its other words.
 fn tonal_start(major: i8, following: &[u8]) -> Option<(Key, &[u8])>
     requires { IsMajor major }
-    ensures { MatchOption result (tonal_start major (basis_at following.now) ≡ None)
-        (λ p. tonal_start major (basis_at following.now) ≡ Some (p.0, p.1.now)) }
+    ensures { MatchOption result (tonal_start major (key_mode_at following.now) ≡ None)
+        (λ p. tonal_start major (key_mode_at following.now) ≡ Some (p.0, p.1.now)) }
 {
-    let (basis, text) = basis_at(following)?;
-    Some((key_on(major, basis)?, text))
+    let (key_mode, text) = key_mode_at(following)?;
+    Some((key_on(major, key_mode)?, text))
 }
 
 /// Returns the key at the front of a value, and the text with its other words.

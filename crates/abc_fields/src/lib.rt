@@ -4,7 +4,7 @@
 
 mod accidental;
 mod clef;
-mod fault;
+mod fault_code;
 mod key;
 mod listed;
 mod meter;
@@ -21,7 +21,7 @@ mod voice;
 
 pub use abc_text::Letter;
 pub use abc_time::Ratio;
-pub use fault::FaultCode;
+pub use fault_code::FaultCode;
 pub use key::{EMPTY_KEY, Key, key_set_by, read_key};
 pub use meter::{Meter, read_meter};
 pub use parts::{DEEPEST_GROUP, read_parts};

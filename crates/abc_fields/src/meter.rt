@@ -7,7 +7,7 @@ ghost use Rattle.abc_fields.specs.Spelling.Meter.{IsMeter};
 ghost use Rattle.abc_text.specs.Power.{power_up_to};
 ghost use Rattle.abc_text.specs.Number.{number_of};
 
-use crate::fault::FaultCode;
+use crate::fault_code::FaultCode;
 use crate::power::power_up_to;
 use abc_text::{cut_at, number_of};
 

@@ -6,7 +6,7 @@ ghost use Rattle.abc_fields.specs.Parts.{is_ignored, ends_item, begins_item, wit
 ghost use Rattle.abc_fields.specs.Parts.{parts_of};
 ghost use Rattle.abc_fields.specs.Spelling.Parts.{IsParts};
 
-use crate::fault::FaultCode;
+use crate::fault_code::FaultCode;
 use abc_text::is_blank;
 
 /// The greatest number of nested groups of an order. Not in ABC 2.1.
@@ -64,39 +64,39 @@ impl LastItem {
     }
 }
 
-/// A place in an order: the number of groups around it, and the last item before it.
+/// The reader of an order at a place: the number of groups around it, and the last item before it.
 #[derive(Clone, Copy)]
-struct Place {
+struct OrderState {
     depth: u8,
     before: LastItem,
 }
 
-impl Place {
-    const FIRST: Place = Place {
+impl OrderState {
+    const FIRST: OrderState = OrderState {
         depth: 0,
         before: LastItem::Nothing,
     };
 
     /// The place after a byte that may come here.
     #[tactic(auto, unfolding(crate::specs::Parts::next))]
-    fn next(self, byte: u8) -> Option<Place>
+    fn next(self, byte: u8) -> Option<OrderState>
         ensures { result ≡ next self byte }
     {
-        let Place { depth, before } = self;
+        let OrderState { depth, before } = self;
         match byte {
-            b'A'..=b'Z' if before.begins_item() => Some(Place {
+            b'A'..=b'Z' if before.begins_item() => Some(OrderState {
                 depth,
                 before: LastItem::ITEM,
             }),
-            b'(' if before.begins_item() && depth < DEEPEST_GROUP => Some(Place {
+            b'(' if before.begins_item() && depth < DEEPEST_GROUP => Some(OrderState {
                 depth: depth + 1,
                 before: LastItem::Nothing,
             }),
-            b')' if before.ends_item() && depth > 0 => Some(Place {
+            b')' if before.ends_item() && depth > 0 => Some(OrderState {
                 depth: depth - 1,
                 before: LastItem::ITEM,
             }),
-            b'0'..=b'9' => Some(Place {
+            b'0'..=b'9' => Some(OrderState {
                 depth,
                 before: before.with_digit(byte)?,
             }),
@@ -121,10 +121,10 @@ fn is_ignored(byte: u8) -> bool
 
 /// The place after a text that may begin an order.
 #[tactic(auto, using(crate::proofs::Orders::order_step, crate::proofs::Orders::order_lost))]
-fn place_following(text: &[u8]) -> Option<Place>
+fn place_following(text: &[u8]) -> Option<OrderState>
     ensures { result ≡ place_following text.now }
 {
-    let mut place = Place::FIRST;
+    let mut place = OrderState::FIRST;
     for byte in text {
         if !is_ignored(*byte) {
             place = place.next(*byte)?;

@@ -7,7 +7,7 @@ ghost use Rattle.abc_fields.specs.Tempo.{bare_tempo, tempo_around, tempo_in, tem
 ghost use Rattle.abc_fields.specs.Reading.{IsReading};
 ghost use Rattle.abc_fields.specs.Spelling.Tempo.{IsTempo};
 
-use crate::fault::FaultCode;
+use crate::fault_code::FaultCode;
 use abc_text::{bytes_before_blank, cut_at, is_power_up_to, number_of, trim_end, trim_start};
 use abc_time::Ratio;
 

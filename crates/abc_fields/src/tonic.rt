@@ -3,15 +3,15 @@
 ghost use Rattle.std.specs.Prelude.{◌≡◌, ◌≤◌, length, MatchOption, IfSome, pos, negsuc, ◌≤ℤ◌};
 ghost use Rattle.std.specs.List.{prefix_len};
 ghost use Rattle.std.specs.Char.{is_ascii_alphabetic};
-ghost use Rattle.abc_fields.specs.Tonic.{major_sharps, tonic_letter, sign_at, tonic_at, basis_at, IsMajor};
+ghost use Rattle.abc_fields.specs.Tonic.{major_sharps, tonic_letter, sign_at, tonic_at, key_mode_at, IsMajor};
 
 use crate::mode::{Mode, mode_of};
 use crate::signature::fifths;
 use abc_text::{Letter, leading_blanks, letter_of};
 
-/// The basis of a signature.
+/// The mode of a key.
 #[derive(Clone, Copy)]
-pub(crate) enum Basis {
+pub(crate) enum KeyMode {
     /// The tonic and this mode.
     Named(Mode),
     /// Only the listed accidentals (`exp`).
@@ -77,26 +77,26 @@ fn letters(text: &[u8]) -> usize
         .count()
 }
 
-/// Returns the basis of the signature, by the text after the tonic, and the rest with the other words.
-#[tactic(auto, unfolding(crate::specs::Tonic::basis_at))]
-pub(crate) fn basis_at(text: &[u8]) -> Option<(Basis, &[u8])>
-    ensures { MatchOption result (basis_at text.now ≡ None)
-        (λ p. basis_at text.now ≡ Some (p.0, p.1.now)) }
+/// Returns the mode of the key, by the text after the tonic, and the rest with the other words.
+#[tactic(auto, unfolding(crate::specs::Tonic::key_mode_at))]
+pub(crate) fn key_mode_at(text: &[u8]) -> Option<(KeyMode, &[u8])>
+    ensures { MatchOption result (key_mode_at text.now ≡ None)
+        (λ p. key_mode_at text.now ≡ Some (p.0, p.1.now)) }
 {
     let blanks = leading_blanks(text);
     let following = &text[blanks..];
     let (run, rest) = following.split_at(letters(following));
     if let Some(mode) = mode_of(run) {
-        return Some((Basis::Named(mode), rest));
+        return Some((KeyMode::Named(mode), rest));
     }
     if run.is_empty() {
-        return Some((Basis::Named(Mode::Ionian), text));
+        return Some((KeyMode::Named(Mode::Ionian), text));
     }
     if blanks == 0 {
         return None;
     }
     if run == b"exp".as_slice() {
-        return Some((Basis::Explicit, rest));
+        return Some((KeyMode::Explicit, rest));
     }
-    Some((Basis::Named(Mode::Ionian), text))
+    Some((KeyMode::Named(Mode::Ionian), text))
 }

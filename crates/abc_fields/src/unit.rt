@@ -6,7 +6,7 @@ ghost use Rattle.abc_fields.specs.Unit.{part_of, unit_in, unit_of};
 ghost use Rattle.abc_fields.specs.Reading.{IsReading};
 ghost use Rattle.abc_fields.specs.Spelling.Unit.{IsUnit};
 
-use crate::fault::FaultCode;
+use crate::fault_code::FaultCode;
 use crate::power::power_up_to;
 use abc_time::Ratio;
 

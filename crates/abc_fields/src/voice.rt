@@ -1,14 +1,14 @@
 //! The field V: (ABC 2.1 section 7.1).
 
 ghost use Rattle.std.specs.Prelude.{◌≡◌, ◌<◌, ◌≤◌, IfOk, IfSome, ◌∷◌, length, drop, slice_range};
-ghost use Rattle.abc_fields.specs.declared.fault.FaultCode.TheVariants.{BadVoice};
+ghost use Rattle.abc_fields.specs.declared.fault_code.FaultCode.TheVariants.{BadVoice};
 ghost use Rattle.abc_fields.specs.Shift.{IsSmallShift};
 ghost use Rattle.abc_text.specs.Word.{words_of};
 ghost use Rattle.abc_fields.specs.Voice.{voice_in, voice_of};
 ghost use Rattle.abc_fields.specs.Reading.{IsReading};
 ghost use Rattle.abc_fields.specs.Spelling.Voice.{IsVoice};
 
-use crate::fault::FaultCode;
+use crate::fault_code::FaultCode;
 use crate::shift::{Shift, shift_in};
 use abc_text::first_word;
 

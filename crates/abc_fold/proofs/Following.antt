@@ -4,7 +4,7 @@ use Rattle.std.proofs.lemmas.Bool.{cases_lt, false≢true}
 use Rattle.std.proofs.lemmas.Option.{slice_get_within, slice_get_read}
 use Rattle.abc_fold.specs.declared.piece.Piece.{Piece}
 use Rattle.abc_fold.specs.declared.piece.Piece.TheVariants.{New, Kept}
-use Rattle.abc_fold.specs.Chain.{Chained, IsKeptAt}
+use Rattle.abc_fold.specs.Chain.{ChainView, IsKeptAt}
 use Rattle.abc_fold.specs.Following.{AreMarked, Follows, FollowsLast, HasMarks, IsLeftIn}
 use Rattle.abc_fold.specs.Piece.{is_taken}
 use Rattle.abc_fold.specs.Steps.{Steps, IsResumable}
@@ -36,7 +36,7 @@ get_there (x ∷ xs) (suc k) inside = get_there xs k (omega (arith, inside))
 
 module _ {F State Cell Items Work : Type 0} where
   -- What a chain keeps at two places, one after the other, follows each other.
-  pub kept_follow : (chain : Chained State Cell Items) (i : ℕ) (before piece : Piece F State Cell Items Work) → IsKeptAt chain i before → IsKeptAt chain (i + 1) piece → Follows before piece
+  pub kept_follow : (chain : ChainView State Cell Items) (i : ℕ) (before piece : Piece F State Cell Items Work) → IsKeptAt chain i before → IsKeptAt chain (i + 1) piece → Follows before piece
   kept_follow chain i (New cell) piece at next = absurd at
   kept_follow chain i (Kept cell entered left items) (New other) at next = absurd next
   kept_follow chain i (Kept cell entered left items) (Kept other following later given) at next =

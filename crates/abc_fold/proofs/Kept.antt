@@ -5,7 +5,7 @@ use Rattle.std.proofs.lemmas.List.{take_more, get_or-drop}
 use Rattle.std.proofs.lemmas.Option.{slice_get_within, get_or_from_slice_get}
 use Rattle.abc_fold.specs.declared.piece.Piece.{Piece}
 use Rattle.abc_fold.specs.declared.piece.Piece.TheVariants.{New, Kept}
-use Rattle.abc_fold.specs.Chain.{Chained, Folds, IsKeptAt}
+use Rattle.abc_fold.specs.Chain.{ChainView, Folds, IsKeptAt}
 use Rattle.abc_fold.specs.Steps.{Steps, IsAlike, AreAlike, IsResumable, states_from, items_from}
 use Rattle.abc_fold.specs.Piece.{IsKept, IsStep, cell_of}
 
@@ -48,7 +48,7 @@ module _ {State Cell Items : Type 0} (steps : Steps State Cell Items) (laws : Is
       step_at (steps.next opening own) cells entries i cell entered left given alike.1 at_cell at_entry at_next at_items
 
   -- A piece that a chain keeps at a place may be taken up again.
-  pub kept_at : {F Work : Type 0} (opening : State) (chain : Chained State Cell Items) (i : ℕ) (piece : Piece F State Cell Items Work)
+  pub kept_at : {F Work : Type 0} (opening : State) (chain : ChainView State Cell Items) (i : ℕ) (piece : Piece F State Cell Items Work)
       → Folds steps opening chain → IsKeptAt chain i piece → IsKept steps piece
   kept_at opening chain i (New cell) folds at = tt
   kept_at opening chain i (Kept cell entered left items) folds at =
@@ -57,13 +57,13 @@ module _ {State Cell Items : Type 0} (steps : Steps State Cell Items) (laws : Is
       (subst (λ list. slice_get list i ≡ Some items) folds.items at.own_items)
 
   -- The same of the result of a call.
-  pub kept_of : {F Work E : Type 0} (opening : State) (chain : Chained State Cell Items) (i : ℕ) (result : Result (Piece F State Cell Items Work) E)
+  pub kept_of : {F Work E : Type 0} (opening : State) (chain : ChainView State Cell Items) (i : ℕ) (result : Result (Piece F State Cell Items Work) E)
       → Folds steps opening chain → IfOk result (λ piece. IsKeptAt chain i piece) → IfOk result (λ piece. IsKept steps piece)
   kept_of opening chain i (Ok piece) folds at = kept_at opening chain i piece folds at
   kept_of opening chain i (Err e) folds at = tt
 
 -- The cell of a piece that a chain keeps at a place.
-pub kept_cell : {F State Cell Items Work : Type 0} (chain : Chained State Cell Items) (i : ℕ) (piece : Piece F State Cell Items Work) → IsKeptAt chain i piece
+pub kept_cell : {F State Cell Items Work : Type 0} (chain : ChainView State Cell Items) (i : ℕ) (piece : Piece F State Cell Items Work) → IsKeptAt chain i piece
     → slice_get chain.cells i ≡ Some (cell_of piece)
 kept_cell chain i (New cell) at = absurd at
 kept_cell chain i (Kept cell entered left items) at = at.own_cell

@@ -1,7 +1,7 @@
 //! Chains of cells with their states and items, and prepared chains.
 
 ghost use Rattle.std.specs.Prelude.{◌≡◌, ◌<◌, All, IfOk, IsOk, Some, length, option_copied, slice_get, true};
-ghost use Rattle.abc_fold.specs.Chain.{Chained, Folds, IsKeptAt, no_cells};
+ghost use Rattle.abc_fold.specs.Chain.{ChainView, Folds, IsKeptAt, no_cells};
 ghost use Rattle.abc_fold.specs.Following.{AreMarked};
 ghost use Rattle.abc_fold.specs.Piece.{IsKept, cells_of, steps_needed};
 ghost use Rattle.abc_fold.specs.Steps.{Steps, IsResumable};
@@ -23,9 +23,9 @@ pub struct Chain<F: Fold> {
 }
 
 impl<F: Fold> Model for Chain<F> {
-    ghost use Rattle.abc_fold.specs.Chain.{Chained, HasShape};
+    ghost use Rattle.abc_fold.specs.Chain.{ChainView, HasShape};
 
-    ghost Value = { Chained F.State F.Cell F.Items };
+    ghost Value = { ChainView F.State F.Cell F.Items };
 
     ghost view = { λ c. record { entries = c.states.items; cells = c.cells.items; items = c.items.items } };
 
@@ -40,9 +40,9 @@ pub struct ChainPatch<F: Fold> {
 }
 
 impl<F: Fold> Model for ChainPatch<F> {
-    ghost use Rattle.abc_fold.specs.Chain.{Chained, Patched};
+    ghost use Rattle.abc_fold.specs.Chain.{ChainView, ChainPatchView};
 
-    ghost Value = { Patched F.State F.Cell F.Items };
+    ghost Value = { ChainPatchView F.State F.Cell F.Items };
 
     ghost view = { λ p. record { on = p.on.value; after = p.next } };
 }

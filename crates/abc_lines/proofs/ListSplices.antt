@@ -5,8 +5,8 @@ use Rattle.std.proofs.lemmas.Bool.Decides.{nat_tests}
 use Rattle.std.proofs.lemmas.Grind.{common_steps}
 use Rattle.std.proofs.lemmas.Option.{gets}
 use Rattle.std.proofs.lemmas.List.{append-nil, take_at, drop_at, length-take-le}
-use Rattle.abc_lines.specs.GapList.{Gapped, gapped_list, distance, add_to_tally, replaced_run}
-use Rattle.abc_lines.specs.ListSplice.{Patched, after_splice, count_after, places, places_for, splice_view}
+use Rattle.abc_lines.specs.GapList.{GapListView, gapped_list, distance, add_to_tally, replaced_run}
+use Rattle.abc_lines.specs.ListSplice.{SplicePatchView, after_splice, count_after, places, places_for, splice_view}
 
 pub gapped_alike : {X : Type 0} (xs ys : List X) (gap moved m n : ℕ) → xs ≡ ys → m ≡ n → gapped_list xs gap m moved ≡ gapped_list ys gap n moved
 gapped_alike xs ys gap moved m n same alike = rw same (rw alike refl)
@@ -33,25 +33,26 @@ pub item_past : {X : Type 0} (xs : List X) (at removed : ℕ) (new : List X) (i 
 item_past xs at removed new i inside following past = grind (arith, common_steps, gets)
 
 -- a patch whose list is still the one that it was prepared on
-pub items_now : {X : Type 0} (on now : Gapped X) (at removed : ℕ) (new : List X) (patch : Patched X) → splice_view on at removed new ≡ patch → patch.on ≡ now
+pub items_now : {X : Type 0} (on now : GapListView X) (at removed : ℕ) (new : List X) (patch : SplicePatchView X) → splice_view on at removed new ≡ patch → patch.on ≡ now
     → replaced_run now.items at removed new ≡ patch.after.items
 unfolding after_splice
 items_now {X = X} on now at removed new patch seen same =
-    ap (λ (l : Gapped X). replaced_run l.items at removed new) (sym (ap (λ p. p.on) seen ∙ same)) ∙ ap (λ p. p.after.items) seen
+    ap (λ (l : GapListView X). replaced_run l.items at removed new) (sym (ap (λ p. p.on) seen ∙ same)) ∙ ap (λ p. p.after.items) seen
 
-pub inside_now : {X : Type 0} (on now : Gapped X) (at removed : ℕ) (new : List X) (patch : Patched X) → splice_view on at removed new ≡ patch → patch.on ≡ now → at + removed ≤ length on.items
+pub inside_now : {X : Type 0} (on now : GapListView X) (at removed : ℕ) (new : List X) (patch : SplicePatchView X) → splice_view on at removed new ≡ patch → patch.on ≡ now
+    → at + removed ≤ length on.items
     → at + removed ≤ length now.items
 inside_now {X = X} on now at removed new patch seen same inside =
-    subst (λ (l : Gapped X). at + removed ≤ length l.items) (ap (λ p. p.on) seen ∙ same) inside
+    subst (λ (l : GapListView X). at + removed ≤ length l.items) (ap (λ p. p.on) seen ∙ same) inside
 
 -- what is done to a list: some items are left out, all are moved over into a roomier list, others are put in
-abbrev pub left_out : {X : Type 0} → ℕ → ℕ → Gapped X → Gapped X
+abbrev pub left_out : {X : Type 0} → ℕ → ℕ → GapListView X → GapListView X
 left_out at removed list = gapped_list (replaced_run list.items at removed []) at (list.room + removed) (add_to_tally list.moved (distance list.gap at))
 
-abbrev pub move_items : {X : Type 0} → Gapped X → Gapped X → Gapped X
+abbrev pub move_items : {X : Type 0} → GapListView X → GapListView X → GapListView X
 move_items roomier list = gapped_list list.items list.gap (roomier.room - length list.items) list.moved
 
-abbrev pub put_in : {X : Type 0} → List X → Gapped X → Gapped X
+abbrev pub put_in : {X : Type 0} → List X → GapListView X → GapListView X
 put_in new list = gapped_list (replaced_run list.items list.gap 0 new) (list.gap + length new) (list.room - length new) list.moved
 
 run_put : {X : Type 0} (xs : List X) (at removed : ℕ) (new : List X) → at + removed ≤ length xs
@@ -63,7 +64,7 @@ run_put xs at removed new inside =
     rw (take_at (take at xs) (drop (at + removed) xs) at front)
     (ap (λ ys. take at xs ++ new ++ ys) (drop_at (take at xs) (drop (at + removed) xs) at front))))
 
-pub put_in_room : {X : Type 0} (list : Gapped X) (at removed : ℕ) (new : List X) → at + removed ≤ length list.items → count_after list removed new ≤ places list
+pub put_in_room : {X : Type 0} (list : GapListView X) (at removed : ℕ) (new : List X) → at + removed ≤ length list.items → count_after list removed new ≤ places list
     → put_in new (left_out at removed list) ≡ after_splice list at removed new
 unfolding after_splice
 put_in_room list at removed new inside fits =
@@ -72,7 +73,7 @@ put_in_room list at removed new inside fits =
     let all : places_for count list ≡ places list = ap (λ b. if b then places list else 2 * count) test in
     gapped_alike _ _ _ _ _ _ (run_put list.items at removed new inside) (omega (arith, all))
 
-pub put_in_roomier : {X : Type 0} (list : Gapped X) (at removed : ℕ) (new : List X) → at + removed ≤ length list.items → places list < count_after list removed new
+pub put_in_roomier : {X : Type 0} (list : GapListView X) (at removed : ℕ) (new : List X) → at + removed ≤ length list.items → places list < count_after list removed new
     → put_in new (move_items (gapped_list [] 0 (2 * count_after list removed new) 0) (left_out at removed list)) ≡ after_splice list at removed new
 unfolding after_splice
 put_in_roomier list at removed new inside narrow =

@@ -2,13 +2,13 @@
 use Rattle.std.specs.Prelude.{ℕ, ◌+◌, ◌-◌, ◌^◌, List, ◌++◌, take, drop, min}
 
 -- The items, how many of them precede the gap, how many more fit, and how many places items have moved over.
-pub record Gapped (T : Type 0) : Type 0 where
+pub record GapListView (T : Type 0) : Type 0 where
   pub items : List T
   pub gap : ℕ
   pub room : ℕ
   pub moved : ℕ
 
-abbrev pub gapped_list : {T : Type 0} → List T → ℕ → ℕ → ℕ → Gapped T
+abbrev pub gapped_list : {T : Type 0} → List T → ℕ → ℕ → ℕ → GapListView T
 gapped_list items gap room moved = record { items = items; gap = gap; room = room; moved = moved }
 
 -- The distance between two places.

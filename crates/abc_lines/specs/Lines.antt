@@ -1,7 +1,7 @@
 -- What contracts see of a text with a gap, and of a splice that has been prepared.
 use Rattle.std.specs.Prelude.{ℕ, List}
-use Rattle.abc_lines.specs.GapList.{Gapped}
-use Rattle.abc_lines.specs.ListSplice.{Patched}
+use Rattle.abc_lines.specs.GapList.{GapListView}
+use Rattle.abc_lines.specs.ListSplice.{SplicePatchView}
 use Rattle.abc_lines.specs.Text.{Text}
 
 -- A text, how many of its lines precede the gap, for how many more there is room, and how many places the gap has
@@ -13,14 +13,14 @@ pub record Lines : Type 0 where
   pub moved : ℕ
 
 -- What a list of lines holds.
-abbrev pub held_by : Gapped (List ℕ) → Lines
+abbrev pub held_by : GapListView (List ℕ) → Lines
 held_by list = record { text = list.items; gap = list.gap; room = list.room; moved = list.moved }
 
 -- A text before a splice, with its gap and room, and the text after it.
-pub record Prepared : Type 0 where
+pub record LinePatchView : Type 0 where
   pub on : Lines
   pub after : Text
 
 -- The splice of a text that a splice of its list is.
-abbrev pub line_patch_view : Patched (List ℕ) → Prepared
+abbrev pub line_patch_view : SplicePatchView (List ℕ) → LinePatchView
 line_patch_view splice = record { on = held_by splice.on; after = splice.after.items }

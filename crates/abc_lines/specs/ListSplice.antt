@@ -1,41 +1,42 @@
 -- A splice of a list with a gap that has been prepared. Not in ABC 2.1.
 use Rattle.std.specs.Prelude.{◌≡◌, ℕ, ◌+◌, ◌-◌, ◌*◌, ◌<◌, ◌≤◌, if◌then◌else◌, List, [], length, nat_le, Option, Some, None}
-use Rattle.abc_lines.specs.GapList.{Gapped, gapped_list, distance, add_to_tally, replaced_run}
+use Rattle.abc_lines.specs.GapList.{GapListView, gapped_list, distance, add_to_tally, replaced_run}
 
 -- How many items there are after a splice.
-abbrev pub count_after : {T : Type 0} → Gapped T → ℕ → List T → ℕ
+abbrev pub count_after : {T : Type 0} → GapListView T → ℕ → List T → ℕ
 count_after list removed new = length list.items - removed + length new
 
 -- How many items a list can have.
-abbrev pub places : {T : Type 0} → Gapped T → ℕ
+abbrev pub places : {T : Type 0} → GapListView T → ℕ
 places list = length list.items + list.room
 
 -- How many it can have once it has to have `count`: as before if that is enough, and otherwise twice `count`.
-abbrev pub places_for : {T : Type 0} → ℕ → Gapped T → ℕ
+abbrev pub places_for : {T : Type 0} → ℕ → GapListView T → ℕ
 places_for count list = if nat_le count (places list) then places list else 2 * count
 
 -- A list after a splice: its items, with others instead of `removed` of them from index `at` on, and the gap after
 -- those that have come.
-unfoldable pub after_splice : {T : Type 0} → Gapped T → ℕ → ℕ → List T → Gapped T
+unfoldable pub after_splice : {T : Type 0} → GapListView T → ℕ → ℕ → List T → GapListView T
 after_splice list at removed new =
     let count = count_after list removed new in
     gapped_list (replaced_run list.items at removed new) (at + length new) (places_for count list - count)
     (add_to_tally list.moved (distance list.gap at))
 
 -- A list before a splice, and the same list after it.
-pub record Patched (T : Type 0) : Type 0 where
-  pub on : Gapped T
-  pub after : Gapped T
+pub record SplicePatchView (T : Type 0) : Type 0 where
+  pub on : GapListView T
+  pub after : GapListView T
 
-abbrev pub splice_view : {T : Type 0} → Gapped T → ℕ → ℕ → List T → Patched T
+abbrev pub splice_view : {T : Type 0} → GapListView T → ℕ → ℕ → List T → SplicePatchView T
 splice_view on at removed new = record { on = on; after = after_splice on at removed new }
 
 -- `count` items fit: in the list's own places, or in those of an empty list that replaces it.
-abbrev pub Fits : {T : Type 0} → ℕ → Gapped T → Option (Gapped T) → Type 0
+abbrev pub Fits : {T : Type 0} → ℕ → GapListView T → Option (GapListView T) → Type 0
 Fits count on None = count ≤ places on
 Fits count on (Some roomier) = (places on < count) × (roomier ≡ gapped_list [] 0 (2 * count) 0)
 
 -- What a prepared splice keeps: the removed items are in the list, and the new ones fit.
-pub record IsSplice {T : Type 0} (on : Gapped T) (at removed : ℕ) (new : List T) (roomier : Option (Gapped T)) : Type 0 where
+pub record IsSplice {T : Type 0} (on : GapListView T) (at removed : ℕ) (new : List T)
+    (roomier : Option (GapListView T)) : Type 0 where
   pub inside : at + removed ≤ length on.items
   pub fits : Fits (count_after on removed new) on roomier

@@ -23,9 +23,9 @@ pub struct GapList<T> {
 }
 
 impl<T> Model for GapList<T> {
-    ghost use Rattle.abc_lines.specs.GapList.{Gapped, gapped_list};
+    ghost use Rattle.abc_lines.specs.GapList.{GapListView, gapped_list};
 
-    ghost Value = { Gapped T };
+    ghost Value = { GapListView T };
 
     ghost view = { λ l. gapped_list l.block.items l.block.gap l.block.room l.moved };
 }

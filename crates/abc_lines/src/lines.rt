@@ -38,9 +38,9 @@ pub struct LinePatch {
 
 impl Model for LinePatch {
     ghost use Rattle.abc_lines.specs.Text.{IsText};
-    ghost use Rattle.abc_lines.specs.Lines.{Prepared, line_patch_view};
+    ghost use Rattle.abc_lines.specs.Lines.{LinePatchView, line_patch_view};
 
-    ghost Value = { Prepared };
+    ghost Value = { LinePatchView };
 
     ghost view = { λ p. line_patch_view p.splice };
 

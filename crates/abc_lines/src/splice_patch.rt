@@ -20,9 +20,9 @@ pub struct SplicePatch<T> {
 }
 
 impl<T> Model for SplicePatch<T> {
-    ghost use Rattle.abc_lines.specs.ListSplice.{Patched, IsSplice, splice_view};
+    ghost use Rattle.abc_lines.specs.ListSplice.{SplicePatchView, IsSplice, splice_view};
 
-    ghost Value = { Patched T };
+    ghost Value = { SplicePatchView T };
 
     ghost view = { λ p. splice_view p.on.value p.at p.removed p.new.items };
 

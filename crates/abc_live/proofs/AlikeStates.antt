@@ -3,7 +3,7 @@ use Rattle.std.proofs.Common.{◌≡◌, ◌⊎◌, List, [], ◌∷◌, refl, a
 use Rattle.std.specs.List.{AllZip}
 use Rattle.abc_book.specs.declared.block.Block.{Block}
 use Rattle.abc_live_cost.specs.OldItems.{IsChainOf}
-use Rattle.abc_fold.specs.Chain.{Chained}
+use Rattle.abc_fold.specs.Chain.{ChainView}
 use Rattle.abc_fold.specs.Steps.{Steps, AreAlike, IsAlike, IsResumable, states_from}
 use Rattle.abc_lines.specs.Text.{Text}
 use Rattle.abc_tune_compiler.specs.Placed.{Placed, items_along, placed_at}
@@ -39,7 +39,7 @@ module _ {State Cell Items : Type 0} (steps : Steps State Cell Items) (laws : Is
   begun_alike (entry ∷ entries) a b (cell ∷ some) (other ∷ others) first second = laws.transitive a entry b (laws.symmetric entry a first.0) second.0
 
   -- If a chain is the fold from two states, these are equivalent.
-  pub chains_alike : (read : List ℕ → List Cell) (a b : State) (text new : Text) (chains : List (Chained State Cell Items)) (blocks others : List Block)
+  pub chains_alike : (read : List ℕ → List Cell) (a b : State) (text new : Text) (chains : List (ChainView State Cell Items)) (blocks others : List Block)
       → AllZip (IsChainOf steps read a text) chains blocks → AllZip (IsChainOf steps read b new) chains others → (blocks ≡ []) ⊎ IsAlike steps a b
   chains_alike read a b text new [] [] others first second = inl refl
   chains_alike read a b text new [] (block ∷ blocks) others first second = absurd first

@@ -11,7 +11,7 @@ use Rattle.abc_book.specs.declared.block.Block.{Block}
 use Rattle.abc_live_text.specs.Chains.{AreChains, IsHeaderChainOf}
 use Rattle.abc_lines.specs.ItemRange.{gone}
 use Rattle.abc_live_text.specs.KeptText.{KeptPatchView, HoldsHeader, KeepsHeader, block_after}
-use Rattle.abc_fold.specs.Chain.{Chained}
+use Rattle.abc_fold.specs.Chain.{ChainView}
 use Rattle.abc_fold.specs.Steps.{Steps, IsAlike, IsResumable}
 use Rattle.abc_live_index.specs.Faults.{shifted_fault, faults_after}
 use Rattle.abc_live_index.specs.Laws.{FaultAmong, FaultBefore, FaultAfter}
@@ -76,7 +76,7 @@ module _ {State Cell Items Defaults : Type 0} (steps : Steps State Cell Items) (
         ap (λ h. sort_dedup fault_cmp (faults_found h (tunes_in (blocks_in rules text)))) (sym header_is) ∙ ap (λ ts. sort_dedup fault_cmp (faults_found header ts)) (sym tunes_are)
 
     -- the tunes give the files and the titles of the text
-    pub book_is : (chains : List (Chained State Cell Items)) (outputs : List Output) (found : List Fault)
+    pub book_is : (chains : List (ChainView State Cell Items)) (outputs : List Output) (found : List Fault)
         → AreChains steps rules text chains → outputs ≡ map (output_in rules) (drop 1 chains) → found ≡ (book_of steps rules text).faults
         → IsBook outputs found (book_of steps rules text)
     unfolding book_of
@@ -107,7 +107,7 @@ module _ {State Cell Items Defaults : Type 0} (steps : Steps State Cell Items) (
         (λ k d inside. All-contains P found _ all ((no_fault_lost found _).0 (All-contains_itself (sort_dedup fault_cmp found) k d inside)))
 
   -- the faults of a file header that lies in some lines, which are the first
-  header_there : (text : Text) (from came : ℕ) (first : Chained State Cell Items) (header : Option Block)
+  header_there : (text : Text) (from came : ℕ) (first : ChainView State Cell Items) (header : Option Block)
       → IsHeaderChainOf steps rules text first header → IfSome header (LiesIn (length text)) → from ≡ 0 → ((block : Block) → header ≡ Some block → block.to ≤ came)
       → header_faults_there rules from (counts_among rules.cells text from came) first header ≡ header_faults steps.next steps.gives rules text header
   header_there text from came first None is lies none ends = refl
@@ -119,13 +119,13 @@ module _ {State Cell Items Defaults : Type 0} (steps : Steps State Cell Items) (
       ∙ header_follows steps rules text from came first block is there
 
   -- and of one that lies before them
-  header_before : (from : ℕ) (counts : List ℕ) (first : Chained State Cell Items) (header : Option Block)
+  header_before : (from : ℕ) (counts : List ℕ) (first : ChainView State Cell Items) (header : Option Block)
       → ((block : Block) → header ≡ Some block → block.to ≤ from) → header_faults_there rules from counts first header ≡ []
   header_before from counts first None before = refl
   header_before from counts first (Some block) before = if_not_below from block.to (cell_faults_by rules from counts first block) [] (before block refl)
 
   module _ {C : Type 0} (s : Splice) (patch : KeptPatchView C State Cell Items) (is : IsPrepared steps rules s patch)
-      (first : Chained State Cell Items) (there : slice_get patch.chains 0 ≡ Some first) where
+      (first : ChainView State Cell Items) (there : slice_get patch.chains 0 ≡ Some first) where
     -- the faults that the stretch has
     abbrev pub new_faults : List Fault
     new_faults = header_faults_there rules patch.stretch.lines.from

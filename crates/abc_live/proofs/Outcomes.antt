@@ -8,7 +8,7 @@ use Rattle.abc_book.specs.declared.block.Block.{Block}
 use Rattle.abc_lines.specs.ItemRange.{gone}
 use Rattle.abc_live_text.specs.KeptText.{KeptPatchView, KeptTextView, old_tunes}
 use Rattle.abc_live_text.specs.declared.stretch.Stretch.{Stretch}
-use Rattle.abc_fold.specs.Chain.{Chained}
+use Rattle.abc_fold.specs.Chain.{ChainView}
 use Rattle.abc_fold.specs.Steps.{Steps, IsResumable}
 use Rattle.abc_live_index.specs.Faults.{faults_after}
 use Rattle.abc_lines.specs.Lines.{Lines}
@@ -112,7 +112,7 @@ module _ {C State Cell Items Defaults : Type 0} (steps : Steps State Cell Items)
       ∙ ap (λ (m : List Output). take patch.stretch.tunes.from (map (output_in rules) (old_tunes patch)) ++ (m ++ drop patch.stretch.tunes.to (map (output_in rules) (old_tunes patch)))) give
       ∙ new_outputs steps rules s patch is
 
-  module _ (first : Chained State Cell Items) (own_first : slice_get patch.chains 0 ≡ Some first) where
+  module _ (first : ChainView State Cell Items) (own_first : slice_get patch.chains 0 ≡ Some first) where
     pub header_there : (counts : List ℕ) (header : Option Block)
         → counts ≡ map count_in (take patch.stretch.lines.came (drop patch.stretch.lines.from patch.rows)) → header ≡ patch.header → HeaderCells stretch.lines.from counts first header
     header_there counts header are same =

@@ -6,7 +6,7 @@ use Rattle.abc_live_text.specs.Chains.{AreChains, IsHeaderChainOf}
 use Rattle.abc_live_cost.specs.OldItems.{IsChainOf}
 use Rattle.abc_live_text.specs.Row.{Row, row_cells}
 use Rattle.abc_live_text.specs.KeptText.{AreRows}
-use Rattle.abc_fold.specs.Chain.{Chained}
+use Rattle.abc_fold.specs.Chain.{ChainView}
 use Rattle.abc_fold.specs.Steps.{Steps}
 use Rattle.abc_live.specs.Prepared.{count_in}
 use Rattle.abc_lines.specs.Text.{Text}
@@ -19,25 +19,25 @@ use Rattle.abc_tune_compiler.specs.Tune.{tune_of}
 
 module _ {State Cell Items Defaults : Type 0} (steps : Steps State Cell Items) (rules : Rules State Cell Items Defaults) (text : Text) where
   -- there is a chain of the file header
-  pub some_chain : (chains : List (Chained State Cell Items)) → AreChains steps rules text chains → 1 ≤ length chains
+  pub some_chain : (chains : List (ChainView State Cell Items)) → AreChains steps rules text chains → 1 ≤ length chains
   some_chain [] are = absurd are
   some_chain (chain ∷ chains) are = omega arith
 
   -- it is that of the file header
-  pub header_chain : (chains : List (Chained State Cell Items)) (first : Chained State Cell Items) → AreChains steps rules text chains → slice_get chains 0 ≡ Some first
+  pub header_chain : (chains : List (ChainView State Cell Items)) (first : ChainView State Cell Items) → AreChains steps rules text chains → slice_get chains 0 ≡ Some first
       → IsHeaderChainOf steps rules text first (header_in (blocks_in rules text))
   header_chain [] first are is = absurd are
   header_chain (chain ∷ chains) first are is = let same : chain ≡ first = cc in subst
-      (λ (c : Chained State Cell Items). IsHeaderChainOf steps rules text c (header_in (blocks_in rules text))) same are.0
+      (λ (c : ChainView State Cell Items). IsHeaderChainOf steps rules text c (header_in (blocks_in rules text))) same are.0
 
   -- and the others are those of the tunes
-  pub tune_chains : (chains : List (Chained State Cell Items)) → AreChains steps rules text chains
+  pub tune_chains : (chains : List (ChainView State Cell Items)) → AreChains steps rules text chains
       → AllZip (IsChainOf steps rules.cells (opening_of steps.next rules text (blocks_in rules text)) text) (drop 1 chains) (tunes_in (blocks_in rules text))
   tune_chains [] are = absurd are
   tune_chains (chain ∷ chains) are = are.1
 
   -- which give their tunes
-  pub tells_of : (opening : State) (chains : List (Chained State Cell Items)) (blocks : List Block) → AllZip (IsChainOf steps rules.cells opening text) chains blocks
+  pub tells_of : (opening : State) (chains : List (ChainView State Cell Items)) (blocks : List Block) → AllZip (IsChainOf steps rules.cells opening text) chains blocks
       → AllZip OutputAgrees (map (output_in rules) chains) (map (tune_of steps.next steps.gives rules opening text) blocks)
   tells_of opening [] [] all = tt
   tells_of opening [] (block ∷ blocks) all = absurd all

@@ -11,7 +11,7 @@ use Rattle.abc_live_cost.specs.OldItems.{IsChainOf}
 use Rattle.abc_live_text.specs.KeptText.{KeptPatchView, HoldsHeader, KeepsHeader, block_after, old_tunes}
 use Rattle.abc_live_text.proofs.Openings.{opening_alike}
 use Rattle.abc_tune_compiler.specs.Lawful.{AreLawful}
-use Rattle.abc_fold.specs.Chain.{Chained}
+use Rattle.abc_fold.specs.Chain.{ChainView}
 use Rattle.abc_fold.specs.Steps.{Steps, IsAlike, IsResumable, items_from}
 use Rattle.abc_fold.proofs.Alike.{equal_items}
 use Rattle.abc_lines.specs.Text.{Splice, Text, is_line}
@@ -43,7 +43,7 @@ lies_among from came count places there own =
 
 -- a tune of a stretch gives the items that its key has
 tune_at : {State Cell Items Defaults : Type 0} (steps : Steps State Cell Items) (rules : Rules State Cell Items Defaults)
-    (laws : IsResumable steps) (opening : State) (left : Option State) (from came : ℕ) (text : Text) (chain : Chained State Cell Items) (place : Block)
+    (laws : IsResumable steps) (opening : State) (left : Option State) (from came : ℕ) (text : Text) (chain : ChainView State Cell Items) (place : Block)
     → IsAlike steps (rules.tune left) opening → from + came ≤ length text → LiesAmong from came place → IsChainOf steps rules.cells opening text chain place
     → IsTuneAt steps rules (line_run left from (take came (drop from text))) chain place
 tune_at steps rules laws opening left from came text chain place alike inside lies is =
@@ -57,7 +57,7 @@ tune_at steps rules laws opening left from came text chain place alike inside li
     }
 
 tunes_at : {State Cell Items Defaults : Type 0} (steps : Steps State Cell Items) (rules : Rules State Cell Items Defaults)
-    (laws : IsResumable steps) (opening : State) (left : Option State) (from came : ℕ) (text : Text) (chains : List (Chained State Cell Items)) (places : List Block)
+    (laws : IsResumable steps) (opening : State) (left : Option State) (from came : ℕ) (text : Text) (chains : List (ChainView State Cell Items)) (places : List Block)
     → IsAlike steps (rules.tune left) opening → from + came ≤ length text → All (LiesAmong from came) places → AllZip (IsChainOf steps rules.cells opening text) chains places
     → AllZip (IsTuneAt steps rules (line_run left from (take came (drop from text)))) chains places
 tunes_at steps rules laws opening left from came text [] [] alike inside lie all = tt
@@ -70,7 +70,7 @@ tunes_at steps rules laws opening left from came text (chain ∷ chains) (place 
 
 -- a file header that does not lie before a stretch lies in it, since this then begins with the text
 header_cells : {State Cell Items Defaults : Type 0} (steps : Steps State Cell Items) (rules : Rules State Cell Items Defaults)
-    (text : Text) (from came : ℕ) (first : Chained State Cell Items) (header : Option Block)
+    (text : Text) (from came : ℕ) (first : ChainView State Cell Items) (header : Option Block)
     → from + came ≤ length text → IfSome header (LiesIn (length text)) → IsHeaderChainOf steps rules text first header
     → ((block : Block) → header ≡ Some block → from < block.to → (from ≡ 0) × (block.to ≤ came))
     → HeaderCells from (counts_among rules.cells text from came) first header
@@ -199,7 +199,7 @@ module _ {C State Cell Items Defaults : Type 0} (steps : Steps State Cell Items)
   pub takes_over : AllZip (ReusesOutput rules (map (output_in rules) (old_tunes patch))) patch.new_chains patch.reused_tunes
   takes_over = items_suffice rules (old_tunes patch) patch.new_chains patch.reused_tunes is.own_items
 
-  module _ (first : Chained State Cell Items) (there : slice_get patch.chains 0 ≡ Some first) where
+  module _ (first : ChainView State Cell Items) (there : slice_get patch.chains 0 ≡ Some first) where
     -- the chain of the file header
     pub first_is : IsHeaderChainOf steps rules patch.text first patch.header
     first_is = subst (IsHeaderChainOf steps rules patch.text first) (sym is.stands.header_is) (header_chain steps rules patch.text patch.chains first is.stands.chains_are there)

@@ -9,7 +9,7 @@ use Rattle.abc_book.specs.Block.{blocks_of}
 use Rattle.abc_book.specs.Laws.{RiseFromTo}
 use Rattle.abc_book.proofs.Rising.{blocks_rise}
 use Rattle.abc_lines.specs.Text.{Text}
-use Rattle.abc_scan.specs.declared.class.LineClass.{LineClass}
+use Rattle.abc_scan.specs.declared.line_class.LineClass.{LineClass}
 use Rattle.abc_tune_compiler.specs.Book.{header_in, is_file_header, is_tune, tunes_in}
 
 -- a block of at least one line

@@ -5,7 +5,7 @@ use Rattle.abc_book.specs.declared.block.Block.{Block}
 use Rattle.abc_live_text.specs.Row.{Row}
 use Rattle.abc_live_text.specs.KeptText.{KeptPatchView, IsStretch, KeptTextView, ArePartsOf, old_tunes, parts_after, parts_of}
 use Rattle.abc_live_cost.specs.OldItems.{HasItemsOf}
-use Rattle.abc_fold.specs.Chain.{Chained}
+use Rattle.abc_fold.specs.Chain.{ChainView}
 use Rattle.abc_fold.specs.Steps.{Steps}
 use Rattle.abc_live_index.specs.KeptBook.{KeptBookView}
 use Rattle.abc_live_index.specs.Outputs.{files_of, titles_of}
@@ -52,23 +52,23 @@ abbrev pub IsBookOf : {C State Cell Items Defaults : Type 0} → Steps State Cel
 IsBookOf steps rules on book = IsBook book.outputs.items book.faults (book_of steps rules on.lines.text)
 
 -- A file header that does not lie before some lines lies among them, and its chain has their cells.
-abbrev pub HeaderCells : {State Cell Items : Type 0} → ℕ → List ℕ → Chained State Cell Items → Option Block → Type 0
+abbrev pub HeaderCells : {State Cell Items : Type 0} → ℕ → List ℕ → ChainView State Cell Items → Option Block → Type 0
 HeaderCells before counts chain None = Unit {0}
 HeaderCells before counts chain (Some block) = before < block.to → HasCells before counts chain block
 
 -- The tunes of chains lie among some lines, and the chains have the cells of their lines.
-abbrev pub TuneCells : {State Cell Items : Type 0} → ℕ → List ℕ → List (Chained State Cell Items) → List Block → Type 0
+abbrev pub TuneCells : {State Cell Items : Type 0} → ℕ → List ℕ → List (ChainView State Cell Items) → List Block → Type 0
 TuneCells before counts chains places = AllZip (HasCells before counts) chains places
 
 -- The faults of a file header that lies among some lines, and none of one that lies before them.
 abbrev pub header_faults_there : {State Cell Items Defaults : Type 0} → Rules State Cell Items Defaults → ℕ → List ℕ
-    → Chained State Cell Items → Option Block → List Fault
+    → ChainView State Cell Items → Option Block → List Fault
 header_faults_there rules before counts chain None = []
 header_faults_there rules before counts chain (Some block) =
     if nat_lt before block.to then cell_faults_by rules before counts chain block else []
 
 -- The faults of the lines of a stretch: those of the file header, if it lies there, and those of the tunes.
 abbrev pub stretch_faults : {State Cell Items Defaults : Type 0} → Rules State Cell Items Defaults → ℕ → List ℕ
-    → Chained State Cell Items → Option Block → List (Chained State Cell Items) → List Block → List Fault
+    → ChainView State Cell Items → Option Block → List (ChainView State Cell Items) → List Block → List Fault
 stretch_faults rules before counts first header chains places = header_faults_there rules before counts first header
     ++ faults_by rules before counts chains places

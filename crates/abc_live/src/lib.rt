@@ -3,9 +3,9 @@
 #![tactic(auto)]
 
 mod abc;
+mod book_patch;
 mod change;
 mod edit;
-mod outcome;
 mod session;
 mod stretch_lines;
 

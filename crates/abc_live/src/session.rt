@@ -15,9 +15,9 @@ ghost use Rattle.abc_tune_compiler.specs.Fault.{fault_cmp};
 ghost use Rattle.abc_tune_compiler.specs.Files.{file_at, first_file};
 ghost use Rattle.abc_tune_compiler.specs.Report.{Reports};
 
+use crate::book_patch::book_after;
 use crate::change::{Change, change_of};
 use crate::edit::Edit;
-use crate::outcome::book_after;
 use abc_lines::EditError;
 use abc_live_index::{BookPatch, KeptBook};
 use abc_live_text::{KeptPatch, KeptText};

@@ -2,7 +2,7 @@
 use Rattle.std.specs.Prelude.{◌≡◌, ℕ, true, List, Option, Some, IfSome, IsSome, slice_get}
 use Rattle.std.specs.List.{AllZip, flat_map}
 use Rattle.abc_book.specs.declared.block.Block.{Block}
-use Rattle.abc_fold.specs.Chain.{Chained, Folds}
+use Rattle.abc_fold.specs.Chain.{ChainView, Folds}
 use Rattle.abc_fold.specs.Steps.{Steps}
 use Rattle.abc_lines.specs.Text.{Splice, Text, spliced}
 use Rattle.abc_tune_compiler.specs.Rules.{Rules}
@@ -13,14 +13,15 @@ use Rattle.abc_live_cost.specs.Layout.{layout_of, tune_chains}
 
 -- A chain is the fold over the cells of the lines of a block, from an opening.
 pub record IsChainOf {State Cell Items : Type 0} (steps : Steps State Cell Items) (read : List ℕ → List Cell) (opening : State)
-    (text : Text) (chain : Chained State Cell Items) (block : Block) : Type 0 where
+    (text : Text) (chain : ChainView State Cell Items) (block : Block) : Type 0 where
   pub folds : Folds steps opening chain
   pub cells : chain.cells ≡ flat_map read (lines_in text block)
 
 -- If an old chain is named, it has the items of this chain.
-abbrev pub HasItemsOf : {State Cell Items : Type 0} → List (Chained State Cell Items) → Chained State Cell Items → Option ℕ → Type 0
+abbrev pub HasItemsOf : {State Cell Items : Type 0} → List (ChainView State Cell Items) → ChainView State Cell Items → Option ℕ
+    → Type 0
 HasItemsOf {State = State} {Cell = Cell} {Items = Items} olds chain reused_tunes =
-    IfSome reused_tunes (λ old. (was : Chained State Cell Items) × (slice_get olds old ≡ Some was) × (was.items ≡ chain.items))
+    IfSome reused_tunes (λ old. (was : ChainView State Cell Items) × (slice_get olds old ≡ Some was) × (was.items ≡ chain.items))
 
 -- Each untouched tune of the text after a splice has the items of an old one.
 abbrev pub TakesUntouched : {State Cell Items Defaults : Type 0} → Steps State Cell Items → Rules State Cell Items Defaults

@@ -5,8 +5,8 @@ use Rattle.std.specs.Prelude.{◌≡◌, ℕ, ◌==◌, if◌then◌else◌, Lis
 use Rattle.std.specs.List.{slice_split}
 use Rattle.abc_lines.specs.Text.{Splice, Text}
 use Rattle.abc_scan.specs.Class.{class_of}
-use Rattle.abc_scan.specs.declared.class.LineClass.{LineClass}
-use Rattle.abc_scan.specs.declared.class.LineClass.TheVariants.{Blank, Comment, Field, Directive, Music}
+use Rattle.abc_scan.specs.declared.line_class.LineClass.{LineClass}
+use Rattle.abc_scan.specs.declared.line_class.LineClass.TheVariants.{Blank, Comment, Field, Directive, Music}
 use Rattle.abc_tune_compiler.specs.Rules.{Rules}
 use Rattle.abc_live_cost.specs.FreshCells.{fresh_cells_after, touched_tunes_after}
 use Rattle.abc_fold.specs.Steps.{Steps}

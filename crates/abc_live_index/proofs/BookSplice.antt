@@ -1,10 +1,10 @@
 -- What a splice makes of the tunes of a book.
 use Rattle.std.proofs.Common.{◌≡◌, ℕ, ◌+◌, ◌-◌, ◌≤◌, List, ◌++◌, length, take, drop, ap, ◌∙◌, append_assoc, length-append, arith}
 use Rattle.std.proofs.lemmas.List.{drop_at, length-drop, length-take-le, take_at}
-use Rattle.abc_lines.specs.GapList.{Gapped, replaced_run}
+use Rattle.abc_lines.specs.GapList.{GapListView, replaced_run}
 use Rattle.abc_lines.specs.ListSplice.{after_splice}
 
-module _ {X : Type 0} (before after : Gapped X) (front following : ℕ) (new : List X) (order : front ≤ following) (inside : following ≤ length before.items)
+module _ {X : Type 0} (before after : GapListView X) (front following : ℕ) (new : List X) (order : front ≤ following) (inside : following ≤ length before.items)
     (is : after ≡ after_splice before front (following - front) new) where
   run : after.items ≡ replaced_run before.items front (following - front) new
   unfolding after_splice

@@ -8,7 +8,7 @@ use Rattle.std.proofs.lemmas.List.Elements.{All-head, All-tail}
 use Rattle.std.proofs.lemmas.List.Sums.{sum_by-cons}
 use Rattle.std.proofs.Math.Seq.{take-append_seam, drop-append_seam}
 use Rattle.abc_book.specs.declared.block.Block.{Block}
-use Rattle.abc_fold.specs.Chain.{Chained}
+use Rattle.abc_fold.specs.Chain.{ChainView}
 use Rattle.abc_fold.specs.Steps.{Steps, items_from}
 use Rattle.abc_lines.specs.Text.{Text}
 use Rattle.abc_live_index.specs.Output.{counts_of, output_in, placed_from}
@@ -94,7 +94,7 @@ module _ {State Cell Items : Type 0} (steps : Steps State Cell Items) where
       ∙ ap (λ l. items_from steps state cells ++ l) (things_along read (line + 1) following lines)
       ∙ sym (items_append state cells (flat_map read lines))
 
-  module _ (read : List ℕ → List Cell) (opening : State) (text : Text) (chain : Chained State Cell Items) (place : Block) (is : IsChainOf steps read opening text chain place) where
+  module _ (read : List ℕ → List Cell) (opening : State) (text : Text) (chain : ChainView State Cell Items) (place : Block) (is : IsChainOf steps read opening text chain place) where
     items_are : chain.items ≡ items_from steps opening (flat_map read (lines_in text place))
     items_are = is.folds.items ∙ ap (items_from steps opening) is.cells
 
@@ -124,7 +124,7 @@ module _ {State Cell Items : Type 0} (steps : Steps State Cell Items) where
 
   module _ {Defaults : Type 0} (rules : Rules State Cell Items Defaults) (opening : State) (text : Text) where
     -- what the chain of a place gives at any place of its lines
-    pub output_follows : (chain : Chained State Cell Items) (place : Block) → IsChainOf steps rules.cells opening text chain place
+    pub output_follows : (chain : ChainView State Cell Items) (place : Block) → IsChainOf steps rules.cells opening text chain place
         → OutputAgrees (output_in rules chain) (tune_of steps.next steps.gives rules opening text place)
     unfolding tune_of
     output_follows chain place is =
@@ -136,13 +136,13 @@ module _ {State Cell Items : Type 0} (steps : Steps State Cell Items) where
         }
 
     -- the faults of its cells
-    pub cells_fault : (before count : ℕ) (chain : Chained State Cell Items) (place : Block) → IsChainOf steps rules.cells opening text chain place → LiesAmong before count place
+    pub cells_fault : (before count : ℕ) (chain : ChainView State Cell Items) (place : Block) → IsChainOf steps rules.cells opening text chain place → LiesAmong before count place
         → cell_faults_by rules before (counts_among rules.cells text before count) chain place ≡ faults_along rules.faults
         (items_along steps.next steps.gives opening (cells_from rules.cells (place.from + 1) (lines_in text place)))
     cells_fault before count chain place is lies = ap (faults_along rules.faults) (placed_there rules.cells opening text chain place is before count lies (place.from + 1))
 
     -- and those of the tune as a whole
-    tune_faults : (before count : ℕ) (chain : Chained State Cell Items) (place : Block) → IsChainOf steps rules.cells opening text chain place → LiesAmong before count place
+    tune_faults : (before count : ℕ) (chain : ChainView State Cell Items) (place : Block) → IsChainOf steps rules.cells opening text chain place → LiesAmong before count place
         → tune_faults_by rules before (counts_among rules.cells text before count) chain place ≡ (tune_of steps.next steps.gives rules opening text place).faults
     unfolding tune_of
     tune_faults before count chain place is lies =
@@ -153,7 +153,7 @@ module _ {State Cell Items : Type 0} (steps : Steps State Cell Items) where
         (cells_from rules.cells (place.from + 1) (lines_in text place))))) ++ faults) (cells_fault before count chain place is lies)
 
     -- those of all tunes
-    pub faults_follow : (before count : ℕ) (chains : List (Chained State Cell Items)) (places : List Block)
+    pub faults_follow : (before count : ℕ) (chains : List (ChainView State Cell Items)) (places : List Block)
         → AllZip (IsChainOf steps rules.cells opening text) chains places → All (LiesAmong before count) places
         → faults_by rules before (counts_among rules.cells text before count) chains places ≡ faults_of_tunes (map (tune_of steps.next steps.gives rules opening text) places)
     faults_follow before count [] [] all lie = refl
@@ -165,7 +165,7 @@ module _ {State Cell Items : Type 0} (steps : Steps State Cell Items) where
         ∙ ap (λ faults. (tune_of steps.next steps.gives rules opening text place).faults ++ faults)
         (faults_follow before count chains places all.1 (All-tail (LiesAmong before count) place places lie))
 
-    pub zipped_cells : (before count : ℕ) (chains : List (Chained State Cell Items)) (places : List Block)
+    pub zipped_cells : (before count : ℕ) (chains : List (ChainView State Cell Items)) (places : List Block)
         → AllZip (IsChainOf steps rules.cells opening text) chains places → All (LiesAmong before count) places → before + count ≤ length text
         → AllZip (HasCells before (counts_among rules.cells text before count)) chains places
     zipped_cells before count [] [] all lie inside = tt
@@ -178,6 +178,6 @@ module _ {State Cell Items : Type 0} (steps : Steps State Cell Items) where
 
   -- the faults of a file header
   pub header_follows : {Defaults : Type 0} (rules : Rules State Cell Items Defaults) (text : Text) (before count : ℕ)
-      (chain : Chained State Cell Items) (place : Block) → IsChainOf steps rules.cells rules.header text chain place → LiesAmong before count place
+      (chain : ChainView State Cell Items) (place : Block) → IsChainOf steps rules.cells rules.header text chain place → LiesAmong before count place
       → cell_faults_by rules before (counts_among rules.cells text before count) chain place ≡ header_faults steps.next steps.gives rules text (Some place)
   header_follows rules text before count chain place is lies = cells_fault rules rules.header text before count chain place is lies

@@ -6,7 +6,7 @@ use Rattle.std.proofs.lemmas.List.{drop-drop, length-drop}
 use Rattle.std.proofs.lemmas.Option.{slice_get_within}
 use Rattle.std.specs.List.{AllZip}
 use Rattle.abc_book.specs.declared.block.Block.{Block}
-use Rattle.abc_fold.specs.Chain.{Chained}
+use Rattle.abc_fold.specs.Chain.{ChainView}
 use Rattle.abc_live_index.specs.Tunes.{HasCells, faults_by, tune_faults_by}
 use Rattle.abc_live_index.proofs.OutputLists.{put_more, zipped_count}
 use Rattle.abc_live_index.proofs.Lists.{one_on}
@@ -25,7 +25,7 @@ zipped_rest R x xs [] all = absurd all
 zipped_rest R x xs (y ∷ ys) all = all.1
 
 module _ {State Cell Items Defaults : Type 0} (rules : Rules State Cell Items Defaults) (before : ℕ) (counts : List ℕ)
-    (chains : List (Chained State Cell Items)) (places : List Block) (at : ℕ) (chain : Chained State Cell Items)
+    (chains : List (ChainView State Cell Items)) (places : List Block) (at : ℕ) (chain : ChainView State Cell Items)
     (there : slice_get chains at ≡ Some chain) (cells : AllZip (HasCells before counts) (drop at chains) (drop at places)) where
   as_many : at < length places
   as_many =

@@ -5,8 +5,8 @@ use Rattle.std.proofs.lemmas.Bool.{eqb-true}
 use Rattle.std.proofs.lemmas.Grind.{flat_map-append}
 use Rattle.std.proofs.lemmas.List.{append-nil}
 use Rattle.abc_book.specs.declared.block.Block.{Block}
-use Rattle.abc_fields.specs.declared.fault.FaultCode.{FaultCode}
-use Rattle.abc_fold.specs.Chain.{Chained}
+use Rattle.abc_fields.specs.declared.fault_code.FaultCode.{FaultCode}
+use Rattle.abc_fold.specs.Chain.{ChainView}
 use Rattle.abc_live_index.specs.Output.{has_faults, output_in, placed_from}
 use Rattle.abc_live_index.specs.Tunes.{counts_in, tune_faults_by}
 use Rattle.abc_live_index.specs.declared.output.Output.{Output}
@@ -50,7 +50,7 @@ module _ {State Cell Items Defaults : Type 0} (rules : Rules State Cell Items De
       ∙ (λ i. line_none line (take count items) (take_none count items e) i ++ lines_none (line + 1) counts (drop count items) (drop_none count items e) i)
 
   -- Of a tune of which no cell has faults, those as a whole are all.
-  pub faultless : (output : Output) (chain : Chained State Cell Items) (before : ℕ) (counts : List ℕ) (place : Block)
+  pub faultless : (output : Output) (chain : ChainView State Cell Items) (before : ℕ) (counts : List ℕ) (place : Block)
       (codes : List FaultCode) (old new : List Fault) → output ≡ output_in rules chain → output.faulty ≡ false → codes ≡ output.built.faults
       → new ≡ old ++ map (fault_of_tune (place.from + 1)) codes → new ≡ old ++ tune_faults_by rules before counts chain place
   faultless output chain before counts place codes old new is none own put =

@@ -9,7 +9,7 @@ use Rattle.std.proofs.lemmas.List.{drop-map, take-map}
 use Rattle.std.proofs.lemmas.Option.{slice_get-get_or}
 use Rattle.abc_book.specs.declared.block.Block.{Block}
 use Rattle.abc_tune_compiler.specs.Lawful.{AreLawful}
-use Rattle.abc_fold.specs.Chain.{Chained}
+use Rattle.abc_fold.specs.Chain.{ChainView}
 use Rattle.abc_fold.specs.Steps.{Steps, IsResumable, items_from}
 use Rattle.abc_fold.proofs.Alike.{equal_items}
 use Rattle.abc_lines.specs.Text.{Text, is_line, seen_lines}
@@ -55,7 +55,7 @@ module _ {State Cell Items Defaults : Type 0} (steps : Steps State Cell Items) (
   same_items (Some state) cells = refl
 
   module _ (left : Option State) (before : ℕ) (lines : Text) where
-    items_of_key : (chain : Chained State Cell Items) (place : Block) → list_all is_line lines ≡ true → IsTuneAt steps rules (line_run left before lines) chain place
+    items_of_key : (chain : ChainView State Cell Items) (place : Block) → list_all is_line lines ≡ true → IsTuneAt steps rules (line_run left before lines) chain place
         → AreItemsOf steps rules (key_by rules left lines (lowered_place before place)) chain.items
     items_of_key chain place limits is =
         let there = lowered_place before place in
@@ -68,12 +68,12 @@ module _ {State Cell Items Defaults : Type 0} (steps : Steps State Cell Items) (
           own_items = is.items ∙ same_items left (flat_map rules.cells (lines_in lines there));
         }
 
-    module _ (chains : List (Chained State Cell Items)) (places : List Block) (all : AllZip (IsTuneAt steps rules (line_run left before lines)) chains places) where
+    module _ (chains : List (ChainView State Cell Items)) (places : List Block) (all : AllZip (IsTuneAt steps rules (line_run left before lines)) chains places) where
       -- each chain has its place
       pub as_many : (at : ℕ) → at < length chains → at < length places
       as_many at inside = subst (λ n. at < n) (zipped_count (IsTuneAt steps rules (line_run left before lines)) chains places all) inside
 
-      tune_there : (at : ℕ) (other : Block) (chain : Chained State Cell Items) → at < length chains
+      tune_there : (at : ℕ) (other : Block) (chain : ChainView State Cell Items) → at < length chains
           → slice_get chains at ≡ Some chain → IsTuneAt steps rules (line_run left before lines) chain (get_or places at other)
       tune_there at other chain inside is =
           zipped_at (IsTuneAt steps rules (line_run left before lines)) chains places at chain (get_or places at other) all is (slice_get-get_or places at other (as_many at inside))
@@ -83,7 +83,7 @@ module _ {State Cell Items Defaults : Type 0} (steps : Steps State Cell Items) (
       lies_there at other inside = let chain = some_at chains at inside in (tune_there at other chain.0 inside chain.1).lies
 
       -- the items of a chain are those of the key of its place
-      pub items_of_tune : (at : ℕ) (other : Block) (chain : Chained State Cell Items) (key : TuneKey Defaults) (items : List Items) → list_all is_line lines ≡ true
+      pub items_of_tune : (at : ℕ) (other : Block) (chain : ChainView State Cell Items) (key : TuneKey Defaults) (items : List Items) → list_all is_line lines ≡ true
           → at < length chains → slice_get chains at ≡ Some chain → key ≡ key_by rules left lines (lowered_place before (get_or places at other)) → items ≡ chain.items
           → AreItemsOf steps rules key items
       items_of_tune at other chain key items limits inside is key_is items_are =
@@ -93,7 +93,7 @@ module _ {State Cell Items Defaults : Type 0} (steps : Steps State Cell Items) (
 
 -- what the items of a tune give
 pub value_there : {State Cell Items Defaults : Type 0} (rules : Rules State Cell Items Defaults)
-    (chains : List (Chained State Cell Items)) (place : ℕ) (chain : Chained State Cell Items) (items : List Items) (output : Output)
+    (chains : List (ChainView State Cell Items)) (place : ℕ) (chain : ChainView State Cell Items) (items : List Items) (output : Output)
     → slice_get chains place ≡ Some chain → items ≡ chain.items → output ≡ output_of rules items
     → slice_get (map (output_in rules) chains) place ≡ Some output
 value_there rules chains place chain items output is are value =
@@ -101,9 +101,9 @@ value_there rules chains place chain items output is are value =
 
 -- what a tune reuses
 pub taken_there : {State Cell Items Defaults : Type 0} (rules : Rules State Cell Items Defaults) (outputs : List Output)
-    (chains : List (Chained State Cell Items)) (taken : List (Option ℕ)) (place : ℕ) (none : Option ℕ) (old : ℕ)
+    (chains : List (ChainView State Cell Items)) (taken : List (Option ℕ)) (place : ℕ) (none : Option ℕ) (old : ℕ)
     → AllZip (ReusesOutput rules outputs) chains taken → place < length taken → get_or taken place none ≡ Some old
-    → (chain : Chained State Cell Items) × (slice_get chains place ≡ Some chain) × (slice_get outputs old ≡ Some (output_in rules chain))
+    → (chain : ChainView State Cell Items) × (slice_get chains place ≡ Some chain) × (slice_get outputs old ≡ Some (output_in rules chain))
 taken_there rules outputs chains taken place none old all inside is =
     let count = zipped_count (ReusesOutput rules outputs) chains taken all in
     let within : place < length chains = subst (λ n. place < n) (sym count) inside in

@@ -9,7 +9,7 @@ use Rattle.std.specs.List.{AllZip}
 use Rattle.std.specs.Prelude.{All, IfOk, Result, Ok, Err}
 use Rattle.std.proofs.lemmas.Slice.Zip.{AllZip-long}
 use Rattle.abc_live_index.proofs.Lists.{one_on, past}
-use Rattle.abc_fields.specs.declared.fault.FaultCode.{FaultCode}
+use Rattle.abc_fields.specs.declared.fault_code.FaultCode.{FaultCode}
 use Rattle.abc_live_index.specs.Output.{placed_from}
 use Rattle.abc_tune_compiler.specs.Placed.{placed_at}
 use Rattle.abc_tune_compiler.specs.Tune.{fault_in, faults_along}

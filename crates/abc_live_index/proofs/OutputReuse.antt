@@ -4,7 +4,7 @@ use Rattle.std.proofs.Common.{slice_get, option_map, refl, ap, ◌∙◌, subst,
 use Rattle.std.specs.List.{AllZip}
 use Rattle.std.proofs.lemmas.List.Sums.{sum_by-cons}
 use Rattle.std.proofs.lemmas.Option.{slice_get-map}
-use Rattle.abc_fold.specs.Chain.{Chained}
+use Rattle.abc_fold.specs.Chain.{ChainView}
 use Rattle.abc_live_index.specs.BuildCount.{built_count_at, built_count}
 use Rattle.abc_live_index.specs.Output.{ReusesOutput, output_in, output_of}
 use Rattle.abc_live_cost.specs.OldItems.{HasItemsOf}
@@ -14,12 +14,12 @@ use Rattle.abc_tune_compiler.specs.Rules.{Rules}
 pub mapped_at : {A B : Type 0} (f : A → B) (xs : List A) (i : ℕ) (x : A) → slice_get xs i ≡ Some x → slice_get (map f xs) i ≡ Some (f x)
 mapped_at f xs i x is = slice_get-map f xs i ∙ ap (option_map f) is
 
-module _ {State Cell Items Defaults : Type 0} (rules : Rules State Cell Items Defaults) (olds : List (Chained State Cell Items)) where
-  takes_over : (chain : Chained State Cell Items) (reused_tunes : Option ℕ) → HasItemsOf olds chain reused_tunes → ReusesOutput rules (map (output_in rules) olds) chain reused_tunes
+module _ {State Cell Items Defaults : Type 0} (rules : Rules State Cell Items Defaults) (olds : List (ChainView State Cell Items)) where
+  takes_over : (chain : ChainView State Cell Items) (reused_tunes : Option ℕ) → HasItemsOf olds chain reused_tunes → ReusesOutput rules (map (output_in rules) olds) chain reused_tunes
   takes_over chain None has = tt
   takes_over chain (Some old) has = mapped_at (output_in rules) olds old has.0 has.1 ∙ ap (λ items. Some (output_of rules items)) has.2
 
-  pub items_suffice : (chains : List (Chained State Cell Items)) (reused_tunes : List (Option ℕ))
+  pub items_suffice : (chains : List (ChainView State Cell Items)) (reused_tunes : List (Option ℕ))
       → AllZip (HasItemsOf olds) chains reused_tunes → AllZip (ReusesOutput rules (map (output_in rules) olds)) chains reused_tunes
   items_suffice [] [] all = tt
   items_suffice [] (old ∷ reused_tunes) all = absurd all

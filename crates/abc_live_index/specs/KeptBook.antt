@@ -1,16 +1,16 @@
 -- A book that is kept, and a change of it that has been prepared, as contracts see them. Not in ABC 2.1.
 use Rattle.std.specs.Prelude.{List}
-use Rattle.abc_lines.specs.GapList.{Gapped}
+use Rattle.abc_lines.specs.GapList.{GapListView}
 use Rattle.abc_live_index.specs.declared.output.Output.{Output}
 use Rattle.abc_tune_compiler.specs.declared.fault.Fault.{Fault}
 use Rattle.abc_tune_compiler.specs.declared.report.Report.{Report}
 
 -- What each tune gives, and the faults in order. The files and the titles are what the tunes give.
 pub record KeptBookView : Type 0 where
-  pub outputs : Gapped Output
+  pub outputs : GapListView Output
   pub faults : List Fault
 
-abbrev pub kept_book_view : Gapped Output → List Fault → KeptBookView
+abbrev pub kept_book_view : GapListView Output → List Fault → KeptBookView
 kept_book_view outputs faults = record { outputs = outputs; faults = faults }
 
 -- A book before a change, what its tunes and faults are after it, and how its files differ.

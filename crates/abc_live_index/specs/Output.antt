@@ -1,7 +1,7 @@
 -- What the items of a tune give, whatever its place in the text. Not in ABC 2.1.
 use Rattle.std.specs.Prelude.{◌≡◌, ℕ, ◌+◌, ◌==◌, if◌then◌else◌, Bool, true, false, List, [], ◌∷◌, ◌++◌, length, map, take, drop}
 use Rattle.std.specs.Prelude.{Option, Some, IfSome, slice_get}
-use Rattle.abc_fold.specs.Chain.{Chained}
+use Rattle.abc_fold.specs.Chain.{ChainView}
 use Rattle.abc_live_index.specs.declared.output.Output.{Output}
 use Rattle.abc_tune_compiler.specs.Placed.{Placed, placed_at}
 use Rattle.abc_tune_compiler.specs.Rules.{Rules}
@@ -22,7 +22,7 @@ output_of rules items = record {
 }
 
 -- What the chain of a tune gives.
-abbrev pub output_in : {State Cell Items Defaults : Type 0} → Rules State Cell Items Defaults → Chained State Cell Items → Output
+abbrev pub output_in : {State Cell Items Defaults : Type 0} → Rules State Cell Items Defaults → ChainView State Cell Items → Output
 output_in rules chain = output_of rules chain.items
 
 -- Things of lines that follow one another, the first with this number, by how many of them each line has.
@@ -36,5 +36,5 @@ counts_of read lines = map (λ line. length (read line)) lines
 
 -- If an old tune is named for a chain, its output is what the chain gives.
 abbrev pub ReusesOutput : {State Cell Items Defaults : Type 0} → Rules State Cell Items Defaults → List Output
-    → Chained State Cell Items → Option ℕ → Type 0
+    → ChainView State Cell Items → Option ℕ → Type 0
 ReusesOutput rules outputs chain reused_tunes = IfSome reused_tunes (λ old. slice_get outputs old ≡ Some (output_in rules chain))

@@ -1,7 +1,7 @@
 -- Which tunes reuse the output of an old one, and how many are built. Not in ABC 2.1.
 use Rattle.std.specs.Prelude.{ℕ, ◌≤◌, List, map, Option}
 use Rattle.std.specs.List.{AllZip}
-use Rattle.abc_fold.specs.Chain.{Chained}
+use Rattle.abc_fold.specs.Chain.{ChainView}
 use Rattle.abc_fold.specs.Steps.{Steps}
 use Rattle.abc_lines.specs.Text.{Splice, Text}
 use Rattle.abc_live_index.specs.BuildCount.{built_count}
@@ -13,7 +13,7 @@ use Rattle.abc_tune_compiler.specs.Rules.{Rules}
 -- The output of an old chain may be reused if its items are the same.
 abbrev pub ItemsSuffice : Type 0 → Type 0 → Type 0 → Type 0 → Type 0
 ItemsSuffice State Cell Items Defaults =
-    (rules : Rules State Cell Items Defaults) (olds chains : List (Chained State Cell Items)) (reused_tunes : List (Option ℕ))
+    (rules : Rules State Cell Items Defaults) (olds chains : List (ChainView State Cell Items)) (reused_tunes : List (Option ℕ))
     → AllZip (HasItemsOf olds) chains reused_tunes → AllZip (ReusesOutput rules (map (output_in rules) olds)) chains reused_tunes
 
 -- If each untouched tune of a text after a splice reuses the output of an old one, no more tunes are built than are

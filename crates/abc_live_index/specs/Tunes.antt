@@ -2,7 +2,7 @@
 use Rattle.std.specs.Prelude.{◌≡◌, ℕ, ◌+◌, ◌-◌, ◌≤◌, List, [], ◌∷◌, ◌++◌, map, take, drop, length, All, Option, Some}
 use Rattle.std.specs.List.{AllZip, flat_map, sum_by}
 use Rattle.abc_book.specs.declared.block.Block.{Block}
-use Rattle.abc_fold.specs.Chain.{Chained}
+use Rattle.abc_fold.specs.Chain.{ChainView}
 use Rattle.abc_fold.specs.Steps.{Steps, items_from}
 use Rattle.abc_lines.specs.Text.{Text}
 use Rattle.abc_live_index.specs.declared.output.Output.{Output}
@@ -36,7 +36,7 @@ line_run left before lines = record { left = left; before = before; lines = line
 -- A chain gives what the definitions give along the lines of a place, which lies among these, begun after the file
 -- header.
 pub record IsTuneAt {State Cell Items Defaults : Type 0} (steps : Steps State Cell Items)
-    (rules : Rules State Cell Items Defaults) (run : LineRun State) (chain : Chained State Cell Items)
+    (rules : Rules State Cell Items Defaults) (run : LineRun State) (chain : ChainView State Cell Items)
     (place : Block) : Type 0 where
   pub lies : LiesAmong run.before (length run.lines) place
   pub items : chain.items ≡ items_from steps (rules.tune run.left)
@@ -48,7 +48,7 @@ counts_in before counts place = take (place.to - before - (place.from - before))
 
 -- A place lies among the lines at index `before`, which have `counts` cells, and a chain has the cells and the items of
 -- each.
-pub record HasCells {State Cell Items : Type 0} (before : ℕ) (counts : List ℕ) (chain : Chained State Cell Items)
+pub record HasCells {State Cell Items : Type 0} (before : ℕ) (counts : List ℕ) (chain : ChainView State Cell Items)
     (place : Block) : Type 0 where
   pub lies : LiesAmong before (length counts) place
   pub shape : length chain.items ≡ length chain.cells
@@ -56,19 +56,19 @@ pub record HasCells {State Cell Items : Type 0} (before : ℕ) (counts : List �
 
 -- The faults of the cells of a chain, each at its line; the lines of the place have `counts` cells.
 abbrev pub cell_faults_by : {State Cell Items Defaults : Type 0} → Rules State Cell Items Defaults → ℕ → List ℕ
-    → Chained State Cell Items → Block → List Fault
+    → ChainView State Cell Items → Block → List Fault
 cell_faults_by rules before counts chain place =
     faults_along rules.faults (placed_from (place.from + 1) (counts_in before counts place) chain.items)
 
 -- The faults of the tune of a chain: those as a whole, and those of its cells.
 abbrev pub tune_faults_by : {State Cell Items Defaults : Type 0} → Rules State Cell Items Defaults → ℕ → List ℕ
-    → Chained State Cell Items → Block → List Fault
+    → ChainView State Cell Items → Block → List Fault
 tune_faults_by rules before counts chain place =
     map (fault_of_tune (place.from + 1)) (output_in rules chain).built.faults ++ cell_faults_by rules before counts chain place
 
 -- The faults of the tunes of chains, each with its place.
 abbrev pub faults_by : {State Cell Items Defaults : Type 0} → Rules State Cell Items Defaults → ℕ → List ℕ
-    → List (Chained State Cell Items) → List Block → List Fault
+    → List (ChainView State Cell Items) → List Block → List Fault
 faults_by rules before counts [] places = []
 faults_by rules before counts (chain ∷ chains) [] = []
 faults_by rules before counts (chain ∷ chains) (place ∷ places) = tune_faults_by rules before counts chain place
@@ -86,7 +86,7 @@ faults_of_tunes tunes = flat_map (λ tune. tune.faults) tunes
 abbrev pub CellsFollow : Type 0 → Type 0 → Type 0 → Type 0
 CellsFollow State Cell Items =
     (steps : Steps State Cell Items) (read : List ℕ → List Cell) (opening : State) (text : Text) (before count : ℕ)
-    (chain : Chained State Cell Items) (place : Block)
+    (chain : ChainView State Cell Items) (place : Block)
     → IsChainOf steps read opening text chain place → LiesAmong before count place → before + count ≤ length text
     → HasCells before (counts_among read text before count) chain place
 
@@ -100,7 +100,7 @@ pub record OutputAgrees (output : Output) (tune : Tune) : Type 0 where
 abbrev pub OutputFollows : Type 0 → Type 0 → Type 0 → Type 0 → Type 0
 OutputFollows State Cell Items Defaults =
     (steps : Steps State Cell Items) (rules : Rules State Cell Items Defaults) (opening : State) (text : Text)
-    (chain : Chained State Cell Items) (place : Block)
+    (chain : ChainView State Cell Items) (place : Block)
     → IsChainOf steps rules.cells opening text chain place
     → OutputAgrees (output_in rules chain) (tune_of steps.next steps.gives rules opening text place)
 
@@ -108,7 +108,7 @@ OutputFollows State Cell Items Defaults =
 abbrev pub FaultsFollow : Type 0 → Type 0 → Type 0 → Type 0 → Type 0
 FaultsFollow State Cell Items Defaults =
     (steps : Steps State Cell Items) (rules : Rules State Cell Items Defaults) (opening : State) (text : Text)
-    (before count : ℕ) (chains : List (Chained State Cell Items)) (places : List Block)
+    (before count : ℕ) (chains : List (ChainView State Cell Items)) (places : List Block)
     → AllZip (IsChainOf steps rules.cells opening text) chains places → All (LiesAmong before count) places
     → faults_by rules before (counts_among rules.cells text before count) chains places
     ≡ faults_of_tunes (map (tune_of steps.next steps.gives rules opening text) places)
@@ -117,7 +117,7 @@ FaultsFollow State Cell Items Defaults =
 abbrev pub HeaderFollows : Type 0 → Type 0 → Type 0 → Type 0 → Type 0
 HeaderFollows State Cell Items Defaults =
     (steps : Steps State Cell Items) (rules : Rules State Cell Items Defaults) (text : Text) (before count : ℕ)
-    (chain : Chained State Cell Items) (place : Block)
+    (chain : ChainView State Cell Items) (place : Block)
     → IsChainOf steps rules.cells rules.header text chain place → LiesAmong before count place
     → cell_faults_by rules before (counts_among rules.cells text before count) chain place
     ≡ header_faults steps.next steps.gives rules text (Some place)

@@ -46,12 +46,12 @@ pub(crate) fn key_of<C: Compiler>(
     place: Block,
 ) -> Result<TuneKey<C::Defaults>, AllocError>
     requires { LiesAmong stretch.now.before (length stretch.now.lines.now) place }
-    ensures { IfOk result (λ key. key ≡ key_by (C.rules compiler.now) (option_copied stretch.now.left)
+    ensures { IfOk result (λ key. key ≡ key_by (C.rules compiler.now) (option_copied stretch.now.header_state)
         (seen_lines stretch.now.lines.now) (lowered_place stretch.now.before place)) }
 {
     let from = place.from - stretch.before;
     let to = place.to - stretch.before;
     let bytes = bytes_of(compiler, alloc, &stretch.lines[from..to])?;
-    let defaults = defaults_by(compiler, alloc, stretch.left);
+    let defaults = defaults_by(compiler, alloc, stretch.header_state);
     Ok(TuneKey { defaults, bytes })
 }

@@ -11,15 +11,15 @@ mod output;
 mod outputs;
 mod owners;
 mod report;
+mod stretch_faults;
 mod stretch_view;
 mod titles;
 mod tune_change;
 mod tune_faults;
-mod tunes;
 
 pub use kept_book::{BookPatch, KeptBook};
 pub use new_tunes::NewTunes;
 pub use output::Output;
 pub use outputs::outputs_of;
+pub use stretch_faults::{put_cell_faults, put_tune_faults};
 pub use stretch_view::{ReusedOutputs, StretchView};
-pub use tunes::{put_cell_faults, put_tune_faults};

@@ -44,7 +44,7 @@ fn output_at<C: Compiler>(
 ) -> Result<Shared<Output>, AllocError>
     requires limits { list_all is_line (seen_lines stretch.now.lines.now) ≡ true }
     requires tunes { let c = compiler.now in let s = stretch.now in
-        AllZip (IsTuneAt (C.steps c) (C.rules c) (line_run (option_copied s.left) s.before
+        AllZip (IsTuneAt (C.steps c) (C.rules c) (line_run (option_copied s.header_state) s.before
         (seen_lines s.lines.now))) s.chains.now s.places.now }
     requires place { place < length stretch.now.chains.now }
     requires remembers { Remembers (C.steps compiler.now) (C.rules compiler.now) memo.old }
@@ -72,7 +72,7 @@ pub fn outputs_of<C: Compiler>(
 ) -> Result<Vec<Shared<Output>>, AllocError>
     requires limits { list_all is_line (seen_lines stretch.now.lines.now) ≡ true }
     requires tunes { let c = compiler.now in let s = stretch.now in
-        AllZip (IsTuneAt (C.steps c) (C.rules c) (line_run (option_copied s.left) s.before
+        AllZip (IsTuneAt (C.steps c) (C.rules c) (line_run (option_copied s.header_state) s.before
         (seen_lines s.lines.now))) s.chains.now s.places.now }
     requires reused_tunes { AllZip (ReusesOutput
         (C.rules compiler.now) old.now.outputs.now.items) stretch.now.chains.now old.now.reused_tunes.now }

@@ -14,7 +14,7 @@ pub struct StretchView<'a, C: Compiler> {
     /// How many lines of the text are before them.
     pub before: usize,
     /// The state after the file header's last cell, if there is a file header.
-    pub left: Option<&'a C::State>,
+    pub header_state: Option<&'a C::State>,
     /// The places of the tunes in the text.
     pub places: &'a [Block],
     /// The chain of each tune.

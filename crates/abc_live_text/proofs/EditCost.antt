@@ -2,7 +2,7 @@
 use Rattle.std.proofs.Common.{◌∷◌, ◌≡◌, List, None, Option, [], ap, arith, refl, subst, sym, ℕ}
 use Rattle.abc_book.specs.declared.block.Block.{Block}
 use Rattle.abc_book.proofs.OnePass.{one_pass}
-use Rattle.abc_fold.specs.Chain.{Chained, no_cells}
+use Rattle.abc_fold.specs.Chain.{ChainView, no_cells}
 use Rattle.abc_fold.specs.Steps.{IsResumable, Steps}
 use Rattle.abc_fold.specs.Work.{Counters}
 use Rattle.abc_fold.proofs.Raised.{raised-least}
@@ -42,7 +42,7 @@ empty_chains steps rules (block ∷ blocks) e = absurd (cc)
 
 -- What is kept of the text with no lines.
 pub empty_stands : {State Cell Items Defaults : Type 0} (steps : Steps State Cell Items) (rules : Rules State Cell Items Defaults)
-    (text : Text) (rows : List (Row Cell)) (header : Option Block) (tunes : List Block) (chains : List (Chained State Cell Items))
+    (text : Text) (rows : List (Row Cell)) (header : Option Block) (tunes : List Block) (chains : List (ChainView State Cell Items))
     → text ≡ [] → rows ≡ [] → header ≡ None → tunes ≡ [] → chains ≡ no_cells ∷ [] → ArePartsOf steps rules text (parts rows header tunes chains)
 empty_stands {State = State} {Cell = Cell} {Items = Items} steps rules text rows header tunes chains t r h b c =
     let none : blocks_in rules [] ≡ [] = one_pass [] in

@@ -7,7 +7,7 @@ use Rattle.std.proofs.lemmas.List.Elements.{All-take, All-drop}
 use Rattle.abc_book.specs.Block.{blocks_of}
 use Rattle.abc_book.specs.Laws.{move_block}
 use Rattle.abc_book.specs.declared.block.Block.{Block}
-use Rattle.abc_fold.specs.Chain.{Chained}
+use Rattle.abc_fold.specs.Chain.{ChainView}
 use Rattle.abc_fold.specs.Steps.{Steps}
 use Rattle.abc_lines.specs.Text.{Splice, Text, spliced}
 use Rattle.abc_live_cost.specs.KeptState.{steps_over}
@@ -31,7 +31,7 @@ use Rattle.abc_live_text.proofs.WholeRows.{AreRead, placed_from}
 
 -- What is known of all rows of the edited text.
 pub record AreRenewed {State Cell Items Defaults : Type 0} (steps : Steps State Cell Items)
-    (rules : Rules State Cell Items Defaults) (text : Text) (s : Splice) (old : List (Chained State Cell Items)) (rows : List (CarriedRow Cell)) : Type 0 where
+    (rules : Rules State Cell Items Defaults) (text : Text) (s : Splice) (old : List (ChainView State Cell Items)) (rows : List (CarriedRow Cell)) : Type 0 where
   pub read : AreRead rules (spliced text s) rows
   pub from : map origin_in rows ≡ origins rules.cells (layout_of steps rules text) s
   pub carried : All (IsCarried old) rows
@@ -60,7 +60,7 @@ placed_read rules text rows are =
 
 -- Edited.
 pub new_parts : {State Cell Items Defaults : Type 0} (steps : Steps State Cell Items) (rules : Rules State Cell Items Defaults)
-    (text : Text) (s : Splice) (rows : List (Row Cell)) (old : List (Chained State Cell Items))
+    (text : Text) (s : Splice) (rows : List (Row Cell)) (old : List (ChainView State Cell Items))
     → AreRows rules text rows → AreChains steps rules text old
     → AreRenewed steps rules text s old (edit_of rules s (placed_from (map carried_row rows) 0 0 (places_of (blocks_in rules text))))
 new_parts steps rules text s rows old are chains =
@@ -127,7 +127,7 @@ pub rows_moved : {Cell : Type 0} (a own b : List (CarriedRow Cell)) (n : ℕ) (b
 rows_moved a own b n block e within = part_moved a own b block.from block.to n e within.0 within.1
 
 pub chain_moved : {State Cell Items : Type 0} (steps : Steps State Cell Items) (opening : State) (a own b : List (CarriedRow Cell))
-    (n : ℕ) (chain : Chained State Cell Items) (block : Block) → n ≡ length a → LiesWithin (length own) block
+    (n : ℕ) (chain : ChainView State Cell Items) (block : Block) → n ≡ length a → LiesWithin (length own) block
     → IsChain steps opening own chain block → IsChain steps opening (a ++ (own ++ b)) chain (move_block n block)
 chain_moved steps opening a own b n chain block e within is = record {
   folds = is.folds;
@@ -135,7 +135,7 @@ chain_moved steps opening a own b n chain block e within is = record {
 }
 
 pub steps_moved : {State Cell Items : Type 0} (steps : Steps State Cell Items) (opening : State)
-    (old : List (Chained State Cell Items)) (a own b : List (CarriedRow Cell)) (n : ℕ) (block : Block) → n ≡ length a → LiesWithin (length own) block
+    (old : List (ChainView State Cell Items)) (a own b : List (CarriedRow Cell)) (n : ℕ) (block : Block) → n ≡ length a → LiesWithin (length own) block
     → steps_taken steps opening old own block ≡ steps_taken steps opening old (a ++ (own ++ b)) (move_block n block)
 steps_moved steps opening old a own b n block e within =
     ap (λ rows. steps_over steps opening (flat_map cells_in rows) (flat_map (kept_states_of old) rows)) (sym (rows_moved a own b n block e within))

@@ -5,7 +5,7 @@ use Rattle.abc_book.specs.Laws.{move_block}
 use Rattle.abc_book.specs.Stretch.{shift_block}
 use Rattle.abc_book.specs.declared.block.Block.{Block}
 use Rattle.abc_lines.specs.Text.{Splice, Text, spliced}
-use Rattle.abc_scan.specs.declared.class.LineClass.{LineClass}
+use Rattle.abc_scan.specs.declared.line_class.LineClass.{LineClass}
 use Rattle.abc_tune_compiler.specs.Book.{blocks_in, tunes_in}
 use Rattle.abc_tune_compiler.specs.Rules.{Rules}
 use Rattle.abc_live_text.specs.Blocks.{tunes_among}

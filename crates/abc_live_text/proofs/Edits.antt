@@ -6,7 +6,7 @@ use Rattle.std.proofs.lemmas.List.{map-append, drop-map, take-map}
 use Rattle.std.proofs.lemmas.List.Elements.{All-cons, All-nil, All-take, All-drop, All-append}
 use Rattle.std.specs.List.{AllZip, list_all}
 use Rattle.abc_book.specs.declared.block.Block.{Block}
-use Rattle.abc_fold.specs.Chain.{Chained}
+use Rattle.abc_fold.specs.Chain.{ChainView}
 use Rattle.abc_fold.specs.Steps.{Steps}
 use Rattle.abc_lines.specs.declared.limits.TheConstants.{MOST_LINES}
 use Rattle.abc_lines.specs.Edits.{replaced}
@@ -95,31 +95,31 @@ edit_origins steps rules s rows text e =
     ∙ (λ i. take s.at (e i) ++ (no_origins s.lines ++ drop (s.at + s.removed) (e i)))))
 
 new_carried : {State Cell Items Defaults : Type 0} (rules : Rules State Cell Items Defaults)
-    (chains : List (Chained State Cell Items)) (lines : Text) → All (IsCarried chains) (map (fresh_row rules) lines)
+    (chains : List (ChainView State Cell Items)) (lines : Text) → All (IsCarried chains) (map (fresh_row rules) lines)
 new_carried rules chains [] = All-nil (IsCarried chains)
 new_carried rules chains (line ∷ lines) = All-cons (IsCarried chains) (fresh_row rules line) (map (fresh_row rules) lines) tt (new_carried rules chains lines)
 
 pub edit_carried : {State Cell Items Defaults : Type 0} (rules : Rules State Cell Items Defaults)
-    (chains : List (Chained State Cell Items)) (s : Splice) (rows : List (CarriedRow Cell)) → All (IsCarried chains) rows → All (IsCarried chains) (edit_of rules s rows)
+    (chains : List (ChainView State Cell Items)) (s : Splice) (rows : List (CarriedRow Cell)) → All (IsCarried chains) rows → All (IsCarried chains) (edit_of rules s rows)
 edit_carried rules chains s rows all =
     All-append (IsCarried chains) (take s.at rows) (map (fresh_row rules) s.lines ++ drop (s.at + s.removed) rows) (All-take (IsCarried chains) s.at rows all)
     (All-append (IsCarried chains) (map (fresh_row rules) s.lines) (drop (s.at + s.removed) rows) (new_carried rules chains s.lines) (All-drop (IsCarried chains) (s.at + s.removed) rows all))
 
 tunes_folded : {State Cell Items : Type 0} (steps : Steps State Cell Items) (read : List ℕ → List Cell) (opening : State)
-    (text : Text) (chains : List (Chained State Cell Items)) (blocks : List Block) → AllZip (IsChainOf steps read opening text) chains blocks → All (IsFolded steps) chains
+    (text : Text) (chains : List (ChainView State Cell Items)) (blocks : List Block) → AllZip (IsChainOf steps read opening text) chains blocks → All (IsFolded steps) chains
 tunes_folded steps read opening text [] blocks all = All-nil (IsFolded steps)
 tunes_folded steps read opening text (chain ∷ chains) [] all = absurd all
 tunes_folded steps read opening text (chain ∷ chains) (block ∷ blocks) all =
     All-cons (IsFolded steps) chain chains (inr (opening, all.0.folds)) (tunes_folded steps read opening text chains blocks all.1)
 
 header_folded : {State Cell Items Defaults : Type 0} (steps : Steps State Cell Items) (rules : Rules State Cell Items Defaults)
-    (text : Text) (chain : Chained State Cell Items) (header : Option Block) → IsHeaderChainOf steps rules text chain header → IsFolded steps chain
+    (text : Text) (chain : ChainView State Cell Items) (header : Option Block) → IsHeaderChainOf steps rules text chain header → IsFolded steps chain
 header_folded steps rules text chain None own = inl own
 header_folded steps rules text chain (Some block) own = inr (rules.header, own.folds)
 
 -- The chains of a text are folds.
 pub are_folded : {State Cell Items Defaults : Type 0} (steps : Steps State Cell Items) (rules : Rules State Cell Items Defaults)
-    (text : Text) (chains : List (Chained State Cell Items)) → AreChains steps rules text chains → All (IsFolded steps) chains
+    (text : Text) (chains : List (ChainView State Cell Items)) → AreChains steps rules text chains → All (IsFolded steps) chains
 are_folded steps rules text [] own = absurd own
 are_folded steps rules text (chain ∷ chains) own =
     All-cons (IsFolded steps) chain chains (header_folded steps rules text chain (header_in (blocks_in rules text)) own.0)

@@ -5,7 +5,7 @@ use Rattle.std.proofs.lemmas.List.{drop-map, map-append, length-map}
 use Rattle.std.proofs.lemmas.List.Sums.{sum_by-cons}
 use Rattle.std.specs.List.{flat_map, AllZip, sum_by}
 use Rattle.abc_book.specs.declared.block.Block.{Block}
-use Rattle.abc_fold.specs.Chain.{Chained}
+use Rattle.abc_fold.specs.Chain.{ChainView}
 use Rattle.abc_fold.specs.Steps.{Steps, IsAlike, IsResumable, states_from}
 use Rattle.abc_lines.specs.Text.{Splice, Text, spliced}
 use Rattle.abc_live_cost.specs.FreshCells.{fresh_cells_after}
@@ -131,7 +131,7 @@ map_flat f g (x ∷ xs) = map-append f (g x) (flat_map g xs) ∙ ap (λ l. map f
 
 -- The kept states of the cells of a block are those at the addresses of their pasts.
 block_helds : {State Cell Items : Type 0} (steps : Steps State Cell Items) (read : List ℕ → List Cell) (laid : Layout State)
-    (s : Splice) (old : List (Chained State Cell Items)) (rows : List (CarriedRow Cell)) (source : ℕ) (opening : State) (block : Block)
+    (s : Splice) (old : List (ChainView State Cell Items)) (rows : List (CarriedRow Cell)) (source : ℕ) (opening : State) (block : Block)
     → LiesInOrder laid → s.at + s.removed ≤ length laid.text → map cells_in rows ≡ map read (spliced laid.text s) → map origin_in rows ≡ origins read laid s
     → kept_states_over old rows block ≡ map (λ piece. kept_state_at (entries_at old) (address_of piece))
     (pieces_of read (spliced laid.text s) (pasts steps read laid s) (chain_at source opening block))
@@ -143,7 +143,7 @@ block_helds {State = State} {Cell = Cell} steps read laid s old rows source open
 
 -- The steps over a block are the fresh cells of its chain.
 pub block_steps : {State Cell Items : Type 0} (steps : Steps State Cell Items) (read : List ℕ → List Cell) (laid : Layout State)
-    (s : Splice) (old : List (Chained State Cell Items)) (rows : List (CarriedRow Cell)) (source : ℕ) (own opening : State) (block : Block)
+    (s : Splice) (old : List (ChainView State Cell Items)) (rows : List (CarriedRow Cell)) (source : ℕ) (own opening : State) (block : Block)
     → IsResumable steps → LiesInOrder laid → s.at + s.removed ≤ length laid.text → AreKeptStates steps read laid (entries_at old)
     → map cells_in rows ≡ map read (spliced laid.text s) → map origin_in rows ≡ origins read laid s → IsAlike steps own opening
     → steps_taken steps own old rows block ≡ fresh_cells_of steps read (spliced laid.text s) (pasts steps read laid s) (chain_at source opening block)
@@ -156,7 +156,7 @@ block_steps steps read laid s old rows source own opening block laws lies inside
     ∙ steps_are_fresh steps read text (pasts steps read laid s) chain own _ laws alike (kept_states_match steps read laid s chain (entries_at old) lies inside kept)
 
 tunes_steps : {State Cell Items : Type 0} (steps : Steps State Cell Items) (read : List ℕ → List Cell) (laid : Layout State)
-    (s : Splice) (old : List (Chained State Cell Items)) (rows : List (CarriedRow Cell)) (source : ℕ) (own opening : State) (blocks : List Block)
+    (s : Splice) (old : List (ChainView State Cell Items)) (rows : List (CarriedRow Cell)) (source : ℕ) (own opening : State) (blocks : List Block)
     → IsResumable steps → LiesInOrder laid → s.at + s.removed ≤ length laid.text → AreKeptStates steps read laid (entries_at old)
     → map cells_in rows ≡ map read (spliced laid.text s) → map origin_in rows ≡ origins read laid s → IsAlike steps own opening
     → sum_by (steps_taken steps own old rows) blocks ≡ sum_by (fresh_cells_of steps read (spliced laid.text s) (pasts steps read laid s)) (tune_chains source opening blocks)
@@ -170,7 +170,7 @@ tunes_steps steps read laid s old rows source own opening (block ∷ blocks) law
 
 -- The steps over the file header and the tunes.
 all_steps : {State Cell Items : Type 0} (steps : Steps State Cell Items) (read : List ℕ → List Cell) (laid : Layout State)
-    (s : Splice) (old : List (Chained State Cell Items)) (rows : List (CarriedRow Cell)) (first own opening : State) (header : Option Block) (blocks : List Block)
+    (s : Splice) (old : List (ChainView State Cell Items)) (rows : List (CarriedRow Cell)) (first own opening : State) (header : Option Block) (blocks : List Block)
     → IsResumable steps → LiesInOrder laid → s.at + s.removed ≤ length laid.text → AreKeptStates steps read laid (entries_at old)
     → map cells_in rows ≡ map read (spliced laid.text s) → map origin_in rows ≡ origins read laid s → IsAlike steps own opening
     → header_steps steps first old rows header + sum_by (steps_taken steps own old rows) blocks ≡ sum_by
@@ -187,14 +187,14 @@ all_steps steps read laid s old rows first own opening (Some block) blocks laws 
 
 -- what the old chains keep
 
-kept_here : {State Cell Items : Type 0} (steps : Steps State Cell Items) (read : List ℕ → List Cell) (opening : State) (text : Text) (chain : Chained State Cell Items) (source : ℕ) (block : Block)
+kept_here : {State Cell Items : Type 0} (steps : Steps State Cell Items) (read : List ℕ → List Cell) (opening : State) (text : Text) (chain : ChainView State Cell Items) (source : ℕ) (block : Block)
     → IsChainOf steps read opening text chain block
     → AllZip (IsAlike steps) chain.entries (states_of steps read text (chain_at source opening block))
 kept_here steps read opening text chain source block own =
     subst (AllZip (IsAlike steps) chain.entries) (ap (states_from steps opening) own.cells) own.folds.entries
 
 kept_among : {State Cell Items : Type 0} (steps : Steps State Cell Items) (read : List ℕ → List Cell) (opening : State)
-    (text : Text) (source : ℕ) (chains : List (Chained State Cell Items)) (blocks : List Block) (was : Chain State) (i : ℕ)
+    (text : Text) (source : ℕ) (chains : List (ChainView State Cell Items)) (blocks : List Block) (was : Chain State) (i : ℕ)
     → AllZip (IsChainOf steps read opening text) chains blocks
     → i < length (tune_chains source opening blocks) → get_or (tune_chains source opening blocks) i was ≡ was
     → (k : ℕ) × (was.source ≡ source + k) × AllZip (IsAlike steps) (entries_at chains k) (states_of steps read text was)
@@ -210,7 +210,7 @@ kept_among steps read opening text source (chain ∷ chains) (block ∷ blocks) 
     (suc more.0, number, more.2)
 
 kept_tune : {State Cell Items : Type 0} (steps : Steps State Cell Items) (read : List ℕ → List Cell) (opening : State) (text : Text)
-    (chain : Chained State Cell Items) (chains : List (Chained State Cell Items)) (blocks : List Block) (was : Chain State) (i : ℕ)
+    (chain : ChainView State Cell Items) (chains : List (ChainView State Cell Items)) (blocks : List Block) (was : Chain State) (i : ℕ)
     → AllZip (IsChainOf steps read opening text) chains blocks
     → i < length (tune_chains 1 opening blocks) → get_or (tune_chains 1 opening blocks) i was ≡ was
     → AllZip (IsAlike steps) (entries_at (chain ∷ chains) was.source) (states_of steps read text was)
@@ -220,7 +220,7 @@ kept_tune steps read opening text chain chains blocks was i all h e =
     subst (λ k. AllZip (IsAlike steps) (entries_at (chain ∷ chains) k) (states_of steps read text was)) number own.2
 
 kept_all : {State Cell Items Defaults : Type 0} (steps : Steps State Cell Items) (rules : Rules State Cell Items Defaults)
-    (opening : State) (text : Text) (chain : Chained State Cell Items) (chains : List (Chained State Cell Items)) (header : Option Block) (blocks : List Block)
+    (opening : State) (text : Text) (chain : ChainView State Cell Items) (chains : List (ChainView State Cell Items)) (header : Option Block) (blocks : List Block)
     → IsHeaderChainOf steps rules text chain header → AllZip (IsChainOf steps rules.cells opening text) chains blocks
     → (was : Chain State) → Contains (header_chain rules.header header ++ tune_chains 1 opening blocks) was
     → AllZip (IsAlike steps) (entries_at (chain ∷ chains) was.source) (states_of steps rules.cells text was)
@@ -234,7 +234,7 @@ kept_all steps rules opening text chain chains (Some block) blocks own all was (
     kept_tune steps rules.cells opening text chain chains blocks was i all (omega arith) e
 
 -- The chains of a text are kept.
-pub are_kept : {State Cell Items Defaults : Type 0} (steps : Steps State Cell Items) (rules : Rules State Cell Items Defaults) (text : Text) (chains : List (Chained State Cell Items))
+pub are_kept : {State Cell Items Defaults : Type 0} (steps : Steps State Cell Items) (rules : Rules State Cell Items Defaults) (text : Text) (chains : List (ChainView State Cell Items))
     → AreChains steps rules text chains → AreKeptStates steps rules.cells (layout_of steps rules text) (entries_at chains)
 are_kept steps rules text [] own = absurd own
 are_kept steps rules text (chain ∷ chains) own =
@@ -242,7 +242,7 @@ are_kept steps rules text (chain ∷ chains) own =
 
 -- The steps over the blocks of a new text are its fresh cells.
 pub edit_steps : {State Cell Items Defaults : Type 0} (steps : Steps State Cell Items) (rules : Rules State Cell Items Defaults)
-    (text : Text) (s : Splice) (old : List (Chained State Cell Items)) (rows : List (CarriedRow Cell)) (own : State)
+    (text : Text) (s : Splice) (old : List (ChainView State Cell Items)) (rows : List (CarriedRow Cell)) (own : State)
     → IsResumable steps → s.at + s.removed ≤ length text → AreChains steps rules text old → AreRead rules (spliced text s) rows
     → map origin_in rows ≡ origins rules.cells (layout_of steps rules text) s
     → IsAlike steps own (opening_of steps.next rules (spliced text s) (blocks_in rules (spliced text s)))

@@ -7,7 +7,7 @@ use Rattle.std.specs.List.{AllZip, sum_by}
 use Rattle.abc_book.specs.Block.{blocks_of}
 use Rattle.abc_book.specs.Laws.{move_block}
 use Rattle.abc_book.specs.declared.block.Block.{Block}
-use Rattle.abc_fold.specs.Chain.{Chained}
+use Rattle.abc_fold.specs.Chain.{ChainView}
 use Rattle.abc_fold.specs.Steps.{Steps, IsAlike}
 use Rattle.abc_fold.specs.Work.{Counters, IsRaisedUpTo}
 use Rattle.abc_lines.specs.Text.{Splice, Text, spliced}
@@ -46,12 +46,12 @@ stays block =
 
 -- The chain of a file header and the steps that it takes, by the rows of the whole text.
 header_moved : {State Cell Items : Type 0} (steps : Steps State Cell Items) (first : State) (a rows b : List (CarriedRow Cell))
-    (chain : Chained State Cell Items) (header : Option Block) → 0 ≡ length a → IfSome header (LiesWithin (length rows))
+    (chain : ChainView State Cell Items) (header : Option Block) → 0 ≡ length a → IfSome header (LiesWithin (length rows))
     → IsHeaderChain steps first rows chain header → IsHeaderChain steps first (a ++ (rows ++ b)) chain header
 header_moved steps first a rows b chain None e within is = is
 header_moved steps first a rows b chain (Some block) e within is = subst (IsChain steps first (a ++ (rows ++ b)) chain) (stays block) (chain_moved steps first a rows b 0 chain block e within is)
 
-header_taken : {State Cell Items : Type 0} (steps : Steps State Cell Items) (first : State) (old : List (Chained State Cell Items))
+header_taken : {State Cell Items : Type 0} (steps : Steps State Cell Items) (first : State) (old : List (ChainView State Cell Items))
     (a rows b : List (CarriedRow Cell)) (header : Option Block) → 0 ≡ length a → IfSome header (LiesWithin (length rows))
     → header_steps steps first old rows header ≡ header_steps steps first old (a ++ (rows ++ b)) header
 header_taken steps first old a rows b None e within = refl
@@ -161,7 +161,7 @@ module _ {C State Cell Items Defaults : Type 0} {steps : Steps State Cell Items}
   header_lies = subst (λ (h : Option Block). IfSome h (LiesWithin (length run))) header_there (header_within run (blocks_of (map class_in run)) refl)
 
   -- The file header of these lines is that of the new text.
-  pub lead_opening : {header : Option Block} {first : Chained State Cell Items} {own : State} → IsHeaderOpening steps rules run header first own
+  pub lead_opening : {header : Option Block} {first : ChainView State Cell Items} {own : State} → IsHeaderOpening steps rules run header first own
       → IsHeaderOpeningOf steps rules (spliced on.lines.text s) header first own
   lead_opening {header = header} {first = first} {own = own} begin =
       let same = begin.header_is ∙ header_there in
@@ -186,7 +186,7 @@ module _ {C State Cell Items Defaults : Type 0} {steps : Steps State Cell Items}
       → IsRaisedUpTo (fresh_cells_after steps rules on.lines.text s) before after
   lead_early raise = head_cost kept s edit.inside _ _ (lead_head raise)
 
-  module _ {header : Option Block} {first : Chained State Cell Items} {own : State} (begin : IsHeaderOpeningOf steps rules (spliced on.lines.text s) header first own) where
+  module _ {header : Option Block} {first : ChainView State Cell Items} {own : State} (begin : IsHeaderOpeningOf steps rules (spliced on.lines.text s) header first own) where
     abbrev pub now_opening : State
     now_opening = opening_of steps.next rules (spliced on.lines.text s) now_blocks
 
@@ -225,7 +225,7 @@ module _ {C State Cell Items Defaults : Type 0} {steps : Steps State Cell Items}
         goes
 
     -- What is folded again of the first lines.
-    pub lead_renewed : {tunes : List Block} {made : List (Chained State Cell Items)} {reused_tunes : List (Option ℕ)} → MayGoOn steps rules on lead.tunes.to own
+    pub lead_renewed : {tunes : List Block} {made : List (ChainView State Cell Items)} {reused_tunes : List (Option ℕ)} → MayGoOn steps rules on lead.tunes.to own
         → AreRefolded steps on.chains.items own run tunes made reused_tunes
         → AreNewParts steps rules on s (new_parts_view (span_stretch lead (length run)) header (Some first) tunes made reused_tunes)
     lead_renewed {tunes = tunes} {made = made} {reused_tunes = reused_tunes} goes refolded =

@@ -9,7 +9,7 @@ use Rattle.std.proofs.lemmas.List.Concat.{flat_map-cons}
 use Rattle.std.specs.List.{flat_map}
 use Rattle.abc_fold.specs.declared.piece.Piece.{Piece}
 use Rattle.abc_fold.specs.declared.piece.Piece.TheVariants.{New, Kept}
-use Rattle.abc_fold.specs.Chain.{Chained, Folds, IsKeptAt, no_cells}
+use Rattle.abc_fold.specs.Chain.{ChainView, Folds, IsKeptAt, no_cells}
 use Rattle.abc_fold.specs.Piece.{IsKept, cell_of, cells_of}
 use Rattle.abc_fold.specs.Steps.{Steps}
 use Rattle.abc_fold.proofs.Kept.{kept_cell, one_more}
@@ -29,64 +29,64 @@ pub origin_seen : {Cell : Type 0} {was now : CarriedRow Cell} (view : was ≡ no
 origin_seen {Cell = Cell} view is v = ap (λ (row : CarriedRow Cell). row.origin) (sym view) ∙ (is ∙ ap (λ x. Some x) (sym v))
 
 module _ {State Cell Items : Type 0} where
-  held_cell : (chains : List (Chained State Cell Items)) (row : List Cell) (o : Option Origin) (own : Origin) (k : ℕ)
+  held_cell : (chains : List (ChainView State Cell Items)) (row : List Cell) (o : Option Origin) (own : Origin) (k : ℕ)
       → o ≡ Some own → IsCarriedAt chains row o → k < length row → slice_get (cells_at chains own.source) (own.first + k) ≡ slice_get row k
   held_cell chains row o own k e carried inside = (subst (IsCarriedAt chains row) e carried) k inside
 
-  pub source_within : (chains : List (Chained State Cell Items)) (source i : ℕ) (x : Cell) → slice_get (cells_at chains source) i ≡ Some x → source < length chains
+  pub source_within : (chains : List (ChainView State Cell Items)) (source i : ℕ) (x : Cell) → slice_get (cells_at chains source) i ≡ Some x → source < length chains
   source_within [] source i x e = absurd (cc)
   source_within (chain ∷ chains) zero i x e = omega arith
   source_within (chain ∷ chains) (suc source) i x e = let h = source_within chains source i x e in omega arith
 
-  pub cells_get : (chains : List (Chained State Cell Items)) (source : ℕ) (d : Chained State Cell Items) → source < length chains → cells_at chains source ≡ (get_or chains source d).cells
+  pub cells_get : (chains : List (ChainView State Cell Items)) (source : ℕ) (d : ChainView State Cell Items) → source < length chains → cells_at chains source ≡ (get_or chains source d).cells
   cells_get [] source d h = absurd (omega arith)
   cells_get (chain ∷ chains) zero d h = refl
   cells_get (chain ∷ chains) (suc source) d h = cells_get chains source d (omega arith)
 
-  pub entries_get : (chains : List (Chained State Cell Items)) (source : ℕ) (d : Chained State Cell Items) → source < length chains → entries_at chains source ≡ (get_or chains source d).entries
+  pub entries_get : (chains : List (ChainView State Cell Items)) (source : ℕ) (d : ChainView State Cell Items) → source < length chains → entries_at chains source ≡ (get_or chains source d).entries
   entries_get [] source d h = absurd (omega arith)
   entries_get (chain ∷ chains) zero d h = refl
   entries_get (chain ∷ chains) (suc source) d h = entries_get chains source d (omega arith)
 
   -- The chain of a line's origin is there.
-  pub source_there : (chains : List (Chained State Cell Items)) (row : List Cell) (o : Option Origin) (own : Origin) (k : ℕ)
+  pub source_there : (chains : List (ChainView State Cell Items)) (row : List Cell) (o : Option Origin) (own : Origin) (k : ℕ)
       → o ≡ Some own → IsCarriedAt chains row o → k < length row → own.source < length chains
   source_there chains row o own k e carried inside =
       let cell = some_at row k inside in
       source_within chains own.source (own.first + k) cell.0 (held_cell chains row o own k e carried inside ∙ cell.1)
 
   -- The chain has the cell at index `k` of a line, and the states around it.
-  pub record IsPlaced (chains : List (Chained State Cell Items)) (row : List Cell) (o : Option Origin) (k : ℕ) (chain : Chained State Cell Items) (source i : ℕ) : Type 0 where
+  pub record IsPlaced (chains : List (ChainView State Cell Items)) (row : List Cell) (o : Option Origin) (k : ℕ) (chain : ChainView State Cell Items) (source i : ℕ) : Type 0 where
     pub address : address_from k o ≡ Some (source, i)
     pub there : source < length chains
     pub cell : slice_get chain.cells i ≡ slice_get row k
     pub within : i < length chain.cells
     pub entries : entries_at chains source ≡ chain.entries
 
-  pub place_facts : (chains : List (Chained State Cell Items)) (row : List Cell) (o : Option Origin) (own : Origin) (k : ℕ) (chain : Chained State Cell Items)
+  pub place_facts : (chains : List (ChainView State Cell Items)) (row : List Cell) (o : Option Origin) (own : Origin) (k : ℕ) (chain : ChainView State Cell Items)
       → o ≡ Some own → IsCarriedAt chains row o → k < length row → chain ≡ get_or chains own.source chain → IsPlaced chains row o k chain own.source (own.first + k)
   place_facts chains row o own k chain e carried inside is =
       let there = source_there chains row o own k e carried inside in
       let some = some_at row k inside in
       let cell : slice_get chain.cells (own.first + k) ≡ slice_get row k =
-      ap (λ (c : Chained State Cell Items). slice_get c.cells (own.first + k)) is
+      ap (λ (c : ChainView State Cell Items). slice_get c.cells (own.first + k)) is
       ∙ (ap (λ cells. slice_get cells (own.first + k)) (sym (cells_get chains own.source chain there)) ∙ held_cell chains row o own k e carried inside) in
       record {
         address = ap (address_from k) e;
         there = there;
         cell = cell;
         within = slice_get_within chain.cells (own.first + k) some.0 (cell ∙ some.1);
-        entries = entries_get chains own.source chain there ∙ ap (λ (c : Chained State Cell Items). c.entries) (sym is);
+        entries = entries_get chains own.source chain there ∙ ap (λ (c : ChainView State Cell Items). c.entries) (sym is);
       }
 
   -- The cell of a kept piece.
-  pub own_cell : {F Work E : Type 0} {chains : List (Chained State Cell Items)} {row : List Cell} {o : Option Origin} {k : ℕ} {chain : Chained State Cell Items} {source i : ℕ}
+  pub own_cell : {F Work E : Type 0} {chains : List (ChainView State Cell Items)} {row : List Cell} {o : Option Origin} {k : ℕ} {chain : ChainView State Cell Items} {source i : ℕ}
       (result : Result (Piece F State Cell Items Work) E) → IsPlaced chains row o k chain source i → IfOk result (λ piece. IsKeptAt chain i piece)
       → IfOk result (λ piece. slice_get row k ≡ Some (cell_of piece))
   own_cell {chain = chain} {i = i} (Ok piece) here at = sym here.cell ∙ kept_cell chain i piece at
   own_cell (Err error) here at = tt
 
-  held_piece : {F Work : Type 0} (chains : List (Chained State Cell Items)) (source i : ℕ) (chain : Chained State Cell Items) (piece : Piece F State Cell Items Work)
+  held_piece : {F Work : Type 0} (chains : List (ChainView State Cell Items)) (source i : ℕ) (chain : ChainView State Cell Items) (piece : Piece F State Cell Items Work)
       → entries_at chains source ≡ chain.entries → IsKeptAt chain i piece → kept_state_in piece ≡ kept_state_at (entries_at chains) (Some (source, i))
   held_piece chains source i chain (New cell) e at = absurd at
   held_piece chains source i chain (Kept cell entered left items) e at =
@@ -94,7 +94,7 @@ module _ {State Cell Items : Type 0} where
       let next : slice_get (entries_at chains source) (i + 1) ≡ Some left = ap (λ l. slice_get l (i + 1)) e ∙ at.next_entry in
       sym (λ j. both_kept (here j) (next j))
 
-  pub own_held : {F Work E : Type 0} {chains : List (Chained State Cell Items)} {row : List Cell} {o : Option Origin} {k : ℕ} {chain : Chained State Cell Items} {source i : ℕ}
+  pub own_held : {F Work E : Type 0} {chains : List (ChainView State Cell Items)} {row : List Cell} {o : Option Origin} {k : ℕ} {chain : ChainView State Cell Items} {source i : ℕ}
       (result : Result (Piece F State Cell Items Work) E) → IsPlaced chains row o k chain source i → IfOk result (λ piece. IsKeptAt chain i piece)
       → IfOk result (λ piece. kept_state_in piece ≡ kept_state_at (entries_at chains) (address_from k o))
   own_held (Err error) here at = tt
@@ -133,7 +133,7 @@ cells_next old pieces row k piece e at =
     map-append cell_of pieces (piece ∷ []) ∙ (ap (λ l. l ++ cell_of piece ∷ []) e
     ∙ (append_assoc (cells_of old) (take k row) (cell_of piece ∷ []) ∙ ap (λ l. cells_of old ++ l) (sym (take_next row k (cell_of piece) at))))
 
-pub helds_next : {F State Cell Items Work : Type 0} (chains : List (Chained State Cell Items)) (o : Option Origin)
+pub helds_next : {F State Cell Items Work : Type 0} (chains : List (ChainView State Cell Items)) (o : Option Origin)
     (old pieces : List (Piece F State Cell Items Work)) (row : List Cell) (k : ℕ) (piece : Piece F State Cell Items Work)
     → kept_states_in pieces ≡ kept_states_in old ++ kept_states_at chains o (take k row) → slice_get row k ≡ Some (cell_of piece)
     → kept_state_in piece ≡ kept_state_at (entries_at chains) (address_from k o)
@@ -161,10 +161,10 @@ over_next g xs from i x order e =
         nil (a ∷ as') = ap (λ l. a ∷ l) (nil as')
 
 -- A piece of a chain that is a fold.
-pub kept_there : {F State Cell Items Work E : Type 0} (steps : Steps State Cell Items) (chain : Chained State Cell Items) (i : ℕ) (result : Result (Piece F State Cell Items Work) E)
+pub kept_there : {F State Cell Items Work E : Type 0} (steps : Steps State Cell Items) (chain : ChainView State Cell Items) (i : ℕ) (result : Result (Piece F State Cell Items Work) E)
     → IsFolded steps chain → i < length chain.cells → ((opening : State) → Folds steps opening chain → IfOk result (λ piece. IsKept steps piece))
     → IfOk result (λ piece. IsKept steps piece)
 kept_there {State = State} {Cell = Cell} {Items = Items} steps chain i result folded inside each = ⊎_elim
-    (λ (e : chain ≡ no_cells). let count = ap (λ (c : Chained State Cell Items). length c.cells) e in absurd (let h : ⊥ = omega (arith, inside, count) in h))
+    (λ (e : chain ≡ no_cells). let count = ap (λ (c : ChainView State Cell Items). length c.cells) e in absurd (let h : ⊥ = omega (arith, inside, count) in h))
     (λ (own : (opening : State) × Folds steps opening chain). each own.0 own.1)
     folded

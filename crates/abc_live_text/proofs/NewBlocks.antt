@@ -18,8 +18,8 @@ use Rattle.abc_book.proofs.Cuts.{is_field_x, x_line_cuts}
 use Rattle.abc_book.proofs.Lying.{each_in_one}
 use Rattle.abc_book.proofs.Rising.{blocks_rise, tunes_begin}
 use Rattle.abc_book.proofs.Stretches.{stretch_is_enough}
-use Rattle.abc_scan.specs.declared.class.LineClass.{LineClass}
-use Rattle.abc_scan.specs.declared.class.LineClass.TheVariants.{Blank, Comment, Field}
+use Rattle.abc_scan.specs.declared.line_class.LineClass.{LineClass}
+use Rattle.abc_scan.specs.declared.line_class.LineClass.TheVariants.{Blank, Comment, Field}
 use Rattle.abc_tune_compiler.specs.Book.{header_in, is_file_header, is_tune, tunes_in}
 use Rattle.abc_live_text.specs.NewParts.{start_of}
 use Rattle.abc_live_text.proofs.Parts.{drop_past}

@@ -3,7 +3,7 @@ use Rattle.std.proofs.Common.{◌≡◌, ℕ, List, [], ◌∷◌, map, Option, 
 use Rattle.std.specs.List.{AllZip}
 use Rattle.abc_book.specs.declared.block.Block.{Block}
 use Rattle.abc_tune_compiler.specs.Lawful.{AreLawful}
-use Rattle.abc_fold.specs.Chain.{Chained, Folds}
+use Rattle.abc_fold.specs.Chain.{ChainView, Folds}
 use Rattle.abc_fold.specs.Steps.{Steps, AreAlike, IsAlike, IsResumable, states_from}
 use Rattle.abc_fold.proofs.Alike.{alike_states, equal_items, other_tail}
 use Rattle.abc_lines.specs.Text.{Text}
@@ -20,7 +20,7 @@ use Rattle.abc_live_text.specs.Row.{CarriedRow}
 use Rattle.abc_live_text.proofs.FreshSteps.{block_cells}
 
 -- A chain is the fold from every state equivalent to its opening.
-pub folds_alike : {State Cell Items : Type 0} (steps : Steps State Cell Items) (a b : State) (chain : Chained State Cell Items)
+pub folds_alike : {State Cell Items : Type 0} (steps : Steps State Cell Items) (a b : State) (chain : ChainView State Cell Items)
     → IsResumable steps → IsAlike steps a b → Folds steps a chain → Folds steps b chain
 folds_alike steps a b chain laws alike folds = record {
   items = folds.items ∙ equal_items steps laws a b chain.cells alike;
@@ -38,7 +38,7 @@ last_state steps (cell ∷ placed) (entry ∷ entries) state alike = last_state 
 
 -- The tunes begin in a state equivalent to the definition's.
 pub opening_alike : {State Cell Items Defaults : Type 0} (steps : Steps State Cell Items) (rules : Rules State Cell Items Defaults)
-    (text : Text) (chain : Chained State Cell Items) (header : Option Block)
+    (text : Text) (chain : ChainView State Cell Items) (header : Option Block)
     → IsResumable steps → AreLawful steps rules → IsHeaderChainOf steps rules text chain header
     → IsAlike steps (rules.tune (state_after_chain header chain)) (rules.tune (state_after_header steps.next rules text header))
 opening_alike steps rules text chain None laws lawful own = laws.reflexive (rules.tune None)
@@ -52,7 +52,7 @@ opening_alike {State = State} {Cell = Cell} steps rules text chain (Some block) 
     (lawful.alike_openings last.0 following (lawful.equal_defaults last.0 following last.2))
 
 chain_made : {State Cell Items : Type 0} (steps : Steps State Cell Items) (read : List ℕ → List Cell) (own opening : State)
-    (text : Text) (rows : List (CarriedRow Cell)) (chain : Chained State Cell Items) (block : Block)
+    (text : Text) (rows : List (CarriedRow Cell)) (chain : ChainView State Cell Items) (block : Block)
     → IsResumable steps → IsAlike steps own opening → map cells_in rows ≡ map read text → IsChain steps own rows chain block → IsChainOf steps read opening text chain block
 chain_made steps read own opening text rows chain block laws alike cells made = record {
   folds = folds_alike steps own opening chain laws alike made.folds;
@@ -60,7 +60,7 @@ chain_made steps read own opening text rows chain block laws alike cells made = 
 }
 
 pub tunes_made : {State Cell Items : Type 0} (steps : Steps State Cell Items) (read : List ℕ → List Cell) (own opening : State)
-    (text : Text) (rows : List (CarriedRow Cell)) (chains : List (Chained State Cell Items)) (blocks : List Block)
+    (text : Text) (rows : List (CarriedRow Cell)) (chains : List (ChainView State Cell Items)) (blocks : List Block)
     → IsResumable steps → IsAlike steps own opening → map cells_in rows ≡ map read text → AllZip (IsChain steps own rows) chains blocks → AllZip (IsChainOf steps read opening text) chains blocks
 tunes_made steps read own opening text rows [] [] laws alike cells made = tt
 tunes_made steps read own opening text rows [] (block ∷ blocks) laws alike cells made = absurd made
@@ -69,7 +69,7 @@ tunes_made steps read own opening text rows (chain ∷ chains) (block ∷ blocks
     (chain_made steps read own opening text rows chain block laws alike cells made.0, tunes_made steps read own opening text rows chains blocks laws alike cells made.1)
 
 pub header_made : {State Cell Items Defaults : Type 0} (steps : Steps State Cell Items) (rules : Rules State Cell Items Defaults)
-    (text : Text) (rows : List (CarriedRow Cell)) (chain : Chained State Cell Items) (header : Option Block)
+    (text : Text) (rows : List (CarriedRow Cell)) (chain : ChainView State Cell Items) (header : Option Block)
     → IsResumable steps → map cells_in rows ≡ map rules.cells text → IsHeaderChain steps rules.header rows chain header → IsHeaderChainOf steps rules text chain header
 header_made steps rules text rows chain None laws cells made = made
 header_made steps rules text rows chain (Some block) laws cells made = chain_made steps rules.cells rules.header rules.header text rows chain block laws (laws.reflexive rules.header) cells made

@@ -6,7 +6,7 @@ use Rattle.std.specs.List.{AllZip, flat_map, sum_by}
 use Rattle.std.proofs.lemmas.List.Sums.{sum_by-append}
 use Rattle.abc_book.specs.Stretch.{shift_block}
 use Rattle.abc_book.specs.declared.block.Block.{Block}
-use Rattle.abc_fold.specs.Chain.{Chained}
+use Rattle.abc_fold.specs.Chain.{ChainView}
 use Rattle.abc_fold.specs.Steps.{Steps, IsAlike, IsResumable}
 use Rattle.abc_fold.specs.Work.{Counters, IsRaisedUpTo}
 use Rattle.abc_lines.specs.Text.{Splice, Text, spliced}
@@ -53,7 +53,7 @@ StartsFrom line block = (line ≤ block.from) × (block.from ≤ block.to)
 
 -- A chain of lines that stay is that of the new text.
 chain_before : {State Cell Items : Type 0} (steps : Steps State Cell Items) (read : List ℕ → List Cell) (opening : State)
-    (text new : Text) (from : ℕ) (chain : Chained State Cell Items) (block : Block) → take from new ≡ take from text → Ends from block
+    (text new : Text) (from : ℕ) (chain : ChainView State Cell Items) (block : Block) → take from new ≡ take from text → Ends from block
     → IsChainOf steps read opening text chain block → IsChainOf steps read opening new chain block
 chain_before steps read opening text new from chain block e ends own = record {
   folds = own.folds;
@@ -61,7 +61,7 @@ chain_before steps read opening text new from chain block e ends own = record {
 }
 
 pub chain_after : {State Cell Items : Type 0} (steps : Steps State Cell Items) (read : List ℕ → List Cell) (opening : State)
-    (text new : Text) (from gone came : ℕ) (chain : Chained State Cell Items) (block : Block) → drop (from + came) new ≡ drop (from + gone) text → StartsFrom (from + gone) block
+    (text new : Text) (from gone came : ℕ) (chain : ChainView State Cell Items) (block : Block) → drop (from + came) new ≡ drop (from + gone) text → StartsFrom (from + gone) block
     → IsChainOf steps read opening text chain block → IsChainOf steps read opening new chain (shift_block gone came block)
 chain_after steps read opening text new from gone came chain block e starts own = record {
   folds = own.folds;
@@ -73,7 +73,7 @@ abbrev pub HeaderEnds : ℕ → Option Block → Type 0
 HeaderEnds from header = (block : Block) → header ≡ Some block → Ends from block
 
 header_before : {State Cell Items Defaults : Type 0} (steps : Steps State Cell Items) (rules : Rules State Cell Items Defaults)
-    (text new : Text) (from : ℕ) (chain : Chained State Cell Items) (header : Option Block) → take from new ≡ take from text → HeaderEnds from header
+    (text new : Text) (from : ℕ) (chain : ChainView State Cell Items) (header : Option Block) → take from new ≡ take from text → HeaderEnds from header
     → IsHeaderChainOf steps rules text chain header → IsHeaderChainOf steps rules new chain header
 header_before steps rules text new from chain None e ends own = own
 header_before steps rules text new from chain (Some block) e ends own = chain_before steps rules.cells rules.header text new from chain block e (ends block refl) own
@@ -95,7 +95,7 @@ module _ {State Cell Items Defaults : Type 0} (steps : Steps State Cell Items) (
       ∙ ap rules.tune (state_before steps.next rules text new from (header_in (blocks_in rules text)) e ends)
 
   -- The chains of tunes outside the stretch, and the new ones of the stretch, are those of the new text.
-  pub tunes_stay : (tunes made : List (Chained State Cell Items)) (rows : List (CarriedRow Cell)) (own now : State) (front following : ℕ) (places : List Block)
+  pub tunes_stay : (tunes made : List (ChainView State Cell Items)) (rows : List (CarriedRow Cell)) (own now : State) (front following : ℕ) (places : List Block)
       → IsResumable steps → take from new ≡ take from text → drop (from + came) new ≡ drop (from + gone) text
       → tunes_in (blocks_in rules new) ≡ take front (tunes_in (blocks_in rules text)) ++ (places ++ map (shift_block gone came) (drop following (tunes_in (blocks_in rules text))))
       → All (Ends from) (take front (tunes_in (blocks_in rules text))) → All (StartsFrom (from + gone)) (drop following (tunes_in (blocks_in rules text)))
@@ -117,7 +117,7 @@ module _ {State Cell Items Defaults : Type 0} (steps : Steps State Cell Items) (
 
 -- So is the chain of a file header that is before the stretch.
 pub header_stays : {State Cell Items Defaults : Type 0} (steps : Steps State Cell Items) (rules : Rules State Cell Items Defaults)
-    (text new : Text) (stretch : Stretch) (old made : List (Chained State Cell Items)) → AreChains steps rules text old
+    (text new : Text) (stretch : Stretch) (old made : List (ChainView State Cell Items)) → AreChains steps rules text old
     → header_in (blocks_in rules new) ≡ header_in (blocks_in rules text) → HeaderEnds stretch.lines.from (header_in (blocks_in rules text)) → take stretch.lines.from new ≡ take stretch.lines.from text
     → AllZip (IsChainOf steps rules.cells (opening_of steps.next rules new (blocks_in rules new)) new)
     (take stretch.tunes.from (drop 1 old) ++ (made ++ drop stretch.tunes.to (drop 1 old))) (tunes_in (blocks_in rules new))
@@ -130,7 +130,7 @@ header_stays steps rules text new stretch (first ∷ tunes) made chains header e
 
 -- The cost if the file header and the tunes of a stretch have been folded.
 pub stretch_cost : {State Cell Items Defaults : Type 0} (steps : Steps State Cell Items) (rules : Rules State Cell Items Defaults)
-    (text : Text) (s : Splice) (old : List (Chained State Cell Items)) (rows : List (CarriedRow Cell)) (own : State) (front places back : List Block) (before now after : Counters)
+    (text : Text) (s : Splice) (old : List (ChainView State Cell Items)) (rows : List (CarriedRow Cell)) (own : State) (front places back : List Block) (before now after : Counters)
     → IsResumable steps → s.at + s.removed ≤ length text → AreChains steps rules text old → AreRenewed steps rules text s old rows
     → IsAlike steps own (opening_of steps.next rules (spliced text s) (blocks_in rules (spliced text s)))
     → tunes_in (blocks_in rules (spliced text s)) ≡ front ++ (places ++ back)

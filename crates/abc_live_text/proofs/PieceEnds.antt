@@ -4,7 +4,7 @@ use Rattle.std.proofs.Common.{slice_get, length, sym, ◌∙◌, ap, subst, arit
 use Rattle.std.specs.Option.{IsSome, IsSomeAnd}
 use Rattle.abc_fold.specs.declared.piece.Piece.{Piece}
 use Rattle.abc_fold.specs.declared.piece.Piece.TheVariants.{New, Kept}
-use Rattle.abc_fold.specs.Chain.{Chained, IsKeptAt}
+use Rattle.abc_fold.specs.Chain.{ChainView, IsKeptAt}
 use Rattle.abc_fold.specs.Following.{Follows, FollowsLast}
 use Rattle.abc_fold.proofs.Following.{get_last}
 use Rattle.abc_fold.proofs.Kept.{some_same}
@@ -13,7 +13,7 @@ use Rattle.abc_live_text.specs.PieceEnd.{EndsAt, IsLeftAt, LiesAt}
 use Rattle.abc_live_text.specs.Pieces.{address_from, entries_at}
 use Rattle.abc_live_text.proofs.LinePieces.{IsPlaced}
 
-module _ {F State Cell Items Work : Type 0} (chains : List (Chained State Cell Items)) where
+module _ {F State Cell Items Work : Type 0} (chains : List (ChainView State Cell Items)) where
   follows_one : (source i : ℕ) (last piece : Piece F State Cell Items Work) → IsLeftAt chains source i last → LiesAt chains (Some (source, i)) piece → Follows last piece
   follows_one source i last (New cell) left stands = absurd stands
   follows_one source i (New cell) (Kept other entered own items) left stands = absurd left
@@ -68,14 +68,14 @@ module _ {F State Cell Items Work : Type 0} (chains : List (Chained State Cell I
   ends_after pieces None o k is ends = tt
   ends_after pieces (Some e) o k is ends = subst (λ at. IfSome at (λ a. EndsAt chains pieces a.0 a.1)) is ends
 
-  stands_one : (source i : ℕ) (chain : Chained State Cell Items) (piece : Piece F State Cell Items Work)
+  stands_one : (source i : ℕ) (chain : ChainView State Cell Items) (piece : Piece F State Cell Items Work)
       → entries_at chains source ≡ chain.entries → IsKeptAt chain i piece → LiesAt chains (Some (source, i)) piece
   stands_one source i chain (New cell) e at = absurd at
   stands_one source i chain (Kept cell entered left items) e at =
       (ap (λ l. slice_get l i) e ∙ at.own_entry, ap (λ l. slice_get l (i + 1)) e ∙ at.next_entry)
 
   -- The place of a kept piece of a line.
-  pub own_place : {E : Type 0} {row : List Cell} {o : Option Origin} {k : ℕ} {chain : Chained State Cell Items} {source i : ℕ} (result : Result (Piece F State Cell Items Work) E)
+  pub own_place : {E : Type 0} {row : List Cell} {o : Option Origin} {k : ℕ} {chain : ChainView State Cell Items} {source i : ℕ} (result : Result (Piece F State Cell Items Work) E)
       → IsPlaced chains row o k chain source i → IfOk result (λ piece. IsKeptAt chain i piece) → IfOk result (λ piece. LiesAt chains (address_from k o) piece)
   own_place (Err error) here at = tt
   own_place {chain = chain} {source = source} {i = i} (Ok piece) here at =

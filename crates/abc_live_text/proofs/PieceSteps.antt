@@ -9,7 +9,7 @@ use Rattle.std.proofs.lemmas.List.Sums.{sum_by-drop_more}
 use Rattle.abc_book.specs.declared.block.Block.{Block}
 use Rattle.abc_fold.specs.declared.piece.Piece.{Piece}
 use Rattle.abc_fold.specs.declared.piece.Piece.TheVariants.{New, Kept}
-use Rattle.abc_fold.specs.Chain.{Chained}
+use Rattle.abc_fold.specs.Chain.{ChainView}
 use Rattle.abc_fold.specs.Piece.{IsKept, cells_of, steps_needed}
 use Rattle.abc_fold.specs.Steps.{Steps, IsAlike, IsResumable}
 use Rattle.abc_fold.specs.Work.{Counters, IsRaisedUpTo}
@@ -50,7 +50,7 @@ steps_are_over {F = F} {State = State} {Cell = Cell} {Items = Items} {Work = Wor
 
 -- The steps of the pieces of a block.
 pub block_pieces : {F State Cell Items Work : Type 0} (steps : Steps State Cell Items) (laws : IsResumable steps) (opening : State)
-    (old : List (Chained State Cell Items)) (rows : List (CarriedRow Cell)) (block : Block) (pieces : List (Piece F State Cell Items Work))
+    (old : List (ChainView State Cell Items)) (rows : List (CarriedRow Cell)) (block : Block) (pieces : List (Piece F State Cell Items Work))
     → ((k : ℕ) (d : Piece F State Cell Items Work) → k < length pieces → IsKept steps (get_or pieces k d))
     → cells_of pieces ≡ cells_over rows block → kept_states_in pieces ≡ kept_states_over old rows block
     → steps_needed steps opening pieces ≡ steps_taken steps opening old rows block
@@ -58,7 +58,7 @@ block_pieces steps laws opening old rows block pieces kept e h =
     steps_are_over steps laws opening opening pieces (laws.reflexive opening) kept ∙ (λ i. steps_over steps opening (e i) (h i))
 
 pub pieces_cost : {F State Cell Items Work : Type 0} (steps : Steps State Cell Items) (laws : IsResumable steps) (opening : State)
-    (old : List (Chained State Cell Items)) (rows : List (CarriedRow Cell)) (block : Block) (pieces : List (Piece F State Cell Items Work))
+    (old : List (ChainView State Cell Items)) (rows : List (CarriedRow Cell)) (block : Block) (pieces : List (Piece F State Cell Items Work))
     → ((k : ℕ) (d : Piece F State Cell Items Work) → k < length pieces → IsKept steps (get_or pieces k d))
     → cells_of pieces ≡ cells_over rows block → kept_states_in pieces ≡ kept_states_over old rows block → {before after : Counters}
     → IsRaisedUpTo (steps_needed steps opening pieces) before after → IsRaisedUpTo (steps_taken steps opening old rows block) before after

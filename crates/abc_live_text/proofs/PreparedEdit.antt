@@ -4,7 +4,7 @@ use Rattle.std.proofs.Common.{drop, refl, sym, ◌∙◌, ap, subst, arith, ⊎_
 use Rattle.std.proofs.lemmas.List.Elements.{All-cons, All-nil}
 use Rattle.abc_book.specs.Laws.{move_block}
 use Rattle.abc_book.specs.declared.block.Block.{Block}
-use Rattle.abc_fold.specs.Chain.{Chained}
+use Rattle.abc_fold.specs.Chain.{ChainView}
 use Rattle.abc_fold.specs.Steps.{Steps}
 use Rattle.abc_lines.specs.Text.{Splice, Text, spliced}
 use Rattle.abc_tune_compiler.specs.Rules.{Rules}
@@ -28,14 +28,14 @@ all_among stretch (block ∷ tunes) all =
     All-cons (LiesAmong stretch) (move_block stretch.lines.from block) (map (move_block stretch.lines.from) tunes) own (all_among stretch tunes (λ i d l. all (suc i) d (omega arith)))
 
 tunes_following : {State Cell Items Defaults : Type 0} (steps : Steps State Cell Items) (rules : Rules State Cell Items Defaults)
-    (text : Text) (first : Option (Chained State Cell Items)) (stretch : Stretch) (old made : List (Chained State Cell Items)) → AreChains steps rules text old
+    (text : Text) (first : Option (ChainView State Cell Items)) (stretch : Stretch) (old made : List (ChainView State Cell Items)) → AreChains steps rules text old
     → drop 1 (chains_after first stretch old made) ≡ take stretch.tunes.from (drop 1 old) ++ (made ++ drop stretch.tunes.to (drop 1 old))
 tunes_following steps rules text first stretch [] made own = absurd own
 tunes_following steps rules text None stretch (chain ∷ tunes) made own = refl
 tunes_following steps rules text (Some new) stretch (chain ∷ tunes) made own = refl
 
 first_same : {State Cell Items Defaults : Type 0} (steps : Steps State Cell Items) (rules : Rules State Cell Items Defaults)
-    (text : Text) (first : Option (Chained State Cell Items)) (stretch : Stretch) (old made : List (Chained State Cell Items)) → AreChains steps rules text old → first ≡ None
+    (text : Text) (first : Option (ChainView State Cell Items)) (stretch : Stretch) (old made : List (ChainView State Cell Items)) → AreChains steps rules text old → first ≡ None
     → take 1 (chains_after first stretch old made) ≡ take 1 old
 first_same steps rules text first stretch [] made own none = absurd own
 first_same steps rules text None stretch (chain ∷ tunes) made own none = refl
@@ -52,14 +52,14 @@ module _ {C State Cell Items Defaults : Type 0} {steps : Steps State Cell Items}
   pub may_be_anew : MayReplaceHeader new.first new.stretch
   may_be_anew = by_first new.first new_parts.keeps
     where
-      by_first : (first : Option (Chained State Cell Items)) → HeaderStays first new.header on.header new.stretch ⊎ HeaderIsReplaced first new.header on.header new.stretch
+      by_first : (first : Option (ChainView State Cell Items)) → HeaderStays first new.header on.header new.stretch ⊎ HeaderIsReplaced first new.header on.header new.stretch
           → MayReplaceHeader first new.stretch
       by_first None keeps = tt
       by_first (Some first) (inl stays) = absurd (let bad = stays.none in cc)
       by_first (Some first) (inr anew) = anew.front
 
   -- What is kept of the new text.
-  pub new_stands : {text : Text} {rows : List (Row Cell)} {all : List Block} {chains : List (Chained State Cell Items)} → text ≡ spliced on.lines.text s
+  pub new_stands : {text : Text} {rows : List (Row Cell)} {all : List Block} {chains : List (ChainView State Cell Items)} → text ≡ spliced on.lines.text s
       → AreRows rules (spliced on.lines.text s) rows → all ≡ tunes_after new.stretch on.tunes new.tunes → chains ≡ chains_after new.first new.stretch on.chains.items new.new_chains
       → ArePartsOf steps rules text (parts rows new.header all chains)
   new_stands {rows = rows} {all = all} {chains = chains} x read t c = subst (λ (text : Text). ArePartsOf steps rules text (parts rows new.header all chains)) (sym x) (record {
@@ -70,7 +70,7 @@ module _ {C State Cell Items Defaults : Type 0} {steps : Steps State Cell Items}
   })
 
   -- The stretch.
-  pub new_stretch : {text : Text} {rows : List (Row Cell)} {all places : List Block} {chains : List (Chained State Cell Items)}
+  pub new_stretch : {text : Text} {rows : List (Row Cell)} {all places : List Block} {chains : List (ChainView State Cell Items)}
       → text ≡ spliced on.lines.text s → all ≡ tunes_after new.stretch on.tunes new.tunes → places ≡ map (move_block new.stretch.lines.from) new.tunes
       → chains ≡ chains_after new.first new.stretch on.chains.items new.new_chains
       → IsStretch s (patch_view on text (parts rows new.header all chains) new places)

@@ -8,7 +8,7 @@ use Rattle.abc_book.specs.Laws.{move_block}
 use Rattle.abc_book.specs.Stretch.{shift_block}
 use Rattle.abc_book.specs.declared.block.Block.{Block}
 use Rattle.abc_tune_compiler.specs.Lawful.{AreLawful}
-use Rattle.abc_fold.specs.Chain.{Chained}
+use Rattle.abc_fold.specs.Chain.{ChainView}
 use Rattle.abc_fold.specs.Steps.{Steps, IsAlike, IsResumable}
 use Rattle.abc_fold.specs.Work.{Counters, IsRaisedUpTo}
 use Rattle.abc_lines.specs.Text.{Splice, Text, spliced}
@@ -45,8 +45,8 @@ use Rattle.std.proofs.lemmas.Slice.Zip.{AllZip-long}
 use Rattle.std.proofs.lemmas.List.Elements.{All-weaker}
 
 -- The tunes among rows that were folded again.
-pub refold_facts : {State Cell Items : Type 0} (steps : Steps State Cell Items) (old : List (Chained State Cell Items)) (opening : State) (rows : List (CarriedRow Cell))
-    (tunes here there : List Block) (made chains : List (Chained State Cell Items)) (reused_tunes : List (Option ℕ)) → tunes ≡ tunes_among rows → here ≡ tunes → there ≡ tunes → chains ≡ made
+pub refold_facts : {State Cell Items : Type 0} (steps : Steps State Cell Items) (old : List (ChainView State Cell Items)) (opening : State) (rows : List (CarriedRow Cell))
+    (tunes here there : List Block) (made chains : List (ChainView State Cell Items)) (reused_tunes : List (Option ℕ)) → tunes ≡ tunes_among rows → here ≡ tunes → there ≡ tunes → chains ≡ made
     → AllZip (IsChain steps opening rows) made here
     → ((begun : State) → AllZip (IsChain steps begun rows) chains there → AllZip (HasItemsOf (drop 1 old)) chains reused_tunes)
     → ((begun : State) → AllZip (IsChain steps begun rows) chains there → KnowsAlong steps old begun rows there reused_tunes)
@@ -63,7 +63,7 @@ refold_facts {State = State} steps old opening rows tunes here there made chains
     }
 
 -- The steps of tunes at their places in the text.
-pub sums_moved : {State Cell Items : Type 0} (steps : Steps State Cell Items) (own : State) (old : List (Chained State Cell Items))
+pub sums_moved : {State Cell Items : Type 0} (steps : Steps State Cell Items) (own : State) (old : List (ChainView State Cell Items))
     (a rows b : List (CarriedRow Cell)) (n : ℕ) (tunes : List Block) → n ≡ length a → All (LiesWithin (length rows)) tunes
     → sum_by (steps_taken steps own old rows) tunes ≡ sum_by (steps_taken steps own old (a ++ (rows ++ b))) (map (move_block n) tunes)
 sums_moved steps own old a rows b n [] e within = refl
@@ -75,7 +75,7 @@ sums_moved steps own old a rows b n (t ∷ tunes) e within =
     omega (arith, here, there, first, more)
 
 -- The same of what goes along old tunes.
-pub along_moved : {State Cell Items : Type 0} (steps : Steps State Cell Items) (own : State) (old : List (Chained State Cell Items))
+pub along_moved : {State Cell Items : Type 0} (steps : Steps State Cell Items) (own : State) (old : List (ChainView State Cell Items))
     (a rows b : List (CarriedRow Cell)) (n : ℕ) (tunes : List Block) (reused_tunes : List (Option ℕ)) → n ≡ length a → All (LiesWithin (length rows)) tunes
     → KnowsAlong steps old own rows tunes reused_tunes
     → KnowsAlong steps old own (a ++ (rows ++ b)) (map (move_block n) tunes) reused_tunes
@@ -88,7 +88,7 @@ along_moved steps own old a rows b n (t ∷ tunes) (one ∷ reused_tunes) e with
 )
 
 -- Which tunes take old ones over, all of them.
-pub taken_all : {State Cell Items : Type 0} (steps : Steps State Cell Items) (own : State) (old : List (Chained State Cell Items))
+pub taken_all : {State Cell Items : Type 0} (steps : Steps State Cell Items) (own : State) (old : List (ChainView State Cell Items))
     (all : List (CarriedRow Cell)) (front mid back : List Block) (f b count : ℕ) (reused_tunes : List (Option ℕ)) → length front ≡ f → length back ≡ count - b
     → KnowsAlong steps old own all mid reused_tunes
     → KnowsAlong steps old own all (front ++ (mid ++ back)) (kept_numbers 0 f ++ (reused_tunes ++ kept_numbers b (count - b)))
@@ -99,14 +99,14 @@ taken_all steps own old all front mid back f b count reused_tunes e g own_all =
 
 -- The state in which old tunes begin, by the chain that is kept of the file header.
 old_opening : {State Cell Items Defaults : Type 0} (steps : Steps State Cell Items) (rules : Rules State Cell Items Defaults)
-    (text : Text) (first : Chained State Cell Items) (tunes : List (Chained State Cell Items)) (own : State)
+    (text : Text) (first : ChainView State Cell Items) (tunes : List (ChainView State Cell Items)) (own : State)
     → IsResumable steps → AreLawful steps rules → AreChains steps rules text (first ∷ tunes) → own ≡ rules.tune (state_after_chain (header_in (blocks_in rules text)) first)
     → IsAlike steps own (opening_of steps.next rules text (blocks_in rules text))
 old_opening steps rules text first tunes own laws lawful chains is =
     subst (λ o. IsAlike steps o (opening_of steps.next rules text (blocks_in rules text))) (sym is) (opening_alike steps rules text first (header_in (blocks_in rules text)) laws lawful chains.0)
 
 pub alike_old : {State Cell Items Defaults : Type 0} (steps : Steps State Cell Items) (rules : Rules State Cell Items Defaults)
-    (text : Text) (chains : List (Chained State Cell Items)) (first : Chained State Cell Items) (own : State)
+    (text : Text) (chains : List (ChainView State Cell Items)) (first : ChainView State Cell Items) (own : State)
     → IsResumable steps → AreLawful steps rules → AreChains steps rules text chains → first ≡ get_or chains 0 first → own ≡ rules.tune (state_after_chain (header_in (blocks_in rules text)) first)
     → IsAlike steps own (opening_of steps.next rules text (blocks_in rules text))
 alike_old steps rules text [] first own laws lawful chains there is = absurd chains
@@ -114,7 +114,7 @@ alike_old steps rules text (chain ∷ tunes) first own laws lawful chains there 
     old_opening steps rules text chain tunes own laws lawful chains (is ∙ ap (λ c. rules.tune (state_after_chain (header_in (blocks_in rules text)) c)) there)
 
 pub zips_moved : {State Cell Items : Type 0} (steps : Steps State Cell Items) (own : State) (a rows b : List (CarriedRow Cell))
-    (n : ℕ) (made : List (Chained State Cell Items)) (tunes : List Block) → n ≡ length a → All (LiesWithin (length rows)) tunes
+    (n : ℕ) (made : List (ChainView State Cell Items)) (tunes : List Block) → n ≡ length a → All (LiesWithin (length rows)) tunes
     → AllZip (IsChain steps own rows) made tunes → AllZip (IsChain steps own (a ++ (rows ++ b))) made (map (move_block n) tunes)
 zips_moved steps own a rows b n made tunes e within all =
     zip_given (IsChain steps own rows) (IsChain steps own (a ++ (rows ++ b))) (LiesWithin (length rows)) (move_block n) made tunes
@@ -142,7 +142,7 @@ kept_alike steps rules on own laws lawful stands kept =
 
 -- The chains that are kept of the tunes.
 pub old_chains : {State Cell Items Defaults : Type 0} (steps : Steps State Cell Items) (rules : Rules State Cell Items Defaults)
-    (text : Text) (chains : List (Chained State Cell Items)) → AreChains steps rules text chains
+    (text : Text) (chains : List (ChainView State Cell Items)) → AreChains steps rules text chains
     → AllZip (IsChainOf steps rules.cells (opening_of steps.next rules text (blocks_in rules text)) text) (drop 1 chains) (tunes_in (blocks_in rules text))
 old_chains steps rules text [] are = absurd are
 old_chains steps rules text (first ∷ chains) are = are.1
@@ -215,13 +215,13 @@ module _ {C State Cell Items Defaults : Type 0} {steps : Steps State Cell Items}
         let most = facts.inside in
         lines_after on.lines.text s span.lines.from (span.lines.to - span.lines.from) (length run) facts.begins (omega (arith, sum, ends)) (omega (arith, sum, most)) came_is
 
-    placed_chains : (tunes : List Block) (made : List (Chained State Cell Items)) → tunes ≡ tunes_among run → AllZip (IsChain steps own run) made tunes
+    placed_chains : (tunes : List Block) (made : List (ChainView State Cell Items)) → tunes ≡ tunes_among run → AllZip (IsChain steps own run) made tunes
         → AllZip (IsChain steps own all_rows) made (map (move_block span.lines.from) tunes)
     placed_chains tunes made e chains = subst (λ r. AllZip (IsChain steps own r) made (map (move_block span.lines.from) tunes)) (sym run_parts)
         (zips_moved steps own facts.parts.before run facts.parts.following span.lines.from made tunes facts.parts.count (subst (All (LiesWithin (length run))) (sym e) within) chains)
 
     -- The chains of the tunes of the new text, if those outside begin in its states.
-    pub run_chains : (tunes : List Block) (made : List (Chained State Cell Items)) → tunes ≡ tunes_among run → AllZip (IsChain steps own run) made tunes
+    pub run_chains : (tunes : List Block) (made : List (ChainView State Cell Items)) → tunes ≡ tunes_among run → AllZip (IsChain steps own run) made tunes
         → AllZip (IsChainOf steps rules.cells new_opening on.lines.text) (take span.tunes.from (drop 1 on.chains.items)) (take span.tunes.from old_blocks)
         → AllZip (IsChainOf steps rules.cells new_opening on.lines.text) (drop span.tunes.to (drop 1 on.chains.items)) (drop span.tunes.to old_blocks)
         → AllZip (IsChainOf steps rules.cells new_opening new_text) (take span.tunes.from (drop 1 on.chains.items) ++ (made ++ drop span.tunes.to (drop 1 on.chains.items))) (tunes_in new_blocks)
@@ -235,7 +235,7 @@ module _ {C State Cell Items Defaults : Type 0} {steps : Steps State Cell Items}
         facts.before (subst (λ n. All (StartsFrom n) (drop span.tunes.to old_blocks)) (sym line_sum) facts.following) front back alike all_renewed.read.cells (placed_chains tunes made e chains)
 
     -- What is folded again, with the file header and its chain.
-    pub run_renewed : (header : Option Block) (first : Option (Chained State Cell Items)) (tunes : List Block) (made : List (Chained State Cell Items)) (reused_tunes : List (Option ℕ))
+    pub run_renewed : (header : Option Block) (first : Option (ChainView State Cell Items)) (tunes : List Block) (made : List (ChainView State Cell Items)) (reused_tunes : List (Option ℕ))
         → AreRefolded steps on.chains.items own run tunes made reused_tunes → header ≡ header_in new_blocks
         → AreChains steps rules new_text (chains_after first (span_stretch span (length run)) on.chains.items made)
         → HeaderStays first header on.header (span_stretch span (length run)) ⊎ HeaderIsReplaced first header on.header (span_stretch span (length run))

@@ -2,9 +2,9 @@
 use Rattle.std.proofs.Common.{◌≡◌, ℕ, suc, ◌+◌, ◌-◌, ◌≤◌, List, [], ◌∷◌, ◌++◌, map, Option, Some, None, Result, Ok, Err, IfOk}
 use Rattle.std.proofs.Common.{length, take, drop, sym, ◌∙◌, ap, subst, arith, append_assoc}
 use Rattle.std.proofs.lemmas.List.{map-append, take-map, drop-map}
-use Rattle.abc_fold.specs.Chain.{Chained}
-use Rattle.abc_lines.specs.GapList.{Gapped, replaced_run}
-use Rattle.abc_lines.specs.ListSplice.{Patched, after_splice}
+use Rattle.abc_fold.specs.Chain.{ChainView}
+use Rattle.abc_lines.specs.GapList.{GapListView, replaced_run}
+use Rattle.abc_lines.specs.ListSplice.{SplicePatchView, after_splice}
 use Rattle.abc_lines.specs.Text.{Text, spliced}
 use Rattle.abc_tune_compiler.specs.Rules.{Rules}
 use Rattle.abc_live_text.specs.NewParts.{MayReplaceHeader, chains_after, splice_at}
@@ -15,12 +15,12 @@ use Rattle.abc_live_text.proofs.Edits.{spliced_is}
 use Rattle.abc_live_text.proofs.FreshSteps.{map-over}
 
 -- What a splice of a list leaves.
-pub items_after : {X : Type 0} (list after : Gapped X) (at removed : ℕ) (new : List X) → after ≡ after_splice list at removed new → after.items ≡ replaced_run list.items at removed new
+pub items_after : {X : Type 0} (list after : GapListView X) (at removed : ℕ) (new : List X) → after ≡ after_splice list at removed new → after.items ≡ replaced_run list.items at removed new
 unfolding after_splice
-items_after {X = X} list after at removed new e = ap (λ (l : Gapped X). l.items) e
+items_after {X = X} list after at removed new e = ap (λ (l : GapListView X). l.items) e
 
 -- The chains if the file header's stays.
-pub chains_same : {State Cell Items : Type 0} (stretch : Stretch) (old made : List (Chained State Cell Items)) → stretch.tunes.from ≤ stretch.tunes.to → stretch.tunes.to + 1 ≤ length old
+pub chains_same : {State Cell Items : Type 0} (stretch : Stretch) (old made : List (ChainView State Cell Items)) → stretch.tunes.from ≤ stretch.tunes.to → stretch.tunes.to + 1 ≤ length old
     → replaced_run old (stretch.tunes.from + 1) (stretch.tunes.to - stretch.tunes.from) made ≡ chains_after None stretch old made
 chains_same stretch [] made order inside = absurd (omega (arith, inside))
 chains_same stretch (first ∷ tunes) made order inside =
@@ -29,7 +29,7 @@ chains_same stretch (first ∷ tunes) made order inside =
     (λ i. take (a i) (first ∷ tunes) ++ made ++ drop (b i) (first ∷ tunes)) ∙ append_assoc (first ∷ take stretch.tunes.from tunes) made (drop stretch.tunes.to tunes)
 
 -- The chains if it is folded again.
-pub chains_anew : {State Cell Items : Type 0} (first : Chained State Cell Items) (stretch : Stretch) (old made : List (Chained State Cell Items))
+pub chains_anew : {State Cell Items : Type 0} (first : ChainView State Cell Items) (stretch : Stretch) (old made : List (ChainView State Cell Items))
     → stretch.tunes.from ≡ 0 → stretch.tunes.to + 1 ≤ length old
     → replaced_run old 0 (stretch.tunes.to + 1) (first ∷ made) ≡ chains_after (Some first) stretch old made
 chains_anew first stretch [] made front inside = absurd (omega (arith, inside))
@@ -39,9 +39,9 @@ chains_anew first stretch (chain ∷ tunes) made front inside =
     ∙ ap (λ n. first ∷ (take n tunes ++ (made ++ drop stretch.tunes.to tunes))) (sym front)
 
 -- A splice of chains that has been prepared.
-pub place_same : {State Cell Items E : Type 0} (result : Result (Patched (Chained State Cell Items)) E)
-    (list : Gapped (Chained State Cell Items)) (stretch : Stretch) (first : Option (Chained State Cell Items))
-    (made new : List (Chained State Cell Items)) → first ≡ None → new ≡ made → stretch.tunes.from ≤ stretch.tunes.to → stretch.tunes.to + 1 ≤ length list.items
+pub place_same : {State Cell Items E : Type 0} (result : Result (SplicePatchView (ChainView State Cell Items)) E)
+    (list : GapListView (ChainView State Cell Items)) (stretch : Stretch) (first : Option (ChainView State Cell Items))
+    (made new : List (ChainView State Cell Items)) → first ≡ None → new ≡ made → stretch.tunes.from ≤ stretch.tunes.to → stretch.tunes.to + 1 ≤ length list.items
     → IfOk result (λ patch. patch.after ≡ after_splice list (stretch.tunes.from + 1) (stretch.tunes.to - stretch.tunes.from) new)
     → IfOk result (λ patch. patch.after.items ≡ chains_after first stretch list.items made)
 place_same (Err error) list stretch first made new none same order inside after = tt
@@ -50,9 +50,9 @@ place_same (Ok patch) list stretch first made new none same order inside after =
     ∙ (ap (replaced_run list.items (stretch.tunes.from + 1) (stretch.tunes.to - stretch.tunes.from)) same
     ∙ (chains_same stretch list.items made order inside ∙ ap (λ f. chains_after f stretch list.items made) (sym none)))
 
-pub place_anew : {State Cell Items E : Type 0} (result : Result (Patched (Chained State Cell Items)) E)
-    (list : Gapped (Chained State Cell Items)) (stretch : Stretch) (first : Option (Chained State Cell Items))
-    (own : Chained State Cell Items) (made new : List (Chained State Cell Items)) → first ≡ Some own → new ≡ own ∷ made → MayReplaceHeader first stretch → stretch.tunes.to + 1 ≤ length list.items
+pub place_anew : {State Cell Items E : Type 0} (result : Result (SplicePatchView (ChainView State Cell Items)) E)
+    (list : GapListView (ChainView State Cell Items)) (stretch : Stretch) (first : Option (ChainView State Cell Items))
+    (own : ChainView State Cell Items) (made new : List (ChainView State Cell Items)) → first ≡ Some own → new ≡ own ∷ made → MayReplaceHeader first stretch → stretch.tunes.to + 1 ≤ length list.items
     → IfOk result (λ patch. patch.after ≡ after_splice list 0 (stretch.tunes.to + 1) new) → IfOk result (λ patch. patch.after.items ≡ chains_after first stretch list.items made)
 place_anew (Err error) list stretch first own made new some same anew inside after = tt
 place_anew (Ok patch) list stretch first own made new some same anew inside after =

@@ -6,7 +6,7 @@ use Rattle.std.proofs.lemmas.List.{map-append, take-map}
 use Rattle.std.proofs.lemmas.List.Elements.{All-cons, All-nil, All-append}
 use Rattle.std.specs.List.{flat_map, AllZip}
 use Rattle.abc_book.specs.declared.block.Block.{Block}
-use Rattle.abc_fold.specs.Chain.{Chained}
+use Rattle.abc_fold.specs.Chain.{ChainView}
 use Rattle.abc_fold.specs.Steps.{Steps}
 use Rattle.abc_lines.specs.Text.{Text}
 use Rattle.abc_live_cost.specs.Layout.{header_chain, tune_chains}
@@ -63,7 +63,7 @@ get_at [] (x ∷ own) others zero h = refl
 get_at [] (x ∷ own) others (suc k) h = (let e : 0 + suc k ≡ suc (0 + k) = omega arith in ap (slice_get (x ∷ (own ++ others))) e) ∙ get_at [] own others k (omega arith)
 get_at (y ∷ front) own others k h = (let e : length (y ∷ front) + k ≡ suc (length front + k) = omega arith in ap (slice_get (y ∷ (front ++ (own ++ others)))) e) ∙ get_at front own others k h
 
-along_carried : {State Cell Items : Type 0} (tunes : List (Chained State Cell Items)) (source first : ℕ) (front : List Cell)
+along_carried : {State Cell Items : Type 0} (tunes : List (ChainView State Cell Items)) (source first : ℕ) (front : List Cell)
     (rows : List (CarriedRow Cell)) → first ≡ length front → cells_at tunes source ≡ front ++ flat_map cells_in rows → All (IsCarried tunes) (rows_along source first rows)
 along_carried tunes source first front [] n e = All-nil (IsCarried tunes)
 along_carried tunes source first front (row ∷ rows) n e =
@@ -72,14 +72,14 @@ along_carried tunes source first front (row ∷ rows) n e =
     (along_carried tunes source (first + length row.cells) (front ++ row.cells) rows
     (ap (λ m. m + length row.cells) n ∙ sym (length-append front row.cells)) (e ∙ sym (append_assoc front row.cells (flat_map cells_in rows))))
 
-free_carried : {State Cell Items : Type 0} (chains : List (Chained State Cell Items)) (rows : List (CarriedRow Cell)) → All (IsCarried chains) (map (at_origin None) rows)
+free_carried : {State Cell Items : Type 0} (chains : List (ChainView State Cell Items)) (rows : List (CarriedRow Cell)) → All (IsCarried chains) (map (at_origin None) rows)
 free_carried chains [] = All-nil (IsCarried chains)
 free_carried chains (row ∷ rows) = All-cons (IsCarried chains) (at_origin None row) (map (at_origin None) rows) tt (free_carried chains rows)
 
-abbrev HasCells : {State Cell Items : Type 0} → List (CarriedRow Cell) → Chained State Cell Items → Block → Type 0
+abbrev HasCells : {State Cell Items : Type 0} → List (CarriedRow Cell) → ChainView State Cell Items → Block → Type 0
 HasCells rows chain block = chain.cells ≡ cells_over rows block
 
-from_carried : {State Cell Items : Type 0} (chains others : List (Chained State Cell Items)) (rows : List (CarriedRow Cell)) (at source : ℕ) (blocks : List Block)
+from_carried : {State Cell Items : Type 0} (chains others : List (ChainView State Cell Items)) (rows : List (CarriedRow Cell)) (at source : ℕ) (blocks : List Block)
     → ((k : ℕ) → cells_at chains (source + k) ≡ cells_at others k) → AllZip (HasCells rows) others blocks → All (IsCarried chains) (placed_from rows at source blocks)
 from_carried chains [] rows at source [] look all = free_carried chains (drop at rows)
 from_carried chains [] rows at source (block ∷ blocks) look all = absurd all
@@ -95,7 +95,7 @@ from_carried chains (t ∷ others) rows at source (block ∷ blocks) look all =
     (from_carried chains others rows block.to (source + 1) blocks (λ k. (let e : source + 1 + k ≡ source + suc k = omega arith in ap (cells_at chains) e) ∙ look (suc k)) all.1))
 
 tune_cells : {State Cell Items : Type 0} (steps : Steps State Cell Items) (read : List ℕ → List Cell) (opening : State)
-    (text : Text) (rows : List (CarriedRow Cell)) (chains : List (Chained State Cell Items)) (blocks : List Block)
+    (text : Text) (rows : List (CarriedRow Cell)) (chains : List (ChainView State Cell Items)) (blocks : List Block)
     → map cells_in rows ≡ map read text → AllZip (IsChainOf steps read opening text) chains blocks → AllZip (HasCells rows) chains blocks
 tune_cells steps read opening text rows [] [] e all = tt
 tune_cells steps read opening text rows [] (block ∷ blocks) e all = absurd all
@@ -104,13 +104,13 @@ tune_cells steps read opening text rows (chain ∷ chains) (block ∷ blocks) e 
     (all.0.cells ∙ sym (block_cells read rows text block e), tune_cells steps read opening text rows chains blocks e all.1)
 
 header_cells : {State Cell Items Defaults : Type 0} (steps : Steps State Cell Items) (rules : Rules State Cell Items Defaults)
-    (text : Text) (rows : List (CarriedRow Cell)) (chain : Chained State Cell Items) (header : Option Block)
+    (text : Text) (rows : List (CarriedRow Cell)) (chain : ChainView State Cell Items) (header : Option Block)
     → map cells_in rows ≡ map rules.cells text → IsHeaderChainOf steps rules text chain header → HasCells rows chain (header_place header)
-header_cells {State = State} {Cell = Cell} {Items = Items} steps rules text rows chain None e own = ap (λ (c : Chained State Cell Items). c.cells) own
+header_cells {State = State} {Cell = Cell} {Items = Items} steps rules text rows chain None e own = ap (λ (c : ChainView State Cell Items). c.cells) own
 header_cells steps rules text rows chain (Some block) e own = own.cells ∙ sym (block_cells rules.cells rows text block e)
 
 pub settled_carried : {State Cell Items Defaults : Type 0} (steps : Steps State Cell Items)
-    (rules : Rules State Cell Items Defaults) (text : Text) (rows : List (CarriedRow Cell)) (chains : List (Chained State Cell Items))
+    (rules : Rules State Cell Items Defaults) (text : Text) (rows : List (CarriedRow Cell)) (chains : List (ChainView State Cell Items))
     → map cells_in rows ≡ map rules.cells text → AreChains steps rules text chains → All (IsCarried chains) (placed_from rows 0 0 (places_of (blocks_in rules text)))
 settled_carried steps rules text rows [] e own = absurd own
 settled_carried steps rules text rows (chain ∷ chains) e own =

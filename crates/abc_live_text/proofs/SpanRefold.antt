@@ -2,7 +2,7 @@
 use Rattle.std.proofs.Common.{◌≡◌, ◌+◌, ◌-◌, ◌≤◌, ℕ, List, map, Option, None, length, take, drop, refl, sym, ◌∙◌, ap, subst, inl}
 use Rattle.std.specs.List.{AllZip, sum_by}
 use Rattle.abc_book.specs.declared.block.Block.{Block}
-use Rattle.abc_fold.specs.Chain.{Chained}
+use Rattle.abc_fold.specs.Chain.{ChainView}
 use Rattle.abc_fold.specs.Steps.{Steps, IsAlike}
 use Rattle.abc_fold.specs.Work.{Counters, IsRaisedUpTo}
 use Rattle.abc_fold.proofs.Raised.{raised-none}
@@ -67,7 +67,7 @@ module _ {C State Cell Items Defaults : Type 0} {steps : Steps State Cell Items}
       → IsRaisedUpTo (fresh_cells_after steps rules on.lines.text s) before after
   span_cost {before = before} {after = after} raise = run_cost kept s edit.inside span _ run facts.run runs own alike before before after (raised-none _ _) raise
 
-  pub span_renewed : {tunes : List Block} {made : List (Chained State Cell Items)} {reused_tunes : List (Option ℕ)}
+  pub span_renewed : {tunes : List Block} {made : List (ChainView State Cell Items)} {reused_tunes : List (Option ℕ)}
       → AreRefolded steps on.chains.items own run tunes made reused_tunes
       → AreNewParts steps rules on s (new_parts_view (span_stretch span (length run)) on.header None tunes made reused_tunes)
   span_renewed {tunes = tunes} {made = made} {reused_tunes = reused_tunes} refolded =

@@ -5,7 +5,7 @@ use Rattle.std.proofs.lemmas.List.{length-take-le, length-map}
 use Rattle.std.proofs.lemmas.List.Elements.{All-cons, All-nil, All-take, All-drop, All-append, All-weaker}
 use Rattle.abc_book.specs.Block.{blocks_of}
 use Rattle.abc_book.specs.declared.block.Block.{Block}
-use Rattle.abc_fold.specs.Chain.{Chained}
+use Rattle.abc_fold.specs.Chain.{ChainView}
 use Rattle.abc_fold.specs.Steps.{Steps}
 use Rattle.abc_lines.specs.Text.{Text}
 use Rattle.abc_tune_compiler.specs.Book.{blocks_in, tunes_in}
@@ -24,12 +24,12 @@ use Rattle.abc_live_text.proofs.ChainPlaces.{tunes_within}
 use Rattle.abc_live_text.proofs.RowOrigins.{settled_carried}
 use Rattle.abc_live_text.proofs.WholeTunes.{chains_count}
 
-pub bare_carried : {State Cell Items : Type 0} (chains : List (Chained State Cell Items)) (rows : List (Row Cell)) → All (IsCarried chains) (map carried_row rows)
+pub bare_carried : {State Cell Items : Type 0} (chains : List (ChainView State Cell Items)) (rows : List (Row Cell)) → All (IsCarried chains) (map carried_row rows)
 bare_carried chains [] = All-nil (IsCarried chains)
 bare_carried chains (row ∷ rows) = All-cons (IsCarried chains) (carried_row row) (map carried_row rows) tt (bare_carried chains rows)
 
 -- New lines among old ones that are carried.
-pub edited_carried : {State Cell Items : Type 0} (chains : List (Chained State Cell Items)) (old : List (CarriedRow Cell))
+pub edited_carried : {State Cell Items : Type 0} (chains : List (ChainView State Cell Items)) (old : List (CarriedRow Cell))
     (new : List (Row Cell)) (at end : ℕ) → All (IsCarried chains) old → All (IsCarried chains) (take at old ++ (map carried_row new ++ drop end old))
 edited_carried chains old new at end all =
     All-append (IsCarried chains) (take at old) (map carried_row new ++ drop end old) (All-take (IsCarried chains) at old all)

@@ -9,7 +9,7 @@ use Rattle.abc_book.specs.Stretch.{BeginTune, shift_block}
 use Rattle.abc_book.specs.declared.block.Block.{Block}
 use Rattle.abc_book.proofs.Rising.{blocks_rise}
 use Rattle.abc_lines.specs.Text.{Splice, Text, spliced}
-use Rattle.abc_scan.specs.declared.class.LineClass.{LineClass}
+use Rattle.abc_scan.specs.declared.line_class.LineClass.{LineClass}
 use Rattle.abc_tune_compiler.specs.Book.{blocks_in, header_in, tunes_in}
 use Rattle.abc_tune_compiler.specs.Rules.{Rules}
 use Rattle.abc_live_text.specs.Pieces.{class_in}

@@ -15,7 +15,7 @@ use Rattle.abc_book.specs.declared.block.BlockKind.{BlockKind}
 use Rattle.abc_book.specs.declared.block.BlockKind.TheVariants as kinds
 use Rattle.abc_book.proofs.Rising.{blocks_rise, tunes_begin}
 use Rattle.abc_tune_compiler.specs.Lawful.{AreLawful}
-use Rattle.abc_fold.specs.Chain.{Chained}
+use Rattle.abc_fold.specs.Chain.{ChainView}
 use Rattle.abc_fold.specs.Steps.{IsResumable, Steps}
 use Rattle.abc_lines.specs.Text.{Splice, Text, spliced}
 use Rattle.abc_live_cost.specs.Spot.{spots_of}
@@ -28,8 +28,8 @@ use Rattle.abc_live_cost.specs.Pieces.{are_one_tune, are_places, is_place, piece
 use Rattle.abc_live_cost.proofs.Pieces.{pieces_decide}
 use Rattle.abc_live_cost.proofs.SameCells.{cells_of_chain}
 use Rattle.abc_live_cost.proofs.Words.{chains_lie_in_order}
-use Rattle.abc_scan.specs.declared.class.LineClass.{LineClass}
-use Rattle.abc_scan.specs.declared.class.LineClass.TheVariants.{Blank, Comment, Field}
+use Rattle.abc_scan.specs.declared.line_class.LineClass.{LineClass}
+use Rattle.abc_scan.specs.declared.line_class.LineClass.TheVariants.{Blank, Comment, Field}
 use Rattle.abc_tune_compiler.specs.Book.{blocks_in, is_tune, opening_of, tunes_in}
 use Rattle.abc_tune_compiler.specs.Rules.{Rules}
 use Rattle.abc_live_text.specs.Pieces.{cells_in, cells_over, entries_at, kept_states_of, kept_states_over, origin_in, rows_in}
@@ -143,9 +143,9 @@ any_tune p source opening (block ∷ blocks) e = ⊎_elim
     (cases_Bool (p (chain_at source opening block)))
 
 tune_there : {State Cell Items : Type 0} (steps : Steps State Cell Items) (read : List ℕ → List Cell) (opening : State)
-    (text : Text) (tunes : List (Chained State Cell Items)) (blocks : List Block) (k : ℕ) (block : Block)
+    (text : Text) (tunes : List (ChainView State Cell Items)) (blocks : List Block) (k : ℕ) (block : Block)
     → AllZip (IsChainOf steps read opening text) tunes blocks → slice_get blocks k ≡ Some block
-    → (was : Chained State Cell Items) × (slice_get tunes k ≡ Some was) × IsChainOf steps read opening text was block
+    → (was : ChainView State Cell Items) × (slice_get tunes k ≡ Some was) × IsChainOf steps read opening text was block
 tune_there steps read opening text [] [] k block all e = absurd (cc)
 tune_there steps read opening text [] (b ∷ blocks) k block all e = absurd all
 tune_there steps read opening text (chain ∷ tunes) [] k block all e = absurd all
@@ -154,13 +154,13 @@ tune_there steps read opening text (chain ∷ tunes) (b ∷ blocks) zero block a
     (chain, refl, subst (IsChainOf steps read opening text chain) same all.0)
 tune_there steps read opening text (chain ∷ tunes) (b ∷ blocks) (suc k) block all e = tune_there steps read opening text tunes blocks k block all.1 e
 
-entries_there : {State Cell Items : Type 0} (chains : List (Chained State Cell Items)) (source : ℕ) (was : Chained State Cell Items)
+entries_there : {State Cell Items : Type 0} (chains : List (ChainView State Cell Items)) (source : ℕ) (was : ChainView State Cell Items)
     → slice_get chains source ≡ Some was → entries_at chains source ≡ was.entries
 entries_there [] source was e = absurd (cc)
-entries_there {State = State} {Cell = Cell} {Items = Items} (chain ∷ chains) zero was e = let same : chain ≡ was = cc in ap (λ (c : Chained State Cell Items). c.entries) same
+entries_there {State = State} {Cell = Cell} {Items = Items} (chain ∷ chains) zero was e = let same : chain ≡ was = cc in ap (λ (c : ChainView State Cell Items). c.entries) same
 entries_there (chain ∷ chains) (suc source) was e = entries_there chains source was e
 
-cell_count : {State Cell Items : Type 0} (steps : Steps State Cell Items) (read : List ℕ → List Cell) (text : Text) (opening : State) (source : ℕ) (was : Chained State Cell Items) (block : Block)
+cell_count : {State Cell Items : Type 0} (steps : Steps State Cell Items) (read : List ℕ → List Cell) (text : Text) (opening : State) (source : ℕ) (was : ChainView State Cell Items) (block : Block)
     → IsChainOf steps read opening text was block → length (spots_of steps read text (chain_at source opening block)) ≡ length was.cells
 cell_count {Cell = Cell} steps read text opening source was block own =
     let chain = chain_at source opening block in
@@ -195,7 +195,7 @@ no_step steps state cell cells kept_states (Some held) first none = ⊎_elim
     absurd (omega (arith, bad)))
     (cases_Bool (steps.alike held.entry state))
 
-begins_held : {State Cell Items : Type 0} (steps : Steps State Cell Items) (own : State) (old : List (Chained State Cell Items))
+begins_held : {State Cell Items : Type 0} (steps : Steps State Cell Items) (own : State) (old : List (ChainView State Cell Items))
     (row : CarriedRow Cell) (others : List (CarriedRow Cell)) (o : Origin) (cell : Cell) (cells : List Cell)
     → row.origin ≡ Some o → row.cells ≡ cell ∷ cells
     → steps_over steps own (flat_map cells_in (row ∷ others)) (flat_map (kept_states_of old) (row ∷ others)) ≡ 0
@@ -212,7 +212,7 @@ begins_held {State = State} {Cell = Cell} steps own old row others o cell cells 
     ∷ (map hold (addresses_from o.source (o.first + 1) cells) ++ more_helds)) (hold (Some (o.source, o.first))) refl (sym same ∙ none)
 
 -- The old chain begins in a kept state.
-begins_there : {State Cell Items : Type 0} (old : List (Chained State Cell Items)) (was : Chained State Cell Items) (o : Origin) (source : ℕ) (held : KeptState State)
+begins_there : {State Cell Items : Type 0} (old : List (ChainView State Cell Items)) (was : ChainView State Cell Items) (o : Origin) (source : ℕ) (held : KeptState State)
     → slice_get old source ≡ Some was → o.source ≡ source → o.first ≡ 0 → kept_state_at (entries_at old) (Some (o.source, o.first)) ≡ Some held
     → slice_get was.entries 0 ≡ Some held.entry
 begins_there old was o source held there from place at =
@@ -225,7 +225,7 @@ first_source_of origin = option_map (λ (o : Origin). o.source) origin
 
 -- An untouched tune goes along an old one.
 pub goes_along : {State Cell Items Defaults : Type 0} (steps : Steps State Cell Items) (rules : Rules State Cell Items Defaults)
-    (text : Text) (s : Splice) (header : Chained State Cell Items) (tunes : List (Chained State Cell Items))
+    (text : Text) (s : Splice) (header : ChainView State Cell Items) (tunes : List (ChainView State Cell Items))
     (rows : List (CarriedRow Cell)) (opening : State) (source : ℕ) (block : Block) (row : CarriedRow Cell) (others : List (CarriedRow Cell)) (cell : Cell) (cells : List Cell)
     → IsResumable steps → s.at + s.removed ≤ length text → AreChains steps rules text (header ∷ tunes) → map cells_in rows ≡ map rules.cells (spliced text s)
     → map origin_in rows ≡ origins rules.cells (layout_of steps rules text) s
@@ -238,7 +238,7 @@ goes_along {State = State} {Cell = Cell} {Items = Items} steps rules text s head
     let new = spliced text s in
     let all = pasts steps read_cells laid s in
     let tune = chain_at source opening block in
-    let old : List (Chained State Cell Items) = header ∷ tunes in
+    let old : List (ChainView State Cell Items) = header ∷ tunes in
     let lies = chains_lie_in_order steps rules text in
     let pieces = pieces_of read_cells new all tune in
     let by : (Chain State → Bool) = λ was. are_places was.source 0 (length (spots_of steps read_cells text was)) pieces in
@@ -350,7 +350,7 @@ first_cells steps rules rows text (block ∷ blocks) first last lawful cells beg
 -- all tunes at once
 
 all_untouched : {State Cell Items Defaults : Type 0} (steps : Steps State Cell Items) (rules : Rules State Cell Items Defaults)
-    (text : Text) (s : Splice) (header : Chained State Cell Items) (tunes : List (Chained State Cell Items))
+    (text : Text) (s : Splice) (header : ChainView State Cell Items) (tunes : List (ChainView State Cell Items))
     (rows : List (CarriedRow Cell)) (opening : State) (source : ℕ) (blocks : List Block) (reused_tunes : List (Option ℕ))
     → IsResumable steps → s.at + s.removed ≤ length text → AreChains steps rules text (header ∷ tunes) → map cells_in rows ≡ map rules.cells (spliced text s)
     → map origin_in rows ≡ origins rules.cells (layout_of steps rules text) s → All (FirstCell rows) blocks
@@ -369,7 +369,7 @@ all_untouched steps rules text s header tunes rows opening source (block ∷ blo
 
 -- If each tune that goes along an old one is reused, each untouched tune is.
 pub takes_untouched : {State Cell Items Defaults : Type 0} (steps : Steps State Cell Items)
-    (rules : Rules State Cell Items Defaults) (text : Text) (s : Splice) (old : List (Chained State Cell Items)) (rows : List (CarriedRow Cell)) (reused_tunes : List (Option ℕ))
+    (rules : Rules State Cell Items Defaults) (text : Text) (s : Splice) (old : List (ChainView State Cell Items)) (rows : List (CarriedRow Cell)) (reused_tunes : List (Option ℕ))
     → IsResumable steps → AreLawful steps rules → s.at + s.removed ≤ length text → AreChains steps rules text old → AreRead rules (spliced text s) rows
     → map origin_in rows ≡ origins rules.cells (layout_of steps rules text) s
     → KnowsAlong steps old (opening_of steps.next rules (spliced text s) (blocks_in rules (spliced text s))) rows (tunes_in (blocks_in rules (spliced text s))) reused_tunes

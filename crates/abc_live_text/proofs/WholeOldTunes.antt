@@ -10,7 +10,7 @@ use Rattle.std.proofs.lemmas.Slice.Zip.{all_zipped_more}
 use Rattle.std.proofs.lemmas.Option.{get_or_from_slice_get, slice_get_within}
 use Rattle.abc_live_text.proofs.Openings.{folds_alike}
 use Rattle.abc_book.specs.declared.block.Block.{Block}
-use Rattle.abc_fold.specs.Chain.{Chained, Folds, no_cells}
+use Rattle.abc_fold.specs.Chain.{ChainView, Folds, no_cells}
 use Rattle.abc_fold.specs.Steps.{Steps, AreAlike, IsAlike, IsResumable, items_from, states_from}
 use Rattle.abc_fold.proofs.Alike.{equal_items}
 use Rattle.abc_live_cost.specs.Origin.{Origin}
@@ -51,7 +51,7 @@ line_along all cells source place (Some o) e held = λ k h.
     let from : place ≡ o.first = sym (eqb-true o.first place both.1) in
     get_after place all k ∙ (ap (λ n. slice_get all (n + k)) from ∙ held o refl (eqb-true o.source source both.0) k h)
 
-held_own : {State Cell Items : Type 0} (chains : List (Chained State Cell Items)) (all cells : List Cell) (source : ℕ)
+held_own : {State Cell Items : Type 0} (chains : List (ChainView State Cell Items)) (all cells : List Cell) (source : ℕ)
     (origin : Option Origin) → cells_at chains source ≡ all → IsCarriedAt chains cells origin
     → (o : Origin) → origin ≡ Some o → o.source ≡ source → (k : ℕ) → k < length cells → slice_get all (o.first + k) ≡ slice_get cells k
 held_own chains all cells source None own held o e s = absurd (cc)
@@ -61,7 +61,7 @@ held_own chains all cells source (Some p) own held o e s = λ k h.
     let there : all ≡ cells_at chains p.source = sym own ∙ ap (cells_at chains) (sym s ∙ ap (λ (q : Origin). q.source) (sym same)) in
     (λ i. slice_get (there i) (first i + k)) ∙ held k h
 
-row_along : {State Cell Items : Type 0} (chains : List (Chained State Cell Items)) (all : List Cell) (source place : ℕ)
+row_along : {State Cell Items : Type 0} (chains : List (ChainView State Cell Items)) (all : List Cell) (source place : ℕ)
     (row : CarriedRow Cell) → cells_at chains source ≡ all → IsCarried chains row → continues source place row ≡ true
     → (k : ℕ) → k < length row.cells → slice_get (drop place all) k ≡ slice_get row.cells k
 row_along chains all source place row own held e = λ k h. ⊎_elim
@@ -72,7 +72,7 @@ row_along chains all source place row own held e = λ k h. ⊎_elim
     (cases_Bool (length row.cells == 0))
 
 -- The cells of lines that go along an old chain to its end.
-cells_along : {State Cell Items : Type 0} (chains : List (Chained State Cell Items)) (all : List Cell) (source place : ℕ)
+cells_along : {State Cell Items : Type 0} (chains : List (ChainView State Cell Items)) (all : List Cell) (source place : ℕ)
     (rows : List (CarriedRow Cell)) → cells_at chains source ≡ all → All (IsCarried chains) rows
     → is_along source (length all) place rows ≡ true → flat_map cells_in rows ≡ drop place all
 cells_along chains all source place [] own held e = sym (drop_all place all (let same = eqb-true place (length all) e in omega (arith, same)))
@@ -82,10 +82,10 @@ cells_along chains all source place (row ∷ rows) own held e =
     let more = cells_along chains all source (place + length row.cells) rows own (λ i d l. held (suc i) d (omega arith)) both.1 in
     sym (here ∙ ap (λ l. row.cells ++ l) (drop-drop (length row.cells) place all ∙ sym more))
 
-cells_there : {State Cell Items : Type 0} (chains : List (Chained State Cell Items)) (source : ℕ) (was : Chained State Cell Items)
+cells_there : {State Cell Items : Type 0} (chains : List (ChainView State Cell Items)) (source : ℕ) (was : ChainView State Cell Items)
     → slice_get chains source ≡ Some was → cells_at chains source ≡ was.cells
 cells_there [] source was e = absurd (cc)
-cells_there {State = State} {Cell = Cell} {Items = Items} (chain ∷ chains) zero was e = let same : chain ≡ was = cc in ap (λ (c : Chained State Cell Items). c.cells) same
+cells_there {State = State} {Cell = Cell} {Items = Items} (chain ∷ chains) zero was e = let same : chain ≡ was = cc in ap (λ (c : ChainView State Cell Items). c.cells) same
 cells_there (chain ∷ chains) (suc source) was e = cells_there chains source was e
 
 -- The state with which a fold's entries begin.
@@ -124,11 +124,11 @@ one_less [] source x some e = absurd (cc)
 one_less (y ∷ ys) zero x some e = absurd (some refl)
 one_less (y ∷ ys) (suc k) x some e = let same : suc k - 1 ≡ k = omega arith in ap (slice_get ys) same ∙ e
 
-same_items : {State Cell Items : Type 0} (steps : Steps State Cell Items) (opening : State) (was chain : Chained State Cell Items)
+same_items : {State Cell Items : Type 0} (steps : Steps State Cell Items) (opening : State) (was chain : ChainView State Cell Items)
     → IsResumable steps → IsFolded steps was → Folds steps opening chain → chain.cells ≡ was.cells
     → are_alike_both steps.alike (slice_get was.entries 0) (slice_get chain.entries 0) ≡ true → was.items ≡ chain.items
 same_items {State = State} {Cell = Cell} {Items = Items} steps opening was chain laws (inl none) folds cells e =
-    let empty : was.entries ≡ [] = ap (λ (c : Chained State Cell Items). c.entries) none in
+    let empty : was.entries ≡ [] = ap (λ (c : ChainView State Cell Items). c.entries) none in
     let no : false ≡ true = sym (ap (λ (l : List State). are_alike_both steps.alike (slice_get l 0) (slice_get chain.entries 0)) empty) ∙ e in
     absurd (cc)
 same_items steps opening was chain laws (inr (begun, own)) folds cells e =
@@ -139,8 +139,8 @@ same_items steps opening was chain laws (inr (begun, own)) folds cells e =
     own.items ∙ (equal_items steps laws begun opening was.cells alike ∙ (ap (items_from steps opening) (sym cells) ∙ sym folds.items))
 
 -- What goes along an old tune, and begins in an equivalent state, has its items.
-pub taken_items : {State Cell Items : Type 0} (steps : Steps State Cell Items) (old : List (Chained State Cell Items))
-    (rows : List (CarriedRow Cell)) (source : ℕ) (was chain : Chained State Cell Items) → IsResumable steps → All (IsCarried old) rows → All (IsFolded steps) old
+pub taken_items : {State Cell Items : Type 0} (steps : Steps State Cell Items) (old : List (ChainView State Cell Items))
+    (rows : List (CarriedRow Cell)) (source : ℕ) (was chain : ChainView State Cell Items) → IsResumable steps → All (IsCarried old) rows → All (IsFolded steps) old
     → slice_get old source ≡ Some was → (source ≡ 0 → ⊥) → is_along source (length was.cells) 0 rows ≡ true → are_alike_both steps.alike (slice_get was.entries 0) (slice_get chain.entries 0) ≡ true
     → (opening : State) → Folds steps opening chain → chain.cells ≡ flat_map cells_in rows → HasItemsOf (drop 1 old) chain (Some (source - 1))
 taken_items steps old rows source was chain laws carried folded there some along alike opening folds cells =
@@ -148,8 +148,8 @@ taken_items steps old rows source was chain laws carried folded there some along
     (was, one_less old source was some there, same_items steps opening was chain laws (all_at (IsFolded steps) old source was folded there) folds (cells ∙ own) alike)
 
 -- A tune that goes along an old one begins as that does.
-pub begins_so : {State Cell Items : Type 0} (steps : Steps State Cell Items) (old : List (Chained State Cell Items))
-    (rows : List (CarriedRow Cell)) (source : ℕ) (was chain : Chained State Cell Items) → IsResumable steps
+pub begins_so : {State Cell Items : Type 0} (steps : Steps State Cell Items) (old : List (ChainView State Cell Items))
+    (rows : List (CarriedRow Cell)) (source : ℕ) (was chain : ChainView State Cell Items) → IsResumable steps
     → first_source rows ≡ Some source → slice_get old source ≡ Some was → (opening : State) → Folds steps opening chain → GoesAlong steps old opening rows
     → are_alike_both steps.alike (slice_get was.entries 0) (slice_get chain.entries 0) ≡ true
 begins_so {State = State} {Cell = Cell} {Items = Items} steps old rows source was chain laws from there opening folds goes =
@@ -179,13 +179,13 @@ zip_at P (a ∷ xs) (b ∷ ys) zero x y all e f inside = subst (λ z. P x z) (sy
 zip_at P (a ∷ xs) (b ∷ ys) (suc i) x y all e f inside = zip_at P xs ys i x y all.1 e f (omega arith)
 
 -- A whole old chain that begins in an equivalent state is the fold over the cells of the lines that go along it.
-pub whole_folds : {State Cell Items : Type 0} (steps : Steps State Cell Items) (old : List (Chained State Cell Items)) (source : ℕ)
-    (was : Chained State Cell Items) (opening : State) → IsResumable steps → All (IsFolded steps) old
+pub whole_folds : {State Cell Items : Type 0} (steps : Steps State Cell Items) (old : List (ChainView State Cell Items)) (source : ℕ)
+    (was : ChainView State Cell Items) (opening : State) → IsResumable steps → All (IsFolded steps) old
     → slice_get old source ≡ Some was → are_alike_both steps.alike (slice_get was.entries 0) (Some opening) ≡ true → Folds steps opening was
 whole_folds {State = State} {Cell = Cell} {Items = Items} steps old source was opening laws folded there e =
     ⊎_elim
     (λ (none : was ≡ no_cells).
-    let empty : was.entries ≡ [] = ap (λ (c : Chained State Cell Items). c.entries) none in
+    let empty : was.entries ≡ [] = ap (λ (c : ChainView State Cell Items). c.entries) none in
     let no : false ≡ true = sym (ap (λ (l : List State). are_alike_both steps.alike (slice_get l 0) (Some opening)) empty) ∙ e in
     absurd (cc))
     (λ (own : (begun : State) × Folds steps begun was).
@@ -197,20 +197,20 @@ whole_folds {State = State} {Cell = Cell} {Items = Items} steps old source was o
     (all_at (IsFolded steps) old source was folded there)
 
 -- It has just their cells.
-pub whole_cells : {State Cell Items : Type 0} (old : List (Chained State Cell Items)) (rows : List (CarriedRow Cell)) (source : ℕ) (was : Chained State Cell Items) → All (IsCarried old) rows
+pub whole_cells : {State Cell Items : Type 0} (old : List (ChainView State Cell Items)) (rows : List (CarriedRow Cell)) (source : ℕ) (was : ChainView State Cell Items) → All (IsCarried old) rows
     → slice_get old source ≡ Some was → is_along source (length was.cells) 0 rows ≡ true → was.cells ≡ flat_map cells_in rows
 whole_cells old rows source was carried there along = sym (cells_along old was.cells source 0 rows (cells_there old source was there) carried along)
 
 -- An old chain that is shared is the chain of a block.
 pub shared_chain : {State Cell Items E : Type 0} (steps : Steps State Cell Items) (opening : State) (rows : List (CarriedRow Cell))
-    (block : Block) (was : Chained State Cell Items) (result : Result (Chained State Cell Items) E)
+    (block : Block) (was : ChainView State Cell Items) (result : Result (ChainView State Cell Items) E)
     → IfOk result (λ chain. chain ≡ was) → Folds steps opening was → was.cells ≡ cells_over rows block → IfOk result (λ chain. IsChain steps opening rows chain block)
 shared_chain steps opening rows block was (Err error) same folds cells = tt
 shared_chain steps opening rows block was (Ok chain) same folds cells = subst (λ x. IsChain steps opening rows x block) (sym same) (record { folds = folds; cells = cells })
 
 -- And so is a new one that is shared.
 pub shared_new : {State Cell Items E : Type 0} (steps : Steps State Cell Items) (opening : State) (rows : List (CarriedRow Cell))
-    (block : Block) (was : Chained State Cell Items) (result : Result (Chained State Cell Items) E)
+    (block : Block) (was : ChainView State Cell Items) (result : Result (ChainView State Cell Items) E)
     → IfOk result (λ chain. chain ≡ was) → IsChain steps opening rows was block → IfOk result (λ chain. IsChain steps opening rows chain block)
 shared_new steps opening rows block was (Err error) same own = tt
 shared_new steps opening rows block was (Ok chain) same own = subst (λ x. IsChain steps opening rows x block) (sym same) own

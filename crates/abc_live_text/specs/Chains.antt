@@ -3,7 +3,7 @@ use Rattle.std.specs.Prelude.{◌≡◌, ℕ, List, [], ◌∷◌, length, slice
 use Rattle.std.specs.List.{AllZip}
 use Rattle.abc_book.specs.declared.block.Block.{Block}
 use Rattle.abc_book.specs.declared.block.BlockKind.TheVariants.{Free}
-use Rattle.abc_fold.specs.Chain.{Chained, no_cells}
+use Rattle.abc_fold.specs.Chain.{ChainView, no_cells}
 use Rattle.abc_fold.specs.Steps.{Steps}
 use Rattle.abc_lines.specs.Text.{Text}
 use Rattle.abc_tune_compiler.specs.Book.{blocks_in, header_in, opening_of, tunes_in}
@@ -14,31 +14,31 @@ use Rattle.abc_live_cost.specs.OldItems.{IsChainOf}
 
 -- The chain of a file header, by rows; if there is none, it has no cells and no states.
 abbrev pub IsHeaderChain : {State Cell Items : Type 0} → Steps State Cell Items → State → List (CarriedRow Cell)
-    → Chained State Cell Items → Option Block → Type 0
+    → ChainView State Cell Items → Option Block → Type 0
 IsHeaderChain steps first rows chain None = chain ≡ no_cells
 IsHeaderChain steps first rows chain (Some block) = IsChain steps first rows chain block
 
 -- The steps that it takes.
-abbrev pub header_steps : {State Cell Items : Type 0} → Steps State Cell Items → State → List (Chained State Cell Items)
+abbrev pub header_steps : {State Cell Items : Type 0} → Steps State Cell Items → State → List (ChainView State Cell Items)
     → List (CarriedRow Cell) → Option Block → ℕ
 header_steps steps first old rows None = 0
 header_steps steps first old rows (Some block) = steps_taken steps first old rows block
 
 -- The state in which it leaves its last cell, if there is a file header.
-abbrev pub state_after_chain : {State Cell Items : Type 0} → Option Block → Chained State Cell Items → Option State
+abbrev pub state_after_chain : {State Cell Items : Type 0} → Option Block → ChainView State Cell Items → Option State
 state_after_chain None chain = None
 state_after_chain (Some block) chain = slice_get chain.entries (length chain.cells)
 
 -- The chain of a file header, by the lines of its text.
 abbrev pub IsHeaderChainOf : {State Cell Items Defaults : Type 0} → Steps State Cell Items → Rules State Cell Items Defaults
-    → Text → Chained State Cell Items → Option Block → Type 0
+    → Text → ChainView State Cell Items → Option Block → Type 0
 IsHeaderChainOf steps rules text chain None = chain ≡ no_cells
 IsHeaderChainOf steps rules text chain (Some block) = IsChainOf steps rules.cells rules.header text chain block
 
 -- The chains of a text, that of the file header first: the folds over its blocks from the states in which they begin by
 -- definition.
 abbrev pub AreChains : {State Cell Items Defaults : Type 0} → Steps State Cell Items → Rules State Cell Items Defaults → Text
-    → List (Chained State Cell Items) → Type 0
+    → List (ChainView State Cell Items) → Type 0
 AreChains steps rules text [] = ⊥
 AreChains steps rules text (header ∷ tunes) =
     IsHeaderChainOf steps rules text header (header_in (blocks_in rules text))

@@ -3,12 +3,12 @@ use Rattle.std.specs.Prelude.{◌≡◌, ◌⊎◌, ℕ, zero, suc, ◌+◌, ◌
 use Rattle.std.specs.Prelude.{Some}
 use Rattle.abc_book.specs.Stretch.{shift_block}
 use Rattle.abc_book.specs.declared.block.Block.{Block}
-use Rattle.abc_fold.specs.Chain.{Chained}
+use Rattle.abc_fold.specs.Chain.{ChainView}
 use Rattle.abc_fold.specs.Steps.{Steps}
 use Rattle.abc_fold.specs.Work.{Counters, raised}
-use Rattle.abc_lines.specs.GapList.{Gapped}
-use Rattle.abc_lines.specs.Lines.{Lines, Prepared}
-use Rattle.abc_lines.specs.ListSplice.{Patched}
+use Rattle.abc_lines.specs.GapList.{GapListView}
+use Rattle.abc_lines.specs.Lines.{Lines, LinePatchView}
+use Rattle.abc_lines.specs.ListSplice.{SplicePatchView}
 use Rattle.abc_lines.specs.ItemRange.{gone}
 use Rattle.abc_lines.specs.Text.{Splice, Text}
 use Rattle.abc_live_cost.specs.FreshCells.{fresh_cells_after}
@@ -30,9 +30,9 @@ pub record Parts (State Cell Items : Type 0) : Type 0 where
   pub rows : List (Row Cell)
   pub header : Option Block
   pub tunes : List Block
-  pub chains : List (Chained State Cell Items)
+  pub chains : List (ChainView State Cell Items)
 
-abbrev pub parts : {State Cell Items : Type 0} → List (Row Cell) → Option Block → List Block → List (Chained State Cell Items)
+abbrev pub parts : {State Cell Items : Type 0} → List (Row Cell) → Option Block → List Block → List (ChainView State Cell Items)
     → Parts State Cell Items
 parts rows header tunes chains = record { rows = rows; header = header; tunes = tunes; chains = chains }
 
@@ -50,10 +50,10 @@ pub record ArePartsOf {State Cell Items Defaults : Type 0} (steps : Steps State 
 pub record KeptTextView (C State Cell Items : Type 0) : Type 0 where
   pub compiler : C
   pub lines : Lines
-  pub rows : Gapped (Row Cell)
+  pub rows : GapListView (Row Cell)
   pub header : Option Block
   pub tunes : List Block
-  pub chains : Gapped (Chained State Cell Items)
+  pub chains : GapListView (ChainView State Cell Items)
 
 abbrev pub parts_of : {C State Cell Items : Type 0} → KeptTextView C State Cell Items → Parts State Cell Items
 parts_of on = parts on.rows.items on.header on.tunes on.chains.items
@@ -66,9 +66,9 @@ pub record KeptPatchView (C State Cell Items : Type 0) : Type 0 where
   pub rows : List (Row Cell)
   pub header : Option Block
   pub tunes : List Block
-  pub chains : List (Chained State Cell Items)
+  pub chains : List (ChainView State Cell Items)
   pub stretch : Stretch
-  pub new_chains : List (Chained State Cell Items)
+  pub new_chains : List (ChainView State Cell Items)
   pub places : List Block
   pub reused_tunes : List (Option ℕ)
 
@@ -78,20 +78,20 @@ parts_after patch = parts patch.rows patch.header patch.tunes patch.chains
 
 -- What a prepared edit makes of the lines of a text and of its kept parts.
 pub record PatchedParts (State Cell Items : Type 0) : Type 0 where
-  pub lines : Prepared
-  pub rows : Patched (Row Cell)
+  pub lines : LinePatchView
+  pub rows : SplicePatchView (Row Cell)
   pub header : Option Block
   pub tunes : List Block
-  pub chains : Patched (Chained State Cell Items)
+  pub chains : SplicePatchView (ChainView State Cell Items)
 
-abbrev pub patched_parts : {State Cell Items : Type 0} → Prepared → Patched (Row Cell) → Option Block → List Block
-    → Patched (Chained State Cell Items) → PatchedParts State Cell Items
+abbrev pub patched_parts : {State Cell Items : Type 0} → LinePatchView → SplicePatchView (Row Cell) → Option Block → List Block
+    → SplicePatchView (ChainView State Cell Items) → PatchedParts State Cell Items
 patched_parts lines rows header tunes chains =
     record { lines = lines; rows = rows; header = header; tunes = tunes; chains = chains }
 
 -- A prepared edit of a kept text, by the text after it, the kept parts of that, its stretch and the tunes of the stretch.
 abbrev pub kept_patch_view : {C State Cell Items : Type 0} → KeptTextView C State Cell Items → Text → Parts State Cell Items
-    → Stretch → List (Chained State Cell Items) → List Block → List (Option ℕ) → KeptPatchView C State Cell Items
+    → Stretch → List (ChainView State Cell Items) → List Block → List (Option ℕ) → KeptPatchView C State Cell Items
 kept_patch_view on text kept stretch new_chains places reused_tunes = record {
   on = on;
   text = text;
@@ -120,7 +120,7 @@ abbrev pub Patches : {C State Cell Items Defaults : Type 0} → (C → Steps Sta
 Patches steps rules on new = IsPatch (steps on.compiler) (rules on.compiler) on new
 
 -- The chains of the tunes: the file header's is before them.
-abbrev pub old_tunes : {C State Cell Items : Type 0} → KeptPatchView C State Cell Items → List (Chained State Cell Items)
+abbrev pub old_tunes : {C State Cell Items : Type 0} → KeptPatchView C State Cell Items → List (ChainView State Cell Items)
 old_tunes patch = drop 1 patch.on.chains.items
 
 -- The place after the edit of a block that is after the stretch.

@@ -1,7 +1,7 @@
 -- The first lines of a text, of which an edit changes some before any tune begins. Not in ABC 2.1.
 use Rattle.std.specs.Prelude.{◌≡◌, ◌⊎◌, ℕ, ◌+◌, ◌≤◌, List, ◌∷◌, get_or, length, map, take, Option}
 use Rattle.abc_book.specs.declared.block.Block.{Block}
-use Rattle.abc_fold.specs.Chain.{Chained}
+use Rattle.abc_fold.specs.Chain.{ChainView}
 use Rattle.abc_fold.specs.Steps.{Steps, IsAlike}
 use Rattle.abc_lines.specs.Text.{Splice, Text, spliced}
 use Rattle.abc_tune_compiler.specs.Book.{blocks_in, header_in}
@@ -31,14 +31,14 @@ whole_lead on = span_to (length on.tunes) (length on.lines.text)
 -- The file header of a text that begins with these rows, its chain, and the state in which tunes begin after it.
 pub record IsHeaderOpening {State Cell Items Defaults : Type 0} (steps : Steps State Cell Items)
     (rules : Rules State Cell Items Defaults) (rows : List (CarriedRow Cell)) (header : Option Block)
-    (first : Chained State Cell Items) (opening : State) : Type 0 where
+    (first : ChainView State Cell Items) (opening : State) : Type 0 where
   pub header_is : header ≡ header_among rows
   pub chain : IsHeaderChain steps rules.header rows first header
   pub begins : opening ≡ rules.tune (state_after_chain header first)
 
 -- The same of a text, by its lines.
 pub record IsHeaderOpeningOf {State Cell Items Defaults : Type 0} (steps : Steps State Cell Items)
-    (rules : Rules State Cell Items Defaults) (text : Text) (header : Option Block) (first : Chained State Cell Items)
+    (rules : Rules State Cell Items Defaults) (text : Text) (header : Option Block) (first : ChainView State Cell Items)
     (opening : State) : Type 0 where
   pub header_is : header ≡ header_in (blocks_in rules text)
   pub chain : IsHeaderChainOf steps rules text first (header_in (blocks_in rules text))
@@ -47,7 +47,7 @@ pub record IsHeaderOpeningOf {State Cell Items Defaults : Type 0} (steps : Steps
 -- The state in which tunes begin, by the chain that is kept of the file header.
 pub record IsKeptOpening {C State Cell Items Defaults : Type 0} (rules : Rules State Cell Items Defaults)
     (on : KeptTextView C State Cell Items) (opening : State) : Type 0 where
-  pub first : Chained State Cell Items
+  pub first : ChainView State Cell Items
   pub there : first ≡ get_or on.chains.items 0 first
   pub begins : opening ≡ rules.tune (state_after_chain on.header first)
 
@@ -73,7 +73,7 @@ pub record IsLeadEdit {C State Cell Items Defaults : Type 0} (rules : Rules Stat
 -- New parts for an edit of the first lines, by its rows: if the file header opens so after it and tunes may go on, they are those
 -- of the text after it. `Made` lifts a property of parts to a result that has them.
 abbrev pub RefoldsLead : {C State Cell Items Defaults : Type 0} → Steps State Cell Items → Rules State Cell Items Defaults
-    → KeptTextView C State Cell Items → Span → List (CarriedRow Cell) → Option Block → Chained State Cell Items → State
+    → KeptTextView C State Cell Items → Span → List (CarriedRow Cell) → Option Block → ChainView State Cell Items → State
     → ((NewPartsView State Cell Items → Type 0) → Type 0) → Type 0
 RefoldsLead steps rules on lead rows header first opening Made = (s : Splice) → IsLeadEdit rules on s lead rows
     → IsHeaderOpeningOf steps rules (spliced on.lines.text s) header first opening → MayGoOn steps rules on lead.tunes.to opening

@@ -4,7 +4,7 @@ use Rattle.std.specs.Prelude.{None, IsSome}
 use Rattle.std.specs.List.{AllZip}
 use Rattle.abc_book.specs.Laws.{move_block}
 use Rattle.abc_book.specs.declared.block.Block.{Block}
-use Rattle.abc_fold.specs.Chain.{Chained}
+use Rattle.abc_fold.specs.Chain.{ChainView}
 use Rattle.abc_fold.specs.Steps.{Steps}
 use Rattle.abc_lines.specs.ItemRange.{gone}
 use Rattle.abc_lines.specs.Text.{Splice, Text, spliced}
@@ -75,14 +75,14 @@ abbrev pub span_rows : {C State Cell Items : Type 0} → KeptTextView C State Ce
 span_rows on span at removed new = edited_rows (at - span.lines.from) removed new (old_span_rows on span)
 
 -- The chain of the file header: a new one, or the old one.
-abbrev pub first_of : {State Cell Items : Type 0} → Option (Chained State Cell Items) → List (Chained State Cell Items)
-    → List (Chained State Cell Items)
+abbrev pub first_of : {State Cell Items : Type 0} → Option (ChainView State Cell Items) → List (ChainView State Cell Items)
+    → List (ChainView State Cell Items)
 first_of None old = take 1 old
 first_of (Some first) old = first ∷ []
 
 -- The chains of a text after an edit.
-abbrev pub chains_after : {State Cell Items : Type 0} → Option (Chained State Cell Items) → Stretch
-    → List (Chained State Cell Items) → List (Chained State Cell Items) → List (Chained State Cell Items)
+abbrev pub chains_after : {State Cell Items : Type 0} → Option (ChainView State Cell Items) → Stretch
+    → List (ChainView State Cell Items) → List (ChainView State Cell Items) → List (ChainView State Cell Items)
 chains_after first stretch old new_chains =
     first_of first old ++ (take stretch.tunes.from (drop 1 old) ++ (new_chains ++ drop stretch.tunes.to (drop 1 old)))
 
@@ -93,14 +93,14 @@ tunes_after stretch old tunes =
     ++ (map (move_block stretch.lines.from) tunes ++ map (block_after stretch) (drop stretch.tunes.to old))
 
 -- The file header stays, and lies before the stretch.
-pub record HeaderStays {State Cell Items : Type 0} (first : Option (Chained State Cell Items)) (header was : Option Block)
+pub record HeaderStays {State Cell Items : Type 0} (first : Option (ChainView State Cell Items)) (header was : Option Block)
     (stretch : Stretch) : Type 0 where
   pub none : first ≡ None
   pub header_stays : header ≡ was
   pub before : MayLieBefore stretch was
 
 -- The file header is folded again, and lies in the first lines of the text before and after.
-pub record HeaderIsReplaced {State Cell Items : Type 0} (first : Option (Chained State Cell Items)) (header was : Option Block)
+pub record HeaderIsReplaced {State Cell Items : Type 0} (first : Option (ChainView State Cell Items)) (header was : Option Block)
     (stretch : Stretch) : Type 0 where
   pub some : IsSome first
   pub front : stretch.tunes.from ≡ 0
@@ -113,13 +113,13 @@ pub record HeaderIsReplaced {State Cell Items : Type 0} (first : Option (Chained
 pub record NewPartsView (State Cell Items : Type 0) : Type 0 where
   pub stretch : Stretch
   pub header : Option Block
-  pub first : Option (Chained State Cell Items)
+  pub first : Option (ChainView State Cell Items)
   pub tunes : List Block
-  pub new_chains : List (Chained State Cell Items)
+  pub new_chains : List (ChainView State Cell Items)
   pub reused_tunes : List (Option ℕ)
 
-abbrev pub new_parts_view : {State Cell Items : Type 0} → Stretch → Option Block → Option (Chained State Cell Items)
-    → List Block → List (Chained State Cell Items) → List (Option ℕ) → NewPartsView State Cell Items
+abbrev pub new_parts_view : {State Cell Items : Type 0} → Stretch → Option Block → Option (ChainView State Cell Items)
+    → List Block → List (ChainView State Cell Items) → List (Option ℕ) → NewPartsView State Cell Items
 new_parts_view stretch header first tunes chains reused =
     record { stretch = stretch; header = header; first = first; tunes = tunes; new_chains = chains; reused_tunes = reused }
 

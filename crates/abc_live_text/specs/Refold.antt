@@ -2,7 +2,7 @@
 use Rattle.std.specs.Prelude.{ℕ, All, length}
 use Rattle.std.specs.List.{sum_by}
 use Rattle.abc_book.specs.declared.block.Block.{Block}
-use Rattle.abc_fold.specs.Chain.{Chained}
+use Rattle.abc_fold.specs.Chain.{ChainView}
 use Rattle.abc_fold.specs.Steps.{Steps}
 use Rattle.abc_live_text.specs.Blocks.{tunes_among}
 use Rattle.abc_live_text.specs.Pieces.{IsCarried, IsChain, IsFolded, LiesWithin, steps_taken}
@@ -19,7 +19,7 @@ abbrev pub LiesInRefold : {F State Cell Items Work : Type 0} → Refold F State 
 LiesInRefold refold block = LiesWithin (length refold.rows.now) block
 
 abbrev pub IsRefoldChain : {F State Cell Items Work : Type 0} → Steps State Cell Items → Refold F State Cell Items Work
-    → Chained State Cell Items → Block → Type 0
+    → ChainView State Cell Items → Block → Type 0
 IsRefoldChain steps refold chain block = IsChain steps refold.opening.now refold.rows.now chain block
 
 abbrev pub refold_steps : {F State Cell Items Work : Type 0} → Steps State Cell Items → Refold F State Cell Items Work → Block → ℕ

@@ -2,7 +2,7 @@
 use Rattle.std.specs.Prelude.{◌&&◌, ◌+◌, ◌==◌, ◌∷◌, ◌≡◌, Bool, IsSome, List, None, Option, Some, [], false, if◌then◌else◌, length}
 use Rattle.std.specs.Prelude.{drop, slice_get, suc, true, ℕ}
 use Rattle.std.specs.Option.{option_map}
-use Rattle.abc_fold.specs.Chain.{Chained}
+use Rattle.abc_fold.specs.Chain.{ChainView}
 use Rattle.abc_fold.specs.Steps.{IsAlike, Steps}
 use Rattle.abc_live_cost.specs.OldItems.{HasItemsOf}
 use Rattle.abc_live_cost.specs.Origin.{Origin}
@@ -38,10 +38,10 @@ are_alike_both alike (Some state) None = false
 are_alike_both alike (Some state) (Some other) = alike state other
 
 -- The cells of lines are those of an old tune, from its first to its last, and it began in an equivalent state.
-pub record GoesAlong {State Cell Items : Type 0} (steps : Steps State Cell Items) (old : List (Chained State Cell Items))
+pub record GoesAlong {State Cell Items : Type 0} (steps : Steps State Cell Items) (old : List (ChainView State Cell Items))
     (opening : State) (rows : List (CarriedRow Cell)) : Type 0 where
   pub number : ℕ
-  pub was : Chained State Cell Items
+  pub was : ChainView State Cell Items
   pub there : slice_get old (suc number) ≡ Some was
   pub source : first_source rows ≡ Some (suc number)
   pub along : is_along (suc number) (length was.cells) 0 rows ≡ true
@@ -50,20 +50,20 @@ pub record GoesAlong {State Cell Items : Type 0} (steps : Steps State Cell Items
   pub alike : IsAlike steps begun opening
 
 -- Each of these tunes that goes along an old one is known to have the items of one.
-abbrev pub KnowsAlong : {State Cell Items : Type 0} → Steps State Cell Items → List (Chained State Cell Items) → State
+abbrev pub KnowsAlong : {State Cell Items : Type 0} → Steps State Cell Items → List (ChainView State Cell Items) → State
     → List (CarriedRow Cell) → List Block → List (Option ℕ) → Type 0
 KnowsAlong steps old opening rows tunes reused_tunes =
     AllZip (λ tune one. GoesAlong steps old opening (rows_in rows tune) → IsSome one) tunes reused_tunes
 
 -- The same of tunes with these chains, if the chains begin in this state.
-abbrev pub KnowsIfBegun : {State Cell Items : Type 0} → Steps State Cell Items → List (Chained State Cell Items) → State
-    → List (CarriedRow Cell) → List (Chained State Cell Items) → List Block → List (Option ℕ) → Type 0
+abbrev pub KnowsIfBegun : {State Cell Items : Type 0} → Steps State Cell Items → List (ChainView State Cell Items) → State
+    → List (CarriedRow Cell) → List (ChainView State Cell Items) → List Block → List (Option ℕ) → Type 0
 KnowsIfBegun steps old begun rows new_chains tunes reused_tunes = AllZip (IsChain steps begun rows) new_chains tunes
     → KnowsAlong steps old begun rows tunes reused_tunes
 
 -- The tunes among rows, folded again from this state: their chains, and the old tunes that have their items.
-pub record AreRefolded {State Cell Items : Type 0} (steps : Steps State Cell Items) (old : List (Chained State Cell Items))
-    (opening : State) (rows : List (CarriedRow Cell)) (tunes : List Block) (new_chains : List (Chained State Cell Items))
+pub record AreRefolded {State Cell Items : Type 0} (steps : Steps State Cell Items) (old : List (ChainView State Cell Items))
+    (opening : State) (rows : List (CarriedRow Cell)) (tunes : List Block) (new_chains : List (ChainView State Cell Items))
     (reused_tunes : List (Option ℕ)) : Type 0 where
   pub tunes_are : tunes ≡ tunes_among rows
   pub chains_are : AllZip (IsChain steps opening rows) new_chains tunes

@@ -2,7 +2,7 @@
 use Rattle.std.specs.Prelude.{◌≡◌, ℕ, ◌≤◌, List, Option, None}
 use Rattle.abc_fold.specs.Work.{Counters, raised}
 use Rattle.abc_live_cost.specs.Origin.{Origin}
-use Rattle.abc_scan.specs.declared.class.LineClass.{LineClass}
+use Rattle.abc_scan.specs.declared.line_class.LineClass.{LineClass}
 use Rattle.abc_tune_compiler.specs.Rules.{Rules}
 
 -- What a line is, and its cells.

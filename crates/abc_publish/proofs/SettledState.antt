@@ -10,7 +10,7 @@ use Rattle.std.proofs.lemmas.List.Elements.{All-head, All-tail}
 use Rattle.std.proofs.lemmas.Bool.{and_parts, false≢true}
 use Rattle.std.proofs.lemmas.Bool.Decides.{nat_tests}
 use Rattle.std.proofs.lemmas.Slice.Eq.{bytes_eq-Decides}
-use Rattle.abc_publish.specs.Publisher.{Stored, Known, Unknown, SlotView, Slots, Publishing, differs, stored_as, slot_at}
+use Rattle.abc_publish.specs.Publisher.{Stored, Known, Unknown, SlotView, Slots, PublisherView, differs, stored_as, slot_at}
 use Rattle.abc_publish.specs.Publisher.{job_bytes_of, is_pending, is_wanted, HasNone, IsSettled}
 use Rattle.abc_publish.specs.Laws.{SettledIsCurrent, CurrentIsSettled, JobOnce}
 use Rattle.abc_tune_compiler.specs.Files.{Files, file_at}
@@ -40,16 +40,16 @@ unwanted : (pending free : Bool) → pending ≡ false → (pending && free) ≡
 unwanted false free none = refl
 unwanted true free none = absurd (true≢false none)
 
-pub settles : (p : Publishing) (files : Files) → ((n : ℕ) → p.jobs n ≡ None) → HasNone p files 0 → IsSettled p files
+pub settles : (p : PublisherView) (files : Files) → ((n : ℕ) → p.jobs n ≡ None) → HasNone p files 0 → IsSettled p files
 settles p files idle none = record {
   current = λ n in_range. held (p.directory n) (file_at files n) (unpending (is_pending p.directory files n) (p.jobs n) (idle n) (none n (omega arith) in_range));
   idle = idle;
 }
 
-pub is_current : (p : Publishing) (files : Files) → IsSettled p files → (n : ℕ) → n < 2 ^ 32 → is_pending p.directory files n ≡ false
+pub is_current : (p : PublisherView) (files : Files) → IsSettled p files → (n : ℕ) → n < 2 ^ 32 → is_pending p.directory files n ≡ false
 is_current p files settled n in_range = ap (λ entry. differs entry (file_at files n)) (settled.current n in_range) ∙ holds (file_at files n)
 
-pub none_wanted : (p : Publishing) (files : Files) → IsSettled p files → (n : ℕ) → n < 2 ^ 32 → is_wanted p files n ≡ false
+pub none_wanted : (p : PublisherView) (files : Files) → IsSettled p files → (n : ℕ) → n < 2 ^ 32 → is_wanted p files n ≡ false
 none_wanted p files settled n in_range = unwanted (is_pending p.directory files n) (is_none (p.jobs n)) (is_current p files settled n in_range)
 
 abbrev pub is_idle : ℕ × SlotView → Bool

@@ -19,11 +19,11 @@ abbrev pub Jobs : Type 0
 Jobs = ℕ → Option (Option (List ℕ))
 
 -- A directory, and the jobs under way.
-pub record Publishing : Type 0 where
+pub record PublisherView : Type 0 where
   pub directory : Directory
   pub jobs : Jobs
 
-abbrev pub publishing_of : Directory → Jobs → Publishing
+abbrev pub publishing_of : Directory → Jobs → PublisherView
 publishing_of directory jobs = record { directory = directory; jobs = jobs }
 
 -- What a publisher holds for a number: its entry of the directory, and what the job carries, if one is under way.
@@ -53,7 +53,7 @@ job_bytes_of None = None
 job_bytes_of (Some slot) = slot.job_bytes
 
 -- The directory and the jobs under way of a publisher.
-abbrev pub maps_of : Slots → Publishing
+abbrev pub maps_of : Slots → PublisherView
 maps_of slots = publishing_of (λ n. stored_of (slot_at slots n)) (λ n. job_bytes_of (slot_at slots n))
 
 -- A map with another entry at a number.
@@ -79,26 +79,26 @@ abbrev pub is_pending : Directory → Files → ℕ → Bool
 is_pending directory files n = differs (directory n) (file_at files n)
 
 -- Whether a number is pending and has no job under way.
-abbrev pub is_wanted : Publishing → Files → ℕ → Bool
+abbrev pub is_wanted : PublisherView → Files → ℕ → Bool
 is_wanted p files n = is_pending p.directory files n && is_none (p.jobs n)
 
 -- The number is the least from another one on that is pending and has no job under way.
-pub record IsNext (p : Publishing) (files : Files) (from number : ℕ) : Type 0 where
+pub record IsNext (p : PublisherView) (files : Files) (from number : ℕ) : Type 0 where
   pub inside : from ≤ number
   pub wanted : is_wanted p files number ≡ true
   pub least : (n : ℕ) → from ≤ n → n < number → is_wanted p files n ≡ false
 
 -- No number from another one on is pending without a job under way.
-abbrev pub HasNone : Publishing → Files → ℕ → Type 0
+abbrev pub HasNone : PublisherView → Files → ℕ → Type 0
 HasNone p files from = (n : ℕ) → from ≤ n → n < 2 ^ 32 → is_wanted p files n ≡ false
 
 -- A job for the least such number, which carries the number's file; none exactly if there is no such number.
-abbrev pub IsNextJob : Publishing → Files → ℕ → Option Job → Type 0
+abbrev pub IsNextJob : PublisherView → Files → ℕ → Option Job → Type 0
 IsNextJob p files from job =
     MatchOption job (HasNone p files from) (λ j. IsNext p files from j.number × (j.bytes ≡ file_at files j.number))
 
 -- A job for a number has begun, and nothing else changed.
-abbrev pub with_job : Publishing → ℕ → Option (List ℕ) → Publishing
+abbrev pub with_job : PublisherView → ℕ → Option (List ℕ) → PublisherView
 with_job p number bytes = publishing_of p.directory (with_entry p.jobs number (Some bytes))
 
 -- The job that was taken has begun, and nothing else changed; if there was none, nothing did.
@@ -106,10 +106,10 @@ abbrev pub HasBegun : Slots → Slots → Option Job → Type 0
 HasBegun old new job = MatchOption job (new ≡ old) (λ j. maps_of new ≡ with_job (maps_of old) j.number j.bytes)
 
 -- The job of a number has ended, and the directory holds this for it.
-abbrev pub without_job : Publishing → ℕ → Option Stored → Publishing
+abbrev pub without_job : PublisherView → ℕ → Option Stored → PublisherView
 without_job p number stored = publishing_of (with_entry p.directory number stored) (with_entry p.jobs number None)
 
 -- Nothing is pending and no job is under way.
-pub record IsSettled (p : Publishing) (files : Files) : Type 0 where
+pub record IsSettled (p : PublisherView) (files : Files) : Type 0 where
   pub current : (n : ℕ) → n < 2 ^ 32 → p.directory n ≡ stored_as (file_at files n)
   pub idle : (n : ℕ) → p.jobs n ≡ None

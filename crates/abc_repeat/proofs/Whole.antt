@@ -6,7 +6,7 @@ use Rattle.abc_repeat.specs.declared.mark.Mark.{Mark}
 use Rattle.abc_repeat.specs.declared.mark.Mark.TheVariants as marks
 use Rattle.abc_repeat.specs.Mark.{is_ending, is_single, closes_common, closes_ending, opens_next, greatest_number}
 use Rattle.abc_repeat.specs.Strain.{ends_strain, leads_to_ending}
-use Rattle.abc_repeat.specs.Runs.{Run, turn, marks_in, items_played, AreJoined, PassesSingleBars}
+use Rattle.abc_repeat.specs.Runs.{Run, played_run, marks_in, items_played, AreJoined, PassesSingleBars}
 use Rattle.abc_repeat.proofs.Told.{Told, nothing, told_with, told_first, tolds, told_play, played_told}
 
 -- runs that make the same strains after any runs
@@ -45,24 +45,24 @@ two_told first second told =
     λ i. record { passes = passes i; common = sym (append_assoc first second told.common) i; endings = told.endings }
 
 two_first : {A : Type 0} (first second : List A) (strains : List (Told A))
-    → told_first (turn first) (told_first (turn second) strains) ≡ told_first (turn (first ++ second)) strains
+    → told_first (played_run first) (told_first (played_run second) strains) ≡ told_first (played_run (first ++ second)) strains
 two_first first second [] = ap (λ told. told ∷ []) (two_told first second nothing)
 two_first first second (told ∷ others) = ap (λ one. one ∷ others) (two_told first second told)
 
 joined_alike : {A : Type 0} (first second : List A) (following : List (Run A))
-    → AreAlike (turn first ∷ turn second ∷ following) (turn (first ++ second) ∷ following)
+    → AreAlike (played_run first ∷ played_run second ∷ following) (played_run (first ++ second) ∷ following)
 joined_alike first second following = record {
   leads = refl;
   strains = strains;
 }
   where
-    strains : (opened inside : Bool) → tolds opened inside (turn first ∷ turn second ∷ following) ≡ tolds opened inside (turn (first ++ second) ∷ following)
+    strains : (opened inside : Bool) → tolds opened inside (played_run first ∷ played_run second ∷ following) ≡ tolds opened inside (played_run (first ++ second) ∷ following)
     strains opened true = two_first first second (tolds opened true following)
     strains opened false = two_first first second (tolds opened false following)
 
 pub joined : {A : Type 0} → AreJoined A
 joined before following first second =
-    played_alike before (turn first ∷ turn second ∷ following) (turn (first ++ second) ∷ following) (joined_alike first second following)
+    played_alike before (played_run first ∷ played_run second ∷ following) (played_run (first ++ second) ∷ following) (joined_alike first second following)
 
 -- a single bar has no colons and is not double
 plain : (mark : Mark) → is_single mark ≡ true → mark ≡ marks.Bar 0 0 false

@@ -1,4 +1,4 @@
--- Runs: stretches of played items up to the next mark, played as one. Not in ABC 2.1.
+-- Runs: played items up to the next mark, played as one. Not in ABC 2.1.
 use Rattle.std.specs.Prelude.{◌≡◌, ℕ, true, List, [], ◌∷◌, ◌++◌, map, slice_index_or}
 use Rattle.std.specs.List.{flat_map}
 use Rattle.abc_repeat.specs.declared.mark.Mark.{Mark}
@@ -12,8 +12,8 @@ pub record Run (A : Type 0) : Type 0 where
   pub items : List A
 
 -- A run of played items.
-abbrev pub turn : {A : Type 0} → List A → Run A
-turn items = record { mark = marks.Play; items = items }
+abbrev pub played_run : {A : Type 0} → List A → Run A
+played_run items = record { mark = marks.Play; items = items }
 
 -- The marks of runs.
 abbrev pub marks_in : {A : Type 0} → List (Run A) → List Mark
@@ -30,7 +30,8 @@ items_played runs = flat_map (items_at runs) (play_of (marks_in runs))
 -- Two runs with no mark between them are played as one.
 abbrev pub AreJoined : Type 0 → Type 0
 AreJoined A = (before following : List (Run A)) (first second : List A)
-    → items_played (before ++ turn first ∷ turn second ∷ following) ≡ items_played (before ++ turn (first ++ second) ∷ following)
+    → items_played (before ++ played_run first ∷ played_run second ∷ following)
+    ≡ items_played (before ++ played_run (first ++ second) ∷ following)
 
 -- A bar line that neither repeats nor is double changes nothing.
 abbrev pub PassesSingleBars : Type 0 → Type 0

@@ -6,7 +6,7 @@ use Rattle.std.specs.List.{AllPass}
 use Rattle.std.proofs.lemmas.Bool.{cond-true, cond-false, cond_both, cases_Bool, cases_eq, cases_lt, eqb-false, eq-eqb, ne_eqb, or_from, and_left, and_right, ltb-false, le-ltb}
 use Rattle.std.proofs.lemmas.List.{length-replicate}
 use Rattle.std.proofs.lemmas.List.Sums.{prefix_len-le-length}
-use Rattle.abc_scan.specs.declared.bar.BarLine.{BarLine}
+use Rattle.abc_scan.specs.declared.bar_line.BarLine.{BarLine}
 use Rattle.abc_scan.specs.Byte.{colon}
 use Rattle.abc_scan.specs.Note.{begins_with_byte}
 use Rattle.abc_scan.specs.Bar.{Strokes, strokes_text, middle_text, is_double, HasStrokes, HasColons, IsBar, colons, goes_on, middle_from, middle_size, bar_of_colons, with_middle, bar_after, bar_at}

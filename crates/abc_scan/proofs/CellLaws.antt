@@ -4,8 +4,8 @@ use Rattle.std.specs.Prelude.{All, slice_range, ◌==◌}
 use Rattle.std.proofs.lemmas.List.{take_all}
 use Rattle.std.proofs.lemmas.Bool.{cond_both, eqb-true, false≢true}
 use Rattle.std.proofs.lemmas.List.Elements.{All-nil, All-cons, All-head, All-tail}
-use Rattle.abc_scan.specs.declared.class.LineClass.{LineClass}
-use Rattle.abc_scan.specs.declared.class.LineClass.TheVariants as classes
+use Rattle.abc_scan.specs.declared.line_class.LineClass.{LineClass}
+use Rattle.abc_scan.specs.declared.line_class.LineClass.TheVariants as classes
 use Rattle.abc_scan.specs.declared.spanned.Spanned.{Spanned}
 use Rattle.abc_scan.specs.declared.token.TokenKind.{TokenKind}
 use Rattle.abc_scan.specs.Cell.{ends_cell, IsCell, EndsWithBar, but_last, AreCells, put_first, cells_of, first_size}

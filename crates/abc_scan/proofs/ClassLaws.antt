@@ -4,8 +4,8 @@ use Rattle.std.specs.Prelude.{IfSome, ◌↔◌, ◌==◌}
 use Rattle.std.proofs.lemmas.Bool.{eqb-true, eq-eqb, eqb-false, and_parts, and_from, or_from, cases_Bool, both_ways, not_from_true, not_from_false, false_from_ne_true, not-true, cond-true, cond-false}
 use Rattle.std.proofs.lemmas.Bool.{cond_both, false≢true}
 use Rattle.std.proofs.lemmas.List.Elements.{All-nil, All-cons, All-head, All-tail}
-use Rattle.abc_scan.specs.declared.class.LineClass.{LineClass}
-use Rattle.abc_scan.specs.declared.class.LineClass.TheVariants.{Blank, Comment, Field, Directive, Music}
+use Rattle.abc_scan.specs.declared.line_class.LineClass.{LineClass}
+use Rattle.abc_scan.specs.declared.line_class.LineClass.TheVariants.{Blank, Comment, Field, Directive, Music}
 use Rattle.abc_text.specs.Blank.{AreBlanks, is_blank}
 use Rattle.abc_scan.specs.Class.{first_visible, names_field, is_music_letter, begins_bar, field_letter, field_or_music, class_by, class_of_text, BeginsWithPercent, IsFieldLine}
 use Rattle.abc_scan.specs.Directive.{is_directive, IsDirectiveLine}

@@ -6,7 +6,7 @@ use Rattle.std.specs.Char.{is_ascii_alphabetic, is_ascii_digit}
 use Rattle.std.specs.List.{AllPass}
 use Rattle.std.proofs.lemmas.Bool.{cond-true, cond-false, cond_both, cases_Bool, eqb-true, eqb-false, and_parts, and_from, and_right, both_ways, false_from_ne_true, not-true}
 use Rattle.std.proofs.lemmas.List.Elements.{All-head}
-use Rattle.abc_scan.specs.declared.bar.BarLine.{BarLine}
+use Rattle.abc_scan.specs.declared.bar_line.BarLine.{BarLine}
 use Rattle.abc_scan.specs.declared.broken.BrokenRhythm.{BrokenRhythm}
 use Rattle.abc_scan.specs.declared.broken.Direction.{Direction}
 use Rattle.abc_scan.specs.declared.broken.Direction.TheVariants.{Right, Left}

@@ -3,7 +3,7 @@ use Rattle.std.specs.Prelude.{ℕ, ◌≡◌, ◌≤◌, ◌<◌, ◌+◌, ◌-�
 use Rattle.std.specs.Prelude.{◌∷◌, ◌++◌, length, take, drop, replicate, codes, flat_map, Option, Some, None}
 use Rattle.std.specs.List.{prefix_len}
 use Rattle.std.specs.Str.{bytes_eq}
-use Rattle.abc_scan.specs.declared.bar.BarLine.{BarLine}
+use Rattle.abc_scan.specs.declared.bar_line.BarLine.{BarLine}
 use Rattle.abc_scan.specs.Byte.{space, opening_bracket, closing_bracket, colon, bar_stroke}
 use Rattle.abc_scan.specs.Note.{begins_with_byte}
 

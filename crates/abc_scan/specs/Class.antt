@@ -4,8 +4,8 @@ use Rattle.std.specs.Prelude.{nat_le, find, IsTrue}
 use Rattle.std.specs.Char.{is_ascii_alphabetic}
 use Rattle.abc_text.specs.Blank.{AreBlanks, is_blank}
 use Rattle.abc_text.specs.LineEnd.{without_return}
-use Rattle.abc_scan.specs.declared.class.LineClass.{LineClass}
-use Rattle.abc_scan.specs.declared.class.LineClass.TheVariants.{Blank, Comment, Field, Directive, Music}
+use Rattle.abc_scan.specs.declared.line_class.LineClass.{LineClass}
+use Rattle.abc_scan.specs.declared.line_class.LineClass.TheVariants.{Blank, Comment, Field, Directive, Music}
 use Rattle.abc_scan.specs.Byte.{percent, plus_sign, colon, bar_stroke}
 use Rattle.abc_scan.specs.Directive.{is_directive, IsDirectiveLine}
 

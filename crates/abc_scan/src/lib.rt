@@ -1,13 +1,12 @@
 //! The lines of an ABC text: the class of each line, the tokens of a music line, and its cells.
 #![tactic(auto)]
 
-mod bar;
+mod bar_line;
 mod bar_rest;
 mod broken;
 mod cell;
 mod chord;
 mod chord_part;
-mod class;
 mod delimited;
 mod directive;
 mod dynamic;
@@ -20,6 +19,7 @@ pub mod laws;
 mod length;
 mod line;
 mod line_cells;
+mod line_class;
 mod no_effect;
 mod note;
 mod number;
@@ -32,18 +32,18 @@ mod tuplet;
 
 pub use abc_fold::{Shared, Work};
 pub use abc_text::{Accidental, Letter, Sequence};
-pub use bar::BarLine;
+pub use bar_line::BarLine;
 pub use broken::{BrokenRhythm, Direction};
 pub use cell::{Cell, cells};
 pub use chord::Chord;
 pub use chord_part::{ChordPart, ChordPartKind};
-pub use class::{LineClass, class_of};
 pub use directive::{Directive, Reach};
 pub use dynamic::Dynamic;
 pub use field::Field;
 pub use length::WrittenLength;
 pub use line::scan;
 pub use line_cells::cells_of_line;
+pub use line_class::{LineClass, class_of};
 pub use note::Note;
 pub use spanned::Spanned;
 pub use token::{Token, TokenKind};

@@ -9,10 +9,10 @@ ghost use Rattle.abc_scan.specs.Line.{cutting_of, directive_token, field_token, 
 ghost use Rattle.abc_scan.specs.Line.{has_tokens, tokens_in, tokens_of, covered_of};
 ghost use Rattle.abc_scan.specs.Line.{HasLength};
 
-use crate::class::{LineClass, class_of};
 use crate::directive::directive_of;
 use crate::field::field_of;
 use crate::known_absent::KnownAbsent;
+use crate::line_class::{LineClass, class_of};
 use crate::spanned::Spanned;
 use crate::text::without_comment;
 use crate::token::{Token, TokenKind, is_bar, next_token, short_token_at};

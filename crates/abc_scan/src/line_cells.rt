@@ -7,8 +7,8 @@ ghost use Rattle.abc_scan.specs.Class.{class_of};
 ghost use Rattle.abc_scan.specs.Line.{has_tokens, tokens_in, tokens_of};
 
 use crate::cell::{Cell, cells_with_room};
-use crate::class::{LineClass, class_of};
 use crate::line::tokens_in;
+use crate::line_class::{LineClass, class_of};
 use crate::token::Token;
 use abc_fold::Work;
 use abc_text::without_return;

@@ -6,7 +6,7 @@ ghost use Rattle.abc_scan.specs.KnownAbsent.{IsKnownAbsent};
 ghost use Rattle.abc_scan.specs.Dynamic.{dynamic_of};
 ghost use Rattle.abc_scan.specs.Token.{is_bar, mark_by, reading_by, unmatched_byte, dynamic_or_ignored, next_token, ComesFirst};
 
-use crate::bar::{BarLine, bar_at};
+use crate::bar_line::{BarLine, bar_at};
 use crate::bar_rest::bar_rest_at;
 use crate::broken::{BrokenRhythm, broken_at};
 use crate::chord::{Chord, chord_at};

@@ -23,8 +23,8 @@ use Rattle.abc_bars_body.specs.declared.entry.Entry.TheVariants as entries
 use Rattle.abc_fields.specs.Key.{empty_key, key_of, key_or_empty}
 use Rattle.abc_fields.specs.Parts.{parts_of}
 use Rattle.abc_fields.specs.Voice.{voice_of}
-use Rattle.abc_fields.specs.declared.fault.FaultCode.{FaultCode}
-use Rattle.abc_fields.specs.declared.fault.FaultCode.TheVariants as codes
+use Rattle.abc_fields.specs.declared.fault_code.FaultCode.{FaultCode}
+use Rattle.abc_fields.specs.declared.fault_code.FaultCode.TheVariants as codes
 use Rattle.abc_fields.specs.declared.key.Key.{Key}
 use Rattle.abc_fields.specs.declared.meter.Meter.{Meter}
 use Rattle.abc_fields.specs.declared.meter.Meter.TheVariants.{Free, Of}

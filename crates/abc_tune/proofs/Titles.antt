@@ -19,8 +19,8 @@ use Rattle.abc_scan.specs.Directive.{directive_of}
 use Rattle.abc_scan.specs.Line.{cutting_of, directive_token, tokens_in, tokens_of}
 use Rattle.abc_scan.specs.Text.{content}
 use Rattle.abc_scan.specs.Token.{Spells, unmatched_byte, line_kinds, opens}
-use Rattle.abc_scan.specs.declared.class.LineClass.{LineClass}
-use Rattle.abc_scan.specs.declared.class.LineClass.TheVariants as classes
+use Rattle.abc_scan.specs.declared.line_class.LineClass.{LineClass}
+use Rattle.abc_scan.specs.declared.line_class.LineClass.TheVariants as classes
 use Rattle.abc_scan.specs.declared.directive.Directive.{Directive}
 use Rattle.abc_scan.specs.declared.field.Field.{Field}
 use Rattle.abc_scan.specs.declared.spanned.Spanned.{Spanned}

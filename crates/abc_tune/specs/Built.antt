@@ -2,7 +2,7 @@
 use Rattle.std.specs.Prelude.{ℕ, Bool, not, ◌&&◌, if◌then◌else◌, List, Option, Some, None}
 use Rattle.abc_bars_items.specs.declared.item.Item.{Item}
 use Rattle.abc_bars_items.specs.Item.{Items}
-use Rattle.abc_fields.specs.declared.fault.FaultCode.{FaultCode}
+use Rattle.abc_fields.specs.declared.fault_code.FaultCode.{FaultCode}
 use Rattle.abc_tune.specs.WholeFaults.{faults_with}
 use Rattle.abc_voices.specs.Arrange.{arranged_of, is_too_long, items_in}
 use Rattle.smf_bytes.specs.File.{file_bytes}

@@ -7,8 +7,8 @@ use Rattle.abc_bars.specs.LookBack.Defaults.{defaults_at}
 use Rattle.abc_bars_body.specs.SameEntry.{bar_steps}
 use Rattle.abc_bars_body.specs.Step.{field_in, line_in}
 use Rattle.abc_bars_body.specs.declared.entry.Entry.TheVariants as entries
-use Rattle.abc_fields.specs.declared.fault.FaultCode.{FaultCode}
-use Rattle.abc_fields.specs.declared.fault.FaultCode.TheVariants as codes
+use Rattle.abc_fields.specs.declared.fault_code.FaultCode.{FaultCode}
+use Rattle.abc_fields.specs.declared.fault_code.FaultCode.TheVariants as codes
 use Rattle.abc_fields.specs.declared.meter.Meter.{Meter}
 use Rattle.abc_fields.specs.declared.meter.Meter.TheVariants.{Free, Of}
 use Rattle.abc_fields.specs.declared.tempo.Tempo.{Tempo}

@@ -15,8 +15,8 @@ use Rattle.abc_scan.specs.Class.{class_of, class_of_text, class_by, first_visibl
 use Rattle.abc_scan.specs.Directive.{directive_of, is_directive}
 use Rattle.abc_scan.specs.Line.{directive_token, tokens_in, tokens_of, cutting_of}
 use Rattle.abc_scan.specs.Text.{before_comment, without_comment}
-use Rattle.abc_scan.specs.declared.class.LineClass.{LineClass}
-use Rattle.abc_scan.specs.declared.class.LineClass.TheVariants.{Blank, Comment, Field, Directive, Music}
+use Rattle.abc_scan.specs.declared.line_class.LineClass.{LineClass}
+use Rattle.abc_scan.specs.declared.line_class.LineClass.TheVariants.{Blank, Comment, Field, Directive, Music}
 use Rattle.abc_scan.specs.declared.directive.Directive.{Directive as DirectiveRead}
 use Rattle.abc_scan.specs.declared.spanned.Spanned.{Spanned}
 use Rattle.abc_scan.specs.declared.token.TokenKind.{TokenKind}

@@ -2,7 +2,7 @@
 use Rattle.std.proofs.Common.{◌≡◌, ℕ, ◌+◌, List, [], ◌∷◌, ◌++◌, map, refl, sym, ap, ◌∙◌, arith}
 use Rattle.std.proofs.lemmas.List.{map-append}
 use Rattle.abc_book.specs.Block.{blocks_of}
-use Rattle.abc_fields.specs.declared.fault.FaultCode.{FaultCode}
+use Rattle.abc_fields.specs.declared.fault_code.FaultCode.{FaultCode}
 use Rattle.abc_tune_compiler.specs.Book.{book_of}
 use Rattle.abc_tune_compiler.specs.Laws.{placed_moved, fault_moved, tune_moved, CellsMove, ItemsMove, FaultsMove, TunesMove, NoLinesNoBook}
 use Rattle.abc_tune_compiler.specs.Placed.{Placed, placed_at, placed_values, cells_from, items_along}

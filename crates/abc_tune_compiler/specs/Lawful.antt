@@ -1,7 +1,7 @@
 -- What a session relies on of a compiler's definitions. Not in ABC 2.1.
 use Rattle.std.specs.Prelude.{◌≡◌, ◌↔◌, ◌⊎◌, ℕ, List, [], Some, None}
 use Rattle.abc_fold.specs.Steps.{Steps, IsAlike}
-use Rattle.abc_scan.specs.declared.class.LineClass.TheVariants.{Blank, Comment}
+use Rattle.abc_scan.specs.declared.line_class.LineClass.TheVariants.{Blank, Comment}
 use Rattle.abc_tune_compiler.specs.Rules.{Rules}
 
 -- Equivalent states have equal defaults. Tunes with equal defaults begin in equivalent states. A tune without a

@@ -1,7 +1,7 @@
 -- The definitions of a compiler of tunes, whatever language its tunes are written in. Not in ABC 2.1.
 use Rattle.std.specs.Prelude.{ℕ, List, Option}
-use Rattle.abc_fields.specs.declared.fault.FaultCode.{FaultCode}
-use Rattle.abc_scan.specs.declared.class.LineClass.{LineClass}
+use Rattle.abc_fields.specs.declared.fault_code.FaultCode.{FaultCode}
+use Rattle.abc_scan.specs.declared.line_class.LineClass.{LineClass}
 
 -- The definitions of a compiler, but for the steps of its fold.
 pub record Rules (State Cell Items Defaults : Type 0) : Type 0 where

@@ -2,7 +2,7 @@
 use Rattle.std.specs.Prelude.{ℕ, ◌+◌, ◌-◌, List, [], ◌∷◌, ◌++◌, take, drop, map, Option, unwrap_or}
 use Rattle.std.specs.List.{flat_map}
 use Rattle.abc_book.specs.declared.block.Block.{Block}
-use Rattle.abc_fields.specs.declared.fault.FaultCode.{FaultCode}
+use Rattle.abc_fields.specs.declared.fault_code.FaultCode.{FaultCode}
 use Rattle.abc_lines.specs.Text.{Text}
 use Rattle.abc_tune_compiler.specs.declared.fault.Fault.{Fault}
 use Rattle.abc_tune_compiler.specs.Placed.{Placed, placed_values, cells_from, items_along}

@@ -6,8 +6,8 @@ use Rattle.std.proofs.lemmas.Bool.{and_parts, false≢true}
 use Rattle.std.proofs.lemmas.List.Sums.{AllPass-from_list_all}
 use Rattle.abc_lines.specs.Text.{Text, is_line}
 use Rattle.abc_lines.specs.declared.limits.TheConstants.{LONGEST_LINE}
-use Rattle.abc_scan.specs.declared.class.LineClass.{LineClass}
-use Rattle.abc_scan.specs.declared.class.LineClass.TheVariants.{Blank, Comment, Field, Directive, Music}
+use Rattle.abc_scan.specs.declared.line_class.LineClass.{LineClass}
+use Rattle.abc_scan.specs.declared.line_class.LineClass.TheVariants.{Blank, Comment, Field, Directive, Music}
 use Rattle.abc_text.specs.Byte.{line_feed}
 use Rattle.abc_text.specs.Cut.{HasNoByte, cut_at}
 use Rattle.abc_text.proofs.Cuts.{cut_at-found}

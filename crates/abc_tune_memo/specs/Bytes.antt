@@ -2,8 +2,8 @@
 use Rattle.std.specs.Prelude.{ℕ, List, [], ◌∷◌, ◌++◌}
 use Rattle.std.specs.List.{flat_map}
 use Rattle.abc_lines.specs.Text.{Text}
-use Rattle.abc_scan.specs.declared.class.LineClass.{LineClass}
-use Rattle.abc_scan.specs.declared.class.LineClass.TheVariants.{Blank, Comment, Field, Directive, Music}
+use Rattle.abc_scan.specs.declared.line_class.LineClass.{LineClass}
+use Rattle.abc_scan.specs.declared.line_class.LineClass.TheVariants.{Blank, Comment, Field, Directive, Music}
 use Rattle.abc_text.specs.Byte.{line_feed}
 
 -- What a line of this class adds: itself and a line feed, and nothing if it is a comment.

@@ -16,7 +16,7 @@ use Rattle.abc_bars_items.specs.Item.{IsItem}
 use Rattle.abc_repeat.specs.Order.{sections_of, has_unknown}
 use Rattle.abc_voices_sections.specs.Section.{letters, sections}
 use Rattle.abc_voices_score.specs.declared.score.Score.{Score}
-use Rattle.abc_voices_sections.specs.declared.stage.Part.{Part}
+use Rattle.abc_voices_sections.specs.declared.stage.VoicePart.{VoicePart}
 use Rattle.abc_voices_sections.specs.declared.stage.Stage.{Stage}
 use Rattle.abc_voices.specs.Turns.{IsStage, length_along, steps_of, notes_along, for_voices, voices_along, set_by_all, set_by_one, parts_differ}
 use Rattle.abc_voices.specs.Turns.{is_stage_uneven, first_place, changes_along, programs_by, programs_along, end_along, score_along}
@@ -86,7 +86,7 @@ all_here : {V : Type 0} (value_of : Item → Option V) (voices : List (List ℕ)
     → set_by_all value_of at (map (stage_of voices) played) ≡ set_in value_of voices voices at played
 all_here value_of voices at [] = refl
 all_here value_of voices at (section ∷ played) =
-    λ i. flat_map-map (λ (part : Part). set_from value_of at part.steps) (part_of section) voices i ++ all_here value_of voices (at + section_length voices section) played i
+    λ i. flat_map-map (λ (part : VoicePart). set_from value_of at part.steps) (part_of section) voices i ++ all_here value_of voices (at + section_length voices section) played i
 
 -- what the voice at a place sets in a stage
 track_here : {V : Type 0} (value_of : Item → Option V) (section : Sectioned) (voices : List (List ℕ)) (k at : ℕ) (rest : List (List ℕ)) → drop k voices ≡ rest

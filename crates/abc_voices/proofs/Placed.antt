@@ -16,7 +16,7 @@ use Rattle.abc_repeat.specs.declared.play.TheConstants.{MOST_PLACES}
 use Rattle.abc_time.specs.Grains.{grains_of_the_latest_end}
 use Rattle.abc_voices_sections.specs.declared.section.Section.{Section}
 use Rattle.abc_voices_sections.specs.declared.stage.Stage.{Stage}
-use Rattle.abc_voices_sections.specs.declared.stage.StageFault.{StageFault}
+use Rattle.abc_voices_sections.specs.declared.stage.StageError.{StageError}
 use Rattle.abc_voices_sections.specs.PlayedSection.{size_in, section_length}
 use Rattle.abc_voices_sections.specs.Stage.{content, stage_of, stage_size}
 use Rattle.abc_voices.specs.Stages.{stage_at, stage_for, number_of, size_for, length_for, IsStageAt, AreStages, IsNew, IsPut, ArePut, sections_at}
@@ -179,7 +179,7 @@ numbers_at number sections (place ∷ places) =
     ∙ ap (λ one. sum_by number (cons_option one (sections_at sections places))) (sym (slice_get-map content sections place))
 
 -- a fault that is handed on
-pub fault_is : {T : Type 0} (r : Result T StageFault) (fault : StageFault) → IsErr r × IsErrAnd r (λ e. e ≡ fault) → r ≡ Err fault
+pub fault_is : {T : Type 0} (r : Result T StageError) (fault : StageError) → IsErr r × IsErrAnd r (λ e. e ≡ fault) → r ≡ Err fault
 fault_is (Ok x) fault h = let e = h.0 in cc
 fault_is (Err e) fault h = ap Err h.1
 

@@ -8,7 +8,7 @@ use Rattle.abc_bars_items.specs.declared.item.Item.{Item}
 use Rattle.abc_bars_items.specs.declared.item.Item.TheVariants as items
 use Rattle.abc_fields.specs.declared.meter.Meter.{Meter}
 use Rattle.abc_fields.specs.declared.meter.Meter.TheVariants as meters
-use Rattle.abc_voices_sections.specs.declared.stage.Part.{Part}
+use Rattle.abc_voices_sections.specs.declared.stage.VoicePart.{VoicePart}
 use Rattle.abc_voices_sections.specs.declared.stage.Stage.{Stage}
 use Rattle.abc_voices.specs.Turns.{IsSteady, PlaysNone, steps_of, set_by_all, set_by_one, changes_along, programs_by, programs_along}
 use Rattle.abc_voices.specs.Arrange.{played_sections, or_else, usual_tempo}
@@ -42,10 +42,10 @@ module _ {V : Type 0} (value_of : Item → Option V) (kind : Item → Bool) (set
       ap (λ value. cons_option (at_moment at value) (set_from value_of (at + length_of step) steps)) (sets_none step (All-head SetsNone step steps plain))
       ∙ set_by_steps (at + length_of step) steps (All-tail SetsNone step steps plain)
 
-  abbrev SetsNonePart : Part → Type 0
+  abbrev SetsNonePart : VoicePart → Type 0
   SetsNonePart part = All SetsNone part.steps
 
-  set_by_parts : (at : ℕ) (parts : List Part) → All SetsNonePart parts → flat_map (λ part. set_from value_of at part.steps) parts ≡ []
+  set_by_parts : (at : ℕ) (parts : List VoicePart) → All SetsNonePart parts → flat_map (λ part. set_from value_of at part.steps) parts ≡ []
   set_by_parts at [] plain = refl
   set_by_parts at (part ∷ parts) plain =
       ap (λ sets. sets ++ flat_map (λ p. set_from value_of at p.steps) parts) (set_by_steps at part.steps (All-head SetsNonePart part parts plain))
@@ -57,7 +57,7 @@ module _ {V : Type 0} (value_of : Item → Option V) (kind : Item → Bool) (set
       ap (λ sets. sets ++ set_by_all value_of (at + stage.longest.0) stages) (set_by_parts at stage.parts (All-head (PlaysNone kind) stage stages steady))
       ∙ all_set_nothing (at + stage.longest.0) stages (All-tail (PlaysNone kind) stage stages steady)
 
-  set_by_part : (at : ℕ) (part : Option Part) → IfSome part SetsNonePart → set_from value_of at (steps_of part) ≡ []
+  set_by_part : (at : ℕ) (part : Option VoicePart) → IfSome part SetsNonePart → set_from value_of at (steps_of part) ≡ []
   set_by_part at None plain = refl
   set_by_part at (Some part) plain = set_by_steps at part.steps plain
 
@@ -112,9 +112,9 @@ module _ (kind : Item → Bool) (music_not : (item : Item) → is_music item ≡
 
   plain_parts : (section : List ℕ × List Item) (voices : List (List ℕ)) → All ChangesNothing section.1
       → All (λ part. All IsPlain part.steps) (map (part_of section) voices)
-  plain_parts section [] none = All-nil (λ (part : Part). All IsPlain part.steps)
+  plain_parts section [] none = All-nil (λ (part : VoicePart). All IsPlain part.steps)
   plain_parts (opening, steps) (voice ∷ voices) none =
-      All-cons (λ (part : Part). All IsPlain part.steps) (part_of (opening, steps) voice) (map (part_of (opening, steps)) voices)
+      All-cons (λ (part : VoicePart). All IsPlain part.steps) (part_of (opening, steps) voice) (map (part_of (opening, steps)) voices)
       (part_played IsPlain opening steps voice (plain_part voice opening steps none)) (plain_parts (opening, steps) voices none)
 
   steady_stages : (voices : List (List ℕ)) (played : List (List ℕ × List Item)) → All (λ section. All ChangesNothing section.1) played

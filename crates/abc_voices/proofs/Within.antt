@@ -11,7 +11,7 @@ use Rattle.abc_bars_items.specs.declared.item.Item.TheVariants as items
 use Rattle.abc_bars_items.specs.Item.{IsItem}
 use Rattle.abc_fields.specs.Parts.{parts_of}
 use Rattle.abc_time.specs.declared.grains.Grains.{Grains}
-use Rattle.abc_voices_sections.specs.declared.stage.Part.{Part}
+use Rattle.abc_voices_sections.specs.declared.stage.VoicePart.{VoicePart}
 use Rattle.abc_voices_sections.specs.declared.stage.Stage.{Stage}
 use Rattle.abc_voices.specs.Turns.{IsPart, IsStage, length_along, steps_of, set_by_all, set_by_one}
 use Rattle.abc_voices.specs.Change.{at_moment, set_from, after_opening}
@@ -39,12 +39,12 @@ steps_before value_of end at (step ∷ steps) early =
     (steps_before value_of end (at + length_of step) steps (omega (arith, sum)))
 
 -- what a part sets
-part_before : {V : Type 0} (value_of : Item → Option V) (end at : ℕ) (longest : Grains) (part : Part) → at + longest.0 ≤ end → IsPart longest part
+part_before : {V : Type 0} (value_of : Item → Option V) (end at : ℕ) (longest : Grains) (part : VoicePart) → at + longest.0 ≤ end → IsPart longest part
     → All (IsBefore end) (set_from value_of at part.steps)
 part_before value_of end at longest part early is = steps_before value_of end at part.steps (omega arith)
 
 -- what parts set
-parts_before : {V : Type 0} (value_of : Item → Option V) (end at : ℕ) (longest : Grains) (parts : List Part) → at + longest.0 ≤ end → All (IsPart longest) parts
+parts_before : {V : Type 0} (value_of : Item → Option V) (end at : ℕ) (longest : Grains) (parts : List VoicePart) → at + longest.0 ≤ end → All (IsPart longest) parts
     → All (IsBefore end) (flat_map (λ part. set_from value_of at part.steps) parts)
 parts_before value_of end at longest [] early all = All-nil (IsBefore end)
 parts_before value_of end at longest (part ∷ parts) early all =
@@ -64,7 +64,7 @@ all_before value_of end at (stage ∷ stages) early all =
     (all_before value_of end (at + stage.longest.0) stages (omega (arith, sum)) (All-tail IsStage stage stages all))
 
 -- what a part sets, if there is one
-if_part_before : {V : Type 0} (value_of : Item → Option V) (end at : ℕ) (longest : Grains) (part : Option Part) → at + longest.0 ≤ end → IfSome part (IsPart longest)
+if_part_before : {V : Type 0} (value_of : Item → Option V) (end at : ℕ) (longest : Grains) (part : Option VoicePart) → at + longest.0 ≤ end → IfSome part (IsPart longest)
     → All (IsBefore end) (set_from value_of at (steps_of part))
 if_part_before value_of end at longest None early is = All-nil (IsBefore end)
 if_part_before value_of end at longest (Some part) early is = part_before value_of end at longest part early is

@@ -10,7 +10,7 @@ use Rattle.abc_voices_score.specs.declared.score.Change.{Change}
 use Rattle.abc_voices_score.specs.declared.score.ProgramChange.{ProgramChange}
 use Rattle.abc_voices_score.specs.declared.score.Score.{Score}
 use Rattle.abc_voices_score.specs.declared.score.Sounding.{Sounding}
-use Rattle.abc_voices_sections.specs.declared.stage.Part.{Part}
+use Rattle.abc_voices_sections.specs.declared.stage.VoicePart.{VoicePart}
 use Rattle.abc_voices_sections.specs.declared.stage.Stage.{Stage}
 use Rattle.abc_voices.specs.declared.turns.Turn.{Turn}
 use Rattle.abc_voices.specs.Arrange.{all_notes, takes_time, last_off, or_else, usual_tempo}
@@ -23,7 +23,7 @@ use Rattle.abc_voices_sections.specs.Step.{is_field}
 use Rattle.abc_voices.specs.Track.{has_unnamed_track}
 
 -- A part of valid items, with its own length, which is at most that of its stage.
-pub record IsPart (longest : Grains) (part : Part) : Type 0 where
+pub record IsPart (longest : Grains) (part : VoicePart) : Type 0 where
   pub items : All IsItem part.steps
   pub length : part.length.0 ≡ duration part.steps
   pub short : part.length.0 ≤ longest.0
@@ -49,7 +49,7 @@ abbrev pub length_along : List Stage → ℕ
 length_along stages = sum_by (λ stage. stage.longest.0) stages
 
 -- What is played of a part, if there is one.
-abbrev pub steps_of : Option Part → List Item
+abbrev pub steps_of : Option VoicePart → List Item
 steps_of None = []
 steps_of (Some part) = part.steps
 
@@ -91,7 +91,7 @@ set_by_one value_of voice at (stage ∷ stages) = set_at value_of voice at stage
     ++ set_by_one value_of voice (at + stage.longest.0) stages
 
 -- Whether two parts that play time differ in length.
-abbrev pub parts_differ : Part → Part → Bool
+abbrev pub parts_differ : VoicePart → VoicePart → Bool
 parts_differ a b =
     list_any takes_time a.steps && list_any takes_time b.steps && not (a.length.0 == b.length.0)
 

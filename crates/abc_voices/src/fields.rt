@@ -4,7 +4,7 @@ ghost use Rattle.std.specs.Prelude.{◌≡◌, IfOk};
 ghost use Rattle.abc_voices_sections.specs.Items.{items_of};
 ghost use Rattle.abc_voices.specs.Fields.{is_music, is_change, is_steady, sets_program, keeps_programs, without_music};
 
-use crate::change::{Programs, Setting};
+use crate::setting::{Programs, Setting};
 use abc_bars_items::Item;
 use abc_voices_sections::{is_field, is_step};
 use std::alloc::{AllocError, Global};

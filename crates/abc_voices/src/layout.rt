@@ -8,7 +8,7 @@ ghost use Rattle.abc_bars_items.specs.declared.item.TheConstants.{MOST_VOICES};
 ghost use Rattle.abc_repeat.specs.Order.{sections_of, has_unknown};
 ghost use Rattle.abc_time.specs.Grains.{grains_of_the_latest_end};
 ghost use Rattle.abc_voices_sections.specs.Items.{items_of};
-ghost use Rattle.abc_voices_sections.specs.declared.stage.StageFault.TheVariants.{TooMany, TooLate};
+ghost use Rattle.abc_voices_sections.specs.declared.stage.StageError.TheVariants.{TooMany, TooLate};
 ghost use Rattle.abc_repeat.specs.declared.order.TheConstants.{MOST_SECTIONS};
 ghost use Rattle.abc_repeat.specs.declared.play.TheConstants.{MOST_PLACES};
 ghost use Rattle.abc_voices.specs.Turns.{first_place, stages_in};
@@ -34,7 +34,7 @@ use abc_bars_items::{Item, Items, MOST_VOICES};
 use abc_repeat::{OrderFault, Played, play_order};
 use abc_voices_score::{LONGEST_TITLE, Score};
 use abc_voices_sections::{
-    Section, Stage, StageFault, has_one_section, letters, only_section, opening_voice, sections,
+    Section, Stage, StageError, has_one_section, letters, only_section, opening_voice, sections,
 };
 use std::alloc::{AllocError, Global};
 
@@ -128,7 +128,7 @@ fn stages_of<'t>(
     given: &[&'t Item],
     voices: &[&[u8]],
     played: &[usize],
-) -> Result<Vec<Option<Stage<'t>>>, StageFault>
+) -> Result<Vec<Option<Stage<'t>>>, StageError>
     requires given { items_of given.now ≡ without_music (items_of tune.now) }
     requires voices { map (λ voice. voice.now) voices.now ≡ voice_names (items_of tune.now) }
     requires played { played.now ≡ sections_of (after_all order_after None (items_of tune.now)) (letters (items_of tune.now)) }
@@ -149,7 +149,7 @@ fn lay_out_turns(
     given: &[&Item],
     turns: &[Turn],
     count: usize,
-) -> Result<(Score, bool), StageFault>
+) -> Result<(Score, bool), StageError>
     requires tune { All IsItem (items_of tune.now) }
     requires given { items_of given.now ≡ without_music (items_of tune.now) }
     requires stages { stages_in turns.now
@@ -163,7 +163,7 @@ fn lay_out_turns(
     ensures too_late { result ≡ Err TooLate → grains_of_the_latest_end < end_of (items_of tune.now) }
 {
     let Some(total) = length_along(turns) else {
-        return Err(StageFault::TooLate);
+        return Err(StageError::TooLate);
     };
     let first = first_track(tune, given);
     match score_along(alloc, given, turns, total, first, count) {
@@ -181,7 +181,7 @@ fn lay_out_sections(
     tune: &[&Item],
     given: &[&Item],
     played: &[usize],
-) -> Result<(Score, bool), StageFault>
+) -> Result<(Score, bool), StageError>
     requires tune { All IsItem (items_of tune.now) }
     requires given { items_of given.now ≡ without_music (items_of tune.now) }
     requires played { played.now ≡ sections_of (after_all order_after None (items_of tune.now)) (letters (items_of tune.now)) }
@@ -242,9 +242,9 @@ fn arrange_within_limits(
                 Err(BuildFault::TooLong { unknown })
             }
         }
-        Err(StageFault::TooMany) => Err(BuildFault::TooLong { unknown }),
-        Err(StageFault::TooLate) => Err(BuildFault::TooLong { unknown }),
-        Err(StageFault::OutOfMemory) => Err(BuildFault::OutOfMemory),
+        Err(StageError::TooMany) => Err(BuildFault::TooLong { unknown }),
+        Err(StageError::TooLate) => Err(BuildFault::TooLong { unknown }),
+        Err(StageError::OutOfMemory) => Err(BuildFault::OutOfMemory),
     }
 }
 

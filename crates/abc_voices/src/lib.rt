@@ -2,7 +2,6 @@
 #![tactic(auto)]
 
 mod arranged;
-mod change;
 mod fields;
 pub mod laws;
 mod layout;
@@ -11,6 +10,7 @@ mod opening;
 mod programs;
 mod score_changes;
 mod setting;
+mod stage_settings;
 mod stages;
 mod ticks;
 mod tied_notes;

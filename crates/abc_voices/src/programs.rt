@@ -7,11 +7,11 @@ ghost use Rattle.abc_voices.specs.Fields.{sets_program, keeps_programs};
 ghost use Rattle.abc_voices.specs.Opening.{program_after, after_all};
 ghost use Rattle.abc_voices.specs.Turns.{IsStage, PlaysNone, stages_in, length_along, programs_by, programs_along};
 
-use crate::change::Programs;
 use crate::fields::keeps_programs;
 use crate::opening::opening_program;
 use crate::score_changes::programs_in_force;
-use crate::setting::one_along;
+use crate::setting::Programs;
+use crate::stage_settings::one_along;
 use crate::turns::Turn;
 use abc_bars_items::Item;
 use abc_text::Sequence;

@@ -10,7 +10,7 @@ ghost use Rattle.abc_voices.specs.Stages.{stage_at, at_places, sections_at, size
 
 use crate::turns::Turn;
 use abc_repeat::MOST_PLACES;
-use abc_voices_sections::{Section, Stage, StageFault};
+use abc_voices_sections::{Section, Stage, StageError};
 use std::alloc::{AllocError, Global};
 
 /// Returns the stage at a place of a table, if there is one.
@@ -25,16 +25,16 @@ fn stage_at<'s, 't>(table: &'s [Option<Stage<'t>>], place: usize) -> Option<&'s 
 }
 
 /// Returns the room that is left after a stage.
-fn room_after(stage: &Stage, room: u64) -> Result<u64, StageFault>
+fn room_after(stage: &Stage, room: u64) -> Result<u64, StageError>
     requires { stage_size stage.now < 2 ^ 64 }
     ensures room { IfOk result (λ left. left + stage_size stage.now ≡ room) }
-    ensures too_many { result ≡ Err StageFault.TooMany → room < stage_size stage.now }
-    ensures too_late { result ≢ Err StageFault.TooLate }
-    ensures memory { result ≢ Err StageFault.OutOfMemory }
+    ensures too_many { result ≡ Err StageError.TooMany → room < stage_size stage.now }
+    ensures too_late { result ≢ Err StageError.TooLate }
+    ensures memory { result ≢ Err StageError.OutOfMemory }
 {
     let size = stage.size();
     if size > room {
-        return Err(StageFault::TooMany);
+        return Err(StageError::TooMany);
     }
     Ok(room - size)
 }
@@ -57,15 +57,15 @@ fn put_new<'t>(
     voices: &[&[u8]],
     place: usize,
     room: u64,
-) -> Result<u64, StageFault>
+) -> Result<u64, StageError>
     requires place { place < length table.old }
     requires room { room ≤ MOST_PLACES }
     ensures put { IfOk result (λ _. IsNew (map (λ voice. voice.now) voices.now) section.now place table.old table.new) }
     ensures fits { IfOk result (λ left. left
         + sum_by (size_in (content section.now)) (map (λ voice. voice.now) voices.now) ≡ room) }
-    ensures too_many { result ≡ Err StageFault.TooMany
+    ensures too_many { result ≡ Err StageError.TooMany
         → room < sum_by (size_in (content section.now)) (map (λ voice. voice.now) voices.now) }
-    ensures too_late { result ≡ Err StageFault.TooLate
+    ensures too_late { result ≡ Err StageError.TooLate
         → grains_of_the_latest_end < section_length (map (λ voice. voice.now) voices.now) (content section.now) }
 {
     let stage = Stage::of(alloc, section, voices, room)?;
@@ -83,15 +83,15 @@ fn put_stage<'t>(
     voices: &[&[u8]],
     place: usize,
     room: u64,
-) -> Result<u64, StageFault>
+) -> Result<u64, StageError>
     requires long { length table.old ≡ length sections.now }
     requires room { room ≤ MOST_PLACES }
     requires table { AreStages (map (λ voice. voice.now) voices.now) sections.now table.old }
     ensures put { IfOk result (λ _. IsPut (map (λ voice. voice.now) voices.now) sections.now place table.old table.new) }
     ensures fits { IfOk result (λ left. left + size_for (map (λ voice. voice.now) voices.now) sections.now place ≡ room) }
-    ensures too_many { result ≡ Err StageFault.TooMany
+    ensures too_many { result ≡ Err StageError.TooMany
         → room < size_for (map (λ voice. voice.now) voices.now) sections.now place }
-    ensures too_late { result ≡ Err StageFault.TooLate
+    ensures too_late { result ≡ Err StageError.TooLate
         → grains_of_the_latest_end < length_for (map (λ voice. voice.now) voices.now) sections.now place }
 {
     let Some(section) = section_at(sections, place) else {
@@ -123,16 +123,16 @@ pub(crate) fn stages<'t>(
     sections: &[Section<'_, 't>],
     voices: &[&[u8]],
     played: &[usize],
-) -> Result<Vec<Option<Stage<'t>>>, StageFault>
+) -> Result<Vec<Option<Stage<'t>>>, StageError>
     ensures value { IfOk result (λ table. at_places table.items played.now
         ≡ map (stage_of (map (λ voice. voice.now) voices.now)) (sections_at sections.now played.now)) }
     ensures places { IfOk result (λ table.
         sum_by (λ section. sum_by (size_in section) (map (λ voice. voice.now) voices.now)) (sections_at sections.now played.now)
         ≤ MOST_PLACES) }
-    ensures too_many { result ≡ Err StageFault.TooMany
+    ensures too_many { result ≡ Err StageError.TooMany
         → MOST_PLACES
         < sum_by (λ section. sum_by (size_in section) (map (λ voice. voice.now) voices.now)) (sections_at sections.now played.now) }
-    ensures too_late { result ≡ Err StageFault.TooLate
+    ensures too_late { result ≡ Err StageError.TooLate
         → grains_of_the_latest_end
         < sum_by (section_length (map (λ voice. voice.now) voices.now)) (sections_at sections.now played.now) }
 {

@@ -4,18 +4,18 @@ ghost use Rattle.std.specs.Prelude.{true, ◌≡◌, ◌≢◌, ◌<◌, ◌≤�
 ghost use Rattle.std.specs.List.{flat_map};
 ghost use Rattle.abc_time.specs.Grains.{grains_of_the_latest_end};
 ghost use Rattle.abc_voices_sections.specs.Items.{items_of};
-ghost use Rattle.abc_voices_sections.specs.declared.stage.StageFault.TheVariants.{TooMany, TooLate};
+ghost use Rattle.abc_voices_sections.specs.declared.stage.StageError.TheVariants.{TooMany, TooLate};
 ghost use Rattle.abc_voices.specs.Turns.{IsStage, IsSteady, PlaysNone, stages_in, length_along, voices_along, changes_along};
 ghost use Rattle.abc_voices.specs.Turns.{end_along, score_along};
 ghost use Rattle.abc_voices.specs.Arrange.{last_off};
 ghost use Rattle.abc_voices.specs.Fields.{is_steady, sets_program, keeps_programs};
 
-use crate::change::{Keys, Meters};
 use crate::fields::is_steady;
 use crate::opening::{opening_key, opening_meter, opening_tempo, title_of};
 use crate::programs::voices_programs;
 use crate::score_changes::changes_in_force;
-use crate::setting::{one_along, tempos_along};
+use crate::setting::{Keys, Meters};
+use crate::stage_settings::{one_along, tempos_along};
 use crate::timing::last_off;
 use crate::turns::Turn;
 use crate::voice::voices_notes;
@@ -24,7 +24,7 @@ use abc_fields::Meter;
 use abc_text::Sequence;
 use abc_time::{Grains, LATEST_END};
 use abc_voices_score::{Change, Score, Sounding};
-use abc_voices_sections::StageFault;
+use abc_voices_sections::StageError;
 use std::alloc::{AllocError, Global};
 
 /// The microseconds of a quarter note if no tempo is set: 120 quarters a minute.
@@ -77,7 +77,7 @@ pub(crate) fn score_along(
     total: Grains,
     first: usize,
     count: usize,
-) -> Result<Score, StageFault>
+) -> Result<Score, StageError>
     requires stages { All (λ turn. IsStage turn.stage.now) turns.now }
     requires total { total.0 ≡ length_along (stages_in turns.now) }
     requires in_time { total.0 ≤ grains_of_the_latest_end }
@@ -93,7 +93,7 @@ pub(crate) fn score_along(
     let voices = voices_notes(alloc, turns, total, first, count)?;
     let end = latest_end(total, voices.as_slice());
     if end > LATEST_END {
-        return Err(StageFault::TooLate);
+        return Err(StageError::TooLate);
     }
     let changes = changes_along(alloc, given, turns, first)?;
     let programs = voices_programs(alloc, given, turns, first, count)?;

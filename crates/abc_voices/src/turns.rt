@@ -7,7 +7,7 @@ ghost use Rattle.abc_voices.specs.Turns.{stages_in, length_along, parts_differ, 
 
 use crate::timing::plays_time;
 use abc_time::{Grains, LATEST_END};
-use abc_voices_sections::{Part, Stage};
+use abc_voices_sections::{Stage, VoicePart};
 
 /// One playing of a section: its stage, which all playings of the section share.
 #[derive(Clone, Copy)]
@@ -34,14 +34,14 @@ pub(crate) fn length_along(turns: &[Turn]) -> Option<Grains>
 }
 
 /// Whether two parts that play time differ in length.
-fn parts_differ(a: &Part, b: &Part) -> bool
+fn parts_differ(a: &VoicePart, b: &VoicePart) -> bool
     ensures { result ≡ parts_differ a.now b.now }
 {
     plays_time(a.steps.as_slice()) && plays_time(b.steps.as_slice()) && a.length != b.length
 }
 
 /// Whether a part that plays time differs in length from one of some others.
-fn differs_from_one(a: &Part, parts: &[Part]) -> bool
+fn differs_from_one(a: &VoicePart, parts: &[VoicePart]) -> bool
     ensures { result ≡ list_any (parts_differ a.now) parts.now }
 {
     parts.iter().any(|b| parts_differ(a, b))

@@ -12,7 +12,7 @@ use crate::turns::Turn;
 use abc_text::Sequence;
 use abc_time::Grains;
 use abc_voices_score::Sounding;
-use abc_voices_sections::{Part, Stage};
+use abc_voices_sections::{Stage, VoicePart};
 use std::alloc::{AllocError, Global};
 
 /// Puts a part that is played from a moment on before the notes after it.
@@ -21,7 +21,7 @@ fn put_part(
     notes: &mut ReverseNotes,
     at: Grains,
     longest: Grains,
-    part: &Part,
+    part: &VoicePart,
 ) -> Result<(), AllocError>
     requires part { IsPart longest part.now }
     requires end { at.0 + longest.0 ≤ grains_of_the_latest_end }

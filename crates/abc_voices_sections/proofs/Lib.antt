@@ -1,9 +1,9 @@
 pub mod Cuts
+pub mod ItemRuns
 pub mod Items
 pub mod OneByOne
 pub mod Owned
 pub mod Played
-pub mod Stretched
 pub mod Singles
 pub mod Unmoved
 pub mod Waiting

@@ -9,7 +9,7 @@ use Rattle.abc_repeat.specs.Runs.{items_at, items_played, marks_in}
 use Rattle.abc_repeat.proofs.Lying.{play_played}
 use Rattle.abc_voices_sections.specs.Play.{marks_of, places_of}
 use Rattle.abc_voices_sections.specs.Step.{mark_of}
-use Rattle.abc_voices_sections.specs.Stretches.{single_run}
+use Rattle.abc_voices_sections.specs.ItemRuns.{single_run}
 
 one_at : (items : List Item) (place : ℕ) (rest : List Item) → cons_option (slice_get items place) rest ≡ items_at (map single_run items) place ++ rest
 one_at [] place rest = refl

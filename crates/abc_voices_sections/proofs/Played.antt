@@ -7,12 +7,12 @@ use Rattle.std.specs.Prelude.{filter_map, slice_get}
 use Rattle.abc_bars_items.specs.declared.item.Item.{Item}
 use Rattle.abc_repeat.specs.Runs.{Run, items_played}
 use Rattle.abc_repeat.specs.declared.fault.RepeatFault.{RepeatFault}
-use Rattle.abc_voices_sections.specs.declared.stretches.Stretch.{Stretch}
+use Rattle.abc_voices_sections.specs.declared.item_runs.ItemRun.{ItemRun}
 use Rattle.abc_voices_sections.specs.Items.{items_of}
 use Rattle.abc_voices_sections.specs.declared.ending_fields.Region.TheVariants.{Common}
 use Rattle.abc_voices_sections.specs.EndingFields.{nothing_waits, with_fields_in_endings}
 use Rattle.abc_voices_sections.specs.Play.{places_of, played_items}
-use Rattle.abc_voices_sections.specs.Stretches.{runs_of, items_in, AllTakeTurns, AreRuns}
+use Rattle.abc_voices_sections.specs.ItemRuns.{runs_of, items_in, AreAllPlayed, AreRuns}
 use Rattle.abc_voices_sections.proofs.OneByOne.{one_by_one, as_many}
 use Rattle.abc_voices_sections.proofs.Unmoved.{nothing_moves}
 use Rattle.abc_voices_sections.proofs.Waiting.{rest_goes}
@@ -30,21 +30,21 @@ stays : (part : List Item) (runs : List (Run Item)) (waiting : Bool) → AreRuns
 stays part runs waiting are is none =
     sym (nothing_moves Common part (ap (nothing_waits Common) (sym are.whole) ∙ sym is ∙ ap not none))
 
--- what stretches play if nothing is moved
-pub in_place : (part seen : List (Bor Item)) (found told lent : List Stretch) (waiting : Bool) → seen ≡ part → told ≡ found → lent ≡ found
+-- what runs play if nothing is moved
+pub in_place : (part seen : List (Bor Item)) (found told lent : List ItemRun) (waiting : Bool) → seen ≡ part → told ≡ found → lent ≡ found
     → AreRuns (items_of seen) (runs_of found) → not waiting ≡ nothing_waits Common (items_in (runs_of told)) → waiting ≡ false
     → items_played (runs_of lent) ≡ played_items (items_of part)
 in_place part seen found told lent waiting same first second are is none =
-    let waits = is ∙ ap (λ stretches. nothing_waits Common (items_in (runs_of stretches))) first in
-    ap (λ stretches. items_played (runs_of stretches)) second
+    let waits = is ∙ ap (λ item_runs. nothing_waits Common (items_in (runs_of item_runs))) first in
+    ap (λ item_runs. items_played (runs_of item_runs)) second
     ∙ played_runs (items_of seen) (items_of seen) (runs_of found) (stays (items_of seen) (runs_of found) waiting are waits none) are
     ∙ ap (λ steps. played_items (items_of steps)) same
 
 -- what they play after what is moved
-pub in_order : (part seen steps taken : List (Bor Item)) (found lent : List Stretch) → seen ≡ part → items_of steps ≡ with_fields_in_endings (items_of seen)
+pub in_order : (part seen steps taken : List (Bor Item)) (found lent : List ItemRun) → seen ≡ part → items_of steps ≡ with_fields_in_endings (items_of seen)
     → taken ≡ steps → lent ≡ found → AreRuns (items_of taken) (runs_of found) → items_played (runs_of lent) ≡ played_items (items_of part)
 in_order part seen steps taken found lent same moved first second are =
-    ap (λ stretches. items_played (runs_of stretches)) second
+    ap (λ item_runs. items_played (runs_of item_runs)) second
     ∙ played_runs (items_of seen) (items_of taken) (runs_of found) (ap items_of first ∙ moved) are
     ∙ ap (λ one. played_items (items_of one)) same
 
@@ -58,15 +58,15 @@ sized (Ok steps) part items is own =
     sym (length-map steps.items (λ (step : Bor Item). step.now)) ∙ ap length own ∙ places_alike part items is
 sized (Err why) part items is own = own
 
-turns_stay : (part : List Item) → AllTakeTurns part → with_fields_in_endings part ≡ part
+turns_stay : (part : List Item) → AreAllPlayed part → with_fields_in_endings part ≡ part
 turns_stay part turns = nothing_moves Common part (ap (nothing_waits Common) (sym (append-nil part)) ∙ rest_goes Common part [] turns)
 
 -- items that all take their turn are played in order
-pub played_turns : (part : List Item) → AllTakeTurns part → played_items part ≡ part
+pub played_turns : (part : List Item) → AreAllPlayed part → played_items part ≡ part
 played_turns part turns =
     ap (λ items. filter_map (slice_get items) (places_of items)) (turns_stay part turns)
     ∙ sym (one_by_one part)
     ∙ one_run part turns
 
-pub size_turns : (part : List Item) → AllTakeTurns part → length (places_of (with_fields_in_endings part)) ≡ length part
+pub size_turns : (part : List Item) → AreAllPlayed part → length (places_of (with_fields_in_endings part)) ≡ length part
 size_turns part turns = sym (as_many (with_fields_in_endings part)) ∙ ap length (played_turns part turns)

@@ -15,7 +15,7 @@ use Rattle.abc_voices_sections.specs.declared.ending_fields.Region.TheVariants.{
 use Rattle.abc_voices_sections.specs.EndingFields.{waits, after_mark, after_bar, region_after, put_with_waiting, with_fields_in_endings_from, with_fields_in_endings}
 use Rattle.abc_voices_sections.specs.Play.{places_of, played_items, without_single_bars}
 use Rattle.abc_voices_sections.specs.Step.{is_field, mark_of}
-use Rattle.abc_voices_sections.specs.Stretches.{single_run}
+use Rattle.abc_voices_sections.specs.ItemRuns.{single_run}
 use Rattle.abc_voices_sections.proofs.OneByOne.{one_by_one, as_many}
 
 -- whether it changes something

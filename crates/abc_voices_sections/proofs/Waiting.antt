@@ -9,7 +9,7 @@ use Rattle.abc_voices_sections.specs.declared.ending_fields.Region.{Region}
 use Rattle.abc_voices_sections.specs.declared.ending_fields.Region.TheVariants.{Common, Inside, AfterBar}
 use Rattle.abc_voices_sections.specs.EndingFields.{waits, region_after, nothing_waits}
 use Rattle.abc_voices_sections.specs.Step.{mark_of}
-use Rattle.abc_voices_sections.specs.Stretches.{AllTakeTurns, IsRun, together, single}
+use Rattle.abc_voices_sections.specs.ItemRuns.{AreAllPlayed, IsRun, together, single}
 use Rattle.abc_voices_sections.proofs.Whole.{takes_turn}
 
 -- after what takes its turn
@@ -33,7 +33,7 @@ one_goes AfterBar item rest h = ap (λ next. nothing_waits next rest) (past_turn
 one_goes Inside item rest h = ap (λ next. nothing_waits next rest) (past_turn Inside item h)
 one_goes Common item rest h = ap (λ next. nothing_waits next rest) (past_turn Common item h)
 
-pub rest_goes : (region : Region) (items rest : List Item) → AllTakeTurns items
+pub rest_goes : (region : Region) (items rest : List Item) → AreAllPlayed items
     → nothing_waits (after_turn region) (items ++ rest) ≡ nothing_waits (after_turn region) rest
 rest_goes region [] rest h = refl
 rest_goes region (item ∷ items) rest h =

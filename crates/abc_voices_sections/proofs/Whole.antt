@@ -9,25 +9,25 @@ use Rattle.abc_repeat.specs.declared.mark.Mark.{Mark}
 use Rattle.abc_repeat.specs.declared.mark.Mark.TheVariants as marks
 use Rattle.abc_repeat.specs.Mark.{is_play}
 use Rattle.abc_repeat.specs.Play.{play_of, IsPlayed}
-use Rattle.abc_repeat.specs.Runs.{Run, turn, marks_in, items_at, items_played}
+use Rattle.abc_repeat.specs.Runs.{Run, played_run, marks_in, items_at, items_played}
 use Rattle.abc_repeat.proofs.Lying.{play_played}
 use Rattle.abc_repeat.proofs.Whole.{joined}
 use Rattle.abc_voices_sections.specs.Step.{mark_of}
-use Rattle.abc_voices_sections.specs.Stretches.{items_in, single_run, AllTakeTurns, IsRun, together, single, AreRuns}
+use Rattle.abc_voices_sections.specs.ItemRuns.{items_in, single_run, AreAllPlayed, IsRun, together, single, AreRuns}
 
 pub takes_turn : (mark : Mark) → is_play mark ≡ true → mark ≡ marks.Play
 takes_turn marks.Play h = refl
 takes_turn _ h = cc
 
-turn_alone : (item : Item) → is_play (mark_of item) ≡ true → single_run item ≡ turn (item ∷ [])
+turn_alone : (item : Item) → is_play (mark_of item) ≡ true → single_run item ≡ played_run (item ∷ [])
 turn_alone item h = ap (λ (mark : Mark). record { mark = mark; items = item ∷ [] }) (takes_turn (mark_of item) h)
 
 -- what is after one run more
 after_one : (before following : List (Run Item)) (run : Run Item) → (before ++ run ∷ []) ++ following ≡ before ++ run ∷ following
 after_one before following run = append_assoc before (run ∷ []) following
 
-turn_whole : (before following : List (Run Item)) (item : Item) (items : List Item) → AllTakeTurns (item ∷ items)
-    → items_played (before ++ (map single_run (item ∷ items) ++ following)) ≡ items_played (before ++ turn (item ∷ items) ∷ following)
+turn_whole : (before following : List (Run Item)) (item : Item) (items : List Item) → AreAllPlayed (item ∷ items)
+    → items_played (before ++ (map single_run (item ∷ items) ++ following)) ≡ items_played (before ++ played_run (item ∷ items) ∷ following)
 turn_whole before following item [] h =
     ap (λ run. items_played (before ++ run ∷ following)) (turn_alone item (All-head (λ one. is_play (mark_of one) ≡ true) item [] h))
 turn_whole before following item (next ∷ items) h =
@@ -35,8 +35,8 @@ turn_whole before following item (next ∷ items) h =
     let rest = All-tail (λ one. is_play (mark_of one) ≡ true) item (next ∷ items) h in
     ap items_played (sym (after_one before (map single_run (next ∷ items) ++ following) (single_run item)))
     ∙ turn_whole (before ++ single_run item ∷ []) following next items rest
-    ∙ ap items_played (after_one before (turn (next ∷ items) ∷ following) (single_run item))
-    ∙ ap (λ run. items_played (before ++ run ∷ turn (next ∷ items) ∷ following)) first
+    ∙ ap items_played (after_one before (played_run (next ∷ items) ∷ following) (single_run item))
+    ∙ ap (λ run. items_played (before ++ run ∷ played_run (next ∷ items) ∷ following)) first
     ∙ joined before following (item ∷ []) (next ∷ items)
 
 run_whole : (before following : List (Run Item)) (run : Run Item) → IsRun run
@@ -81,7 +81,7 @@ pub runs_within : (runs : List (Run Item)) → All IsRun runs → length (play_o
 runs_within runs all = places_within runs (play_of (marks_in runs)) all (play_played (marks_in runs))
 
 -- what all takes its turn is one run
-pub one_run : (part : List Item) → AllTakeTurns part → items_played (map single_run part) ≡ part
+pub one_run : (part : List Item) → AreAllPlayed part → items_played (map single_run part) ≡ part
 unfolding play_of Rattle.abc_repeat.specs.Play.strain_play
 one_run [] h = refl
 one_run (item ∷ items) h =
@@ -90,7 +90,7 @@ one_run (item ∷ items) h =
     ∙ append-nil (item ∷ items)
 
 -- whether all take their turn
-pub all_turns : (part : List Item) → list_all (λ item. is_play (mark_of item)) part ≡ true → AllTakeTurns part
+pub all_turns : (part : List Item) → list_all (λ item. is_play (mark_of item)) part ≡ true → AreAllPlayed part
 all_turns [] h = All-nil (λ item. is_play (mark_of item) ≡ true)
 all_turns (item ∷ items) h =
     let both = and_parts (is_play (mark_of item)) (list_all (λ one. is_play (mark_of one)) items) h in

@@ -9,6 +9,6 @@ abbrev pub items_of : List (Bor Item) → List Item
 items_of steps = map (λ step. step.now) steps
 
 -- What a voice plays of a section: the items in order of play, and how long they take.
-pub record PlayedPart : Type 0 where
+pub record VoicePartView : Type 0 where
   pub steps : List Item
   pub length : Grains

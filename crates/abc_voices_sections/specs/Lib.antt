@@ -1,4 +1,5 @@
 pub mod EndingFields
+pub mod ItemRuns
 pub mod Items
 pub mod OwnItems
 pub mod Play
@@ -6,4 +7,3 @@ pub mod PlayedSection
 pub mod Section
 pub mod Stage
 pub mod Step
-pub mod Stretches

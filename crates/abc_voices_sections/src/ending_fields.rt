@@ -2,13 +2,13 @@
 
 ghost use Rattle.std.specs.Prelude.{◌≡◌, ◌++◌, [], not, All, IfOk, OnOk};
 ghost use Rattle.abc_voices_sections.specs.Items.{items_of};
-ghost use Rattle.abc_voices_sections.specs.Stretches.{runs_of, items_in, IsRun};
+ghost use Rattle.abc_voices_sections.specs.ItemRuns.{runs_of, items_in, IsRun};
 ghost use Rattle.abc_voices_sections.specs.declared.ending_fields.Region.TheVariants as regions;
 ghost use Rattle.abc_voices_sections.specs.EndingFields.{waits, after_bar, after_mark, region_after, nothing_waits};
 ghost use Rattle.abc_voices_sections.specs.EndingFields.{put_with_waiting, with_fields_in_endings};
 
+use crate::item_runs::ItemRun;
 use crate::step::{is_field, is_single_bar, mark_of};
-use crate::stretches::Stretch;
 use abc_bars_items::Item;
 use abc_repeat::Mark;
 use std::alloc::{AllocError, Global};
@@ -59,17 +59,17 @@ impl Region {
     }
 }
 
-/// Whether an item in the stretches of a part waits for an ending's sign. Such an item is the first of its stretch.
-pub(crate) fn has_waiting_item(stretches: &[Stretch]) -> bool
-    requires { All IsRun (runs_of stretches.now) }
-    ensures { not result ≡ nothing_waits regions.Common (items_in (runs_of stretches.now)) }
+/// Whether an item in the runs of a part waits for an ending's sign. Such an item is the first of its run.
+pub(crate) fn has_waiting_item(item_runs: &[ItemRun]) -> bool
+    requires { All IsRun (runs_of item_runs.now) }
+    ensures { not result ≡ nothing_waits regions.Common (items_in (runs_of item_runs.now)) }
 {
     let mut region = Region::Common;
-    for stretch in stretches {
-        if region.waits(stretch.items[0]) {
+    for item_run in item_runs {
+        if region.waits(item_run.items[0]) {
             return true;
         }
-        region = region.after_mark(stretch.mark);
+        region = region.after_mark(item_run.mark);
     }
     false
 }

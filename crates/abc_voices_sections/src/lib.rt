@@ -2,15 +2,15 @@
 #![tactic(auto)]
 
 mod ending_fields;
+mod item_runs;
 mod play;
 mod section;
 mod stage;
 mod step;
-mod stretches;
 
 pub use ending_fields::Region;
 pub use section::{
     Section, has_one_section, is_step, letters, only_section, opening_voice, sections,
 };
-pub use stage::{Part, Stage, StageFault};
+pub use stage::{Stage, StageError, VoicePart};
 pub use step::{is_field, length_of};

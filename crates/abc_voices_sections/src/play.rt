@@ -11,63 +11,63 @@ ghost use Rattle.abc_voices_sections.specs.Items.{items_of};
 ghost use Rattle.abc_voices_sections.specs.EndingFields.{with_fields_in_endings};
 ghost use Rattle.abc_voices_sections.specs.Play.{places_of, played_items, duration};
 ghost use Rattle.abc_voices_sections.specs.Step.{mark_of};
-ghost use Rattle.abc_voices_sections.specs.Stretches.{runs_of, IsRun};
+ghost use Rattle.abc_voices_sections.specs.ItemRuns.{runs_of, IsRun};
 
 use crate::ending_fields::{has_waiting_item, with_fields_in_endings};
+use crate::item_runs::{ItemRun, item_runs, marks_of};
 use crate::step::{is_played, length_of};
-use crate::stretches::{Stretch, marks_of, stretches};
 use abc_bars_items::Item;
 use abc_repeat::{MOST_PLACES, RepeatFault, expand_within};
 use abc_time::{Grains, LATEST_END};
 use std::alloc::{AllocError, Global};
 
-/// Returns the number of items in the stretches at some places, at most 2^64 - 1.
-fn size_at(stretches: &[Stretch], places: &[usize]) -> u64
-    requires { All (λ place. place < length stretches.now) places.now }
-    ensures { result ≡ min (length (flat_map (items_at (runs_of stretches.now)) places.now)) (2 ^ 64 - 1) }
+/// Returns the number of items in the runs at some places, at most 2^64 - 1.
+fn size_at(item_runs: &[ItemRun], places: &[usize]) -> u64
+    requires { All (λ place. place < length item_runs.now) places.now }
+    ensures { result ≡ min (length (flat_map (items_at (runs_of item_runs.now)) places.now)) (2 ^ 64 - 1) }
 {
     let mut size: u64 = 0;
     for place in places {
-        size = size.saturating_add(stretches[*place].items.len() as u64);
+        size = size.saturating_add(item_runs[*place].items.len() as u64);
     }
     size
 }
 
-/// Returns the items of the stretches at some places, with room for `size` items.
+/// Returns the items of the runs at some places, with room for `size` items.
 fn items_at_places<'t>(
     alloc: Global,
-    stretches: &[Stretch<'_, 't>],
+    item_runs: &[ItemRun<'_, 't>],
     places: &[usize],
     size: usize,
 ) -> Result<Vec<&'t Item>, AllocError>
-    requires { All (λ place. place < length stretches.now) places.now }
-    ensures { IfOk result (λ items. items_of items.items ≡ flat_map (items_at (runs_of stretches.now)) places.now) }
+    requires { All (λ place. place < length item_runs.now) places.now }
+    ensures { IfOk result (λ items. items_of items.items ≡ flat_map (items_at (runs_of item_runs.now)) places.now) }
 {
     let mut items = Vec::with_capacity(alloc, size)?;
     for place in places {
-        items.extend_from_slice(stretches[*place].items)?;
+        items.extend_from_slice(item_runs[*place].items)?;
     }
     Ok(items)
 }
 
-/// Returns the items that are played of the stretches of a part, which is in the order of its endings.
-fn expand_stretches<'t>(
+/// Returns the items that are played of the runs of a part, which is in the order of its endings.
+fn expand_item_runs<'t>(
     alloc: Global,
-    stretches: &[Stretch<'_, 't>],
+    item_runs: &[ItemRun<'_, 't>],
     room: u64,
 ) -> Result<Vec<&'t Item>, RepeatFault>
-    requires { All IsRun (runs_of stretches.now) }
-    ensures value { IfOk result (λ items. items_of items.items ≡ items_played (runs_of stretches.now)) }
+    requires { All IsRun (runs_of item_runs.now) }
+    ensures value { IfOk result (λ items. items_of items.items ≡ items_played (runs_of item_runs.now)) }
     ensures within { IfOk result (λ items. length items.items ≤ min room MOST_PLACES) }
-    ensures too_long { result ≡ Err TooLong → min room MOST_PLACES < length (items_played (runs_of stretches.now)) }
+    ensures too_long { result ≡ Err TooLong → min room MOST_PLACES < length (items_played (runs_of item_runs.now)) }
 {
-    let marks = marks_of(alloc, stretches)?;
+    let marks = marks_of(alloc, item_runs)?;
     let places = expand_within(alloc, &marks, room)?;
-    let size = size_at(stretches, &places);
+    let size = size_at(item_runs, &places);
     if size > room.min(MOST_PLACES) {
         return Err(RepeatFault::TooLong);
     }
-    let items = items_at_places(alloc, stretches, &places, size as usize)?;
+    let items = items_at_places(alloc, item_runs, &places, size as usize)?;
     Ok(items)
 }
 
@@ -117,14 +117,14 @@ pub(crate) fn played_items<'t>(
     if are_all_played(&part) {
         return play_in_order(part, room);
     }
-    let found = stretches(alloc, &part)?;
+    let found = item_runs(alloc, &part)?;
     // In most music nothing waits for an ending's sign: then the items stay in their list.
     if !has_waiting_item(&found) {
-        return expand_stretches(alloc, &found, room);
+        return expand_item_runs(alloc, &found, room);
     }
     let steps = with_fields_in_endings(alloc, &part)?;
-    let found = stretches(alloc, &steps)?;
-    expand_stretches(alloc, &found, room)
+    let found = item_runs(alloc, &steps)?;
+    expand_item_runs(alloc, &found, room)
 }
 
 /// Returns the time of items one after another, unless that is later than a tune may end.

@@ -18,17 +18,17 @@ use thiserror::Error;
 
 /// The items that a voice plays of a section. Contracts see the items.
 #[derive(Drop)]
-pub struct Part<'t> {
+pub struct VoicePart<'t> {
     /// The played items, in order of play.
     pub steps: Sequence<&'t Item>,
     /// Their time.
     pub length: Grains,
 }
 
-impl<'t> Model for Part<'t> {
-    ghost use Rattle.abc_voices_sections.specs.Items.{PlayedPart, items_of};
+impl<'t> Model for VoicePart<'t> {
+    ghost use Rattle.abc_voices_sections.specs.Items.{VoicePartView, items_of};
 
-    ghost Value = { PlayedPart };
+    ghost Value = { VoicePartView };
 
     ghost view = { λ part. record { steps = items_of part.steps; length = part.length } };
 }
@@ -37,14 +37,14 @@ impl<'t> Model for Part<'t> {
 #[derive(Drop)]
 pub struct Stage<'t> {
     /// The part of each voice, in the order of the voices.
-    pub parts: Sequence<Part<'t>>,
+    pub parts: Sequence<VoicePart<'t>>,
     /// The length of the section: that of the longest part.
     pub longest: Grains,
 }
 
 /// The reason why a tune has no stages.
 #[derive(Clone, Copy, Debug, PartialEq, Eq, Error)]
-pub enum StageFault {
+pub enum StageError {
     /// More places are played than there is room for.
     #[error("more than 1,000,000 notes, chords, rests, fields and programs would be played")]
     TooMany,
@@ -56,30 +56,30 @@ pub enum StageFault {
     OutOfMemory,
 }
 
-impl From<AllocError> for StageFault {
-    ghost use Rattle.abc_voices_sections.specs.declared.stage.StageFault.TheVariants as faults;
+impl From<AllocError> for StageError {
+    ghost use Rattle.abc_voices_sections.specs.declared.stage.StageError.TheVariants as faults;
 
     ghost from_gives = { λ _ fault. fault ≡ faults.OutOfMemory };
 
-    fn from(_e: AllocError) -> StageFault {
-        StageFault::OutOfMemory
+    fn from(_e: AllocError) -> StageError {
+        StageError::OutOfMemory
     }
 }
 
-impl From<RepeatFault> for StageFault {
-    ghost use Rattle.abc_voices_sections.specs.Stage.{stage_fault};
+impl From<RepeatFault> for StageError {
+    ghost use Rattle.abc_voices_sections.specs.Stage.{stage_error};
 
-    ghost from_gives = { λ why fault. fault ≡ stage_fault why };
+    ghost from_gives = { λ why fault. fault ≡ stage_error why };
 
-    fn from(why: RepeatFault) -> StageFault {
+    fn from(why: RepeatFault) -> StageError {
         match why {
-            RepeatFault::TooLong => StageFault::TooMany,
-            RepeatFault::OutOfMemory => StageFault::OutOfMemory,
+            RepeatFault::TooLong => StageError::TooMany,
+            RepeatFault::OutOfMemory => StageError::OutOfMemory,
         }
     }
 }
 
-impl<'t> Part<'t> {
+impl<'t> VoicePart<'t> {
     /// Returns the part of a voice in a section, if it has at most `room` places.
     #[tactic(auto, using(crate::proofs::Singles::played_without_bars, crate::proofs::Singles::size_without_bars))]
     pub fn of(
@@ -87,26 +87,26 @@ impl<'t> Part<'t> {
         section: &Section<'_, 't>,
         voice: &[u8],
         room: u64,
-    ) -> Result<Part<'t>, StageFault>
+    ) -> Result<VoicePart<'t>, StageError>
         requires { room ≤ MOST_PLACES }
         ensures value { IfOk result (λ own. own ≡ part_of (content section.now) voice.now) }
         ensures size { IfOk result (λ own. part_size own
             ≡ size_in (content section.now) voice.now) }
         ensures within { IfOk result (λ own. part_size own ≤ room) }
         ensures in_time { IfOk result (λ own. own.length.0 ≤ grains_of_the_latest_end) }
-        ensures too_many { result ≡ Err StageFault.TooMany
+        ensures too_many { result ≡ Err StageError.TooMany
             → room < size_in (content section.now) voice.now }
-        ensures too_late { result ≡ Err StageFault.TooLate
+        ensures too_late { result ≡ Err StageError.TooLate
             → grains_of_the_latest_end < length_in (content section.now) voice.now }
     {
         let items = part(alloc, voice, section.voice, section.items)?;
         let steps = played_items(alloc, items, room)?;
         match duration(&steps) {
-            Some(length) => Ok(Part {
+            Some(length) => Ok(VoicePart {
                 steps: Sequence::from(steps),
                 length,
             }),
-            None => Err(StageFault::TooLate),
+            None => Err(StageError::TooLate),
         }
     }
 
@@ -125,7 +125,7 @@ impl<'t> Stage<'t> {
         section: &Section<'_, 't>,
         voices: &[&[u8]],
         room: u64,
-    ) -> Result<Stage<'t>, StageFault>
+    ) -> Result<Stage<'t>, StageError>
         requires { room ≤ MOST_PLACES }
         ensures value { IfOk result (λ stage. stage
             ≡ stage_of (map (λ voice. voice.now) voices.now) (content section.now)) }
@@ -133,16 +133,16 @@ impl<'t> Stage<'t> {
             ≡ sum_by (size_in (content section.now)) (map (λ voice. voice.now) voices.now)) }
         ensures within { IfOk result (λ stage. stage_size stage ≤ room) }
         ensures in_time { IfOk result (λ stage. stage.longest.0 ≤ grains_of_the_latest_end) }
-        ensures too_many { result ≡ Err StageFault.TooMany
+        ensures too_many { result ≡ Err StageError.TooMany
             → room < sum_by (size_in (content section.now)) (map (λ voice. voice.now) voices.now) }
-        ensures too_late { result ≡ Err StageFault.TooLate
+        ensures too_late { result ≡ Err StageError.TooLate
             → grains_of_the_latest_end < section_length (map (λ voice. voice.now) voices.now) (content section.now) }
     {
         let mut parts = Sequence::new(alloc);
         let mut left = room;
         let mut longest = Grains(0);
         for voice in voices {
-            let own = Part::of(alloc, section, voice, left)?;
+            let own = VoicePart::of(alloc, section, voice, left)?;
             left -= own.size();
             longest = longest.max(own.length);
             parts.push(own)?;

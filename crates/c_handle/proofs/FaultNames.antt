@@ -1,11 +1,11 @@
 -- Each code is that of its number.
 use Rattle.std.proofs.Common.{◌≡◌, refl, Some}
 use Rattle.abc_fields.specs.Fault.{number_of}
-use Rattle.abc_fields.specs.declared.fault.FaultCode.{FaultCode}
-use Rattle.abc_fields.specs.declared.fault.FaultCode.TheVariants.{BadReference, BadMeter, BadUnit, BadTempo, BadKey, BadOrder, BadPart}
-use Rattle.abc_fields.specs.declared.fault.FaultCode.TheVariants.{BadVoice, TooManyVoices, BadByte, Unclosed, BadLength, BadTuplet, NestedTuplet}
-use Rattle.abc_fields.specs.declared.fault.FaultCode.TheVariants.{BadBroken, LooseTie, EmptyChord, BigChord, BadEnding, FreeBarRest}
-use Rattle.abc_fields.specs.declared.fault.FaultCode.TheVariants.{KeyRange, MissingKey, TempoRange, UnknownPart, UnevenVoices, TuneTooLong, BadProgram}
+use Rattle.abc_fields.specs.declared.fault_code.FaultCode.{FaultCode}
+use Rattle.abc_fields.specs.declared.fault_code.FaultCode.TheVariants.{BadReference, BadMeter, BadUnit, BadTempo, BadKey, BadOrder, BadPart}
+use Rattle.abc_fields.specs.declared.fault_code.FaultCode.TheVariants.{BadVoice, TooManyVoices, BadByte, Unclosed, BadLength, BadTuplet, NestedTuplet}
+use Rattle.abc_fields.specs.declared.fault_code.FaultCode.TheVariants.{BadBroken, LooseTie, EmptyChord, BigChord, BadEnding, FreeBarRest}
+use Rattle.abc_fields.specs.declared.fault_code.FaultCode.TheVariants.{KeyRange, MissingKey, TempoRange, UnknownPart, UnevenVoices, TuneTooLong, BadProgram}
 use Rattle.c_handle.specs.FaultNames.{code_numbered}
 
 pub numbered : (code : FaultCode) → code_numbered (number_of code) ≡ Some code

@@ -1,7 +1,7 @@
 -- The codes of faults by their numbers.
 use Rattle.std.specs.Prelude.{◌≡◌, ℕ, ◌-◌, List, Option, None, Some, if◌then◌else◌, ◌==◌, option_map, slice_get}
 use Rattle.abc_fields.specs.Fault.{name_of, number_of}
-use Rattle.abc_fields.specs.declared.fault.FaultCode.{FaultCode}
+use Rattle.abc_fields.specs.declared.fault_code.FaultCode.{FaultCode}
 use Rattle.c_handle.specs.declared.fault_names.TheConstants.{FAULT_CODES}
 
 -- The code of a number, counted from 1.

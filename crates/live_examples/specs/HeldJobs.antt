@@ -1,11 +1,11 @@
 -- Jobs that a caller holds. Not in ABC 2.1.
 use Rattle.std.specs.Prelude.{◌≡◌, ◌≢◌, ⊤, Some}
-use Rattle.abc_publish.specs.Publisher.{Publishing}
+use Rattle.abc_publish.specs.Publisher.{PublisherView}
 use Rattle.live_examples.specs.declared.held_jobs.HeldJobs.{HeldJobs}
 use Rattle.live_examples.specs.declared.held_jobs.HeldJobs.TheVariants.{Nothing, One, Two}
 
 -- The caller's jobs are under way, for different numbers.
-abbrev pub IsUnderWay : Publishing → HeldJobs → Type 0
+abbrev pub IsUnderWay : PublisherView → HeldJobs → Type 0
 IsUnderWay p Nothing = ⊤
 IsUnderWay p (One job) = p.jobs job.number ≡ Some job.bytes
 IsUnderWay p (Two older newer) = (p.jobs older.number ≡ Some older.bytes) × (p.jobs newer.number ≡ Some newer.bytes)

@@ -1,6 +1,6 @@
 -- Values as the worked examples write them. Not in ABC 2.1.
 use Rattle.std.specs.Prelude.{List, [], ◌∷◌, codes}
-use Rattle.abc_fields.specs.declared.fault.FaultCode.TheVariants.{BadByte, BadReference}
+use Rattle.abc_fields.specs.declared.fault_code.FaultCode.TheVariants.{BadByte, BadReference}
 use Rattle.abc_lines.specs.Text.{Text}
 use Rattle.abc_tune_compiler.specs.Tune.{fault_in}
 use Rattle.abc_tune_compiler.specs.declared.fault.Fault.{Fault}

@@ -60,7 +60,7 @@ fn outputs_of_tune(
     let stretch = StretchView {
         lines: &[b"T:A", b"!c"],
         before: 0,
-        left: None,
+        header_state: None,
         places: &[PLACE],
         chains,
         counts: &[1, 1],
@@ -120,7 +120,7 @@ pub fn tune_faults<R: Runtime>(rt: &R, alloc: Global) -> Result<bool, AllocError
     let stretch = StretchView {
         lines: &[b"T:A", b"!c"],
         before: 0,
-        left: None,
+        header_state: None,
         places: &[PLACE],
         chains: &chains,
         counts: &[1, 1],
@@ -141,7 +141,7 @@ pub fn cell_faults<R: Runtime>(rt: &R, alloc: Global) -> Result<bool, AllocError
     let stretch = StretchView {
         lines: &[b"T:A", b"!c"],
         before: 0,
-        left: None,
+        header_state: None,
         places: &[],
         chains: &[],
         counts: &[1, 1],

@@ -1,7 +1,7 @@
 //! The folder of the MIDI files.
 
 ghost use Rattle.std.specs.Prelude.{None};
-ghost use Rattle.abc2midi_live.specs.Storing.{store_seen};
+ghost use Rattle.abc2midi_live.specs.Storing.{store_view};
 
 use abc2midi_live::{Store, StoreFault};
 use std::fs::{self, File};
@@ -107,21 +107,21 @@ impl<'a, R: Runtime + AllocGlobal> Directory<'a, R> {
     }
 
     /// Prints on standard error why a file could not be stored or removed.
-    fn tell(&self, name: &str, error: io::Error) {
+    fn print_error(&self, name: &str, error: io::Error) {
         let _ = eprintln!(self.rt; "{name}: {error}");
     }
 }
 
 #[tactic(auto, using(abc2midi_live::proofs::Counts::raised_none, abc2midi_live::proofs::Counts::raised_within))]
 impl<'a, R: Runtime + AllocGlobal> Store for Directory<'a, R> {
-    ghost seen = { λ d. store_seen d.failures d.calls None };
+    ghost seen = { λ d. store_view d.failures d.calls None };
 
     fn put(&mut self, name: &str, bytes: &[u8]) -> Result<(), StoreFault> {
         self.calls = self.calls.saturating_add(1);
         match self.write(name, bytes) {
             Ok(()) => Ok(()),
             Err(error) => {
-                self.tell(name, error);
+                self.print_error(name, error);
                 self.failures = self.failures.saturating_add(1);
                 Err(StoreFault)
             }
@@ -133,7 +133,7 @@ impl<'a, R: Runtime + AllocGlobal> Store for Directory<'a, R> {
         match self.delete_named(name) {
             Ok(()) => Ok(()),
             Err(error) => {
-                self.tell(name, error);
+                self.print_error(name, error);
                 self.failures = self.failures.saturating_add(1);
                 Err(StoreFault)
             }

@@ -1,7 +1,7 @@
 //! A store in memory that shows its contents, and fails at some of its calls.
 
 ghost use Rattle.std.specs.Prelude.{◌≡◌, ◌∷◌, Some, IsErr, OnErr, OnOk};
-ghost use Rattle.abc2midi_live.specs.Storing.{store_seen};
+ghost use Rattle.abc2midi_live.specs.Storing.{store_view};
 ghost use Rattle.abc_fold.specs.Work.{raised};
 ghost use Rattle.tests.specs.Shelf.{contents_of};
 
@@ -92,7 +92,7 @@ impl Shelf {
 
 #[tactic(auto, using(abc2midi_live::proofs::Counts::raised_none))]
 impl Store for Shelf {
-    ghost seen = { λ s. store_seen s.failures s.calls (Some (contents_of s.changes.items)) };
+    ghost seen = { λ s. store_view s.failures s.calls (Some (contents_of s.changes.items)) };
 
     fn put(&mut self, name: &str, bytes: &[u8]) -> Result<(), StoreFault> {
         if self.is_failing() {

@@ -6,7 +6,7 @@ use Rattle.abc_bars_body.specs.declared.body.Current.TheVariants.{Unnamed, At}
 use Rattle.abc_bars_body.specs.declared.entry.Entry.{Entry}
 use Rattle.abc_bars_body.specs.declared.entry.Entry.TheVariants.{Body, FileHeader, Opening}
 use Rattle.abc_fields.specs.Signature.{natural}
-use Rattle.abc_fields.specs.declared.fault.FaultCode.{FaultCode}
+use Rattle.abc_fields.specs.declared.fault_code.FaultCode.{FaultCode}
 use Rattle.abc_fields.specs.declared.meter.Meter.{Meter}
 use Rattle.abc_fields.specs.declared.meter.Meter.TheVariants.{Free, Of}
 use Rattle.abc_bars_header.specs.Defaults.{no_defaults}

@@ -37,7 +37,7 @@ use Rattle.abc_fields.specs.Shift.{shift_of}
 use Rattle.abc_fields.specs.Signature.{signature_of}
 use Rattle.abc_fields.specs.Meter
 use Rattle.abc_fields.specs.Tempo
-use Rattle.abc_fields.specs.Tonic.{basis_at}
+use Rattle.abc_fields.specs.Tonic.{key_mode_at}
 use Rattle.abc_fields.specs.Voice.{voice_in, voice_of}
 use Rattle.abc_fields.specs.Letters.{play_on}
 use Rattle.abc_fields.specs.Parts.{next}
@@ -91,7 +91,7 @@ properties = tt
 
 -- The signatures of keys.
 unfoldable pub signatures : Unit {0}
-unfolding texts changes_of with_accidentals mode_named mode_of signature_of basis_at
+unfolding texts changes_of with_accidentals mode_named mode_of signature_of key_mode_at
 signatures = tt
 
 -- The keys of `abc_fields`.

@@ -1,6 +1,6 @@
 -- Values as the worked examples write them: a tick is 484,323,840 grains. Not in ABC 2.1.
 use Rattle.std.specs.Prelude.{ℕ, ℤ, ◌*◌, List, pos, Option, Some, None, Result, Ok, Err}
-use Rattle.abc_fields.specs.declared.fault.FaultCode.{FaultCode}
+use Rattle.abc_fields.specs.declared.fault_code.FaultCode.{FaultCode}
 use Rattle.abc_fields.specs.declared.key.Key.{Key}
 use Rattle.abc_fields.specs.declared.shift.Shift.{Shift}
 use Rattle.abc_fields.specs.declared.voice.Voice.{Voice}

@@ -2,7 +2,7 @@
 use Rattle.std.proofs.Common.{◌≡◌, ◌∙◌, Bool, false, List, [], ◌∷◌, ◌++◌, refl, sym, ap, subst, append-nil, append_assoc}
 use Rattle.std.specs.List.{list_any}
 use Rattle.std.proofs.lemmas.List.Elements.{filter-append}
-use Rattle.abc_fields.specs.declared.fault.FaultCode.{FaultCode}
+use Rattle.abc_fields.specs.declared.fault_code.FaultCode.{FaultCode}
 use Rattle.abc_scan.specs.declared.spanned.Spanned.{Spanned}
 use Rattle.abc_scan.specs.declared.token.TokenKind.{TokenKind}
 use Rattle.abc_bars_notes.specs.declared.broken.Preceding.{Preceding}
@@ -16,7 +16,7 @@ use Rattle.abc_bars.specs.LookBack.CellFaults.{AreFaultsAfter, AreFaultsOfCells,
 use Rattle.abc_bars.specs.LookBack.CellPlace.{CellPlace, before_place}
 use Rattle.abc_bars.specs.LookBack.Cells.{after_tokens, look_back}
 use Rattle.abc_bars.specs.LookBack.Element.{Element}
-use Rattle.abc_bars.specs.LookBack.Held.{body_at}
+use Rattle.abc_bars.specs.LookBack.BodyState.{body_at}
 use Rattle.abc_bars.specs.LookBack.Place.{opening_at}
 use Rattle.abc_bars.proofs.LookBack.CellPlace.{tie-next}
 use Rattle.abc_bars.proofs.LookBack.TokenFaults.{Told, codes_of, none_told}

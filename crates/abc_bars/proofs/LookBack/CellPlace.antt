@@ -28,10 +28,10 @@ use Rattle.abc_bars_body.specs.Cell.{with_token}
 use Rattle.abc_bars.specs.LookBack.CellPlace.{CellPlace, GivesItem, before_place, cell_with, voice_place_at, voice_place_of}
 use Rattle.abc_bars.specs.LookBack.Cells.{after_tokens, look_back}
 use Rattle.abc_bars.specs.LookBack.Element.{Element}
-use Rattle.abc_bars.specs.LookBack.Held.{body_at}
+use Rattle.abc_bars.specs.LookBack.BodyState.{body_at}
 use Rattle.abc_bars.specs.LookBack.Place.{opening_at}
 use Rattle.abc_bars.specs.LookBack.Voice.{voice_state_at}
-use Rattle.abc_bars.proofs.LookBack.Held.{here_found}
+use Rattle.abc_bars.proofs.LookBack.BodyState.{here_found}
 use Rattle.abc_bars.proofs.LookBack.TokenResults.{items_added, token_items}
 
 -- What is before a token that is no tie, whatever follows it.

@@ -8,11 +8,11 @@ use Rattle.abc_bars_body.specs.declared.body.Body.{Body}
 use Rattle.abc_bars_body.specs.declared.cell.CellResult.{CellResult}
 use Rattle.abc_bars_header.specs.declared.defaults.Defaults.{Defaults}
 use Rattle.abc_bars_body.specs.Cell.{cell_result, cell_result_from, empty_cell_result, tie_ahead, with_token}
-use Rattle.abc_bars.specs.LookBack.Held.{body_at}
+use Rattle.abc_bars.specs.LookBack.BodyState.{body_at}
 use Rattle.abc_bars.specs.LookBack.Cells.{after_tokens, look_back}
 use Rattle.abc_bars.specs.LookBack.Element.{Element}
 use Rattle.abc_bars.specs.LookBack.Place.{opening_at}
-use Rattle.abc_bars.proofs.LookBack.Held.{body_after_element}
+use Rattle.abc_bars.proofs.LookBack.BodyState.{body_after_element}
 use Rattle.abc_bars.proofs.LookBack.Tokens.{token_leaves}
 
 module _ (values : Defaults) (fields : List HeaderLine) (key : Key) where

@@ -5,8 +5,8 @@ use Rattle.std.specs.Prelude.{filter, is_none}
 use Rattle.std.proofs.lemmas.Bool.{cond_both}
 use Rattle.std.proofs.lemmas.Bool.Decides.{nat_tests}
 use Rattle.std.proofs.lemmas.List.{map-append}
-use Rattle.abc_fields.specs.declared.fault.FaultCode.{FaultCode}
-use Rattle.abc_fields.specs.declared.fault.FaultCode.TheVariants.{BadByte, BadLength, BigChord, KeyRange, LooseTie}
+use Rattle.abc_fields.specs.declared.fault_code.FaultCode.{FaultCode}
+use Rattle.abc_fields.specs.declared.fault_code.FaultCode.TheVariants.{BadByte, BadLength, BigChord, KeyRange, LooseTie}
 use Rattle.abc_fields.specs.Signature.{alteration as signature_alteration}
 use Rattle.abc_scan.specs.declared.chord.Chord.{Chord}
 use Rattle.abc_scan.specs.declared.note.Note.{Note}
@@ -20,7 +20,7 @@ use Rattle.abc_bars_items.specs.declared.item.Tone.{Tone}
 use Rattle.abc_bars_items.specs.declared.item.TheConstants.{MOST_CHORD_NOTES}
 use Rattle.abc_bars_voice.specs.declared.voice_state.VoiceState.{VoiceState}
 use Rattle.abc_bars_notes.specs.declared.sound.ChordBuilder.{ChordBuilder}
-use Rattle.abc_bars_voice.specs.declared.tied.TiedNote.{TiedNote}
+use Rattle.abc_bars_voice.specs.declared.tied_note.TiedNote.{TiedNote}
 use Rattle.abc_bars_voice.specs.Accidentals.{reach_of, written_on}
 use Rattle.abc_bars_voice.specs.Alteration.{alteration_of, own_alteration, tied_alteration, with_own}
 use Rattle.abc_bars_notes.specs.ChordNotes.{notes_of}
@@ -31,7 +31,7 @@ use Rattle.abc_bars_notes.specs.TokenRole.{is_note_part}
 use Rattle.abc_bars_items.specs.Column.{column_of}
 use Rattle.abc_bars.specs.LookBack.CellPlace.{VoicePlace}
 use Rattle.abc_bars.specs.LookBack.Element.{Element}
-use Rattle.abc_bars.specs.LookBack.Faults.{is_told_code, silent_among}
+use Rattle.abc_bars.specs.LookBack.Faults.{is_reported_code, silent_among}
 use Rattle.abc_bars.specs.LookBack.Keys.{heard_of, key_at, keys_from}
 use Rattle.abc_bars.specs.LookBack.Voice.{accidentals_at, accidentals_of, alteration_at, as_tied, counted_notes, notes_among, notes_of_bar, voice_state_at, shift_at, signature_at, tied_among, tied_at}
 use Rattle.abc_bars.proofs.LookBack.Accidentals.{newest_heard, with_each}
@@ -77,7 +77,7 @@ one-more xs x room h = simp length-append (omega arith)
 
 -- The faults that looking back finds.
 abbrev pub Ours : List (ℕ × FaultCode) → List (ℕ × FaultCode)
-Ours faults = Told is_told_code faults
+Ours faults = Told is_reported_code faults
 
 pub of-note : (refused silent : Bool) (column : ℕ) → Ours (fault_if refused column BadLength ++ fault_if silent column KeyRange) ≡ fault_if silent column KeyRange
 of-note true true column = refl
@@ -106,13 +106,13 @@ module _ (opening : VoiceState) (before : List Element) (broken : List Ratio) (o
 
   -- A fault of another kind changes nothing of it.
   beside : (end inside : ChordBuilder) (earlier : List Note) (counted : List (Note × Bool)) (parts : List (Spanned ChordPartKind)) (column : ℕ) (code : FaultCode)
-      → is_told_code code ≡ false → Adds end (with_fault column code inside) earlier counted parts → Adds end inside earlier counted parts
+      → is_reported_code code ≡ false → Adds end (with_fault column code inside) earlier counted parts → Adds end inside earlier counted parts
   beside end inside earlier counted parts column code untold adds = (
     adds.0,
     adds.1,
     adds.2,
     adds.3 ∙ ap (λ f. f ++ silent_among here_at earlier outside.from parts)
-        (more is_told_code inside.faults ((column, code) ∷ []) [] (ap (λ b. cond b ((column, code) ∷ []) []) untold) ∙ append-nil _),
+        (more is_reported_code inside.faults ((column, code) ∷ []) [] (ap (λ b. cond b ((column, code) ∷ []) []) untold) ∙ append-nil _),
   )
 
   -- So it is of these parts, if `room` more notes of the chord count.
@@ -151,7 +151,7 @@ module _ (opening : VoiceState) (before : List Element) (broken : List Ratio) (o
             (ap (as_tied note) (alteration-at opening before inside.accidentals earlier note h)),
         r.2 ∙ ap (λ l. l ++ keys) (map-append heard_of inside.tones _) ∙ append_assoc (map heard_of inside.tones) _ keys
             ∙ ap (λ k. map heard_of inside.tones ++ ((k, tied) ∷ keys)) (key-is opening before inside.accidentals earlier note h),
-        r.3 ∙ ap (λ l. l ++ silent) (more is_told_code inside.faults (note_faults state inside.accidentals broken (Some outside.length) column note) _ (of-note _ _ column))
+        r.3 ∙ ap (λ l. l ++ silent) (more is_reported_code inside.faults (note_faults state inside.accidentals broken (Some outside.length) column note) _ (of-note _ _ column))
             ∙ append_assoc (Ours inside.faults) _ silent
             ∙ ap (λ k. Ours inside.faults ++ (fault_if (is_none k) column KeyRange ++ silent)) (key-is opening before inside.accidentals earlier note h),
       )

@@ -2,8 +2,8 @@
 use Rattle.std.proofs.Common.{◌≡◌, ◌∙◌, ℕ, Bool, true, false, List, [], ◌∷◌, ◌++◌, Option, Some, None, refl, ap}
 use Rattle.std.specs.Prelude.{is_none, not}
 use Rattle.std.proofs.lemmas.List.Elements.{filter-append}
-use Rattle.abc_fields.specs.declared.fault.FaultCode.{FaultCode}
-use Rattle.abc_fields.specs.declared.fault.FaultCode.TheVariants.{EmptyChord, KeyRange}
+use Rattle.abc_fields.specs.declared.fault_code.FaultCode.{FaultCode}
+use Rattle.abc_fields.specs.declared.fault_code.FaultCode.TheVariants.{EmptyChord, KeyRange}
 use Rattle.abc_fields.specs.declared.key.Key.{Key}
 use Rattle.abc_fields.specs.declared.meter.Meter.{Meter}
 use Rattle.abc_fields.specs.declared.meter.Meter.TheVariants.{Free, Of}
@@ -32,15 +32,15 @@ use Rattle.abc_bars_notes.specs.TokenRole.{has_note}
 use Rattle.abc_bars_body.specs.Cell.{may_be_tied, tie_ahead}
 use Rattle.abc_bars.specs.LookBack.CellPlace.{VoicePlace, voice_place_of}
 use Rattle.abc_bars.specs.LookBack.Element.{Element}
-use Rattle.abc_bars.specs.LookBack.Faults.{FaultsLookedBack, bar_rest_faults, chord_faults, is_told_code, mark_faults, told_from, told_in}
-use Rattle.abc_bars.specs.LookBack.Held.{body_at}
+use Rattle.abc_bars.specs.LookBack.Faults.{FaultsLookedBack, bar_rest_faults, chord_faults, is_reported_code, mark_faults, faults_from, faults_in}
+use Rattle.abc_bars.specs.LookBack.BodyState.{body_at}
 use Rattle.abc_bars.specs.LookBack.Keys.{key_at}
 use Rattle.abc_bars.specs.LookBack.Place.{opening_at}
 use Rattle.abc_bars.specs.LookBack.Voice.{meter_at, voice_state_at, tuplet_at}
 use Rattle.abc_bars.proofs.LookBack.CellFaults.{faults_found, rest_faults}
 use Rattle.abc_bars.proofs.LookBack.CellPlace.{here_chord, here_mentioned}
 use Rattle.abc_bars.proofs.LookBack.Chords.{Ours, chord-silent, of-note}
-use Rattle.abc_bars.proofs.LookBack.Held.{here_found}
+use Rattle.abc_bars.proofs.LookBack.BodyState.{here_found}
 use Rattle.abc_bars.proofs.LookBack.Keys.{note-key}
 use Rattle.abc_bars.proofs.LookBack.TokenFaults.{none_told}
 use Rattle.abc_bars.proofs.LookBack.TokenResults.{some_fault, token_faults}
@@ -90,7 +90,7 @@ same-tuplet at = refl
 module _ (values : Defaults) (fields : List HeaderLine) (key : Key) where
   -- The faults of a token.
   of-kind : (before : List Element) (preceding : Preceding) (after : Bool) (from : ℕ) (kind : TokenKind) (ahead : List (Spanned TokenKind))
-      → Ours (token_faults (body_at (opening_at values fields key) before) preceding after from kind ahead) ≡ told_in (voice_place_of values fields key before) from kind
+      → Ours (token_faults (body_at (opening_at values fields key) before) preceding after from kind ahead) ≡ faults_in (voice_place_of values fields key before) from kind
   of-kind before preceding after from (kinds.Note note) ahead =
       ap (λ (s : VoiceState). Ours (play_note s (factors_of preceding ahead) (tie_ahead ahead) from note).faults) (here_mentioned values fields key before)
       ∙ of-single (voice_place_of values fields key before) (factors_of preceding ahead) (tie_ahead ahead) from note
@@ -107,14 +107,14 @@ module _ (values : Defaults) (fields : List HeaderLine) (key : Key) where
       ∙ (λ i. Ours (some_fault from (tuplet_after_mark (same-tuplet at i) (tuplet_by (same-meter at i) mark)).1))
       ∙ of-tuplet from (tuplet_at at.opening.meter at.before) (tuplet_by (meter_at at.opening.meter at.before) mark)
   of-kind before preceding after from kind ahead =
-      none_told is_told_code (body_at (opening_at values fields key) before) preceding after from kind ahead refl
+      none_told is_reported_code (body_at (opening_at values fields key) before) preceding after from kind ahead refl
 
   of-rest : (before : List Element) (preceding : Preceding) (after : Bool) (cell : List (Spanned TokenKind))
-      → Ours (rest_faults (opening_at values fields key) before preceding after cell) ≡ told_from values fields key before cell
+      → Ours (rest_faults (opening_at values fields key) before preceding after cell) ≡ faults_from values fields key before cell
   unfolding rest_faults
   of-rest before preceding after [] = refl
   of-rest before preceding after (token ∷ ahead) =
-      filter-append (λ fault. is_told_code fault.1) (token_faults (body_at (opening_at values fields key) before) preceding after token.from token.kind ahead) _
+      filter-append (λ fault. is_reported_code fault.1) (token_faults (body_at (opening_at values fields key) before) preceding after token.from token.kind ahead) _
       ∙ (λ i. of-kind before preceding after token.from token.kind ahead i
       ++ of-rest (record { kind = token.kind; tied = tie_ahead ahead } ∷ before) (preceding_after preceding token.kind) (may_be_tied token.kind) ahead i)
 

@@ -8,8 +8,8 @@ use Rattle.std.proofs.Math.Nat.{zero-mul}
 use Rattle.std.proofs.lemmas.Bool.{cases_Bool, cases_lt, le-ltb, lt-ltb}
 use Rattle.std.proofs.lemmas.Map.Entries.{length-keys_of}
 use Rattle.std.proofs.lemmas.Bool.Decides.{nat_tests}
-use Rattle.abc_fields.specs.declared.fault.FaultCode.{FaultCode}
-use Rattle.abc_fields.specs.declared.fault.FaultCode.TheVariants.{BadKey, BadMeter, BadPart, BadTempo, BadUnit, BadVoice, TempoRange, TooManyVoices}
+use Rattle.abc_fields.specs.declared.fault_code.FaultCode.{FaultCode}
+use Rattle.abc_fields.specs.declared.fault_code.FaultCode.TheVariants.{BadKey, BadMeter, BadPart, BadTempo, BadUnit, BadVoice, TempoRange, TooManyVoices}
 use Rattle.abc_fields.specs.declared.shift.Shift.{Shift}
 use Rattle.abc_fields.specs.declared.tempo.Tempo.{Tempo}
 use Rattle.abc_fields.specs.declared.tempo.Tempo.TheVariants.{Unset, Units, Beat}
@@ -46,11 +46,11 @@ use Rattle.abc_bars_body.specs.BodyFields.{accept, accept_with_fault, key_by, ki
 use Rattle.abc_bars.specs.LookBack.CellFaults.{AreFaultsOfCells, Faults, HasFieldFaults, IsFaultOfField, IsOneTooMany, IsOnlyFault, IsOutOfRange, NamesPart, is_of_field, names_there, unit_there}
 use Rattle.abc_bars.specs.LookBack.CellPlace.{CellPlace, before_place}
 use Rattle.abc_bars.specs.LookBack.Element.{Element}
-use Rattle.abc_bars.specs.LookBack.Held.{body_at, roll_of}
+use Rattle.abc_bars.specs.LookBack.BodyState.{body_at, voice_list_of}
 use Rattle.abc_bars.specs.LookBack.Voice.{voice_state_at}
 use Rattle.abc_bars.proofs.LookBack.CellFaults.{EachHas, faults_of_cells, none_at, opening}
 use Rattle.abc_bars.proofs.LookBack.TokenFaults.{Told}
-use Rattle.abc_bars.proofs.LookBack.Held.{here_found, names_found}
+use Rattle.abc_bars.proofs.LookBack.BodyState.{here_found, names_found}
 use Rattle.abc_bars.proofs.Names.{among_at, is_among, is_apart, unplaced}
 
 abbrev Ours : Faults → Faults
@@ -220,7 +220,7 @@ module _ (place : CellPlace) (now : List Element) (is : now ≡ before_place pla
   unit-there = ap (λ l. (here (body_at (opening place) l)).unit) is ∙ ap (λ (s : VoiceState). s.unit) (here_found place.values place.fields place.key (before_place place))
 
   names-there : keys_of body.voices ≡ names_there place
-  names-there = ap (λ l. (roll_of (body_at (opening place) l)).names) is ∙ names_found place.values place.fields place.key (before_place place)
+  names-there = ap (λ l. (voice_list_of (body_at (opening place) l)).names) is ∙ names_found place.values place.fields place.key (before_place place)
 
   of_kind : (kind : FieldKind) (value : List ℕ) → IsOnlyFault (IsFaultOfField place kind value) (column_of place.from) (Ours (kind_result body kind value place.from).faults)
   of_kind fields.Meter value =

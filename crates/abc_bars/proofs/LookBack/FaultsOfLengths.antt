@@ -2,8 +2,8 @@
 use Rattle.std.proofs.Common.{◌≡◌, ◌∙◌, ℕ, ◌<◌, Bool, true, false, cond, Option, Some, None, List, [], ◌∷◌, ◌++◌, length, take, refl, sym, ap, subst, arith}
 use Rattle.std.specs.Prelude.{filter, is_none, slice_index_or}
 use Rattle.std.specs.List.{AllByRecursion, Contains}
-use Rattle.abc_fields.specs.declared.fault.FaultCode.{FaultCode}
-use Rattle.abc_fields.specs.declared.fault.FaultCode.TheVariants.{BadLength, KeyRange}
+use Rattle.abc_fields.specs.declared.fault_code.FaultCode.{FaultCode}
+use Rattle.abc_fields.specs.declared.fault_code.FaultCode.TheVariants.{BadLength, KeyRange}
 use Rattle.abc_fields.specs.declared.meter.Meter.{Meter}
 use Rattle.abc_fields.specs.declared.meter.Meter.TheVariants.{Free, Of}
 use Rattle.abc_scan.specs.declared.chord.Chord.{Chord}
@@ -34,7 +34,7 @@ use Rattle.abc_bars_body.specs.Cell.{after_chord_mention, tie_ahead}
 use Rattle.abc_bars.specs.LookBack.CellFaults.{AreFaultsOfCells, Faults, HasBigChord, HasLengthFaults, IsBarsFault, IsLengthFault, is_bad_length_code, is_big_chord}
 use Rattle.abc_bars.specs.LookBack.CellPlace.{CellPlace, before_place, cell_with, voice_place_at}
 use Rattle.abc_bars.specs.LookBack.Element.{Element}
-use Rattle.abc_bars.specs.LookBack.Held.{body_at}
+use Rattle.abc_bars.specs.LookBack.BodyState.{body_at}
 use Rattle.abc_bars.specs.LookBack.Lengths.{state_there}
 use Rattle.abc_bars.specs.LookBack.Voice.{meter_at, voice_state_at}
 use Rattle.abc_bars.proofs.LookBack.CellFaults.{EachHas, faults_of_cells, none_at, opening}

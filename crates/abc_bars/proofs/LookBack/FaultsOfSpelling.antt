@@ -13,7 +13,7 @@ use Rattle.abc_scan.specs.declared.token.TokenKind.TheVariants as kinds
 use Rattle.abc_time.specs.declared.ratio.Ratio.{Ratio}
 use Rattle.abc_bars_items.specs.Column.{column_of}
 use Rattle.abc_bars_voice.specs.declared.voice_state.VoiceState.{VoiceState}
-use Rattle.abc_fields.specs.declared.fault.FaultCode.TheVariants.{BadProgram}
+use Rattle.abc_fields.specs.declared.fault_code.FaultCode.TheVariants.{BadProgram}
 use Rattle.abc_bars_notes.specs.Sound.{fault_if}
 use Rattle.abc_bars_notes.specs.TimeTokens.{play_chord}
 use Rattle.abc_bars.specs.LookBack.CellFaults.{AreFaultsOfCells, Faults, HasSpellingFaults, IsProgramFault, byte_fault, byte_faults, is_of_spelling}

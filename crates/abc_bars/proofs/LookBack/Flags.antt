@@ -2,7 +2,7 @@
 use Rattle.std.proofs.Common.{◌≡◌, ◌∙◌, ℕ, true, List, [], ◌∷◌, ◌++◌, Option, Some, None, Result, Ok, Err, slice_range, refl, ap, append-nil}
 use Rattle.std.specs.Prelude.{filter, option_to_list}
 use Rattle.std.proofs.lemmas.List.Elements.{filter-append}
-use Rattle.abc_fields.specs.declared.fault.FaultCode.{FaultCode}
+use Rattle.abc_fields.specs.declared.fault_code.FaultCode.{FaultCode}
 use Rattle.abc_fields.specs.declared.key.Key.{Key}
 use Rattle.abc_fields.specs.declared.shift.Shift.{Shift}
 use Rattle.abc_fields.specs.declared.tempo.Tempo.{Tempo}
@@ -35,7 +35,7 @@ use Rattle.abc_bars.specs.LookBack.Cells.{look_back}
 use Rattle.abc_bars.specs.LookBack.Element.{Element}
 use Rattle.abc_bars.specs.LookBack.Flags.{BodiesSaySo, HeadersSaySo, is_of_body}
 use Rattle.abc_bars.specs.LookBack.Header.{header_at}
-use Rattle.abc_bars.specs.LookBack.Held.{body_at}
+use Rattle.abc_bars.specs.LookBack.BodyState.{body_at}
 use Rattle.abc_bars.specs.LookBack.Place.{opening_at, result_in_body}
 use Rattle.abc_bars.proofs.LookBack.BodyItems.{AreOfBody, none_of_header, of_kind}
 

@@ -3,8 +3,8 @@ use Rattle.std.proofs.Common.{◌≡◌, ◌∙◌, ℕ, ◌+◌, Bool, true, fa
 use Rattle.std.specs.Prelude.{IsSomeAnd}
 use Rattle.std.proofs.lemmas.List.Elements.{filter-append}
 use Rattle.std.specs.List.{slice_get}
-use Rattle.abc_fields.specs.declared.fault.FaultCode.{FaultCode}
-use Rattle.abc_fields.specs.declared.fault.FaultCode.TheVariants.{BadBroken}
+use Rattle.abc_fields.specs.declared.fault_code.FaultCode.{FaultCode}
+use Rattle.abc_fields.specs.declared.fault_code.FaultCode.TheVariants.{BadBroken}
 use Rattle.abc_scan.specs.declared.broken.BrokenRhythm.{BrokenRhythm}
 use Rattle.abc_scan.specs.declared.spanned.Spanned.{Spanned}
 use Rattle.abc_scan.specs.declared.token.TokenKind.{TokenKind}
@@ -30,13 +30,13 @@ use Rattle.abc_bars_body.proofs.HereLaws.{same_here}
 use Rattle.abc_bars.specs.LookBack.AfterBody.{mentioned_if}
 use Rattle.abc_bars.specs.LookBack.Element.{Element}
 use Rattle.abc_bars.specs.LookBack.Faults.{AreFaultsOfMarks, BadMarksDoNotAct, EmptyChordsGiveNone, EmptyChordsLeaveAll, IsFaultOfMark, is_bad_broken_code}
-use Rattle.abc_bars.specs.LookBack.Held.{body_at}
+use Rattle.abc_bars.specs.LookBack.BodyState.{body_at}
 use Rattle.abc_bars.specs.LookBack.Place.{opening_at}
 use Rattle.abc_bars.proofs.LookBack.CellPlace.{body-at, drop-front, split-following, take-front}
 use Rattle.abc_bars.proofs.LookBack.TokenFaults.{Told, none_told}
 use Rattle.abc_bars.proofs.LookBack.TokenResults.{token_faults}
 use Rattle.abc_bars.proofs.LookBack.CellFaults.{preceding-more, faults_found, rest_faults}
-use Rattle.abc_bars.proofs.LookBack.Held.{body_after_element}
+use Rattle.abc_bars.proofs.LookBack.BodyState.{body_after_element}
 
 -- the faults BadBroken
 abbrev Bad : List (ℕ × FaultCode) → List (ℕ × FaultCode)

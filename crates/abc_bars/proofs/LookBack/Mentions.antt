@@ -2,7 +2,7 @@
 use Rattle.std.proofs.Common.{◌≡◌, ◌∙◌, ℕ, ◌≤◌, true, false, cond, ◌||◌, ◌⊎◌, ⊎_elim, position, Option, Some, None, Result, Ok, Err, List, [], ◌∷◌, length, bytes_eq, refl, sym, ap, subst}
 use Rattle.std.specs.Prelude.{filter, slice_range}
 use Rattle.std.specs.List.{Contains}
-use Rattle.abc_fields.specs.declared.fault.FaultCode.{FaultCode}
+use Rattle.abc_fields.specs.declared.fault_code.FaultCode.{FaultCode}
 use Rattle.abc_fields.specs.declared.voice.Voice.{Voice}
 use Rattle.abc_fields.specs.Voice.{voice_of}
 use Rattle.abc_scan.specs.declared.field.Field.{Field}
@@ -16,13 +16,13 @@ use Rattle.abc_bars_header.specs.declared.field_kind.FieldKind.TheVariants as fi
 use Rattle.abc_bars_notes.specs.TokenRole.{has_note, is_note_part}
 use Rattle.abc_bars_body.specs.BodyFields.{part_of}
 use Rattle.abc_bars.specs.LookBack.AfterBody.{mentions}
-use Rattle.abc_bars.specs.LookBack.ByName.{Current, Naming, names_following, naming_at, owner_of, owner_of_field, owner_of_part, owner_of_voice}
+use Rattle.abc_bars.specs.LookBack.ByName.{Current, NamedVoices, names_following, naming_at, owner_of, owner_of_field, owner_of_part, owner_of_voice}
 use Rattle.abc_bars.specs.LookBack.Header.{with_name}
 use Rattle.abc_bars.specs.LookBack.Mentions.{IsHeard, Mentions, TokensMention, mentioned_at}
 use Rattle.abc_bars.specs.LookBack.Fields.{IsVoiceField, NamesVoice}
 use Rattle.abc_bars.proofs.LookBack.Fields.{names-voice, voice-owner}
 use Rattle.abc_bars.specs.LookBack.Place.{opening_at}
-use Rattle.abc_bars.proofs.LookBack.Held.{IsCurrent, names_found, naming_there, of_none, of_place}
+use Rattle.abc_bars.proofs.LookBack.BodyState.{IsCurrent, names_found, naming_there, of_none, of_place}
 use Rattle.abc_bars.proofs.Names.{among_at, finds_name, full_names, is_missing, known_name, new_name}
 
 -- A name that is known, or one too many, adds none.
@@ -30,12 +30,12 @@ more-again : (names : List (List ℕ)) (name : List ℕ) → Contains names name
 more-again names name h = ⊎_elim (λ has. known_name names name (finds_name name names has)) (λ full. full_names names name full) h
 
 -- The current voice is heard: it is one of those that are mentioned, or there is none, and it is the one without a name.
-heard-first : (naming : Naming) → IsCurrent naming → naming.names ≡ [] → with_name naming.names naming.current ≡ [] ∷ []
+heard-first : (naming : NamedVoices) → IsCurrent naming → naming.names ≡ [] → with_name naming.names naming.current ≡ [] ∷ []
 heard-first naming (of_none is) none = λ i. with_name (is i).names (is i).current
 heard-first naming (of_place at is) none = let e : None ≡ Some at = ap (position (bytes_eq naming.current)) (sym none) ∙ is in absurd (cc)
 
-heard-again : (naming : Naming) → IsCurrent naming → ¬ (naming.names ≡ []) → with_name naming.names naming.current ≡ naming.names
-heard-again naming (of_none is) some = absurd (some (ap (λ (n : Naming). n.names) is))
+heard-again : (naming : NamedVoices) → IsCurrent naming → ¬ (naming.names ≡ []) → with_name naming.names naming.current ≡ naming.names
+heard-again naming (of_none is) some = absurd (some (ap (λ (n : NamedVoices). n.names) is))
 heard-again naming (of_place at is) some = known_name naming.names naming.current (among_at naming.current naming.names at is)
 
 -- What is heard is of the current voice, and mentions it.
@@ -63,15 +63,15 @@ heard-current (kinds.Chord chord) h = (refl, heard-chord chord.parts h)
 heard-current _ h = absurd h
 
 -- Other tokens mention no voice.
-part-keeps : (naming : Naming) (part : Option ℕ) → names_following naming (owner_of_part part) false ≡ naming.names
+part-keeps : (naming : NamedVoices) (part : Option ℕ) → names_following naming (owner_of_part part) false ≡ naming.names
 part-keeps naming None = refl
 part-keeps naming (Some letter) = refl
 
-voice-keeps : (naming : Naming) (value : List ℕ) (r : Result Voice FaultCode) → ((voice : Voice) → r ≡ Ok voice → ⊥) → names_following naming (owner_of_voice value r) false ≡ naming.names
+voice-keeps : (naming : NamedVoices) (value : List ℕ) (r : Result Voice FaultCode) → ((voice : Voice) → r ≡ Ok voice → ⊥) → names_following naming (owner_of_voice value r) false ≡ naming.names
 voice-keeps naming value (Ok voice) none = absurd (none voice refl)
 voice-keeps naming value (Err fault) none = refl
 
-field-keeps : (naming : Naming) (kind : FieldKind) (value : List ℕ) → ((voice : Voice) → kind ≡ fields.Voice → voice_of value ≡ Ok voice → ⊥)
+field-keeps : (naming : NamedVoices) (kind : FieldKind) (value : List ℕ) → ((voice : Voice) → kind ≡ fields.Voice → voice_of value ≡ Ok voice → ⊥)
     → names_following naming (owner_of_field kind value) false ≡ naming.names
 field-keeps naming fields.Voice value none = voice-keeps naming value (voice_of value) (λ voice e. none voice refl e)
 field-keeps naming fields.Parts value none = part-keeps naming (part_of value)
@@ -81,7 +81,7 @@ no-voice : (field : Field) → ((name : List ℕ) → ¬ NamesVoice name field)
     → (voice : Voice) → kind_of field.letter ≡ fields.Voice → voice_of field.value ≡ Ok voice → ⊥
 no-voice field none voice letter read = none (slice_range field.value voice.from voice.to) (names-voice field voice letter read)
 
-others-keep : (naming : Naming) (kind : TokenKind) → ((name : List ℕ) → ¬ IsVoiceField name kind) → ¬ IsHeard kind → names_following naming (owner_of kind) (mentions kind) ≡ naming.names
+others-keep : (naming : NamedVoices) (kind : TokenKind) → ((name : List ℕ) → ¬ IsVoiceField name kind) → ¬ IsHeard kind → names_following naming (owner_of kind) (mentions kind) ≡ naming.names
 others-keep naming (kinds.Note note) none silent = absurd (silent tt)
 others-keep naming (kinds.Rest length) none silent = absurd (silent tt)
 others-keep naming (kinds.BarRest bars) none silent = absurd (silent tt)
@@ -91,7 +91,7 @@ others-keep naming (kinds.Field field) none silent = field-keeps naming (kind_of
 others-keep naming _ none silent = refl
 
 -- So it is for the names after one token.
-steps : (naming : Naming) (kind : TokenKind) → IsCurrent naming → Mentions naming.names kind (names_following naming (owner_of kind) (mentions kind))
+steps : (naming : NamedVoices) (kind : TokenKind) → IsCurrent naming → Mentions naming.names kind (names_following naming (owner_of kind) (mentions kind))
 steps naming kind is = record {
   named_new = λ name h gone room. ap (λ o. names_following naming o (mentions kind)) (voice-owner kind name h)
       ∙ new_name naming.names name (is_missing name naming.names gone) room;
@@ -103,7 +103,7 @@ steps naming kind is = record {
 
 pub tokens_mention : TokensMention
 tokens_mention values lines key before element =
-    let naming : Naming = naming_at (opening_at values lines key) before in
+    let naming : NamedVoices = naming_at (opening_at values lines key) before in
     subst (λ (l : List (List ℕ)). Mentions l element.kind (mentioned_at values lines key (element ∷ before))) (sym (names_found values lines key before))
     (subst (λ (l : List (List ℕ)). Mentions naming.names element.kind l) (sym (names_found values lines key (element ∷ before)))
     (steps naming element.kind (naming_there values lines key before).current))

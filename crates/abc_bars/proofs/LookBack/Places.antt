@@ -17,7 +17,7 @@ use Rattle.abc_bars_header.specs.FieldKind.{kind_of}
 use Rattle.abc_bars_header.specs.Header.{header_result}
 use Rattle.abc_bars_header.specs.HeaderLine.{HeaderLine, FieldLine, DirectiveLine}
 use Rattle.abc_bars_body.specs.Step.{following_kind, following_line, body_step, file_header_step, header_step, line_in, entry_step}
-use Rattle.abc_bars.specs.LookBack.Held.{body_at}
+use Rattle.abc_bars.specs.LookBack.BodyState.{body_at}
 use Rattle.abc_bars.specs.LookBack.Cells.{after_tokens}
 use Rattle.abc_bars.specs.LookBack.Defaults.{defaults_at}
 use Rattle.abc_bars.specs.LookBack.Element.{Element}
@@ -27,7 +27,7 @@ use Rattle.abc_bars.specs.LookBack.Place.{result_in_header, opening_at, place_fo
 use Rattle.abc_bars.proofs.HeaderLaws.{header_following}
 use Rattle.abc_bars.proofs.HeaderViews.{defaults_after}
 use Rattle.abc_bars.proofs.LookBack.Cells.{after_cell, given_by_cell}
-use Rattle.abc_bars.proofs.LookBack.Held.{begins}
+use Rattle.abc_bars.proofs.LookBack.BodyState.{begins}
 
 -- A cell of a file header.
 in-file-header : (before : List HeaderLine) (line : Option HeaderLine)

@@ -2,8 +2,8 @@
 use Rattle.std.proofs.Common.{◌≡◌, ◌∙◌, ◌==◌, ℕ, Bool, true, false, ◌||◌, cond, List, [], ◌∷◌, ◌++◌, map, Option, Some, None, refl, sym, ap, append-nil}
 use Rattle.std.specs.Prelude.{All, filter}
 use Rattle.std.proofs.lemmas.List.Elements.{All-head, All-tail, filter-append}
-use Rattle.abc_fields.specs.declared.fault.FaultCode.{FaultCode}
-use Rattle.abc_fields.specs.declared.fault.FaultCode.TheVariants.{LooseTie}
+use Rattle.abc_fields.specs.declared.fault_code.FaultCode.{FaultCode}
+use Rattle.abc_fields.specs.declared.fault_code.FaultCode.TheVariants.{LooseTie}
 use Rattle.abc_fields.specs.declared.key.Key.{Key}
 use Rattle.abc_fields.specs.Fault.{number_of}
 use Rattle.abc_scan.specs.declared.note.Note.{Note}
@@ -14,7 +14,7 @@ use Rattle.abc_bars_header.specs.HeaderLine.{HeaderLine}
 use Rattle.abc_bars_body.specs.declared.body.Body.{Body}
 use Rattle.abc_bars_header.specs.declared.defaults.Defaults.{Defaults}
 use Rattle.abc_bars_voice.specs.declared.voice_state.VoiceState.{VoiceState}
-use Rattle.abc_bars_voice.specs.declared.tied.TiedNote.{TiedNote}
+use Rattle.abc_bars_voice.specs.declared.tied_note.TiedNote.{TiedNote}
 use Rattle.abc_bars_notes.specs.declared.broken.Preceding.{Preceding}
 use Rattle.abc_bars_notes.specs.declared.broken.Preceding.TheVariants.{Nothing}
 use Rattle.abc_bars_notes.specs.Broken.{factors_of, is_time_token, preceding_after}
@@ -25,7 +25,7 @@ use Rattle.abc_bars_body.specs.Body.{here}
 use Rattle.abc_bars_body.specs.Cell.{after_chord_mention, may_be_tied, tie_ahead}
 use Rattle.abc_bars_items.specs.Column.{column_of}
 use Rattle.abc_bars.specs.LookBack.Element.{Element}
-use Rattle.abc_bars.specs.LookBack.Held.{body_at}
+use Rattle.abc_bars.specs.LookBack.BodyState.{body_at}
 use Rattle.abc_bars.specs.LookBack.Place.{result_in_body, opening_at}
 use Rattle.abc_bars.specs.LookBack.Ties.{IsTimeBefore, altered_note, is_after_note, loose_from, loose_in, loose_ties, tied_in_chord, tied_notes}
 use Rattle.abc_bars.specs.LookBack.Voice.{counted_notes, voice_state_at, tied_among, tied_at, tied_said}

@@ -5,9 +5,9 @@ use Rattle.std.specs.List.{AllByRecursion, list_any}
 use Rattle.std.specs.Option.{ok_or}
 use Rattle.std.proofs.lemmas.Bool.{cond_both, or_parts}
 use Rattle.std.proofs.lemmas.List.Elements.{filter-append}
-use Rattle.abc_fields.specs.declared.fault.FaultCode.{FaultCode}
-use Rattle.abc_fields.specs.declared.fault.FaultCode.TheVariants.{BadBroken, BadByte, BadEnding, BadKey, BadLength, BadMeter, BadPart, BadProgram, BadTempo, BadTuplet, BadUnit, BadVoice, BigChord}
-use Rattle.abc_fields.specs.declared.fault.FaultCode.TheVariants.{EmptyChord, FreeBarRest, KeyRange, LooseTie, NestedTuplet, TempoRange, TooManyVoices, Unclosed}
+use Rattle.abc_fields.specs.declared.fault_code.FaultCode.{FaultCode}
+use Rattle.abc_fields.specs.declared.fault_code.FaultCode.TheVariants.{BadBroken, BadByte, BadEnding, BadKey, BadLength, BadMeter, BadPart, BadProgram, BadTempo, BadTuplet, BadUnit, BadVoice}
+use Rattle.abc_fields.specs.declared.fault_code.FaultCode.TheVariants.{BigChord, EmptyChord, FreeBarRest, KeyRange, LooseTie, NestedTuplet, TempoRange, TooManyVoices, Unclosed}
 use Rattle.abc_fields.specs.declared.meter.Meter.{Meter}
 use Rattle.abc_fields.specs.declared.meter.Meter.TheVariants.{Free, Of}
 use Rattle.abc_fields.specs.Key.{key_in}

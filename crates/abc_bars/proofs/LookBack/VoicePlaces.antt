@@ -9,7 +9,7 @@ use Rattle.std.specs.Result.{result_ok}
 use Rattle.std.proofs.lemmas.Bool.{cases_lt}
 use Rattle.std.proofs.lemmas.List.Elements.{All-cons, All-contains, All-head, All-nil, All-tail, Contains-append_right}
 use Rattle.std.proofs.lemmas.Slice.Eq.{bytes_eq-Decides}
-use Rattle.abc_fields.specs.declared.fault.FaultCode.{FaultCode}
+use Rattle.abc_fields.specs.declared.fault_code.FaultCode.{FaultCode}
 use Rattle.abc_fields.specs.declared.key.Key.{Key}
 use Rattle.abc_fields.specs.declared.shift.Shift.{Shift}
 use Rattle.abc_fields.specs.declared.voice.Voice.{Voice}
@@ -27,7 +27,7 @@ use Rattle.abc_bars_body.specs.declared.body.Body.{Body}
 use Rattle.abc_bars_body.specs.BodyFields.{part_of}
 use Rattle.abc_bars_body.proofs.BodyOpenings.{opening_names}
 use Rattle.abc_bars.specs.LookBack.AfterBody.{mentions}
-use Rattle.abc_bars.specs.LookBack.ByName.{Owner, Named, Everyone, Current, Naming, first_name, is_owned_by, naming_at, naming_after, owner_of, owner_of_field, owner_of_part, owner_of_voice}
+use Rattle.abc_bars.specs.LookBack.ByName.{Owner, Named, Everyone, Current, NamedVoices, first_name, is_owned_by, naming_at, naming_after, owner_of, owner_of_field, owner_of_part, owner_of_voice}
 use Rattle.abc_bars.specs.LookBack.ByName.{tokens_of}
 use Rattle.abc_bars.specs.LookBack.Element.{Element}
 use Rattle.abc_bars.specs.LookBack.Fields.{BeginsPart, IsField, IsVoiceField, NamesVoice}
@@ -37,7 +37,7 @@ use Rattle.abc_bars.specs.LookBack.VoicePlaces.{AreDeclared, AreMentioned, AreTo
 use Rattle.abc_bars.specs.LookBack.VoicePlaces.{IsVoiceAt, IsWithMention, PlacesHoldOfVoices, VoicesAreMentioned, VoicesHoldOfTokens, of_field, of_first, of_last, of_none, of_part, of_place}
 use Rattle.abc_bars.proofs.DeclaredVoices.{declared_keys}
 use Rattle.abc_bars.proofs.LookBack.Fields.{begins-part, names-voice, part-of, voice-accepted, voice-owner}
-use Rattle.abc_bars.proofs.LookBack.Held.{here_found, names_found, voices_found}
+use Rattle.abc_bars.proofs.LookBack.BodyState.{here_found, names_found, voices_found}
 use Rattle.abc_bars.proofs.Names.{by_name, finds_name, full_names, is_among, is_apart, is_missing, known_name, mentioned_name, new_name, refused_name, still_apart}
 
 -- A V: as it is read and as it is said.
@@ -218,7 +218,7 @@ data Known (fields : List HeaderLine) (before : List Element) (names : List (Lis
   since_then : ¬ HasNoVoice fields before → Contains names current → Known fields before names current
 
 -- The names that looking back finds are those of the rule.
-record IsSaid (fields : List HeaderLine) (before : List Element) (naming : Naming) : Type 0 where
+record IsSaid (fields : List HeaderLine) (before : List Element) (naming : NamedVoices) : Type 0 where
   names : AreMentioned fields before naming.names
   voice : IsVoiceAt fields before naming.current
   known : Known fields before naming.names naming.current
@@ -243,7 +243,7 @@ further fields token before name many (of_none none header is) =
 less-voiced : (fields : List HeaderLine) (token : Element) (before : List Element) → HasNoVoice fields (token ∷ before) → HasNoVoice fields before
 less-voiced fields token before none = record { header = none.header; body = All-tail Unvoiced token before none.body }
 
-module _ (fields : List HeaderLine) (token : Element) (before : List Element) (naming : Naming) (said : IsSaid fields before naming) where
+module _ (fields : List HeaderLine) (token : Element) (before : List Element) (naming : NamedVoices) (said : IsSaid fields before naming) where
   -- After a V:.
   module _ (name : List ℕ) (is : owner_of token.kind ≡ Named name) where
     same-name : (other : List ℕ) → IsVoiceField other token.kind → name ≡ other

@@ -7,7 +7,7 @@ use Rattle.std.specs.Prelude.{Result, Ok, Err}
 use Rattle.std.specs.List.{list_any}
 use Rattle.std.specs.Map.{keys_of}
 use Rattle.std.specs.Option.{option_and_then}
-use Rattle.abc_fields.specs.declared.fault.FaultCode.{FaultCode}
+use Rattle.abc_fields.specs.declared.fault_code.FaultCode.{FaultCode}
 use Rattle.abc_fields.specs.declared.voice.Voice.{Voice}
 use Rattle.abc_fields.specs.Voice.{voice_of}
 use Rattle.abc_scan.specs.declared.field.Field.{Field}
@@ -57,12 +57,12 @@ abbrev pub owner_of : TokenKind → Owner
 owner_of kind = owner_by (field_of kind)
 
 -- The names of the voices that are mentioned before a place, in order, and that of the current one.
-pub record Naming : Type 0 where
+pub record NamedVoices : Type 0 where
   pub names : List (List ℕ)
   pub current : List ℕ
 
 -- The names after a token, which mentions its voice or not.
-abbrev pub names_following : Naming → Owner → Bool → List (List ℕ)
+abbrev pub names_following : NamedVoices → Owner → Bool → List (List ℕ)
 names_following naming (Named name) sounds = with_name naming.names name
 names_following naming Everyone sounds = naming.names
 names_following naming Current sounds = if sounds then with_name naming.names naming.current else naming.names
@@ -73,7 +73,7 @@ current_after names (Named name) current = if list_any (bytes_eq name) names the
 current_after names Everyone current = current
 current_after names Current current = current
 
-abbrev pub naming_after : Naming → Owner → Bool → Naming
+abbrev pub naming_after : NamedVoices → Owner → Bool → NamedVoices
 naming_after naming owner sounds =
     let names = names_following naming owner sounds in
     record { names = names; current = current_after names owner naming.current }
@@ -84,11 +84,11 @@ first_name [] = []
 first_name (name ∷ names) = name
 
 -- The names at the beginning of a body.
-abbrev pub opening_naming : Body → Naming
+abbrev pub opening_naming : Body → NamedVoices
 opening_naming opening = record { names = keys_of opening.voices; current = first_name (keys_of opening.voices) }
 
 -- The names at a place.
-abbrev pub naming_at : Body → List Element → Naming
+abbrev pub naming_at : Body → List Element → NamedVoices
 naming_at opening [] = opening_naming opening
 naming_at opening (element ∷ before) = naming_after (naming_at opening before) (owner_of element.kind) (mentions element.kind)
 

@@ -3,9 +3,9 @@
 use Rattle.std.specs.Prelude.{◌≡◌, ◌⊎◌, ◌==◌, ◌||◌, ℕ, ◌+◌, ◌<◌, ◌≤◌, Bool, List, [], ◌∷◌, ◌++◌, length, filter, take, slice_range}
 use Rattle.std.specs.Prelude.{Option, Some, None, option_to_list}
 use Rattle.std.specs.List.{Contains}
-use Rattle.abc_fields.specs.declared.fault.FaultCode.{FaultCode}
-use Rattle.abc_fields.specs.declared.fault.FaultCode.TheVariants.{BadByte, BadEnding, BadKey, BadLength, BadMeter, BadPart}
-use Rattle.abc_fields.specs.declared.fault.FaultCode.TheVariants.{
+use Rattle.abc_fields.specs.declared.fault_code.FaultCode.{FaultCode}
+use Rattle.abc_fields.specs.declared.fault_code.FaultCode.TheVariants.{BadByte, BadEnding, BadKey, BadLength, BadMeter, BadPart}
+use Rattle.abc_fields.specs.declared.fault_code.FaultCode.TheVariants.{
   BadProgram,
   BadTempo,
   BadUnit,

@@ -5,7 +5,7 @@ use Rattle.abc_scan.specs.declared.token.TokenKind.{TokenKind}
 use Rattle.abc_bars_body.specs.declared.body.Body.{Body}
 use Rattle.abc_bars_body.specs.declared.cell.CellResult.{CellResult}
 use Rattle.abc_bars_body.specs.Cell.{tie_ahead, with_token}
-use Rattle.abc_bars.specs.LookBack.Held.{body_at}
+use Rattle.abc_bars.specs.LookBack.BodyState.{body_at}
 use Rattle.abc_bars.specs.LookBack.Element.{Element}
 
 -- A token of a cell as an element, by what comes after it in the cell.

@@ -2,9 +2,9 @@
 -- faults are not in ABC 2.1.
 use Rattle.std.specs.Prelude.{◌≡◌, ◌==◌, ◌||◌, ℕ, ◌+◌, Bool, false, not, is_none, List, [], ◌∷◌, ◌++◌, length, take, filter, Option}
 use Rattle.std.specs.Prelude.{Some, None}
-use Rattle.abc_fields.specs.declared.fault.FaultCode.{FaultCode}
-use Rattle.abc_fields.specs.declared.fault.FaultCode.TheVariants.{BadBroken, BadTuplet, EmptyChord, FreeBarRest, KeyRange}
-use Rattle.abc_fields.specs.declared.fault.FaultCode.TheVariants.{NestedTuplet}
+use Rattle.abc_fields.specs.declared.fault_code.FaultCode.{FaultCode}
+use Rattle.abc_fields.specs.declared.fault_code.FaultCode.TheVariants.{BadBroken, BadTuplet, EmptyChord, FreeBarRest, KeyRange}
+use Rattle.abc_fields.specs.declared.fault_code.FaultCode.TheVariants.{NestedTuplet}
 use Rattle.abc_fields.specs.declared.key.Key.{Key}
 use Rattle.abc_fields.specs.declared.meter.Meter.{Meter}
 use Rattle.abc_fields.specs.declared.meter.Meter.TheVariants.{Free, Of}
@@ -29,20 +29,20 @@ use Rattle.abc_bars_notes.specs.TokenRole.{has_note}
 use Rattle.abc_bars_body.specs.Cell.{tie_ahead}
 use Rattle.abc_bars.specs.LookBack.CellPlace.{CellPlace, VoicePlace, cell_of, items_of, voice_place_of}
 use Rattle.abc_bars.specs.LookBack.Element.{Element}
-use Rattle.abc_bars.specs.LookBack.Held.{body_at}
+use Rattle.abc_bars.specs.LookBack.BodyState.{body_at}
 use Rattle.abc_bars.specs.LookBack.Keys.{key_at}
 use Rattle.abc_bars.specs.LookBack.Place.{result_in_body, opening_at}
 use Rattle.abc_bars.specs.LookBack.Voice.{meter_at, tuplet_at}
 
 -- Whether a fault is KeyRange, EmptyChord, FreeBarRest, BadTuplet or NestedTuplet.
-abbrev pub is_told_code : FaultCode → Bool
-is_told_code code =
+abbrev pub is_reported_code : FaultCode → Bool
+is_reported_code code =
     let number = number_of code in
     (number == number_of KeyRange) || (number == number_of EmptyChord) || (number == number_of FreeBarRest)
     || (number == number_of BadTuplet) || (number == number_of NestedTuplet)
 
-abbrev pub is_told : ℕ × FaultCode → Bool
-is_told fault = is_told_code fault.1
+abbrev pub is_reported : ℕ × FaultCode → Bool
+is_reported fault = is_reported_code fault.1
 
 -- KeyRange of a part of a chord at a place of its line, after these notes of the chord, newest first: it is at a note
 -- that MIDI has no key for.
@@ -80,26 +80,26 @@ mark_faults None (Some new) from = []
 mark_faults (Some old) (Some new) from = (column_of from, NestedTuplet) ∷ []
 
 -- The faults of a token at a place of its line, by its place in its voice.
-abbrev pub told_in : VoicePlace → ℕ → TokenKind → List (ℕ × FaultCode)
-told_in at from (kinds.Note note) = fault_if (is_none (key_at at [] note)) (column_of from) KeyRange
-told_in at from (kinds.Chord chord) = chord_faults at from chord
-told_in at from (kinds.BarRest bars) = bar_rest_faults (meter_at at.opening.meter at.before) from
-told_in at from (kinds.Tuplet mark) =
+abbrev pub faults_in : VoicePlace → ℕ → TokenKind → List (ℕ × FaultCode)
+faults_in at from (kinds.Note note) = fault_if (is_none (key_at at [] note)) (column_of from) KeyRange
+faults_in at from (kinds.Chord chord) = chord_faults at from chord
+faults_in at from (kinds.BarRest bars) = bar_rest_faults (meter_at at.opening.meter at.before) from
+faults_in at from (kinds.Tuplet mark) =
     mark_faults (tuplet_at at.opening.meter at.before) (tuplet_by (meter_at at.opening.meter at.before) mark) from
-told_in at from _ = []
+faults_in at from _ = []
 
 -- The faults of tokens, each by its place in its voice.
-abbrev pub told_from : Defaults → List HeaderLine → Key → List Element → List (Spanned TokenKind) → List (ℕ × FaultCode)
-told_from values fields key before [] = []
-told_from values fields key before (token ∷ ahead) =
-    told_in (voice_place_of values fields key before) token.from token.kind
-    ++ told_from values fields key (record { kind = token.kind; tied = tie_ahead ahead } ∷ before) ahead
+abbrev pub faults_from : Defaults → List HeaderLine → Key → List Element → List (Spanned TokenKind) → List (ℕ × FaultCode)
+faults_from values fields key before [] = []
+faults_from values fields key before (token ∷ ahead) =
+    faults_in (voice_place_of values fields key before) token.from token.kind
+    ++ faults_from values fields key (record { kind = token.kind; tied = tie_ahead ahead } ∷ before) ahead
 
 -- KeyRange, EmptyChord, FreeBarRest, BadTuplet and NestedTuplet are in a cell exactly at the tokens that looking back finds.
 abbrev pub FaultsLookedBack : Type 0
 FaultsLookedBack =
     (values : Defaults) (fields : List HeaderLine) (key : Key) (before : List Element) (cell : List (Spanned TokenKind))
-    → filter is_told (result_in_body values fields key before cell).faults ≡ told_from values fields key before cell
+    → filter is_reported (result_in_body values fields key before cell).faults ≡ faults_from values fields key before cell
 
 -- A chord without a note gives no item.
 abbrev pub EmptyChordsGiveNone : Type 0

@@ -10,7 +10,7 @@ use Rattle.abc_bars_header.specs.declared.defaults.Defaults.{Defaults}
 use Rattle.abc_bars_notes.specs.ChordNotes.{notes_of}
 use Rattle.abc_bars.specs.LookBack.Element.{Element}
 use Rattle.abc_bars.specs.LookBack.Fields.{IsVoiceField}
-use Rattle.abc_bars.specs.LookBack.Held.{body_at, roll_of}
+use Rattle.abc_bars.specs.LookBack.BodyState.{body_at, voice_list_of}
 use Rattle.abc_bars.specs.LookBack.Place.{opening_at}
 
 -- A token is a note, a rest, a rest of bars, or a chord that has a note.
@@ -33,7 +33,7 @@ pub record Mentions (old : List (List ℕ)) (kind : TokenKind) (new : List (List
 
 -- The names of the voices that are mentioned at a place of a body.
 abbrev pub mentioned_at : Defaults → List HeaderLine → Key → List Element → List (List ℕ)
-mentioned_at values lines key before = (roll_of (body_at (opening_at values lines key) before)).names
+mentioned_at values lines key before = (voice_list_of (body_at (opening_at values lines key) before)).names
 
 -- Each token does so, at any place.
 abbrev pub TokensMention : Type 0

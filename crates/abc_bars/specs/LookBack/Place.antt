@@ -21,7 +21,7 @@ use Rattle.abc_bars_header.specs.FileHeader.{file_header_result}
 use Rattle.abc_bars_header.specs.Header.{header_result}
 use Rattle.abc_bars_header.specs.HeaderLine.{HeaderLine, FieldLine, DirectiveLine}
 use Rattle.abc_bars_body.specs.Step.{line_in}
-use Rattle.abc_bars.specs.LookBack.Held.{body_at}
+use Rattle.abc_bars.specs.LookBack.BodyState.{body_at}
 use Rattle.abc_bars.specs.LookBack.Cells.{after_tokens, look_back}
 use Rattle.abc_bars.specs.LookBack.Defaults.{defaults_at}
 use Rattle.abc_bars.specs.LookBack.Element.{Element}

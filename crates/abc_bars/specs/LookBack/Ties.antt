@@ -1,8 +1,8 @@
 -- Which ties of a cell are loose, and from which notes of a voice a tie leads on. ABC 2.1 section 4.11.
 use Rattle.std.specs.Prelude.{◌≡◌, ℕ, ◌+◌, Bool, true, false, ◌||◌, if◌then◌else◌, List, [], ◌∷◌, ◌++◌, map, filter, All, Option}
 use Rattle.std.specs.Prelude.{Some, None}
-use Rattle.abc_fields.specs.declared.fault.FaultCode.{FaultCode}
-use Rattle.abc_fields.specs.declared.fault.FaultCode.TheVariants.{LooseTie}
+use Rattle.abc_fields.specs.declared.fault_code.FaultCode.{FaultCode}
+use Rattle.abc_fields.specs.declared.fault_code.FaultCode.TheVariants.{LooseTie}
 use Rattle.abc_scan.specs.declared.chord.Chord.{Chord}
 use Rattle.abc_scan.specs.declared.note.Note.{Note}
 use Rattle.abc_scan.specs.declared.spanned.Spanned.{Spanned}
@@ -15,7 +15,7 @@ use Rattle.abc_bars_body.specs.Cell.{may_be_tied}
 use Rattle.abc_bars.specs.LookBack.Element.{Element}
 use Rattle.abc_bars.specs.LookBack.Voice.{alteration_at, as_tied, counted_notes, tied_at}
 use Rattle.abc_bars_voice.specs.declared.voice_state.VoiceState.{VoiceState}
-use Rattle.abc_bars_voice.specs.declared.tied.TiedNote.{TiedNote}
+use Rattle.abc_bars_voice.specs.declared.tied_note.TiedNote.{TiedNote}
 
 -- Whether what is directly before a token in its cell, if anything does, is a note or a chord.
 abbrev pub is_after_note : Option TokenKind → Bool

@@ -31,7 +31,7 @@ use Rattle.abc_bars_header.specs.declared.field_kind.FieldKind.{FieldKind}
 use Rattle.abc_bars_header.specs.declared.field_kind.FieldKind.TheVariants as fields
 use Rattle.abc_bars_items.specs.declared.item.TheConstants.{MOST_CHORD_NOTES}
 use Rattle.abc_bars_voice.specs.declared.voice_state.VoiceState.{VoiceState}
-use Rattle.abc_bars_voice.specs.declared.tied.TiedNote.{TiedNote}
+use Rattle.abc_bars_voice.specs.declared.tied_note.TiedNote.{TiedNote}
 use Rattle.abc_bars_voice.specs.declared.voice_shift.VoiceShift.{VoiceShift}
 use Rattle.abc_bars_voice.specs.Accidentals.{no_accidentals, reach_of}
 use Rattle.abc_bars_voice.specs.Alteration.{own_alteration, tied_alteration, with_own}

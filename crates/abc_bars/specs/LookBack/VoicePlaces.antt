@@ -15,7 +15,7 @@ use Rattle.abc_bars.specs.LookBack.ByName.{opening_of}
 use Rattle.abc_bars.specs.LookBack.CellPlace.{voice_place_of}
 use Rattle.abc_bars.specs.LookBack.Element.{Element}
 use Rattle.abc_bars.specs.LookBack.Fields.{BeginsPart, IsField, IsVoiceField, NamesVoice}
-use Rattle.abc_bars.specs.LookBack.Held.{body_at, roll_of}
+use Rattle.abc_bars.specs.LookBack.BodyState.{body_at, voice_list_of}
 use Rattle.abc_bars.specs.LookBack.Place.{opening_at}
 use Rattle.abc_bars.specs.LookBack.Voice.{voice_state_at}
 
@@ -141,7 +141,7 @@ AreTokensOf fields name (token ∷ before) tokens =
 abbrev pub VoicesAreMentioned : Type 0
 VoicesAreMentioned =
     (values : Defaults) (fields : List HeaderLine) (key : Key) (before : List Element)
-    → AreMentioned fields before (roll_of (body_at (opening_at values fields key) before)).names
+    → AreMentioned fields before (voice_list_of (body_at (opening_at values fields key) before)).names
 
 -- The state of the voice of a place is what the tokens of its voice leave of what that voice opened with. The laws of tokens speak
 -- of these tokens (`stands`).
@@ -164,7 +164,7 @@ PlacesHoldOfVoices =
 abbrev pub VoicesHoldOfTokens : Type 0
 VoicesHoldOfTokens =
     (values : Defaults) (fields : List HeaderLine) (key : Key) (before : List Element) (at : ℕ) (name : List ℕ)
-    → slice_get (roll_of (body_at (opening_at values fields key) before)).names at ≡ Some name
+    → slice_get (voice_list_of (body_at (opening_at values fields key) before)).names at ≡ Some name
     → (tokens : List Element) × AreTokensOf fields name before tokens
     × (voice_at (body_at (opening_at values fields key) before).voices at
     ≡ Some (voice_state_at (opening_of (opening_at values fields key) name) tokens))

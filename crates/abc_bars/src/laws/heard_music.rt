@@ -4,14 +4,14 @@ ghost use Rattle.std.specs.Prelude.{◌≡◌, List, [], ◌∷◌};
 ghost use Rattle.abc_bars_header.specs.HeaderLine.{HeaderLine};
 ghost use Rattle.abc_bars.specs.LookBack.AfterBody.{body_after};
 ghost use Rattle.abc_bars.specs.LookBack.Element.{Element};
-ghost use Rattle.abc_bars.specs.LookBack.Held.{body_at};
+ghost use Rattle.abc_bars.specs.LookBack.BodyState.{body_at};
 ghost use Rattle.abc_bars.specs.LookBack.Place.{AtEachPlace, opening_at};
 ghost use Rattle.abc_bars_header.specs.declared.defaults.Defaults.{Defaults};
 ghost use Rattle.abc_fields.specs.declared.key.Key.{Key};
 
 /// The state at a place of a body, for all voices, is what looking back finds: at the beginning of the body what it
 /// begins with, and after one element more what that element leaves of what was found before.
-#[tactic(auto, using(crate::proofs::LookBack::Held::begins, crate::proofs::LookBack::Held::body_after_element))]
+#[tactic(auto, using(crate::proofs::LookBack::BodyState::begins, crate::proofs::LookBack::BodyState::body_after_element))]
 pub fn body_views()
     ensures begins { (opening : Defaults) (fields : List HeaderLine) (key : Key) →
         body_at (opening_at opening fields key) [] ≡ opening_at opening fields key }

@@ -3,22 +3,22 @@ use Rattle.std.specs.Prelude.{ℕ, ◌⊎◌, ◌≡◌, ℤ, ◌+ℤ◌, List, 
 use Rattle.std.specs.List.{Contains}
 use Rattle.abc_fields.specs.declared.key.Key.{Key}
 use Rattle.abc_fields.specs.declared.signature.Signature.{Signature}
-use Rattle.abc_fields.specs.declared.tonic.Basis.{Basis}
-use Rattle.abc_fields.specs.declared.tonic.Basis.TheVariants.{Named, Explicit}
+use Rattle.abc_fields.specs.declared.tonic.KeyMode.{KeyMode}
+use Rattle.abc_fields.specs.declared.tonic.KeyMode.TheVariants.{Named, Explicit}
 use Rattle.abc_fields.specs.Spelling.Listed.{AreListed}
 use Rattle.abc_fields.specs.Mode.{added_sharps, is_minor}
 use Rattle.abc_fields.specs.Spelling.Clef.{HasMark, IsClefName}
 use Rattle.abc_fields.specs.Shift.{no_shift}
 use Rattle.abc_fields.specs.Spelling.Shift.{IsShift}
 use Rattle.abc_fields.specs.Signature.{IsSharps, signature_of}
-use Rattle.abc_fields.specs.Spelling.Tonic.{IsTonic, IsBasis}
+use Rattle.abc_fields.specs.Spelling.Tonic.{IsTonic, IsKeyMode}
 use Rattle.abc_text.specs.Word.{AreWords, IsFirstWord}
 use Rattle.abc_fields.specs.Key.{empty_key, unchanged_key}
 use Rattle.abc_text.specs.Byte.{equals_sign, caret, underscore}
 
--- The key of a basis on the tonic whose major key has these sharps. The bound of seven sharps or flats is not in ABC
+-- The key of a mode on the tonic whose major key has these sharps. The bound of seven sharps or flats is not in ABC
 -- 2.1.
-abbrev pub IsKeyOn : ℤ → Basis → Key → Type 0
+abbrev pub IsKeyOn : ℤ → KeyMode → Key → Type 0
 IsKeyOn major Explicit key = key ≡ empty_key
 IsKeyOn major (Named mode) key =
     let sharps = major +ℤ added_sharps mode in
@@ -42,8 +42,8 @@ SetsProperties word = Contains word equals_sign ⊎ (((n : ℤ) × HasMark word 
 -- an empty signature if accidentals are listed, and no signature if there are only properties. The last two are not in
 -- ABC 2.1.
 pub data IsStart (value : List ℕ) (start : Key) (text : List ℕ) : Type 0 where
-  tonal : (major : ℤ) (following : List ℕ) (basis : Basis) → IsTonic value major following → IsBasis following basis text
-      → IsKeyOn major basis start → IsStart value start text
+  tonal : (major : ℤ) (following : List ℕ) (key_mode : KeyMode) → IsTonic value major following → IsKeyMode following key_mode text
+      → IsKeyOn major key_mode start → IsStart value start text
   listed : (first following : List ℕ) → HasNoTonic value → IsFirstWord value first following → BeginsAccidental first
       → start ≡ empty_key → text ≡ value → IsStart value start text
   properties : (first following : List ℕ) → HasNoTonic value → IsFirstWord value first following → ¬ BeginsAccidental first

@@ -4,8 +4,8 @@ use Rattle.std.specs.List.{AllPass}
 use Rattle.std.specs.Char.{is_ascii_alphabetic}
 use Rattle.abc_fields.specs.declared.mode.Mode.{Mode}
 use Rattle.abc_fields.specs.declared.mode.Mode.TheVariants.{Ionian}
-use Rattle.abc_fields.specs.declared.tonic.Basis.{Basis}
-use Rattle.abc_fields.specs.declared.tonic.Basis.TheVariants.{Named, Explicit}
+use Rattle.abc_fields.specs.declared.tonic.KeyMode.{KeyMode}
+use Rattle.abc_fields.specs.declared.tonic.KeyMode.TheVariants.{Named, Explicit}
 use Rattle.abc_text.specs.declared.letter.Letter.{Letter}
 use Rattle.abc_text.specs.Blank.{is_blank}
 use Rattle.abc_text.specs.Letter.{capital}
@@ -44,13 +44,13 @@ pub record IsRun (text blanks run rest : List ℕ) : Type 0 where
   pub are_letters : AllPass is_ascii_alphabetic run
   pub no_more_letters : StopsAt is_ascii_alphabetic rest
 
--- The basis of a signature, by the text after the tonic, and the rest. A run of letters names a mode, or is `exp` after
+-- The mode of a key, by the text after the tonic, and the rest. A run of letters names a mode, or is `exp` after
 -- blanks. Without either, the mode is major. Then a run of letters comes after blanks, and belongs to the rest.
-pub data IsBasis (text : List ℕ) (basis : Basis) (rest : List ℕ) : Type 0 where
-  named : (blanks run : List ℕ) (mode : Mode) → IsRun text blanks run rest → IsMode run mode → basis ≡ Named mode
-      → IsBasis text basis rest
-  explicit : (blanks : List ℕ) → IsRun text blanks (codes "exp") rest → 0 < length blanks → basis ≡ Explicit
-      → IsBasis text basis rest
+pub data IsKeyMode (text : List ℕ) (key_mode : KeyMode) (rest : List ℕ) : Type 0 where
+  named : (blanks run : List ℕ) (mode : Mode) → IsRun text blanks run rest → IsMode run mode → key_mode ≡ Named mode
+      → IsKeyMode text key_mode rest
+  explicit : (blanks : List ℕ) → IsRun text blanks (codes "exp") rest → 0 < length blanks → key_mode ≡ Explicit
+      → IsKeyMode text key_mode rest
   major : (blanks run following : List ℕ) → IsRun text blanks run following → ((mode : Mode) → ¬ IsMode run mode)
-      → ((run ≡ []) ⊎ ((0 < length blanks) × (run ≢ codes "exp"))) → basis ≡ Named Ionian → rest ≡ text
-      → IsBasis text basis rest
+      → ((run ≡ []) ⊎ ((0 < length blanks) × (run ≢ codes "exp"))) → key_mode ≡ Named Ionian → rest ≡ text
+      → IsKeyMode text key_mode rest

@@ -4,7 +4,7 @@
 ghost use Rattle.std.specs.Prelude.{◌≡◌, [], ◌∷◌, ◌++◌, codes};
 ghost use Rattle.abc2midi_live.specs.Answer.{fault_list, title_list};
 ghost use Rattle.abc2midi_live.specs.Transcript.{book_lines};
-ghost use Rattle.abc_fields.specs.declared.fault.FaultCode.TheVariants.{BadBroken, BadByte, MissingKey};
+ghost use Rattle.abc_fields.specs.declared.fault_code.FaultCode.TheVariants.{BadBroken, BadByte, MissingKey};
 
 /// The lines of a tune book. One mark of UTF-8 at its start is dropped; a last line without a line feed counts if it is
 /// not empty.

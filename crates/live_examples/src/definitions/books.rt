@@ -2,7 +2,7 @@
 #![tactic(auto, unfolding(crate::specs::Opened::books))]
 
 ghost use Rattle.std.specs.Prelude.{◌≡◌, [], ◌∷◌, codes};
-ghost use Rattle.abc_fields.specs.declared.fault.FaultCode.TheVariants.{BadByte, BadReference, TuneTooLong};
+ghost use Rattle.abc_fields.specs.declared.fault_code.FaultCode.TheVariants.{BadByte, BadReference, TuneTooLong};
 ghost use Rattle.abc_tune_compiler.specs.Book.{empty_book};
 ghost use Rattle.abc_tune_compiler.specs.Fault.{fault_cmp};
 ghost use Rattle.abc_tune_compiler.specs.Sort.{sort_dedup};

@@ -4,10 +4,11 @@
 #![tactic(auto, unfolding(crate::specs::Opened::bars))]
 
 ghost use Rattle.std.specs.Prelude.{◌≡◌, pos, negsuc, true, false, [], ◌∷◌, codes, Some, None};
-ghost use Rattle.abc_fields.specs.declared.fault.FaultCode.TheVariants.{BadBroken, BadByte, BadEnding, BadKey, BadLength, BadMeter};
-ghost use Rattle.abc_fields.specs.declared.fault.FaultCode.TheVariants.{BadPart, BadProgram, BadTempo, BadTuplet, BadUnit};
-ghost use Rattle.abc_fields.specs.declared.fault.FaultCode.TheVariants.{BadVoice, BigChord, EmptyChord, FreeBarRest, KeyRange};
-ghost use Rattle.abc_fields.specs.declared.fault.FaultCode.TheVariants.{LooseTie, NestedTuplet, TempoRange, Unclosed};
+ghost use Rattle.abc_fields.specs.declared.fault_code.FaultCode.TheVariants.{BadBroken, BadByte, BadEnding, BadKey, BadLength};
+ghost use Rattle.abc_fields.specs.declared.fault_code.FaultCode.TheVariants.{BadMeter, BadPart, BadProgram, BadTempo, BadTuplet};
+ghost use Rattle.abc_fields.specs.declared.fault_code.FaultCode.TheVariants.{BadUnit, BadVoice, BigChord, EmptyChord, FreeBarRest};
+ghost use Rattle.abc_fields.specs.declared.fault_code.FaultCode.TheVariants.{KeyRange, LooseTie, NestedTuplet, TempoRange};
+ghost use Rattle.abc_fields.specs.declared.fault_code.FaultCode.TheVariants.{Unclosed};
 ghost use Rattle.abc_fields.specs.declared.meter.Meter.TheVariants.{Of};
 ghost use Rattle.abc_bars_items.specs.declared.item.Item.TheVariants as items;
 ghost use Rattle.abc_scan.specs.declared.directive.Reach.TheVariants.{Not, Octave, Pitch};

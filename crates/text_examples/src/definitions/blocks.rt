@@ -2,7 +2,7 @@
 #![tactic(auto, unfolding(abc_book::specs::Block::blocks_of))]
 
 ghost use Rattle.std.specs.Prelude.{◌≡◌, [], ◌∷◌};
-ghost use Rattle.abc_scan.specs.declared.class.LineClass.TheVariants.{Blank, Comment, Directive, Music};
+ghost use Rattle.abc_scan.specs.declared.line_class.LineClass.TheVariants.{Blank, Comment, Directive, Music};
 ghost use Rattle.abc_book.specs.Block.{blocks_of};
 ghost use Rattle.text_examples.specs.Blocks.{continued, free, header, key, reference, tune};
 

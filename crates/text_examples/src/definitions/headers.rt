@@ -4,8 +4,8 @@
 
 ghost use Rattle.std.specs.Prelude.{◌≡◌, pos, negsuc, true, false, [], ◌∷◌, codes, Some, None};
 ghost use Rattle.abc_bars_body.specs.declared.entry.Entry.TheVariants.{FileHeader, Opening};
-ghost use Rattle.abc_fields.specs.declared.fault.FaultCode.TheVariants.{BadKey, BadMeter, BadOrder, BadProgram, BadReference};
-ghost use Rattle.abc_fields.specs.declared.fault.FaultCode.TheVariants.{BadTempo, BadUnit, BadVoice};
+ghost use Rattle.abc_fields.specs.declared.fault_code.FaultCode.TheVariants.{BadKey, BadMeter, BadOrder, BadProgram, BadReference};
+ghost use Rattle.abc_fields.specs.declared.fault_code.FaultCode.TheVariants.{BadTempo, BadUnit, BadVoice};
 ghost use Rattle.abc_fields.specs.declared.meter.Meter.TheVariants.{Free, Of};
 ghost use Rattle.abc_bars_header.specs.Defaults.{no_defaults};
 ghost use Rattle.abc_bars_items.specs.declared.item.Item.TheVariants as items;

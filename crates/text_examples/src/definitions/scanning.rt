@@ -2,7 +2,7 @@
 #![tactic(auto, unfolding(crate::specs::Opened::tokens))]
 
 ghost use Rattle.std.specs.Prelude.{◌≡◌, false, pos, negsuc, [], ◌∷◌, codes, drop, map, replicate, take};
-ghost use Rattle.abc_scan.specs.declared.class.LineClass.TheVariants.{Blank, Comment, Directive, Field, Music};
+ghost use Rattle.abc_scan.specs.declared.line_class.LineClass.TheVariants.{Blank, Comment, Directive, Field, Music};
 ghost use Rattle.abc_scan.specs.declared.length.WrittenLength.TheVariants.{Factor, Refused};
 ghost use Rattle.abc_text.specs.declared.accidental.Accidental.TheVariants.{DoubleSharp};
 ghost use Rattle.abc_text.specs.declared.letter.Letter.TheVariants.{C};

@@ -6,8 +6,8 @@ ghost use Rattle.std.specs.Prelude.{◌≡◌, ◌^◌, ◌-◌, pos, negsuc, tr
 ghost use Rattle.abc_bars_body.specs.BodyFields.{part_of};
 ghost use Rattle.abc_bars_body.specs.BodyOpening.{zero_shift};
 ghost use Rattle.abc_fields.specs.Shift.{no_shift};
-ghost use Rattle.abc_fields.specs.declared.fault.FaultCode.TheVariants.{BadLength, BadReference, BadTuplet, FreeBarRest};
-ghost use Rattle.abc_fields.specs.declared.fault.FaultCode.TheVariants.{NestedTuplet, TooManyVoices};
+ghost use Rattle.abc_fields.specs.declared.fault_code.FaultCode.TheVariants.{BadLength, BadReference, BadTuplet, FreeBarRest};
+ghost use Rattle.abc_fields.specs.declared.fault_code.FaultCode.TheVariants.{NestedTuplet, TooManyVoices};
 ghost use Rattle.abc_fields.specs.declared.meter.Meter.TheVariants.{Free, Of};
 ghost use Rattle.abc_fields.specs.declared.tempo.Tempo.TheVariants.{Beat, Units, Unset};
 ghost use Rattle.abc_bars_header.specs.FieldKind.{kind_of};

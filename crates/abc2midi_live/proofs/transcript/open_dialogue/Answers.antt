@@ -6,7 +6,7 @@ use Rattle.abc_publish.specs.Publisher.{maps_of}
 use Rattle.abc2midi_live.specs.Dialogue.{Opens}
 use Rattle.abc2midi_live.specs.PendingCommand.{begun_command}
 use Rattle.abc2midi_live.specs.RunOutput.{dialogue_view}
-use Rattle.abc2midi_live.specs.declared.fault.RunFault.TheVariants.{Memory}
+use Rattle.abc2midi_live.specs.declared.run_fault.RunFault.TheVariants.{Memory}
 use Rattle.abc2midi_live.proofs.Counts.{raised_none}
 use Rattle.abc2midi_live.proofs.Feeding.{fault_is}
 use Rattle.abc2midi_live.proofs.Runs.{opens_none, opens_some}

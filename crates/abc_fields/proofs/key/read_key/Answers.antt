@@ -1,6 +1,6 @@
 use Rattle.std.proofs.Common.{◌≡◌, ap, ◌∙◌}
 use Rattle.std.specs.Option.{ok_or}
-use Rattle.abc_fields.specs.declared.fault.FaultCode.TheVariants.{BadKey}
+use Rattle.abc_fields.specs.declared.fault_code.FaultCode.TheVariants.{BadKey}
 use Rattle.abc_fields.specs.Key.{key_of}
 use Rattle.abc_fields.proofs.Readings.{exact_reading}
 use Rattle.abc_fields.proofs.Keys.{key_read}

@@ -1,5 +1,5 @@
 use Rattle.std.proofs.Common.{cond, Ok, Err, ap}
-use Rattle.abc_fields.specs.declared.fault.FaultCode.TheVariants.{BadOrder}
+use Rattle.abc_fields.specs.declared.fault_code.FaultCode.TheVariants.{BadOrder}
 use Rattle.abc_fields.proofs.Orders.{parts_ok, parts_refused}
 use Rattle.abc_fields.proofs.parts.read_parts.Goals as goal
 

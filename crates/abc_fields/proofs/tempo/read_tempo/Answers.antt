@@ -1,6 +1,6 @@
 use Rattle.std.proofs.Common.{◌≡◌, ◌∙◌, ap}
 use Rattle.std.specs.Prelude.{ok_or}
-use Rattle.abc_fields.specs.declared.fault.FaultCode.TheVariants.{BadTempo}
+use Rattle.abc_fields.specs.declared.fault_code.FaultCode.TheVariants.{BadTempo}
 use Rattle.abc_fields.specs.Tempo.{tempo_of}
 use Rattle.abc_fields.proofs.Readings.{exact_reading}
 use Rattle.abc_fields.proofs.Tempos.{tempo_read}

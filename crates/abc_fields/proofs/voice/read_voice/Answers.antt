@@ -1,6 +1,6 @@
 use Rattle.std.proofs.Common.{ap, ◌∙◌}
 use Rattle.std.specs.Option.{ok_or}
-use Rattle.abc_fields.specs.declared.fault.FaultCode.TheVariants.{BadVoice}
+use Rattle.abc_fields.specs.declared.fault_code.FaultCode.TheVariants.{BadVoice}
 use Rattle.abc_fields.specs.Voice.{voice_of}
 use Rattle.abc_fields.proofs.Readings.{exact_reading}
 use Rattle.abc_fields.proofs.Voices.{voice_read}

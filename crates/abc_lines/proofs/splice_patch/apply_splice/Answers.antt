@@ -1,5 +1,5 @@
 use Rattle.std.proofs.Common.{ap, ◌∙◌, subst, Option}
-use Rattle.abc_lines.specs.GapList.{Gapped}
+use Rattle.abc_lines.specs.GapList.{GapListView}
 use Rattle.abc_lines.specs.ListSplice.{Fits, count_after}
 use Rattle.abc_lines.proofs.ListSplices.{left_out, move_items, put_in, put_in_room, put_in_roomier}
 use Rattle.abc_lines.proofs.splice_patch.apply_splice.Goals as goal
@@ -9,7 +9,7 @@ pub returns : goal.returns
 returns g c =
     let list = c.args.list.now in
     let new = c.args.new.items in
-    let HasRoom : Option (Gapped g.row.T.Denot) → Type 0 = λ o. Fits (count_after list c.args.removed new) list o in
+    let HasRoom : Option (GapListView g.row.T.Denot) → Type 0 = λ o. Fits (count_after list c.args.removed new) list o in
     elim c.match-roomier.branch [
       | in-Some w ↦
           let fits = subst HasRoom w.in-Some.is c.requires.fits in

@@ -13,7 +13,7 @@ pub bounds-stretch-place : goal.bounds-stretch-place
 bounds-stretch-place g c =
     as_many (g.C.Fold.steps c.args.compiler.now) (g.C.Compiler.rules c.args.compiler.now)
     (g.met.C.Fold.resumable c.args.compiler.now) (g.met.C.Compiler.lawful c.args.compiler.now)
-    (option_copied c.args.stretch.now.left) c.args.stretch.now.before (seen_lines c.args.stretch.now.lines.now)
+    (option_copied c.args.stretch.now.header_state) c.args.stretch.now.before (seen_lines c.args.stretch.now.lines.now)
     c.args.stretch.now.chains.now c.args.stretch.now.places.now c.requires.tunes c.args.place c.requires.place
 
 pub offset_bounds-stretch-place : goal.offset_bounds-stretch-place
@@ -21,7 +21,7 @@ offset_bounds-stretch-place g c =
     let inside : c.args.place < length c.args.stretch.now.places.now =
     as_many (g.C.Fold.steps c.args.compiler.now) (g.C.Compiler.rules c.args.compiler.now)
     (g.met.C.Fold.resumable c.args.compiler.now) (g.met.C.Compiler.lawful c.args.compiler.now)
-    (option_copied c.args.stretch.now.left) c.args.stretch.now.before (seen_lines c.args.stretch.now.lines.now)
+    (option_copied c.args.stretch.now.header_state) c.args.stretch.now.before (seen_lines c.args.stretch.now.lines.now)
     c.args.stretch.now.chains.now c.args.stretch.now.places.now c.requires.tunes c.args.place c.requires.place in
     search rules
 
@@ -30,7 +30,7 @@ key_of-requires g c =
     rw (← length-map c.args.stretch.now.lines.now (λ (line : Bor (List ℕ)). line.now))
     (lies_there (g.C.Fold.steps c.args.compiler.now) (g.C.Compiler.rules c.args.compiler.now)
     (g.met.C.Fold.resumable c.args.compiler.now) (g.met.C.Compiler.lawful c.args.compiler.now)
-    (option_copied c.args.stretch.now.left) c.args.stretch.now.before (seen_lines c.args.stretch.now.lines.now)
+    (option_copied c.args.stretch.now.header_state) c.args.stretch.now.before (seen_lines c.args.stretch.now.lines.now)
     c.args.stretch.now.chains.now c.args.stretch.now.places.now c.requires.tunes c.args.place _ c.requires.place)
 
 pub returns-in_err-key-clause-counted : goal.returns-in_err-key-clause-counted
@@ -43,7 +43,7 @@ pub built-requires-clause-of_key : goal.built-requires-clause-of_key
 built-requires-clause-of_key g c =
     items_of_tune (g.C.Fold.steps c.args.compiler.now) (g.C.Compiler.rules c.args.compiler.now)
     (g.met.C.Fold.resumable c.args.compiler.now) (g.met.C.Compiler.lawful c.args.compiler.now)
-    (option_copied c.args.stretch.now.left) c.args.stretch.now.before (seen_lines c.args.stretch.now.lines.now)
+    (option_copied c.args.stretch.now.header_state) c.args.stretch.now.before (seen_lines c.args.stretch.now.lines.now)
     c.args.stretch.now.chains.now c.args.stretch.now.places.now c.requires.tunes c.args.place _ c.chain_at-chain.result.now
     c.in_ok-key.key c.deref.result.now c.requires.limits c.requires.place c.chain_at-chain.ensures c.in_ok-key.ensures
     (c.deref.ensures.value ∙ c.in_ok-items.ensures)

@@ -1,5 +1,5 @@
 use Rattle.std.proofs.Common.{◌≡◌, Some, true, length, slice_get, sym, ◌∙◌, ap, subst, rules}
-use Rattle.abc_fold.specs.Chain.{Chained, Folds}
+use Rattle.abc_fold.specs.Chain.{ChainView, Folds}
 use Rattle.abc_live_text.specs.ReusedTunes.{are_alike_both, is_along}
 use Rattle.abc_live_text.proofs.WholeOldTunes.{whole_cells, whole_folds}
 use Rattle.abc_live_text.proofs.reused_tunes.whole_chain.Goals as goal
@@ -10,7 +10,7 @@ returns-clause-folds g c =
     let was = c.get-was.result.now in
     let there : slice_get c.args.old.now.items c.in_ok-source.source ≡ Some was = sym c.in_ok-known.ensures ∙ ap Some (sym c.get-was.ensures) in
     let alike : are_alike_both steps.alike (slice_get was.entries 0) (Some c.args.opening.now) ≡ true = sym (c.begins_in.ensures c.args.fold.now) ∙ c.if-not-begins_in.false in
-    subst (λ (x : Chained g.row.F-State.Denot g.row.F-Cell.Denot g.row.F-Items.Denot). Folds steps c.args.opening.now x) c.get-was.ensures
+    subst (λ (x : ChainView g.row.F-State.Denot g.row.F-Cell.Denot g.row.F-Items.Denot). Folds steps c.args.opening.now x) c.get-was.ensures
     (whole_folds steps c.args.old.now.items c.in_ok-source.source was c.args.opening.now (g.met.F.Fold.resumable c.args.fold.now) c.requires.folded there alike)
 
 pub returns-clause-cells : goal.returns-clause-cells
@@ -18,5 +18,5 @@ returns-clause-cells g c =
     let was = c.get-was.result.now in
     let there : slice_get c.args.old.now.items c.in_ok-source.source ≡ Some was = sym c.in_ok-known.ensures ∙ ap Some (sym c.get-was.ensures) in
     let along : is_along c.in_ok-source.source (length was.cells) 0 c.args.rows.now ≡ true = search rules in
-    ap (λ (x : Chained g.row.F-State.Denot g.row.F-Cell.Denot g.row.F-Items.Denot). x.cells) (sym c.get-was.ensures)
+    ap (λ (x : ChainView g.row.F-State.Denot g.row.F-Cell.Denot g.row.F-Items.Denot). x.cells) (sym c.get-was.ensures)
     ∙ whole_cells c.args.old.now.items c.args.rows.now c.in_ok-source.source was c.requires.carried there along

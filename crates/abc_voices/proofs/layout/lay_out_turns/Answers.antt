@@ -2,7 +2,7 @@ use Rattle.std.proofs.Common.{◌≡◌, ◌≤◌, ℕ, Err, ap, subst, ◌∙�
 use Rattle.abc_time.specs.Grains.{grains_of_the_latest_end}
 use Rattle.abc_voices_sections.specs.Items.{items_of}
 use Rattle.abc_voices.specs.Turns.{stages_in}
-use Rattle.abc_voices_sections.specs.declared.stage.StageFault.TheVariants.{TooLate}
+use Rattle.abc_voices_sections.specs.declared.stage.StageError.TheVariants.{TooLate}
 use Rattle.abc_voices_score.specs.declared.score.Score.{Score}
 use Rattle.abc_voices.proofs.Given.{score_given}
 use Rattle.abc_voices.proofs.Layouts.{stages_hold, late_total, late_end, score_is, uneven_is, first_within}

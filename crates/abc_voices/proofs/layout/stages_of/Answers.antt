@@ -4,7 +4,7 @@ use Rattle.abc_bars_items.specs.declared.item.Item.{Item}
 use Rattle.abc_repeat.specs.declared.play.TheConstants.{MOST_PLACES}
 use Rattle.abc_time.specs.Grains.{grains_of_the_latest_end}
 use Rattle.abc_voices_sections.specs.Items.{items_of}
-use Rattle.abc_voices_sections.specs.declared.stage.StageFault.TheVariants.{TooMany, TooLate}
+use Rattle.abc_voices_sections.specs.declared.stage.StageError.TheVariants.{TooMany, TooLate}
 use Rattle.abc_voices.specs.Stages.{at_places}
 use Rattle.abc_voices_sections.specs.PlayedSection.{size_in, section_length}
 use Rattle.abc_voices_sections.specs.Stage.{content, stage_of}

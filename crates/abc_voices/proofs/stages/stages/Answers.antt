@@ -2,7 +2,7 @@ use Rattle.std.proofs.Common.{◌≡◌, ◌∙◌, ℕ, ◌+◌, ◌++◌, List
 use Rattle.std.proofs.lemmas.Grind.{common_steps}
 use Rattle.std.specs.Prelude.{Option, Err}
 use Rattle.abc_voices_sections.specs.declared.stage.Stage.{Stage}
-use Rattle.abc_voices_sections.specs.declared.stage.StageFault.TheVariants as faults
+use Rattle.abc_voices_sections.specs.declared.stage.StageError.TheVariants as faults
 use Rattle.abc_voices.specs.Stages.{ArePut}
 use Rattle.abc_voices.proofs.Placed.{put_more, staged, too_many_at, too_late_at, places_at, fault_is, none_in}
 use Rattle.abc_voices.proofs.stages.stages.Goals as goal

@@ -1,9 +1,9 @@
 use Rattle.std.proofs.Common.{◌≡◌, drop}
 use Rattle.abc_voices_sections.specs.EndingFields.{nothing_waits}
 use Rattle.abc_voices_sections.specs.declared.ending_fields.Region.TheVariants.{Common}
-use Rattle.abc_voices_sections.specs.Stretches.{runs_of, items_in}
+use Rattle.abc_voices_sections.specs.ItemRuns.{runs_of, items_in}
 use Rattle.abc_voices_sections.proofs.ending_fields.has_waiting_item.Given as goal
 
 -- the rest says what all say
-abbrev pub invariant-loop-stretch : goal.invariant-loop-stretch
-invariant-loop-stretch l = nothing_waits l.region (items_in (runs_of (drop l.stretch-index l.stretches))) ≡ nothing_waits Common (items_in (runs_of l.stretches))
+abbrev pub invariant-loop-item_run : goal.invariant-loop-item_run
+invariant-loop-item_run l = nothing_waits l.region (items_in (runs_of (drop l.item_run-index l.item_runs))) ≡ nothing_waits Common (items_in (runs_of l.item_runs))

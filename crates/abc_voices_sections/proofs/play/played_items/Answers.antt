@@ -9,31 +9,31 @@ pub returns-then-not-has_waiting_item-clause-value : goal.returns-then-not-has_w
 returns-then-not-has_waiting_item-clause-value c =
     let same = in_place c.args.part.items _ _ _ _ _ c.deref-2.ensures.value c.deref-3.ensures.value
     c.deref-then-not-has_waiting_item.ensures.value c.in_ok-found.ensures c.has_waiting_item.ensures c.if-not-has_waiting_item.true in
-    subst (λ (played : List Item). IfOk c.expand_stretches.result (λ items. items_of items.items ≡ played)) same c.expand_stretches.ensures.value
+    subst (λ (played : List Item). IfOk c.expand_item_runs.result (λ items. items_of items.items ≡ played)) same c.expand_item_runs.ensures.value
 
 pub returns-then-not-has_waiting_item-clause-size : goal.returns-then-not-has_waiting_item-clause-size
 returns-then-not-has_waiting_item-clause-size c =
     let same = in_place c.args.part.items _ _ _ _ _ c.deref-2.ensures.value c.deref-3.ensures.value
     c.deref-then-not-has_waiting_item.ensures.value c.in_ok-found.ensures c.has_waiting_item.ensures c.if-not-has_waiting_item.true in
-    sized c.expand_stretches.result (items_of c.args.part.items) _ same c.expand_stretches.ensures.value
+    sized c.expand_item_runs.result (items_of c.args.part.items) _ same c.expand_item_runs.ensures.value
 
 pub returns-then-not-has_waiting_item-clause-too_long : goal.returns-then-not-has_waiting_item-clause-too_long
 returns-then-not-has_waiting_item-clause-too_long c = λ late.
     let same = in_place c.args.part.items _ _ _ _ _ c.deref-2.ensures.value c.deref-3.ensures.value
     c.deref-then-not-has_waiting_item.ensures.value c.in_ok-found.ensures c.has_waiting_item.ensures c.if-not-has_waiting_item.true in
-    subst (λ count. min c.args.room MOST_PLACES < count) (places_alike (items_of c.args.part.items) _ same) (c.expand_stretches.ensures.too_long late)
+    subst (λ count. min c.args.room MOST_PLACES < count) (places_alike (items_of c.args.part.items) _ same) (c.expand_item_runs.ensures.too_long late)
 
 pub returns-clause-value : goal.returns-clause-value
 returns-clause-value c =
     let same = in_order c.args.part.items _ _ _ _ _ c.deref-4.ensures.value c.in_ok-steps.ensures c.deref-5.ensures.value c.deref-6.ensures.value c.in_ok-found-2.ensures in
-    subst (λ (played : List Item). IfOk c.expand_stretches-2.result (λ items. items_of items.items ≡ played)) same c.expand_stretches-2.ensures.value
+    subst (λ (played : List Item). IfOk c.expand_item_runs-2.result (λ items. items_of items.items ≡ played)) same c.expand_item_runs-2.ensures.value
 
 pub returns-clause-size : goal.returns-clause-size
 returns-clause-size c =
     let same = in_order c.args.part.items _ _ _ _ _ c.deref-4.ensures.value c.in_ok-steps.ensures c.deref-5.ensures.value c.deref-6.ensures.value c.in_ok-found-2.ensures in
-    sized c.expand_stretches-2.result (items_of c.args.part.items) _ same c.expand_stretches-2.ensures.value
+    sized c.expand_item_runs-2.result (items_of c.args.part.items) _ same c.expand_item_runs-2.ensures.value
 
 pub returns-clause-too_long : goal.returns-clause-too_long
 returns-clause-too_long c = λ late.
     let same = in_order c.args.part.items _ _ _ _ _ c.deref-4.ensures.value c.in_ok-steps.ensures c.deref-5.ensures.value c.deref-6.ensures.value c.in_ok-found-2.ensures in
-    subst (λ count. min c.args.room MOST_PLACES < count) (places_alike (items_of c.args.part.items) _ same) (c.expand_stretches-2.ensures.too_long late)
+    subst (λ count. min c.args.room MOST_PLACES < count) (places_alike (items_of c.args.part.items) _ same) (c.expand_item_runs-2.ensures.too_long late)

@@ -1,9 +1,9 @@
 use Rattle.std.proofs.Common.{◌≡◌, ◌-◌, ◌^◌, min, take, length}
 use Rattle.std.specs.List.{flat_map}
 use Rattle.abc_repeat.specs.Runs.{items_at}
-use Rattle.abc_voices_sections.specs.Stretches.{runs_of}
+use Rattle.abc_voices_sections.specs.ItemRuns.{runs_of}
 use Rattle.abc_voices_sections.proofs.play.size_at.Given as goal
 
 -- how many are at the places that are passed
 abbrev pub invariant-loop-place : goal.invariant-loop-place
-invariant-loop-place l = l.size ≡ min (length (flat_map (items_at (runs_of l.stretches)) (take l.place-index l.places))) (2 ^ 64 - 1)
+invariant-loop-place l = l.size ≡ min (length (flat_map (items_at (runs_of l.item_runs)) (take l.place-index l.places))) (2 ^ 64 - 1)

@@ -1,7 +1,7 @@
 use Rattle.std.proofs.Common.{◌∷◌, ◌++◌, [], ap, ◌∙◌}
 use Rattle.std.proofs.KnownBytes.{Keeps-refl}
 use Rattle.abc2midi_live.specs.Outcome.{outlets}
-use Rattle.abc2midi_live.specs.declared.fault.RunFault.TheVariants.{Memory}
+use Rattle.abc2midi_live.specs.declared.run_fault.RunFault.TheVariants.{Memory}
 use Rattle.abc2midi_live.proofs.Feeding.{fault_exit, serve_line}
 use Rattle.abc2midi_live.proofs.Feeding.{unasked_ahead}
 use Rattle.abc2midi_live.proofs.listener.Listener.end_line.Goals as goal

@@ -3,7 +3,7 @@ use Rattle.abc2midi_live.proofs.Counts.{raised_none}
 use Rattle.std.proofs.KnownBytes.{Keeps-refl}
 use Rattle.abc2midi_live.specs.Machine.{future_of_bytes}
 use Rattle.abc2midi_live.specs.Outcome.{outlets}
-use Rattle.abc2midi_live.specs.declared.fault.RunFault.TheVariants.{Memory}
+use Rattle.abc2midi_live.specs.declared.run_fault.RunFault.TheVariants.{Memory}
 use Rattle.abc2midi_live.proofs.Feeding.{fed_none, fed_more, fed_end, fed_all, fed_broken, fed_fault, nothing_ahead}
 use Rattle.abc2midi_live.proofs.Feeding.{piece_kept, fault_exit, cut_some, cut_none, none_ends, unasked_ahead}
 use Rattle.abc2midi_live.proofs.listener.Listener.feed.Goals as goal

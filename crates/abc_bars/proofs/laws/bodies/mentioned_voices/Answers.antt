@@ -1,4 +1,4 @@
-use Rattle.abc_bars.proofs.LookBack.Held.{current_held, distinct_held, few_held}
+use Rattle.abc_bars.proofs.LookBack.BodyState.{current_held, distinct_held, few_held}
 use Rattle.abc_bars.proofs.laws.bodies.mentioned_voices.Goals as goal
 
 pub returns : goal.returns

@@ -1,4 +1,4 @@
-use Rattle.abc_bars.proofs.LookBack.Held.{here_found, names_found, voices_found}
+use Rattle.abc_bars.proofs.LookBack.BodyState.{here_found, names_found, voices_found}
 use Rattle.abc_bars.proofs.laws.names.named_voices.Goals as goal
 
 pub returns : goal.returns

@@ -1,7 +1,7 @@
 use Rattle.std.proofs.Common.{◌≡◌, ◌+◌, ◌-◌, ◌≤◌, ◌++◌, drop, length, take, sym, ap, ◌∙◌, subst, arith}
 use Rattle.abc_live_index.proofs.BookSplice.{count, items, same_after, same_front}
 use Rattle.abc_live_index.specs.KeptBook.{KeptBookView}
-use Rattle.abc_lines.specs.GapList.{Gapped}
+use Rattle.abc_lines.specs.GapList.{GapListView}
 use Rattle.abc_live_index.specs.declared.output.Output.{Output}
 use Rattle.abc_live_index.proofs.kept_book.KeptBook.prepare.Goals as goal
 
@@ -11,7 +11,7 @@ differences-requires-clause-change c =
     let before = c.self.inside.outputs in
     let after = c.in_ok-outputs.outputs.after in
     let same : before ≡ c.args.self.now.outputs = ap (λ (b : KeptBookView). b.outputs) c.self.view_is in
-    let inside : tunes.range.to ≤ length before.items = subst (λ (g : Gapped Output). tunes.range.to ≤ length g.items) (sym same) c.requires.inside in
+    let inside : tunes.range.to ≤ length before.items = subst (λ (g : GapListView Output). tunes.range.to ≤ length g.items) (sym same) c.requires.inside in
     let many : length tunes.outputs.items ≡ c.len-count.result = omega (arith, c.len-count.ensures, tunes.outputs.ok.0) in
     let is = c.in_ok-outputs.ensures.after in
     record {
@@ -28,6 +28,6 @@ returns-in-Ok-clause-outputs c =
     let tunes = c.args.tunes in
     let before = c.self.inside.outputs in
     let same : before ≡ c.args.self.now.outputs = ap (λ (b : KeptBookView). b.outputs) c.self.view_is in
-    let inside : tunes.range.to ≤ length before.items = subst (λ (g : Gapped Output). tunes.range.to ≤ length g.items) (sym same) c.requires.inside in
+    let inside : tunes.range.to ≤ length before.items = subst (λ (g : GapListView Output). tunes.range.to ≤ length g.items) (sym same) c.requires.inside in
     items before c.in_ok-outputs.outputs.after tunes.range.from tunes.range.to tunes.outputs.items c.requires.order inside c.in_ok-outputs.ensures.after
-    ∙ ap (λ (g : Gapped Output). take tunes.range.from g.items ++ (tunes.outputs.items ++ drop tunes.range.to g.items)) same
+    ∙ ap (λ (g : GapListView Output). take tunes.range.from g.items ++ (tunes.outputs.items ++ drop tunes.range.to g.items)) same

@@ -1,5 +1,5 @@
 use Rattle.std.proofs.Common.{◌∙◌, ap, subst}
-use Rattle.abc_fold.specs.Chain.{Chained}
+use Rattle.abc_fold.specs.Chain.{ChainView}
 use Rattle.abc_live_text.specs.Chains.{state_after_chain}
 use Rattle.abc_live_text.specs.KeptText.{KeptTextView}
 use Rattle.abc_live_text.specs.Lead.{IsKeptOpening}
@@ -12,5 +12,5 @@ returns g c =
     IsKeptOpening (g.C.Compiler.rules k.compiler) k c.tune_opening.result) c.self.view_is (record {
       first = c.item_at.result.now;
       there = c.item_at.ensures;
-      begins = c.tune_opening.ensures ∙ ap (λ (x : Chained g.row.C-State.Denot g.row.C-Cell.Denot g.row.C-Items.Denot). rules'.tune (state_after_chain c.self.inside.header x)) c.get-first.ensures;
+      begins = c.tune_opening.ensures ∙ ap (λ (x : ChainView g.row.C-State.Denot g.row.C-Cell.Denot g.row.C-Items.Denot). rules'.tune (state_after_chain c.self.inside.header x)) c.get-first.ensures;
     })
