@@ -7,7 +7,7 @@ use Rattle.std.specs.Char.{is_ascii_digit, is_ascii_uppercase}
 use Rattle.std.proofs.lemmas.List.{take_at, drop_at}
 use Rattle.std.proofs.lemmas.List.Elements.{filter_map-append}
 use Rattle.arrayvec.specs.ArrayVec.{ArrayVec}
-use Rattle.abc_fields.specs.Letters.{Played, letters_so_far, with_item, close_group, count_on, is_order_byte, read_on}
+use Rattle.abc_fields.specs.Letters.{OrderLetters, letters_so_far, with_item, close_group, count_on, is_order_byte, read_on}
 use Rattle.abc_fields.proofs.Fronts.{reads_letter, reads_open, reads_close, reads_digit, reads_silent}
 use Rattle.abc_repeat.specs.declared.order_play.OrderPlay.{OrderPlay}
 use Rattle.abc_repeat.specs.OrderPlay.{letters_around, sections_with, group_begins, IsPlayOf}
@@ -18,7 +18,7 @@ sections-append : (section : ℕ → Option ℕ) (front back : List ℕ) → sec
 sections-append section front back = ap (λ l. 0 ∷ l) (filter_map-append section front back)
 
 -- the last item begins inside
-pub begins_inside : (section : ℕ → Option ℕ) (played : Played) (play : OrderPlay) → IsPlayOf section played play → play.begin ≤ length play.sections.items
+pub begins_inside : (section : ℕ → Option ℕ) (played : OrderLetters) (play : OrderPlay) → IsPlayOf section played play → play.begin ≤ length play.sections.items
 begins_inside section played play is =
     let whole = ap length (is.sections ∙ sections-append section (letters_around played.around ++ played.before) played.item) in
     omega (arith, whole, is.begin, length-append (sections_with section (letters_around played.around ++ played.before)) (filter_map section played.item))
@@ -41,7 +41,7 @@ item_ended section around before item items begin n is begins =
 abbrev ended : OrderPlay → Vec ℕ Global → ℕ → OrderPlay
 ended play sections begin = record { sections = sections; groups = play.groups; begin = begin; count = None }
 
-pub end_played : (section : ℕ → Option ℕ) (played : Played) (play : OrderPlay) (sections : Vec ℕ Global) (begin : ℕ) → IsPlayOf section played play
+pub end_played : (section : ℕ → Option ℕ) (played : OrderLetters) (play : OrderPlay) (sections : Vec ℕ Global) (begin : ℕ) → IsPlayOf section played play
     → sections.items ≡ sections_with section (letters_around played.around ++ letters_so_far played) → begin ≡ length sections.items
     → IsPlayOf section (with_item played.around (letters_so_far played) []) (ended play sections begin)
 end_played section played play sections begin is whole begins = record {
@@ -56,7 +56,7 @@ one_section : (o : Option ℕ) → cons_option o [] ≡ option_to_list o
 one_section None = refl
 one_section (Some k) = refl
 
-pub letter_played : (section : ℕ → Option ℕ) (played : Played) (play : OrderPlay) (sections : Vec ℕ Global) (b : ℕ)
+pub letter_played : (section : ℕ → Option ℕ) (played : OrderLetters) (play : OrderPlay) (sections : Vec ℕ Global) (b : ℕ)
     → is_ascii_uppercase b ≡ true → IsPlayOf section (with_item played.around (letters_so_far played) []) play
     → sections.items ≡ play.sections.items ++ option_to_list (section b) → IsPlayOf section (read_on played b) (record play { sections = sections })
 letter_played section played play sections b upper is pushed =
@@ -74,7 +74,7 @@ letter_played section played play sections b upper is pushed =
     })
 
 -- the beginning of a group
-pub open_played : (section : ℕ → Option ℕ) (played : Played) (play : OrderPlay) (groups : ArrayVec ℕ) (b : ℕ) → b ≡ 40 → IsPlayOf section (with_item played.around (letters_so_far played) []) play
+pub open_played : (section : ℕ → Option ℕ) (played : OrderLetters) (play : OrderPlay) (groups : ArrayVec ℕ) (b : ℕ) → b ≡ 40 → IsPlayOf section (with_item played.around (letters_so_far played) []) play
     → groups.items ≡ play.groups.items ++ play.begin ∷ [] → IsPlayOf section (read_on played b) (record play { groups = groups })
 open_played section played play groups b opens is pushed =
     let front = letters_around played.around ++ letters_so_far played in
@@ -102,7 +102,7 @@ closed section (before ∷ outer) inner play rest last is split some =
       count = is.count;
     }
 
-pub close_played : (section : ℕ → Option ℕ) (played : Played) (play : OrderPlay) (rest : ArrayVec ℕ) (last : Option ℕ) (b begin : ℕ) → b ≡ 41
+pub close_played : (section : ℕ → Option ℕ) (played : OrderLetters) (play : OrderPlay) (rest : ArrayVec ℕ) (last : Option ℕ) (b begin : ℕ) → b ≡ 41
     → IsPlayOf section (with_item played.around (letters_so_far played) []) play → play.groups.items ≡ rest.items ++ option_to_list last → (0 < length play.groups.items → IsSome last)
     → begin ≡ unwrap_or last 1 → IsPlayOf section (read_on played b) (record play { groups = rest; begin = begin })
 close_played section played play rest last b begin closes is split some begins =
@@ -111,14 +111,14 @@ close_played section played play rest last b begin closes is split some begins =
     (closed section played.around (letters_so_far played) play rest last is split some))
 
 -- one digit
-pub digit_played : (section : ℕ → Option ℕ) (played : Played) (play : OrderPlay) (b n : ℕ) → IsPlayOf section played play → is_ascii_digit b ≡ true → n ≡ count_on play.count b
+pub digit_played : (section : ℕ → Option ℕ) (played : OrderLetters) (play : OrderPlay) (b n : ℕ) → IsPlayOf section played play → is_ascii_digit b ≡ true → n ≡ count_on play.count b
     → IsPlayOf section (read_on played b) (record play { count = Some n })
 digit_played section played play b n is digit longer =
     subst (λ p. IsPlayOf section p (record play { count = Some n })) (sym (reads_digit played b digit))
     (record { sections = is.sections; groups = is.groups; begin = is.begin; count = ap Some (longer ∙ ap (λ o. count_on o b) is.count) })
 
 -- a byte without a meaning
-pub silent_played : (section : ℕ → Option ℕ) (played : Played) (play : OrderPlay) (b : ℕ) → IsPlayOf section played play → is_order_byte b ≡ false → IsPlayOf section (read_on played b) play
+pub silent_played : (section : ℕ → Option ℕ) (played : OrderLetters) (play : OrderPlay) (b : ℕ) → IsPlayOf section played play → is_order_byte b ≡ false → IsPlayOf section (read_on played b) play
 silent_played section played play b is silent = subst (λ p. IsPlayOf section p play) (sym (reads_silent played b silent)) is
 
 -- the same number of groups is open

@@ -6,7 +6,7 @@ use mir.Val.{bool_byte}
 use Rattle.std.specs.Char.{is_ascii_digit, is_ascii_uppercase}
 use Rattle.std.proofs.lemmas.List.Elements.{filter_map-append}
 use Rattle.arrayvec.specs.ArrayVec.{ArrayVec}
-use Rattle.abc_fields.specs.Letters.{Played, count_or_once, letters_so_far, close_group, count_on, is_order_byte, read_on}
+use Rattle.abc_fields.specs.Letters.{OrderLetters, count_or_once, letters_so_far, close_group, count_on, is_order_byte, read_on}
 use Rattle.abc_fields.proofs.Fronts.{reads_letter, reads_open, reads_close, reads_digit, reads_silent}
 use Rattle.abc_repeat.specs.declared.order_size.OrderSize.{OrderSize}
 use Rattle.abc_repeat.specs.OrderSize.{size_of, sizes_of, IsSizeOf}
@@ -35,7 +35,7 @@ one_size : (o : Option ℕ) → bool_byte (is_some o) ≡ min (length (cons_opti
 one_size None = refl
 one_size (Some k) = refl
 
-pub letter_sized : (section : ℕ → Option ℕ) (played : Played) (size : OrderSize) (b total i : ℕ) → IsSizeOf section played size
+pub letter_sized : (section : ℕ → Option ℕ) (played : OrderLetters) (size : OrderSize) (b total i : ℕ) → IsSizeOf section played size
     → is_ascii_uppercase b ≡ true → total ≡ size_of section (letters_so_far played)
     → i ≡ bool_byte (is_some (section b)) → IsSizeOf section (read_on played b) (record { around = size.around; before = total; item = i; count = None })
 letter_sized section played size b total i is upper far one =
@@ -43,7 +43,7 @@ letter_sized section played size b total i is upper far one =
     (record { around = is.around; before = far; item = one ∙ one_size (section b); count = refl })
 
 -- the beginning of a group
-pub open_sized : (section : ℕ → Option ℕ) (played : Played) (size : OrderSize) (around : ArrayVec ℕ) (b total : ℕ)
+pub open_sized : (section : ℕ → Option ℕ) (played : OrderLetters) (size : OrderSize) (around : ArrayVec ℕ) (b total : ℕ)
     → IsSizeOf section played size → b ≡ 40 → total ≡ size_of section (letters_so_far played)
     → around.items ≡ size.around.items ++ total ∷ [] → IsSizeOf section (read_on played b) (record { around = around; before = 0; item = 0; count = None })
 open_sized section played size around b total is opens far pushed =
@@ -61,7 +61,7 @@ closed_size section (before ∷ outer) inner around rest last total is split som
     let one = popped around.items (sizes_of section outer) rest.items (size_of section before) last is split some in
     record { around = one.0; before = ap (λ o. unwrap_or o 0) one.1; item = far; count = refl }
 
-pub close_sized : (section : ℕ → Option ℕ) (played : Played) (size : OrderSize) (rest : ArrayVec ℕ) (last : Option ℕ) (b total before : ℕ) → IsSizeOf section played size → b ≡ 41
+pub close_sized : (section : ℕ → Option ℕ) (played : OrderLetters) (size : OrderSize) (rest : ArrayVec ℕ) (last : Option ℕ) (b total before : ℕ) → IsSizeOf section played size → b ≡ 41
     → size.around.items ≡ rest.items ++ option_to_list last → (0 < length size.around.items → IsSome last) → before ≡ unwrap_or last 0 → total ≡ size_of section (letters_so_far played)
     → IsSizeOf section (read_on played b) (record { around = rest; before = before; item = total; count = None })
 close_sized section played size rest last b total before is closes split some outside far =
@@ -70,14 +70,14 @@ close_sized section played size rest last b total before is closes split some ou
     (closed_size section played.around (letters_so_far played) size.around rest last total is.around split some far))
 
 -- one digit
-pub digit_sized : (section : ℕ → Option ℕ) (played : Played) (size : OrderSize) (b n : ℕ) → IsSizeOf section played size → is_ascii_digit b ≡ true → n ≡ count_on size.count b
+pub digit_sized : (section : ℕ → Option ℕ) (played : OrderLetters) (size : OrderSize) (b n : ℕ) → IsSizeOf section played size → is_ascii_digit b ≡ true → n ≡ count_on size.count b
     → IsSizeOf section (read_on played b) (record size { count = Some n })
 digit_sized section played size b n is digit longer =
     subst (λ p. IsSizeOf section p (record size { count = Some n })) (sym (reads_digit played b digit))
     (record { around = is.around; before = is.before; item = is.item; count = ap Some (longer ∙ ap (λ o. count_on o b) is.count) })
 
 -- a byte without a meaning
-pub silent_sized : (section : ℕ → Option ℕ) (played : Played) (size : OrderSize) (b : ℕ) → IsSizeOf section played size → is_order_byte b ≡ false → IsSizeOf section (read_on played b) size
+pub silent_sized : (section : ℕ → Option ℕ) (played : OrderLetters) (size : OrderSize) (b : ℕ) → IsSizeOf section played size → is_order_byte b ≡ false → IsSizeOf section (read_on played b) size
 silent_sized section played size b is silent = subst (λ p. IsSizeOf section p size) (sym (reads_silent played b silent)) is
 
 -- the same number of groups is open

@@ -1,6 +1,6 @@
 -- The sections that the front of an order plays, in a list.
 use Rattle.std.specs.Prelude.{◌≡◌, ℕ, List, [], ◌∷◌, ◌++◌, length, filter_map, Option}
-use Rattle.abc_fields.specs.Letters.{Played}
+use Rattle.abc_fields.specs.Letters.{OrderLetters}
 use Rattle.abc_repeat.specs.declared.order_play.OrderPlay.{OrderPlay}
 
 -- The letters before the innermost of the open groups.
@@ -19,7 +19,7 @@ group_begins section (before ∷ around) = group_begins section around
     ++ length (sections_with section (letters_around (before ∷ around))) ∷ []
 
 -- The list holds the play of the front of an order.
-pub record IsPlayOf (section : ℕ → Option ℕ) (played : Played) (play : OrderPlay) : Type 0 where
+pub record IsPlayOf (section : ℕ → Option ℕ) (played : OrderLetters) (play : OrderPlay) : Type 0 where
   pub sections : play.sections.items ≡ sections_with section (letters_around played.around ++ played.before ++ played.item)
   pub groups : play.groups.items ≡ group_begins section played.around
   pub begin : play.begin ≡ length (sections_with section (letters_around played.around ++ played.before))

@@ -1,6 +1,6 @@
 -- The number of sections that the front of an order plays, counted without memory.
 use Rattle.std.specs.Prelude.{◌≡◌, ℕ, ◌-◌, ◌^◌, min, List, [], ◌∷◌, ◌++◌, length, filter_map, Option}
-use Rattle.abc_fields.specs.Letters.{Played}
+use Rattle.abc_fields.specs.Letters.{OrderLetters}
 use Rattle.abc_repeat.specs.declared.order_size.OrderSize.{OrderSize}
 
 -- The number of sections that letters play, at most 2^64 - 1.
@@ -13,7 +13,7 @@ sizes_of section [] = []
 sizes_of section (letters ∷ around) = sizes_of section around ++ size_of section letters ∷ []
 
 -- The size of the play of the front of an order, part by part.
-pub record IsSizeOf (section : ℕ → Option ℕ) (played : Played) (size : OrderSize) : Type 0 where
+pub record IsSizeOf (section : ℕ → Option ℕ) (played : OrderLetters) (size : OrderSize) : Type 0 where
   pub around : size.around.items ≡ sizes_of section played.around
   pub before : size.before ≡ size_of section played.before
   pub item : size.item ≡ size_of section played.item

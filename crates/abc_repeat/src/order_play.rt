@@ -7,7 +7,7 @@ ghost use Rattle.std.specs.Char.{is_ascii_digit};
 ghost use Rattle.arrayvec.specs.ArrayVec.{array_vec_len};
 ghost use Rattle.abc_text.specs.Byte.{open_parenthesis};
 ghost use Rattle.abc_fields.specs.Parts.{parts_of};
-ghost use Rattle.abc_fields.specs.Letters.{Played, nothing_played, count_or_once, letters_so_far, with_item, count_on};
+ghost use Rattle.abc_fields.specs.Letters.{OrderLetters, nothing_played, count_or_once, letters_so_far, with_item, count_on};
 ghost use Rattle.abc_fields.specs.Letters.{is_order_byte, read_on, letters_of};
 ghost use Rattle.abc_repeat.specs.Section.{section_of};
 ghost use Rattle.abc_repeat.specs.OrderPlay.{sections_with, IsPlayOf};
@@ -66,7 +66,7 @@ impl OrderPlay {
     fn end_item(&mut self) -> Result<(), AllocError>
         requires inside { self.old.begin ≤ vec_len self.old.sections }
         requires counted { 0 < count_or_once self.old.count }
-        ensures played { OnOk result ((section : ℕ → Option ℕ) → (played : Played) → IsPlayOf section played self.old
+        ensures played { OnOk result ((section : ℕ → Option ℕ) → (played : OrderLetters) → IsPlayOf section played self.old
             → IsPlayOf section (with_item played.around (letters_so_far played) []) self.new) }
         ensures groups { OnOk result (self.new.groups ≡ self.old.groups) }
     {
@@ -83,7 +83,7 @@ impl OrderPlay {
         requires room { byte ≡ open_parenthesis → array_vec_len self.old.groups < MOST_GROUPS }
         requires short { is_ascii_digit byte ≡ true → count_on self.old.count byte < 2 ^ 32 }
         requires counted { is_order_byte byte ≡ true → is_ascii_digit byte ≡ false → 0 < count_or_once self.old.count }
-        ensures { OnOk result ((played : Played) → IsPlayOf (section_of sections.now) played self.old
+        ensures { OnOk result ((played : OrderLetters) → IsPlayOf (section_of sections.now) played self.old
             → IsPlayOf (section_of sections.now) (read_on played byte) self.new) }
     {
         match byte {

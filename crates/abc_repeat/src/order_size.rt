@@ -5,7 +5,7 @@ ghost use Rattle.std.specs.Char.{is_ascii_digit};
 ghost use Rattle.arrayvec.specs.ArrayVec.{array_vec_len};
 ghost use Rattle.abc_text.specs.Byte.{open_parenthesis};
 ghost use Rattle.abc_fields.specs.Parts.{parts_of};
-ghost use Rattle.abc_fields.specs.Letters.{Played, nothing_played, letters_so_far, count_on, read_on, letters_of};
+ghost use Rattle.abc_fields.specs.Letters.{OrderLetters, nothing_played, letters_so_far, count_on, read_on, letters_of};
 ghost use Rattle.abc_repeat.specs.Section.{section_of};
 ghost use Rattle.abc_repeat.specs.OrderSize.{size_of, IsSizeOf};
 
@@ -41,7 +41,7 @@ impl OrderSize {
 
     /// Returns the number of sections that the innermost group plays so far.
     fn total(&self) -> u64
-        ensures { (section : ℕ → Option ℕ) → (played : Played) → IsSizeOf section played self.now
+        ensures { (section : ℕ → Option ℕ) → (played : OrderLetters) → IsSizeOf section played self.now
             → result ≡ size_of section (letters_so_far played) }
     {
         let times = self.count.unwrap_or(1);
@@ -53,7 +53,7 @@ impl OrderSize {
     fn read(&mut self, byte: u8, sections: &FirstSections)
         requires room { byte ≡ open_parenthesis → array_vec_len self.old.around < MOST_GROUPS }
         requires short { is_ascii_digit byte ≡ true → count_on self.old.count byte < 2 ^ 32 }
-        ensures { (played : Played) → IsSizeOf (section_of sections.now) played self.old
+        ensures { (played : OrderLetters) → IsSizeOf (section_of sections.now) played self.old
             → IsSizeOf (section_of sections.now) (read_on played byte) self.new }
     {
         match byte {
