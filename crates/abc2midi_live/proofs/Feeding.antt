@@ -242,7 +242,7 @@ first_after before mid d e piece front next old w new (text, stored, wrote, says
   middle,
   continued_with before mid e piece stored stored' text t SoFar front says is,
   Appends-trans old.output w.output new.output text t.text wrote wrote',
-  follows_both old.store w.store change_between stored stored' d e t.directory follows follows',
+  follows_both old.store w.store middle stored stored' d e t.directory follows follows',
   (
     more,
     run_output (text ++ t'.text) t'.directory,
