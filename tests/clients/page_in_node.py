@@ -29,7 +29,7 @@ class PageScripts(trial.Folder):
         return ran.stdout.splitlines()
 
     def assert_ok(self, script: str, least: int) -> None:
-        """All tests of a script pass, and they are at least so many."""
+        """All tests of a script pass, and there are at least `least` of them."""
         lines = self.node(script)
         self.assertEqual([line for line in lines if not line.startswith("ok ")], [])
         self.assertGreaterEqual(len(lines), least)
