@@ -4,7 +4,7 @@
 #include <stdlib.h>
 #include <string.h>
 
-/* Reads a whole file; its bytes are to be freed. */
+/* Reads a whole file; its bytes are to be freed. NULL, with a message, if it cannot be read. */
 static uint8_t *read_file(const char *path, size_t *size)
 {
     FILE *file = fopen(path, "rb");
@@ -15,24 +15,35 @@ static uint8_t *read_file(const char *path, size_t *size)
         rewind(file);
         *size = bytes ? fread(bytes, 1, (size_t)end, file) : 0;
     }
+    if (!bytes)
+        perror(path);
     if (file)
         fclose(file);
     return bytes;
 }
 
-/* Writes the file of a tune number. */
+/* Writes the file of a tune number. 0, with a message, if it cannot be written. */
 static int write_tune(abc_live_session *session, const char *dir, uint32_t number)
 {
-    char path[4096];
-    size_t size = 0;
+    size_t size = 0, room = strlen(dir) + sizeof "/4294967295.mid";
     abc_live_output(session, number, NULL, 0, &size);
     uint8_t *midi = malloc(size + 1);
-    snprintf(path, sizeof path, "%s/%u.mid", dir, (unsigned)number);
-    FILE *file = fopen(path, "wb");
-    int ok = midi && file && abc_live_output(session, number, midi, size, &size) == ABC_LIVE_OK
-             && fwrite(midi, 1, size, file) == size;
+    char *path = malloc(room);
+    FILE *file = NULL;
+    int ok = 0;
+    if (path) {
+        snprintf(path, room, "%s/%u.mid", dir, (unsigned)number);
+        file = fopen(path, "wb");
+    }
+    if (midi && file && abc_live_output(session, number, midi, size, &size) == ABC_LIVE_OK)
+        ok = fwrite(midi, 1, size, file) == size;
     if (file)
         ok = fclose(file) == 0 && ok;
+    if (ok)
+        printf("wrote %u.mid\n", (unsigned)number);
+    else
+        perror(path);
+    free(path);
     free(midi);
     return ok;
 }
@@ -44,15 +55,17 @@ int main(int argc, char **argv)
     abc_live_work work = {0};
     uint32_t numbers[1000];
     size_t count = 0, size = 0;
-    uint8_t *book = argc == 3 ? read_file(argv[1], &size) : NULL;
+    if (argc != 3) {
+        fputs("usage: example BOOK DIR\n", stderr);
+        return 2;
+    }
+    uint8_t *book = read_file(argv[1], &size);
     int ok = book && abc_live_open(&session) == ABC_LIVE_OK
              && abc_live_insert(&session, 1, book, size, &work) == ABC_LIVE_OK
              && abc_live_insert(&session, 1, (const uint8_t *)tune, strlen(tune), &work) == ABC_LIVE_OK
              && abc_live_written(&session, numbers, 1000, &count) == ABC_LIVE_OK;
-    for (size_t i = 0; ok && i < count; i++) {
+    for (size_t i = 0; ok && i < count; i++)
         ok = write_tune(&session, argv[2], numbers[i]);
-        printf("wrote %u.mid\n", (unsigned)numbers[i]);
-    }
     abc_live_close(&session);
     free(book);
     return ok ? EXIT_SUCCESS : EXIT_FAILURE;

@@ -212,16 +212,22 @@ class Practising(music_page.MusicPage):
         self.open(SCALE, "4 bars")
         self.caret(5, 3)
         self.wait(lambda: self.run_script(FRAMES))
-        left, top, right, bottom = self.run_script(FRAMES)
+        left, _, right, _ = self.run_script(FRAMES)
         self.assertTrue(34 + 2 * 44 - 4 <= left <= 34 + 2 * 44 and 34 + 3 * 44 - 4 <= right <= 34 + 3 * 44 + 4, (left, right))
+        self.wait(lambda: self.name_in_frame() == "E4, bar 2, beat 1")
         self.caret(3, 2)
         self.wait(lambda: self.run_script(FRAMES) is None)
-        self.point((left + right) / 2, (top + bottom) / 2)
-        self.wait(lambda: self.text("tip") == "E4, bar 2, beat 1")
         self.press_there()
         self.wait(lambda: self.run_script(WHERE) == [5, 3])
         self.press(" ")
         self.hear(0, 64)
+
+    def name_in_frame(self) -> str:
+        """What the page says of the framed note when the mouse moves onto it."""
+        left, top, right, bottom = self.run_script(FRAMES)
+        self.point(right + 1, bottom + 1)
+        self.point((left + right) / 2, (top + bottom) / 2)
+        return self.text("tip")
 
     def test_what_is_not_known_is_not_marked(self):
         """A text that the server does not have yet differs from the file: nothing lights up after the difference."""

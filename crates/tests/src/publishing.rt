@@ -67,9 +67,8 @@ fn change_note(
     apply(rt, session, Edit::Replace { from, to, lines }, work);
 }
 
-/// A tune is edited while its file is written, and removed once it is written again; a caller who goes on after its
-/// number finds nothing to do.
-fn edit_and_remove(
+/// Stores the file of a tune whose note is edited meanwhile, so that its new file is pending.
+fn edit_while_stored(
     rt: &impl Abort,
     alloc: Global,
     session: &mut Session,
@@ -83,6 +82,19 @@ fn edit_and_remove(
     change_note(rt, alloc, session, 4, b"D", work);
     let held = end_older(publisher, held, true);
     finish(publisher, held);
+    check_pending(rt, publisher, session, 1, true);
+}
+
+/// A tune is edited while its file is written, and removed once it is written again; a caller who goes on after its
+/// number finds nothing to do.
+fn edit_and_remove(
+    rt: &impl Abort,
+    alloc: Global,
+    session: &mut Session,
+    publisher: &mut Publisher,
+    work: &mut Work,
+) {
+    edit_while_stored(rt, alloc, session, publisher, work);
     end_next(rt, publisher, session, 1, Some(FILE_OF_D), true);
     apply(rt, session, Edit::Delete { from: 1, to: 4 }, work);
     let later = publisher.take_from(session, 2);
@@ -110,14 +122,7 @@ fn edit_and_fail(
     publisher: &mut Publisher,
     work: &mut Work,
 ) {
-    let tune = insertion(rt, alloc, &[b"X:1", b"T:A", b"K:C", b"C"]);
-    apply(rt, session, tune, work);
-    let held = take(rt, publisher, HeldJobs::Nothing, session);
-    check_newest(rt, &held, 1, Some(FILE_OF_C));
-    change_note(rt, alloc, session, 4, b"D", work);
-    let held = end_older(publisher, held, true);
-    finish(publisher, held);
-    check_pending(rt, publisher, session, 1, true);
+    edit_while_stored(rt, alloc, session, publisher, work);
     end_next(rt, publisher, session, 1, Some(FILE_OF_D), false);
     check_pending(rt, publisher, session, 1, true);
     end_next(rt, publisher, session, 1, Some(FILE_OF_D), true);
