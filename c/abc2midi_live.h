@@ -53,9 +53,9 @@ typedef struct abc_live_session {
 } abc_live_session;
 
 /*
- * Counters of work: lines scanned, steps folded, tunes built. They are yours: set them to zeros, and each edit adds its work. A
- * refused edit may add to them too. A counter that reaches UINT64_MAX stays there. One struct may serve several sessions of one
- * thread.
+ * Counters of work: lines scanned, steps folded, tunes built. They are yours: set them to zeros, and each edit adds its work. An
+ * edit that runs out of memory may add to them too; one that is refused for another reason adds nothing. A counter that reaches
+ * UINT64_MAX stays there. One struct may serve several sessions of one thread.
  */
 typedef struct abc_live_work {
     uint64_t scanned;
@@ -88,7 +88,7 @@ enum {
 uint32_t abc_live_version(void);
 
 /*
- * Opens a session with no lines. The session is zeros: not open yet, or closed.
+ * Opens a session with no lines in a struct that has none: zeros, or a session that was closed.
  * Returns ABC_LIVE_OK, ABC_LIVE_OUT_OF_MEMORY (the session is not open), or ABC_LIVE_MISUSED (it is open already, and stays so).
  */
 abc_live_code abc_live_open(abc_live_session *session);

@@ -156,9 +156,8 @@ Leaves before answered old new Write = WriteFailure before (answered SoFar) old 
 -- the answers to the commands before the one in hand, and the store as it was asked for some of what this asks for
 Leaves before answered old new Memory = MemoryFailure before answered old new
 
--- The result of a fault in a run that begins with a tune book. The book counts as a command. If its answer cannot be
--- written, no other command is carried out. If an allocation fails, its answer may not come: then nothing is read or
--- written, and the store is not called.
+-- The result of a fault in a run that begins with a tune book. The book counts as a command, the first one. If an allocation
+-- fails, its answer may not come: then nothing is read or written, and the store is not called.
 abbrev pub LeavesRun : Option (List ℕ) → Future ℕ → RunEnds → RunEnds → RunFault → Type 0
 LeavesRun book answered old new Read = Leaves no_directory answered old new Read
 LeavesRun book answered old new Write = Leaves no_directory answered old new Write

@@ -39,7 +39,7 @@ pub fn report_line(alloc: Global, report: &Report) -> Result<Vec<u8>, AllocError
     Ok(text)
 }
 
-/// Returns the answer to a refused edit; None if an allocation fails.
+/// Returns the answer to a refused edit. `OutOfMemory` has none: it is an error here, as a failed allocation is.
 #[tactic(auto, unfolding(crate::specs::Answer::refusal))]
 pub fn refusal(alloc: Global, error: EditError) -> Result<Vec<u8>, AllocError>
     ensures text { IfOk result (λ text. text.items ≡ refusal error) }

@@ -13,7 +13,7 @@ use crate::book_lines::without_mark;
 use crate::cut::cut;
 use abc_lines::{EditError, LONGEST_LINE, MOST_LINES};
 
-// Returns why a text of `count` lines is refused, if it is.
+/// Returns why a text of `count` lines is refused, if it is.
 #[tactic(auto, unfolding(crate::specs::Refusal::book_refusal))]
 fn fault_of_count(count: usize) -> Option<EditError>
     ensures { result ≡ book_refusal true count }
@@ -25,7 +25,7 @@ fn fault_of_count(count: usize) -> Option<EditError>
     }
 }
 
-// The same of `count` lines and a last one, which no line feed ends.
+/// The same of `count` lines and a last one, which no line feed ends.
 fn fault_with_last_line(count: usize, last: &[u8]) -> Option<EditError>
     requires clean { IsClean last.now }
     requires room { count < 2 ^ 63 }

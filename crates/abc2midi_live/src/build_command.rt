@@ -91,7 +91,7 @@ fn carry_out<S: Store>(
 }
 
 /// Takes the job of the least pending number from `from` on, and carries it out. Returns the number to go on from: None
-/// if none is pending, and after a fault.
+/// if none is pending, after a fault, and after the last number that there can be.
 fn store_next<S: Store>(
     alloc: Global,
     publisher: &mut Publisher,

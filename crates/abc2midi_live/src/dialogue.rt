@@ -57,7 +57,7 @@ impl Dialogue {
         })
     }
 
-    // Edits the text, and returns the answer.
+    /// Edits the text, and returns the answer.
     fn change(&mut self, edit: &Edit, work: &mut Work) -> Result<Vec<u8>, AllocError>
         ensures answer { let before = self.old.session.text in IfOk result
             (λ text. text.items ≡ edit_answer before (edited before (splice_of edit.now))) }
@@ -86,7 +86,7 @@ impl Dialogue {
         self.change(&Edit::Insert { at: 1, lines }, work)
     }
 
-    // Carries out a command with its lines, and answers it.
+    /// Carries out a command with its lines, and answers it.
     fn respond<S: Store>(
         &mut self,
         command: Command,
@@ -141,7 +141,7 @@ impl Dialogue {
         }
     }
 
-    // Goes on with a command and those of its lines that have come.
+    /// Goes on with a command and those of its lines that have come.
     fn proceed<S: Store>(
         &mut self,
         command: Command,

@@ -29,7 +29,7 @@ use std::mem;
 /// The most stored bytes of a line of the input: one more than a line of a text may have.
 const MOST_KEPT: usize = LONGEST_LINE + 1;
 
-// Passes a line to the machine and writes its answer. Returns whether the machine goes on.
+/// Passes a line to the machine and writes its answer. Returns whether the machine goes on.
 #[tactic(auto, using(crate::proofs::Counts::raised_none))]
 fn serve<M: Machine, W: Sink, S: Store>(
     machine: &mut M,
@@ -54,7 +54,7 @@ fn serve<M: Machine, W: Sink, S: Store>(
     }
 }
 
-// Writes a text, if there is one.
+/// Writes a text, if there is one.
 #[tactic(auto, using(crate::proofs::Counts::raised_none))]
 fn write_text<W: Sink>(writer: &mut W, text: &[u8]) -> Result<(), RunFault>
     ensures answer { MatchResult result
@@ -104,7 +104,7 @@ impl<M: Machine> Listener<M> {
         self.machine
     }
 
-    // Stores the bytes that fit.
+    /// Stores the bytes that fit.
     fn keep(&mut self, piece: &[u8]) -> Result<(), AllocError>
         requires { IsClean piece.now }
         ensures begun { OnOk result (self.new.begun.items ≡ take most_kept (self.old.begun.items ++ piece.now)) }
@@ -115,7 +115,7 @@ impl<M: Machine> Listener<M> {
             .extend_from_slice(&piece[..piece.len().min(room)])
     }
 
-    // Takes the line that has come.
+    /// Takes the line that has come.
     fn take_partial_line(&mut self) -> Vec<u8>
         ensures line { result.items ≡ self.old.begun.items }
         ensures begun { self.new.begun.items ≡ [] }
@@ -124,7 +124,7 @@ impl<M: Machine> Listener<M> {
         mem::replace(&mut self.begun, Vec::new(self.alloc))
     }
 
-    // Serves the line that the piece ends.
+    /// Serves the line that the piece ends.
     fn end_line<W: Sink, S: Store>(
         &mut self,
         writer: &mut W,

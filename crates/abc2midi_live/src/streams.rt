@@ -68,7 +68,7 @@ pub trait Store {
         ensures failures { (seen self.new).failures ≡ raised (seen self.old).failures (faults result) }
         ensures calls { (seen self.new).calls ≡ raised (seen self.old).calls 1 };
 
-    /// Removes the name; a missing name is no fault. A fault leaves the other names.
+    /// Removes the name. An implementation should answer a missing name as one that was there. A fault leaves the other names.
     fn remove(&mut self, name: &str) -> Result<(), StoreFault>
         ensures files { MatchResult result
             (λ _. TakesOut (seen self.old).contents (seen self.new).contents name.now)
@@ -115,7 +115,7 @@ impl<T: Read> Source for Piped<T> {
 
     ghost remaining = { λ p. T.remaining p.inner };
 
-    // A read that a signal interrupted is repeated.
+    /// A read that a signal interrupted is repeated.
     fn read(&mut self, buf: &mut [u8]) -> Result<usize, StreamFault> {
         self.calls = self.calls.saturating_add(1);
         for _ in 0..u32::MAX {

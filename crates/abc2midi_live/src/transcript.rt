@@ -40,7 +40,7 @@ fn open_dialogue<W: Sink>(
     }
 }
 
-// Runs the commands, and returns the dialogue after them.
+/// Runs the commands, and returns the dialogue after them.
 fn dialogue_after_run<R: Source, W: Sink, S: Store>(
     alloc: Global,
     book: Option<&[u8]>,

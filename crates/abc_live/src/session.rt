@@ -84,7 +84,7 @@ impl<C: Compiler> LiveSession<C> {
     }
 
     /// Prepares an edit. Nothing changes but the counters and the memo: the counters rise by the new lines, the fresh
-    /// cells and the touched tunes at most, even if the edit is refused.
+    /// cells and the touched tunes at most, and not at all if the edit is refused for another reason than memory.
     pub fn prepare(&mut self, edit: &Edit, work: &mut C::Work) -> Result<EditPatch<C>, EditError>
         ensures unchanged { self.new ≡ self.old }
         ensures on { IfOk result (λ patch. patch.on ≡ self.old) }
@@ -149,7 +149,8 @@ impl<C: Compiler> LiveSession<C> {
     }
 
     /// Edits the text, and returns which files changed. After an error the session is unchanged. The counters rise by
-    /// the new lines, the fresh cells and the touched tunes at most, even if the edit is refused.
+    /// the new lines, the fresh cells and the touched tunes at most, and not at all if the edit is refused for another reason
+    /// than memory.
     pub fn apply(&mut self, edit: &Edit, work: &mut C::Work) -> Result<Report, EditError>
         ensures text { MatchResult result (λ _. edited self.old.text (splice_of edit.now) ≡ Ok self.new.text)
             (λ _. self.new ≡ self.old) }

@@ -12,6 +12,6 @@ code_numbered number = if number == 0 then None else slice_get FAULT_CODES (numb
 abbrev pub name_numbered : ℕ → Option (List ℕ)
 name_numbered number = option_map name_of (code_numbered number)
 
--- Each code is found by its number.
+-- Each code is found by its number, so no two codes have the same one.
 abbrev pub IsEachNumbered : Type 0
 IsEachNumbered = (code : FaultCode) → code_numbered (number_of code) ≡ Some code

@@ -1,5 +1,5 @@
 -- The effects of calls on sessions of ABC.
-use Rattle.std.specs.Prelude.{◌≡◌, ◌⊎◌, ℕ, [], Option, None, Some, Result, Ok, Err, IsSomeAnd}
+use Rattle.std.specs.Prelude.{◌≡◌, ◌≢◌, ◌⊎◌, ℕ, [], Option, None, Some, Result, Ok, Err, IsSomeAnd}
 use Rattle.abc_lines.specs.Edits.{edited}
 use Rattle.abc_lines.specs.declared.edit_error.EditError.{EditError}
 use Rattle.abc_lines.specs.Text.{Splice, Text}
@@ -52,6 +52,10 @@ Edits splice before code after = EditsBy (edited before.session.text splice) bef
 abbrev pub EditsSlot : Option Splice → Option OpenSession → ℕ → Option OpenSession → Type 0
 EditsSlot splice None code after = (code ≡ CODE_MISUSED) × (after ≡ None)
 EditsSlot splice (Some before) code after = IsSomeAnd after (Edits splice before code)
+
+-- The counters stay at a refused edit, unless an allocation fails.
+abbrev pub CountsNoRefusal : ℕ → Counters → Counters → Type 0
+CountsNoRefusal code before after = code ≢ CODE_OK → code ≢ CODE_OUT_OF_MEMORY → after ≡ before
 
 -- What an edit of a slot costs at most.
 abbrev pub CostsSlot : Option Splice → Option OpenSession → Counters → Counters → Type 0

@@ -7,7 +7,7 @@ ghost use Rattle.abc_live.specs.Edit.{splice_of};
 ghost use Rattle.abc_tune.specs.Abc.{rules_of_abc, steps_of_abc};
 ghost use Rattle.c_handle.specs.Slot.{session_in};
 ghost use Rattle.c_handle.specs.Lines.{lines_in};
-ghost use Rattle.c_handle.specs.Sessions.{CostsSlot, Edits, EditsSlot};
+ghost use Rattle.c_handle.specs.Sessions.{CostsSlot, CountsNoRefusal, Edits, EditsSlot};
 
 use crate::codes::{CODE_MISUSED, CODE_OK, code_of};
 use crate::lines::lines_of;
@@ -22,6 +22,7 @@ use std::alloc::Global;
 fn edit_session(held: &mut OpenSession, edit: &Edit, work: &mut Work) -> u32
     ensures value { Edits (splice_of edit.now) held.old result held.new }
     ensures counted { MayCost (cost_of steps_of_abc rules_of_abc held.old.session.text (splice_of edit.now)) work.old work.new }
+    ensures uncounted { CountsNoRefusal result work.old work.new }
 {
     match held.session.apply(edit, work) {
         Ok(report) => {
@@ -36,6 +37,7 @@ fn edit_session(held: &mut OpenSession, edit: &Edit, work: &mut Work) -> u32
 fn edit_slot(alloc: Global, slot: &mut SessionSlot, edit: &Edit, work: &mut Work) -> u32
     ensures value { EditsSlot (splice_of edit.now) (session_in slot.old) result (session_in slot.new) }
     ensures counted { CostsSlot (splice_of edit.now) (session_in slot.old) work.old work.new }
+    ensures uncounted { CountsNoRefusal result work.old work.new }
 {
     match slot.take(alloc) {
         Some(mut session) => {
@@ -58,6 +60,7 @@ pub fn insert_lines(
 ) -> u32
     ensures value { EditsSlot (insertion at (lines_in text.now)) (session_in slot.old) result (session_in slot.new) }
     ensures counted { CostsSlot (insertion at (lines_in text.now)) (session_in slot.old) work.old work.new }
+    ensures uncounted { CountsNoRefusal result work.old work.new }
 {
     match lines_of(alloc, text) {
         Ok(lines) => edit_slot(alloc, slot, &Edit::Insert { at, lines }, work),
@@ -77,6 +80,7 @@ pub fn replace_lines(
 ) -> u32
     ensures value { EditsSlot (replacement from to (lines_in text.now)) (session_in slot.old) result (session_in slot.new) }
     ensures counted { CostsSlot (replacement from to (lines_in text.now)) (session_in slot.old) work.old work.new }
+    ensures uncounted { CountsNoRefusal result work.old work.new }
 {
     match lines_of(alloc, text) {
         Ok(lines) => edit_slot(alloc, slot, &Edit::Replace { from, to, lines }, work),
@@ -94,6 +98,7 @@ pub fn delete_lines(
 ) -> u32
     ensures value { EditsSlot (deletion from to) (session_in slot.old) result (session_in slot.new) }
     ensures counted { CostsSlot (deletion from to) (session_in slot.old) work.old work.new }
+    ensures uncounted { CountsNoRefusal result work.old work.new }
 {
     edit_slot(alloc, slot, &Edit::Delete { from, to }, work)
 }

@@ -1,6 +1,6 @@
 //! The call that names the codes of faults.
 
-ghost use Rattle.std.specs.Prelude.{◌≡◌, slice_get};
+ghost use Rattle.std.specs.Prelude.{◌≡◌, length, slice_get};
 ghost use Rattle.c_handle.specs.Copies.{lookup_answer};
 ghost use Rattle.c_handle.specs.FaultNames.{IsEachNumbered, code_numbered, name_numbered};
 
@@ -60,6 +60,7 @@ fn code_of_number(number: u32) -> Option<FaultCode>
 pub fn copy_fault_name(number: u32, bytes: &mut [u8]) -> CopyAnswer
     ensures value { (result.code, result.count, bytes.new) ≡ lookup_answer (name_numbered number) bytes.old }
     ensures exact { IsEachNumbered }
+    ensures few { length FAULT_CODES ≡ 27 }
 {
     match code_of_number(number) {
         Some(code) => copy_found(Some(code.name().as_bytes()), bytes),

@@ -11,6 +11,7 @@ mod fault_record;
 mod faults;
 mod files;
 mod handle;
+pub mod laws;
 mod lines;
 mod open_session;
 mod opening;

@@ -1,8 +1,9 @@
 //! Calls that open and close a session.
 
-ghost use Rattle.std.specs.Prelude.{IfOk};
+ghost use Rattle.std.specs.Prelude.{◌≡◌, ◌≢◌, IfOk};
 ghost use Rattle.c_handle.specs.Slot.{session_in};
 ghost use Rattle.c_handle.specs.Sessions.{IsClosed, IsFresh, IsOpened};
+ghost use Rattle.c_handle.specs.declared.codes.TheConstants.{CODE_OK};
 
 use crate::codes::{CODE_MISUSED, CODE_OK, CODE_OUT_OF_MEMORY};
 use crate::open_session::OpenSession;
@@ -25,6 +26,7 @@ fn new_session(alloc: Global) -> Result<Box<OpenSession>, AllocError>
 /// Opens a session without lines in a slot that holds none.
 pub fn open_slot(alloc: Global, slot: &mut SessionSlot) -> u32
     ensures value { IsOpened (session_in slot.old) result (session_in slot.new) }
+    ensures unchanged { result ≢ CODE_OK → slot.new ≡ slot.old }
 {
     if slot.state == OPEN {
         return CODE_MISUSED;
@@ -41,6 +43,8 @@ pub fn open_slot(alloc: Global, slot: &mut SessionSlot) -> u32
 /// Closes the session of a slot, and frees its memory.
 pub fn close_slot(alloc: Global, slot: &mut SessionSlot) -> u32
     ensures value { IsClosed (session_in slot.old) result (session_in slot.new) }
+    ensures zeros { result ≡ CODE_OK → slot.new.state ≡ 0 }
+    ensures unchanged { result ≢ CODE_OK → slot.new ≡ slot.old }
 {
     match slot.take(alloc) {
         Some(_session) => CODE_OK,

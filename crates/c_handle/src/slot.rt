@@ -27,6 +27,7 @@ impl SessionSlot {
         ensures value { option_map (λ session. session.value) result ≡ session_in self.old }
         ensures empty { session_in self.new ≡ None }
         ensures zeros { IfSome result (λ _. self.new.state ≡ 0) }
+        ensures unchanged { result ≡ None → self.new ≡ self.old }
     {
         if self.state != OPEN {
             return None;

@@ -2,7 +2,7 @@
 
 ghost use Rattle.c_handle.specs.Edits.{deletion, insertion, replacement};
 ghost use Rattle.c_handle.specs.Lines.{lines_in};
-ghost use Rattle.c_handle.specs.Sessions.{CostsSlot, EditsSlot};
+ghost use Rattle.c_handle.specs.Sessions.{CostsSlot, CountsNoRefusal, EditsSlot};
 ghost use Rattle.c_handle.specs.Slot.{session_in};
 
 use c_handle::{SessionSlot, Work, delete_lines, insert_lines, replace_lines};
@@ -19,6 +19,7 @@ pub extern "C" fn abc_live_insert(
 ) -> u32
     ensures value { EditsSlot (insertion at (lines_in text.now)) (session_in slot.old) result (session_in slot.new) }
     ensures counted { CostsSlot (insertion at (lines_in text.now)) (session_in slot.old) work.old work.new }
+    ensures uncounted { CountsNoRefusal result work.old work.new }
 {
     insert_lines(alloc, slot, at, text, work)
 }
@@ -35,6 +36,7 @@ pub extern "C" fn abc_live_replace(
 ) -> u32
     ensures value { EditsSlot (replacement from to (lines_in text.now)) (session_in slot.old) result (session_in slot.new) }
     ensures counted { CostsSlot (replacement from to (lines_in text.now)) (session_in slot.old) work.old work.new }
+    ensures uncounted { CountsNoRefusal result work.old work.new }
 {
     replace_lines(alloc, slot, from, to, text, work)
 }
@@ -50,6 +52,7 @@ pub extern "C" fn abc_live_delete(
 ) -> u32
     ensures value { EditsSlot (deletion from to) (session_in slot.old) result (session_in slot.new) }
     ensures counted { CostsSlot (deletion from to) (session_in slot.old) work.old work.new }
+    ensures uncounted { CountsNoRefusal result work.old work.new }
 {
     delete_lines(alloc, slot, from, to, work)
 }

@@ -1,8 +1,9 @@
 //! Calls that open and close a session, and the version.
 
-ghost use Rattle.std.specs.Prelude.{◌≡◌};
+ghost use Rattle.std.specs.Prelude.{◌≡◌, ◌≢◌};
 ghost use Rattle.c_handle.specs.Sessions.{IsClosed, IsOpened};
 ghost use Rattle.c_handle.specs.Slot.{session_in};
+ghost use Rattle.c_handle.specs.declared.codes.TheConstants.{CODE_OK};
 
 use c_handle::{SessionSlot, close_slot, open_slot};
 use std::alloc::Global;
@@ -22,6 +23,7 @@ pub extern "C" fn abc_live_version() -> u32
 #[unsafe(no_mangle)]
 pub extern "C" fn abc_live_open(alloc: Global, slot: &mut SessionSlot) -> u32
     ensures value { IsOpened (session_in slot.old) result (session_in slot.new) }
+    ensures unchanged { result ≢ CODE_OK → slot.new ≡ slot.old }
 {
     open_slot(alloc, slot)
 }
@@ -30,6 +32,8 @@ pub extern "C" fn abc_live_open(alloc: Global, slot: &mut SessionSlot) -> u32
 #[unsafe(no_mangle)]
 pub extern "C" fn abc_live_close(alloc: Global, slot: &mut SessionSlot) -> u32
     ensures value { IsClosed (session_in slot.old) result (session_in slot.new) }
+    ensures zeros { result ≡ CODE_OK → slot.new.state ≡ 0 }
+    ensures unchanged { result ≢ CODE_OK → slot.new ≡ slot.old }
 {
     close_slot(alloc, slot)
 }

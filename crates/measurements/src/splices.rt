@@ -7,6 +7,12 @@ use std::alloc::Global;
 use std::io::{self, ErrorKind};
 use std::rt::Runtime;
 
+/// Each line of the text before the splices.
+const OLD_LINE: &[u8] = b"CDEF GABc";
+
+/// The line of each splice.
+const NEW_LINE: &[u8] = b"cBAG FEDC";
+
 /// Splices of one line, as the command line asks for them.
 #[derive(Clone, Copy)]
 pub(crate) struct SpliceRun {
@@ -33,10 +39,10 @@ impl SpliceRun {
         })
     }
 
-    /// Makes the splices, and prints the number of lines.
+    /// Makes the splices, and prints how many lines there are, and how many of them are new.
     pub(crate) fn make<R: Runtime + AllocGlobal>(self, rt: &R) -> io::Result<()> {
         match splice_lines(rt.alloc(), self.lines, self.count, self.step) {
-            Ok(count) => println!(rt; "{count} lines"),
+            Ok(text) => println!(rt; "{} lines, {} new", text.len(), new_lines(&text)),
             Err(EditError::OutOfMemory) => Err(io::Error::from(ErrorKind::OutOfMemory)),
             Err(_) => Err(io::Error::from(ErrorKind::InvalidInput)),
         }
@@ -50,20 +56,32 @@ fn number(word: &str) -> Option<u32>
     word.parse().ok()
 }
 
-/// Returns the number of lines of a text after splices of one line, each `step` lines after the one before it.
-fn splice_lines(alloc: Global, lines: u32, splices: u32, step: u32) -> Result<usize, EditError> {
+/// Returns the number of lines of a text that splices have put there.
+fn new_lines(text: &LineBuffer) -> usize {
+    (0..text.len())
+        .filter(|at| text.line(*at) == Some(NEW_LINE))
+        .count()
+}
+
+/// Returns a text of so many lines after splices of one line, each `step` lines after the one before it.
+fn splice_lines(
+    alloc: Global,
+    lines: u32,
+    splices: u32,
+    step: u32,
+) -> Result<LineBuffer, EditError> {
     let mut text = LineBuffer::new(alloc)?;
     let mut all = Vec::new(alloc);
     for _ in 0..lines {
-        all.push(Vec::from_slice(alloc, b"CDEF GABc")?)?;
+        all.push(Vec::from_slice(alloc, OLD_LINE)?)?;
     }
     let patch = text.splice_prepare(0, 0, &all)?;
     text.commit(patch);
-    let one = vec![in alloc; Vec::from_slice(alloc, b"cBAG FEDC")?]?;
+    let one = vec![in alloc; Vec::from_slice(alloc, NEW_LINE)?]?;
     for splice in 0..splices {
         let at = u64::from(splice) * u64::from(step) % u64::from(lines.max(1));
         let patch = text.splice_prepare(at as usize, 1, &one)?;
         text.commit(patch);
     }
-    Ok(text.len())
+    Ok(text)
 }

@@ -9,15 +9,15 @@ const VERSION: &str = "1.0.0";
 /// The commands in a line each, and their answers.
 const COMMANDS: &str = "\
 Commands, one on a line of standard input:
-  insert L K     puts the K lines that follow before line L; lines are counted from 1
-  replace L M K  puts the K lines that follow in the place of the lines L to M
-  delete L M     takes the lines L to M out
+  insert L K     inserts the K lines that follow before line L; lines are counted from 1
+  replace L M K  replaces the lines L to M by the K lines that follow
+  delete L M     deletes the lines L to M
   build          writes the MIDI files of new and changed tunes into DIR, removes those of tunes that
                  have none any more, and lists them: 'written N.mid', 'removed N.mid', or
-                 'failed N.mid' where the folder refuses it, and 'end'
+                 'failed N.mid' if the folder refuses it, and 'end'
   faults         lists the faults of the text: line, column and name of each, and 'end'
   titles         lists the tunes: number and title of each, and 'end'
-  hex N          shows the MIDI file of tune N in hexadecimal, or 'none'
+  hex N          prints the MIDI file of tune N in hexadecimal, or 'none'
   quit           ends the run, as the end of the input does
 
 An edit is answered 'ok written' and the tunes whose files are new or changed, then 'removed' and those

@@ -30,7 +30,7 @@ fn builds<R: Runtime + Abort>(
     accepted && is_work(&work, 1, 1, built)
 }
 
-// Of the tunes that come in turn 64 are remembered: the first one is built again, the last one is not.
+/// Of the tunes that come in turn 64 are remembered: the first one is built again, the last one is not.
 #[test]
 fn the_last_tunes_are_remembered(rt: HostRuntime) {
     let alloc = rt.alloc();
@@ -59,8 +59,8 @@ fn costs<R: Runtime>(
 /// Two tunes after a file header.
 const TWO_TUNES: [&[u8]; 7] = [b"D:5", b"", b"X:1", b"a", b"", b"X:2", b"b"];
 
-// States that are the same serve, though they are never equal: after a line more in the file header no tune is touched,
-// and after a line more in a tune no cell is fresh. After another byte every cell is.
+/// States that are the same serve, though they are never equal: after a line more in the file header no tune is touched,
+/// and after a line more in a tune no cell is fresh. After another byte every cell is.
 #[test]
 fn states_that_are_the_same_serve(rt: HostRuntime) {
     let alloc = rt.alloc();

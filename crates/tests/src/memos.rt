@@ -80,7 +80,7 @@ const LATER_ASKS: [(u8, u8, u64); 5] = [
     (b'0', 2, 66),
 ];
 
-// Of 65 tunes the one that was asked for longest ago goes.
+/// Of 65 tunes the one that was asked for longest ago goes.
 #[test]
 fn the_tune_last_asked_for_stays(rt: HostRuntime) {
     let alloc = rt.alloc();
@@ -92,8 +92,8 @@ fn the_tune_last_asked_for_stays(rt: HostRuntime) {
     check_asks(&rt, alloc, &mut memo, &mut work, &LATER_ASKS);
 }
 
-// One request for memory is refused by `rt try --test --fail-alloc N`: then no answer is a wrong one, of any two calls one
-// has an answer, and the tune is built twice at most.
+/// One request for memory is refused by `rt try --test --fail-alloc N`: then no answer is a wrong one, of any two calls one
+/// has an answer, and the tune is built twice at most.
 #[test]
 fn no_answer_hangs_on_memory(rt: HostRuntime) {
     let alloc = rt.alloc();

@@ -215,7 +215,7 @@ fn move_on(events: &mut [Event; EVENTS], at: usize) -> Option<usize> {
     None
 }
 
-// Each list of events is tried from the start; after one that cannot go on the lists that begin like it are left out.
+/// Each list of events is tried from the start; after one that cannot go on the lists that begin like it are left out.
 #[test]
 fn all_orders_of_events(rt: HostRuntime) {
     let alloc = rt.alloc();

@@ -12,7 +12,7 @@ fn bar(closes: usize, opens: usize) -> Mark {
     }
 }
 
-// `|:A|1B:|2C:|`, by the places of the three notes: the first is played in both passes, each of the others in its own.
+/// `|:A|1B:|2C:|`, by the places of the three notes: the first is played in both passes, each of the others in its own.
 #[test]
 fn a_play_is_written_out(rt: HostRuntime) {
     let marks = [

@@ -40,7 +40,7 @@ fn next_byte(stream: &mut Piped<FailsOnce<'_>>) -> Result<Option<u8>, StreamFaul
     Ok(if count == 1 { Some(buffer[0]) } else { None })
 }
 
-// A read that a signal interrupted is repeated: no byte is lost, and no fault is reported.
+/// A read that a signal interrupted is repeated: no byte is lost, and no fault is reported.
 #[test]
 fn an_interrupted_read_is_made_again(rt: HostRuntime) {
     let mut stream = over_reader(b"ab", ErrorKind::Interrupted);
@@ -49,7 +49,7 @@ fn an_interrupted_read_is_made_again(rt: HostRuntime) {
     assert!(rt; matches!(next_byte(&mut stream), Ok(None)));
 }
 
-// One that failed otherwise is not, though the reader would go on.
+/// One that failed otherwise is not, though the reader would go on.
 #[test]
 fn a_failed_read_is_a_fault(rt: HostRuntime) {
     let mut stream = over_reader(b"ab", ErrorKind::TimedOut);

@@ -116,7 +116,7 @@ fn is_whole<R: Runtime + Abort>(rt: &R, alloc: Global, steps: &[Step], most: usi
     Outcome::of(rt, alloc, reader, Failing::Never, &mut store).gives(answered.as_slice(), None)
 }
 
-// However the input comes in pieces the answers are the same.
+/// However the input comes in pieces the answers are the same.
 #[test]
 fn input_in_pieces(rt: HostRuntime) {
     for most in [1, 2, 7, 1_000] {
@@ -162,8 +162,8 @@ fn check_reads<R: Runtime + Abort>(rt: &R, alloc: Global, steps: &[Step]) {
     }
 }
 
-// Each read fails in turn: the commands that were read whole before it are answered. The second read finds the
-// end of the input; a third one would fail, and does not happen.
+/// Each read fails in turn: the commands that were read whole before it are answered. The second read finds the
+/// end of the input; a third one would fail, and does not happen.
 #[test]
 fn reads_that_fail(rt: HostRuntime) {
     let alloc = rt.alloc();
@@ -228,7 +228,7 @@ fn check_writes<R: Runtime + Abort>(rt: &R, alloc: Global, steps: &[Step]) {
     }
 }
 
-// Each write fails in turn: the answers before it were written, and no command after it is answered or carried out.
+/// Each write fails in turn: the answers before it were written, and no command after it is answered or carried out.
 #[test]
 fn writes_that_fail(rt: HostRuntime) {
     check_writes(&rt, rt.alloc(), &FIRST_TUNE);
@@ -296,8 +296,8 @@ fn check_store<R: Runtime + Abort>(rt: &R, alloc: Global, failing: Failing) {
     assert!(rt; store.get("1.mid") == stored.file);
 }
 
-// Each call of the store fails in turn, once or for good: the file is reported as failed, and the next build tries it
-// again.
+/// Each call of the store fails in turn, once or for good: the file is reported as failed, and the next build tries it
+/// again.
 #[test]
 fn stores_that_fail(rt: HostRuntime) {
     check_store(&rt, rt.alloc(), Failing::Never);
@@ -310,7 +310,7 @@ fn stores_that_fail(rt: HostRuntime) {
 /// Two tunes are built twice, and a store that fails at its second call.
 const TWO_TUNES: &[u8] = b"insert 1 7\nX:1\nT:A\nK:C\nC\n\nX:2\nK:C\nbuild\nbuild\n";
 
-// The second of two files cannot be stored: the build ends there, and the next one goes on with it.
+/// The second of two files cannot be stored: the build ends there, and the next one goes on with it.
 #[test]
 fn the_second_file_fails(rt: HostRuntime) {
     let alloc = rt.alloc();

@@ -51,8 +51,8 @@ fn shows_nothing(session: &Session) -> bool {
     session.numbers().is_empty() && session.titles().is_empty()
 }
 
-// A prepared edit changes nothing visible, and a dropped one leaves nothing. Once committed, its report is that of the
-// prepared edit.
+/// A prepared edit changes nothing visible, and a dropped one leaves nothing. Once committed, its report is that of the
+/// prepared edit.
 #[test]
 fn an_edit_is_prepared_dropped_and_prepared_again(rt: HostRuntime) {
     let alloc = rt.alloc();
@@ -73,8 +73,8 @@ fn an_edit_is_prepared_dropped_and_prepared_again(rt: HostRuntime) {
     assert!(rt; session.output(1) == Some(FILE_OF_C));
 }
 
-// A session over a compiler of its own: of two tunes of one number the first is too long, so the file
-// is that of the second, with the byte of the file header.
+/// A session over a compiler of its own: of two tunes of one number the first is too long, so the file
+/// is that of the second, with the byte of the file header.
 #[test]
 fn a_toy_file_has_the_default_of_the_file_header(rt: HostRuntime) {
     let alloc = rt.alloc();
