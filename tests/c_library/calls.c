@@ -106,7 +106,7 @@ static void edit_a_book(void)
     CHECK(abc_live_written(&session, NULL, 0, &count) == ABC_LIVE_OK && count == 0);
     CHECK(abc_live_insert(&session, 1, NULL, 0, &work) == ABC_LIVE_OK && work.scanned == 0);
     CHECK(abc_live_insert(&session, 1, TEXT("X:2\nT:Two\nK:C\nCDEF|\n\nX:1\nM:oops\nK:C\nC|\n"), &work) == ABC_LIVE_OK);
-    CHECK(work.scanned == 9 && work.built == 2);
+    CHECK(work.scanned == 9 && work.folded == 8 && work.built == 2);
     CHECK(abc_live_written(&session, numbers, 2, &count) == ABC_LIVE_OK && count == 2 && numbers[0] == 1 && numbers[1] == 2);
     CHECK(abc_live_removed(&session, numbers, 2, &count) == ABC_LIVE_OK && count == 0);
     CHECK(abc_live_numbers(&session, numbers, 1, &count) == ABC_LIVE_SHORT_BUFFER && count == 2);

@@ -142,7 +142,7 @@ program_change at number = record { at = record { 0 = at }; number = number }
 abbrev pub ordered_parts : List Item
 ordered_parts = items.Order (66 ∷ 65 ∷ 66 ∷ []) ∷ part_a ∷ note 60 ∷ part_b ∷ note 62 ∷ part_a ∷ note 64 ∷ []
 
--- `|:A|1B:|[Q:]|2F||`, with a tempo between two endings, and `|:A|1B::[Q:]|2F||`, with the tempo in a strain of its own.
+-- `|:A|1B:|[Q:]|2^F||`, with a tempo between two endings, and `|:A|1B::[Q:]|2^F||`, with the tempo in a strain of its own.
 abbrev pub tempo_between_endings : List Item
 tempo_between_endings = opening ∷ note 69 ∷ single ∷ first ∷ note 71 ∷ closing ∷ tempo 1000000 ∷ single ∷ second ∷ note 66 ∷ double
     ∷ []

@@ -48,7 +48,7 @@ pub fn plays()
         ≡ note 60 ∷ note 62 ∷ note 60 ∷ note 64 ∷ [] }
 {}
 
-/// A field between the endings is played with the one after it: `|:A|1B:|[Q:]|2F||`. Not in ABC 2.1.
+/// A field between the endings is played with the one after it: `|:A|1B:|[Q:]|2^F||`. Not in ABC 2.1.
 pub fn fields_before_an_ending()
     ensures played { played_items tempo_between_endings
         ≡ note 69 ∷ note 71 ∷ note 69 ∷ tempo 1000000 ∷ note 66 ∷ [] }
@@ -56,7 +56,7 @@ pub fn fields_before_an_ending()
         ≡ false ∷ false ∷ false ∷ false ∷ false ∷ true ∷ true ∷ false ∷ false ∷ false ∷ [] }
 {}
 
-/// No field is moved after a bar that opens a strain of its own, `|:A|1B::[Q:]|2F||`, nor after the common part's own
+/// No field is moved after a bar that opens a strain of its own, `|:A|1B::[Q:]|2^F||`, nor after the common part's own
 /// bar, `A:|[Q:]|1B||`. Not in ABC 2.1.
 pub fn fields_that_stay()
     ensures opened { with_fields_in_endings tempo_in_a_strain ≡ tempo_in_a_strain }
@@ -129,8 +129,8 @@ pub fn tempos_at_a_tick()
         ≡ (record { 0 = 3 }, 1000000) ∷ [] }
 {}
 
-/// A note is as loud as its first tone, `!f!C-!p!C` and over a repeat `|:!p!C!f!C-:|`; notes that are not joined are each
-/// as loud as their own, `!f!C!p!C`. Not in ABC 2.1.
+/// A note is as loud as its first tone, `!f!C-!pp!C` and over a repeat `|:!pp!C!f!C-:|`; notes that are not joined are each
+/// as loud as their own, `!f!C!pp!C`. Not in ABC 2.1.
 pub fn velocities_of_notes()
     ensures joined { heard_notes (tokens_from 0 (tied_with 105 60 ∷ note_with 45 60 ∷ []) []) ≡ sounding_with 105 60 0 2 ∷ [] }
     ensures repeated { voices_notes (opening ∷ note_with 45 60 ∷ tied_with 105 60 ∷ closing ∷ [])

@@ -155,7 +155,7 @@ pub fn borrow_tones(tones: &Tones) -> TonesView<'_>
     tones.view()
 }
 
-/// Returns the key of the tone, if it is one.
+/// Returns the key of a single tone, and none of a list of tones.
 pub fn key_of(lent: TonesView<'_>) -> Option<u8> {
     match lent {
         TonesView::One(tone) => tone.key,

@@ -1,7 +1,7 @@
 //! Folds, chains and counters, by `abc_fold`.
 
-ghost use Rattle.std.specs.Prelude.{◌≡◌, All, IfOk, length, option_copied, slice_get};
-ghost use Rattle.abc_fold.specs.Chain.{Folds, no_cells};
+ghost use Rattle.std.specs.Prelude.{◌≡◌, ◌<◌, All, IfOk, length, option_copied, slice_get};
+ghost use Rattle.abc_fold.specs.Chain.{Folds, IsKeptAt, no_cells};
 ghost use Rattle.abc_fold.specs.Piece.{IsKept, cells_of, steps_needed};
 ghost use Rattle.abc_fold.specs.Work.{IsRaisedUpTo, after_steps};
 
@@ -79,6 +79,14 @@ pub fn prepare_chain<F: Fold>(
         IsRaisedUpTo (steps_needed steps opening.now pieces.now) (F.Work.counts work.old) (F.Work.counts work.new) }
 {
     chain.prepare(fold, opening, pieces, work)
+}
+
+/// Returns a cell of a chain with its results, for a chain of the same fold.
+pub fn reused_cell<F: Fold>(chain: &Chain<F>, i: usize) -> Result<Piece<F>, AllocError>
+    requires { i < length chain.now.cells }
+    ensures value { IfOk result (λ piece. IsKeptAt chain.now i piece) }
+{
+    chain.kept(i)
 }
 
 /// Commits a patch, and returns how many cells the chain has.

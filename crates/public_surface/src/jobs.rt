@@ -31,6 +31,17 @@ pub fn next_job<C: Compiler>(
     publisher.take(session)
 }
 
+/// Takes the next job from a number on.
+pub fn next_job_from<C: Compiler>(
+    publisher: &mut Publisher,
+    session: &LiveSession<C>,
+    from: u32,
+) -> Result<Option<Job>, AllocError>
+    ensures value { IfOk result (IsNextJob (maps_of publisher.old) (book_in C.steps C.rules session.now).files from) }
+{
+    publisher.take_from(session, from)
+}
+
 /// Ends a job that has stored or removed its file.
 pub fn end_done(publisher: &mut Publisher, job: Job)
     requires { (maps_of publisher.old).jobs job.number ≡ Some job.bytes }
@@ -59,7 +70,7 @@ pub fn is_open<C: Compiler>(publisher: &Publisher, n: u32, session: &LiveSession
     publisher.is_pending(n, session)
 }
 
-/// Whether no number is pending and no job is in flight.
+/// Whether no number is pending and no job is under way.
 pub fn is_settled<C: Compiler>(publisher: &Publisher, session: &LiveSession<C>) -> bool
     ensures exact { IsTrue result ↔ IsSettled (maps_of publisher.now) (book_in C.steps C.rules session.now).files }
 {

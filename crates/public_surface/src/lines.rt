@@ -1,10 +1,10 @@
 //! The lines of a text, by `abc_lines`.
 
-ghost use Rattle.std.specs.Prelude.{◌≡◌, [], IfErr, IfOk, Ok, option_copied, slice_get};
+ghost use Rattle.std.specs.Prelude.{◌≡◌, ◌+◌, ◌<◌, ◌≤◌, [], ◌∷◌, IfErr, IfOk, Ok, Some, length, option_copied, slice_get};
 ghost use Rattle.abc_lines.specs.Edits.{Refuses, replaced};
 ghost use Rattle.abc_lines.specs.Text.{splice_from};
 
-use abc_lines::{EditError, LineBuffer, LinePatch};
+use abc_lines::{EditError, GapList, LineBuffer, LinePatch, SplicePatch};
 use std::alloc::{AllocError, Global};
 
 /// Returns a text without lines.
@@ -54,6 +54,59 @@ pub fn commit_splice(buffer: &mut LineBuffer, patch: LinePatch)
 /// Drops a patch.
 pub fn drop_splice(patch: LinePatch) {
     patch.drop_patch();
+}
+
+/// Returns a list of one item.
+pub fn list_of(alloc: Global, item: u32) -> Result<GapList<u32>, AllocError>
+    ensures value { IfOk result (λ list. list.items ≡ item ∷ []) }
+{
+    let mut list = GapList::with_room(alloc, 1)?;
+    list.insert(0, item);
+    Ok(list)
+}
+
+/// Returns how many items a list has, for how many more there is room, where the gap is, and how far it has moved.
+pub fn sizes_of(list: &GapList<u32>) -> (usize, usize, usize, u64)
+    ensures value { result ≡ (length list.now.items, list.now.room, list.now.gap, list.now.moved) }
+{
+    (list.len(), list.room(), list.gap(), list.moved())
+}
+
+/// Returns an item of a list.
+pub fn item_at(list: &GapList<u32>, i: usize) -> Option<&u32>
+    ensures value { option_copied result ≡ slice_get list.now.items i }
+{
+    list.get(i)
+}
+
+/// Takes the first item out of a list.
+pub fn take_first(list: &mut GapList<u32>) -> u32
+    requires { 0 < length list.old.items }
+    ensures value { slice_get list.old.items 0 ≡ Some result }
+{
+    list.remove(0)
+}
+
+/// Prepares to replace items of a list.
+pub fn prepare_items(
+    alloc: Global,
+    list: &GapList<u32>,
+    at: usize,
+    removed: usize,
+    items: Vec<u32>,
+) -> Result<SplicePatch<u32>, AllocError>
+    requires { at + removed ≤ length list.now.items }
+    ensures value { IfOk result (λ patch. patch.on ≡ list.now) }
+{
+    list.splice_prepare(alloc, at, removed, items)
+}
+
+/// Commits a patch of items.
+pub fn commit_items(list: &mut GapList<u32>, patch: SplicePatch<u32>)
+    requires { patch.on ≡ list.old }
+    ensures value { list.new ≡ patch.after }
+{
+    list.commit(patch);
 }
 
 /// Whether an edit is refused for its lines and not because an allocation failed.

@@ -28,14 +28,14 @@ pub fn played_sections(
     play_order(alloc, order, letters)
 }
 
-/// Whether a mark repeats what is before it.
+/// Whether a mark is a repeat bar: one with a colon.
 pub fn is_repeat_bar(mark: Mark) -> bool {
     match mark {
         Mark::Bar {
             closes,
             opens,
-            double,
-        } => closes > 0 || opens > 0 || double,
+            double: _,
+        } => closes > 0 || opens > 0,
         Mark::Play | Mark::Ending(_) => false,
     }
 }

@@ -6,7 +6,7 @@ ghost use Rattle.public_surface.specs.Runs.{edited, insertion, new_pipe, faults,
 
 use abc2midi_live::{
     EditError, Piped, RunFault, Sink, Source, Store, StoreFault, StreamFault, Work, fault_of_book,
-    run,
+    run, run_before_exit,
 };
 use std::alloc::Global;
 use std::io::{Read, Write};
@@ -26,6 +26,17 @@ where
     let mut reader = Piped::new(reader);
     let mut writer = Piped::new(writer);
     run(alloc, None, &mut reader, &mut writer, store, work)
+}
+
+/// Runs commands without a tune book, for a program that ends after them: the memory of the session is not freed.
+pub fn run_at_last<R: Source, W: Sink, S: Store>(
+    alloc: Global,
+    reader: &mut R,
+    writer: &mut W,
+    store: &mut S,
+    work: &mut Work,
+) -> Result<(), RunFault> {
+    run_before_exit(alloc, None, reader, writer, store, work)
 }
 
 /// Returns a stream over a stream of std.

@@ -6,8 +6,8 @@ ghost use Rattle.public_surface.specs.Session.{book_of, line_at, splice_of, name
 ghost use Rattle.public_surface.specs.Session.{MOST_LINES, Reports, book_in};
 
 use abc_live::{
-    Abc, Compiler, Edit, EditError, Fault, FaultCode, LiveSession, MOST_LINES, Report, Sequence,
-    Session, Title, Work,
+    Abc, Compiler, Edit, EditError, EditPatch, Fault, FaultCode, LiveSession, MOST_LINES, Report,
+    Sequence, Session, Title, Work,
 };
 use std::alloc::{AllocError, Global};
 
@@ -40,6 +40,31 @@ pub fn edit_text<C: Compiler>(
     ensures report { IfOk result (Reports (book_in C.steps C.rules session.old).files (book_in C.steps C.rules session.new).files) }
 {
     session.apply(edit, work)
+}
+
+/// Prepares an edit of a text, which stays as it is.
+pub fn prepare_edit<C: Compiler>(
+    session: &mut LiveSession<C>,
+    edit: &Edit,
+    work: &mut C::Work,
+) -> Result<EditPatch<C>, EditError>
+    ensures text { IfOk result (λ patch. edited session.old.text (splice_of edit.now) ≡ Ok patch.text) }
+    ensures unchanged { session.new ≡ session.old }
+{
+    session.prepare(edit, work)
+}
+
+/// Commits a prepared edit.
+pub fn commit_edit<C: Compiler>(session: &mut LiveSession<C>, patch: EditPatch<C>) -> Report
+    requires { patch.on ≡ session.old }
+    ensures text { session.new.text ≡ patch.text }
+{
+    session.commit(patch)
+}
+
+/// Drops a prepared edit.
+pub fn drop_edit<C: Compiler>(patch: EditPatch<C>) {
+    patch.drop_patch();
 }
 
 /// Returns the file of a number.

@@ -1,6 +1,6 @@
 //! What edits cost, exactly: new lines, fresh cells, and the tunes that are touched and not remembered.
 
-use crate::texts::{empty_session, insertion, lines_of};
+use crate::texts::{empty_session, insertion, lines_of, replacement};
 use abc_fold::Work;
 use abc_live::{Edit, LiveSession, Session};
 use live_examples::marked_toy::MarkedToy;
@@ -21,12 +21,9 @@ fn builds<R: Runtime + Abort>(
     music: &[u8],
     built: u64,
 ) -> bool {
-    let lines = lines_of(rt, alloc, &[music]);
-    let (from, to) = (4, 4);
     let mut work = Work::mint(rt);
-    let accepted = session
-        .apply(&Edit::Replace { from, to, lines }, &mut work)
-        .is_ok();
+    let edit = replacement(rt, alloc, 4, music);
+    let accepted = session.apply(&edit, &mut work).is_ok();
     accepted && is_work(&work, 1, 1, built)
 }
 
@@ -71,8 +68,6 @@ fn states_that_are_the_same_serve(rt: HostRuntime) {
     assert!(rt; costs(&rt, &mut session, &Edit::Insert { at: 2, lines }, (1, 1, 0)));
     let lines = lines_of(&rt, alloc, &[b"c"]);
     assert!(rt; costs(&rt, &mut session, &Edit::Insert { at: 5, lines }, (1, 1, 1)));
-    let lines = lines_of(&rt, alloc, &[b"D:6"]);
-    let (from, to) = (1, 1);
-    let other = Edit::Replace { from, to, lines };
+    let other = replacement(&rt, alloc, 1, b"D:6");
     assert!(rt; costs(&rt, &mut session, &other, (1, 7, 2)));
 }

@@ -106,7 +106,7 @@ fn each_item_of_a_list_is_dropped_once(rt: HostRuntime) {
     assert!(rt; drops.get() == 3);
 }
 
-/// Returns `n` items that count up when they are dropped.
+/// Returns `count` items that count up when they are dropped.
 fn several(alloc: Global, drops: &Cell<u32>, count: usize) -> Result<Vec<Counted<'_>>, AllocError> {
     let mut counted = Vec::new(alloc);
     for _ in 0..count {

@@ -91,21 +91,3 @@ fn the_tune_last_asked_for_stays(rt: HostRuntime) {
     }
     check_asks(&rt, alloc, &mut memo, &mut work, &LATER_ASKS);
 }
-
-/// One request for memory is refused by `rt try --test --fail-alloc N`: then no answer is a wrong one, of any two calls one
-/// has an answer, and the tune is built twice at most.
-#[test]
-fn no_answer_hangs_on_memory(rt: HostRuntime) {
-    let alloc = rt.alloc();
-    let Ok(mut memo) = ToyMemo::new(alloc) else {
-        return;
-    };
-    let mut work = Work::mint(&rt);
-    let first = ask(alloc, &mut memo, b'0', 1, &mut work);
-    let second = ask(alloc, &mut memo, b'0', 1, &mut work);
-    let third = ask(alloc, &mut memo, b'0', 1, &mut work);
-    assert!(rt; first.unwrap_or(true) && second.unwrap_or(true) && third.unwrap_or(true));
-    assert!(rt; first.is_some() || second.is_some() && third.is_some());
-    assert!(rt; second.is_some() || third.is_some());
-    assert!(rt; work.built() <= 2);
-}

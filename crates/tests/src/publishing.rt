@@ -1,7 +1,7 @@
 //! A publisher on a session that is edited between its calls.
 
 use crate::jobs::{FILE_OF_C, FILE_OF_D, check_newest, take};
-use crate::texts::{apply, empty_session, insertion, lines_of};
+use crate::texts::{apply, empty_session, insertion, replacement};
 use abc_fold::Work;
 use abc_live::{Edit, Session};
 use abc_publish::Publisher;
@@ -53,20 +53,6 @@ fn check_settled(rt: &impl Abort, publisher: &mut Publisher, session: &Session) 
     finish(publisher, held);
 }
 
-/// Replaces a line by a note.
-fn change_note(
-    rt: &impl Abort,
-    alloc: Global,
-    session: &mut Session,
-    line: u32,
-    note: &[u8],
-    work: &mut Work,
-) {
-    let lines = lines_of(rt, alloc, &[note]);
-    let (from, to) = (line, line);
-    apply(rt, session, Edit::Replace { from, to, lines }, work);
-}
-
 /// Stores the file of a tune whose note is edited meanwhile, so that its new file is pending.
 fn edit_while_stored(
     rt: &impl Abort,
@@ -79,7 +65,7 @@ fn edit_while_stored(
     apply(rt, session, tune, work);
     let held = take(rt, publisher, HeldJobs::Nothing, session);
     check_newest(rt, &held, 1, Some(FILE_OF_C));
-    change_note(rt, alloc, session, 4, b"D", work);
+    apply(rt, session, replacement(rt, alloc, 4, b"D"), work);
     let held = end_older(publisher, held, true);
     finish(publisher, held);
     check_pending(rt, publisher, session, 1, true);
@@ -157,7 +143,7 @@ fn edit_one_of_two(
     assert!(rt; held.count() == 2);
     let held = end_newer(publisher, held, true);
     assert!(rt; !publisher.settled(session));
-    change_note(rt, alloc, session, 3, b"D", work);
+    apply(rt, session, replacement(rt, alloc, 3, b"D"), work);
     let held = end_older(publisher, held, true);
     finish(publisher, held);
     check_pending(rt, publisher, session, 1, true);

@@ -1,7 +1,7 @@
 //! Edits of which any request for memory may be refused: the session then answers as before, and the same edit succeeds.
 
 use crate::alike::are_alike;
-use crate::texts::{empty_session, insertion, lines_of};
+use crate::texts::{empty_session, insertion, lines_of, replacement};
 use abc_fold::Work;
 use abc_live::{Edit, EditError, Report, Session};
 use out_of_memory_layers::report::{again, call, done, silent};
@@ -64,16 +64,6 @@ impl Twins {
         assert!(rt; report.written.as_slice() == other.written.as_slice());
         assert!(rt; report.removed.as_slice() == other.removed.as_slice());
         assert!(rt; are_alike(&self.session, &self.other));
-    }
-}
-
-/// The edit that replaces a line by another.
-fn replacement(rt: &impl Abort, alloc: Global, at: u32, line: &[u8]) -> Edit {
-    let lines = lines_of(rt, alloc, &[line]);
-    Edit::Replace {
-        from: at,
-        to: at,
-        lines,
     }
 }
 

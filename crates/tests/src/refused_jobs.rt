@@ -5,7 +5,7 @@ ghost use Rattle.abc_publish.specs.Publisher.{maps_of};
 ghost use Rattle.live_examples.specs.HeldJobs.{IsUnderWay};
 
 use crate::jobs::{FILE_OF_C, FILE_OF_D, check_newest};
-use crate::texts::{apply, empty_session, insertion, lines_of};
+use crate::texts::{apply, empty_session, insertion, replacement};
 use abc_fold::Work;
 use abc_live::{Edit, Session};
 use abc_publish::Publisher;
@@ -104,9 +104,7 @@ fn take_all<R: Runtime + Abort>(
         FILE_OF_C,
         true,
     );
-    let lines = lines_of(rt, alloc, &[b"D"]);
-    let (from, to) = (4, 4);
-    apply(rt, session, Edit::Replace { from, to, lines }, &mut work);
+    apply(rt, session, replacement(rt, alloc, 4, b"D"), &mut work);
     take(
         rt,
         publisher,
@@ -124,8 +122,9 @@ fn take_all<R: Runtime + Abort>(
         true,
     );
     apply(rt, session, Edit::Delete { from: 1, to: 4 }, &mut work);
-    // a file that goes needs no allocation
+    silent(rt, "Publisher::take, a file that goes");
     let held = take_next(rt, publisher, session);
+    done(rt);
     check_newest(rt, &held, 1, None);
     end(rt, publisher, held, true);
 }

@@ -1,7 +1,7 @@
 //! The session by its public calls.
 
 use crate::jobs::FILE_OF_C;
-use crate::texts::{empty_session, insertion, lines_of};
+use crate::texts::{empty_session, insertion, replacement};
 use abc_fold::Work;
 use abc_live::{Edit, EditError, LiveSession, Session};
 use live_examples::toy::{Toy, file_of_number};
@@ -27,9 +27,8 @@ fn reports(
 fn edit(rt: &impl Abort, alloc: Global, session: &mut Session, work: &mut Work) {
     let tune = insertion(rt, alloc, &[b"X:1", b"K:C", b"C"]);
     assert!(rt; reports(session, &tune, work, &[1], &[]));
-    let lines = lines_of(rt, alloc, &[b"D"]);
-    let (from, to) = (3, 3);
-    assert!(rt; reports(session, &Edit::Replace { from, to, lines }, work, &[1], &[]));
+    let note = replacement(rt, alloc, 3, b"D");
+    assert!(rt; reports(session, &note, work, &[1], &[]));
     let refused = session.apply(&Edit::Delete { from: 3, to: 4 }, work);
     assert!(rt; matches!(refused, Err(EditError::BadRange)));
     assert!(rt; session.line_count() == 3 && session.line(3) == Some(b"D".as_slice()));

@@ -26,6 +26,13 @@ pub fn insertion(rt: &impl Abort, alloc: Global, texts: &[&[u8]]) -> Edit {
     Edit::Insert { at: 1, lines }
 }
 
+/// The edit that replaces a line by another.
+pub fn replacement(rt: &impl Abort, alloc: Global, at: u32, line: &[u8]) -> Edit {
+    let lines = lines_of(rt, alloc, &[line]);
+    let (from, to) = (at, at);
+    Edit::Replace { from, to, lines }
+}
+
 /// Edits the text.
 pub fn apply(rt: &impl Abort, session: &mut Session, edit: Edit, work: &mut Work) {
     assert!(rt; session.apply(&edit, work).is_ok());
