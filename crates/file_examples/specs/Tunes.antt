@@ -53,6 +53,12 @@ single = items.Bar (record { closes = 0; opens = 0; double = false })
 abbrev pub opening : Item
 opening = items.Bar (record { closes = 0; opens = 1; double = false })
 
+abbrev pub twice_opening : Item
+twice_opening = items.Bar (record { closes = 0; opens = 2; double = false })
+
+abbrev pub twice_closing : Item
+twice_closing = items.Bar (record { closes = 2; opens = 0; double = false })
+
 abbrev pub closing : Item
 closing = items.Bar (record { closes = 1; opens = 0; double = false })
 

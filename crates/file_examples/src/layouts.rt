@@ -20,7 +20,7 @@ ghost use Rattle.file_examples.specs.Tunes.{first, second, part_a, part_b, voice
 ghost use Rattle.file_examples.specs.Tunes.{opening_meter, refused_meter, opening_key, properties, sounding, tempo_change};
 ghost use Rattle.file_examples.specs.Tunes.{key_change, note_with, tied_with, held, opening_program, program, refused_opening};
 ghost use Rattle.file_examples.specs.Tunes.{refused, sounding_with, program_change, ordered_parts, tempo_between_endings};
-ghost use Rattle.file_examples.specs.Tunes.{tempo_in_a_strain};
+ghost use Rattle.file_examples.specs.Tunes.{tempo_in_a_strain, twice_closing, twice_opening};
 
 /// A section begins at each part, and goes on in the voice that is the current one there. ABC 2.1 sections 3.1.9 and 7.
 pub fn sections_of_a_tune()
@@ -44,6 +44,8 @@ pub fn parts_of_voices()
 pub fn plays()
     ensures straight { played_items (note 60 ∷ single ∷ note 62 ∷ []) ≡ note 60 ∷ note 62 ∷ [] }
     ensures repeated { played_items (opening ∷ note 60 ∷ closing ∷ note 62 ∷ []) ≡ note 60 ∷ note 60 ∷ note 62 ∷ [] }
+    ensures twice_repeated { played_items (twice_opening ∷ note 60 ∷ twice_closing ∷ note 62 ∷ [])
+        ≡ note 60 ∷ note 60 ∷ note 60 ∷ note 62 ∷ [] }
     ensures endings { played_items (opening ∷ note 60 ∷ single ∷ first ∷ note 62 ∷ closing ∷ second ∷ note 64 ∷ double ∷ [])
         ≡ note 60 ∷ note 62 ∷ note 60 ∷ note 64 ∷ [] }
 {}

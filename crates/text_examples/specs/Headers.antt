@@ -50,3 +50,8 @@ two_voices first second another =
 abbrev pub shifted_voices : List (List ℕ)
 shifted_voices =
     codes "X:1" ∷ codes "V:1 treble-8" ∷ codes "V:2 octave=1" ∷ codes "V:1 octave=2" ∷ codes "K:C treble+8 transpose=3" ∷ []
+
+-- Lines that declare fifteen voices.
+abbrev pub fifteen_voices : List (List ℕ)
+fifteen_voices = codes "V:a" ∷ codes "V:b" ∷ codes "V:c" ∷ codes "V:d" ∷ codes "V:e" ∷ codes "V:f" ∷ codes "V:g" ∷ codes "V:h"
+    ∷ codes "V:i" ∷ codes "V:j" ∷ codes "V:k" ∷ codes "V:l" ∷ codes "V:m" ∷ codes "V:n" ∷ codes "V:o" ∷ []

@@ -1,5 +1,5 @@
 -- Values as the worked examples write them: a tick is 484,323,840 grains. Not in ABC 2.1.
-use Rattle.std.specs.Prelude.{ℕ, ℤ, ◌*◌, List, pos, Option, Some, None, Result, Ok, Err}
+use Rattle.std.specs.Prelude.{ℕ, ℤ, ◌*◌, true, List, pos, Option, Some, None, Result, Ok, Err}
 use Rattle.abc_fields.specs.declared.fault_code.FaultCode.{FaultCode}
 use Rattle.abc_fields.specs.declared.key.Key.{Key}
 use Rattle.abc_fields.specs.declared.shift.Shift.{Shift}
@@ -39,6 +39,10 @@ token kind from to = record { kind = kind; from = from; to = to }
 -- A C of this octave and length, from one byte of a line to another.
 abbrev pub c_token : ℤ → WrittenLength → ℕ → ℕ → Spanned TokenKind
 c_token octave length from to = token (note letters.C octave length) from to
+
+-- A double bar line with so many colons before it and none after it.
+abbrev pub double_bar : ℕ → TokenKind
+double_bar closes = kinds.Bar (record { closes = closes; opens = 0; double = true })
 
 -- A blank from one byte of a line to another.
 abbrev pub blank : ℕ → ℕ → Spanned TokenKind

@@ -12,7 +12,7 @@ ghost use Rattle.abc_fields.specs.declared.fault_code.FaultCode.TheVariants.{Unc
 ghost use Rattle.abc_fields.specs.declared.meter.Meter.TheVariants.{Of};
 ghost use Rattle.abc_bars_items.specs.declared.item.Item.TheVariants as items;
 ghost use Rattle.abc_scan.specs.declared.directive.Reach.TheVariants.{Not, Octave, Pitch};
-ghost use Rattle.text_examples.specs.Bars.{bar_rest, faults_by, in_common, in_compound, in_free, in_reach, items_by, keys, keys_by};
+ghost use Rattle.text_examples.specs.Bars.{bar_rest, entry_after_header, faults_by, in_common, in_compound, in_free, in_reach, items_by, keys, keys_by};
 ghost use Rattle.text_examples.specs.Bars.{lengths_by, sound, ticks, tone_lengths_by, velocities_by};
 
 /// Keys of notes: letters, octaves, the accidentals of a bar. ABC 2.1 sections 4.1 and 4.2; the MIDI keys 0 to 127 are
@@ -23,6 +23,14 @@ pub fn keys_of_notes()
     ensures accidentals { keys_by in_common (codes "^C_B=E^^F__A") ≡ keys (61 ∷ 70 ∷ 64 ∷ 67 ∷ 67 ∷ []) }
     ensures lowest { keys_by in_common (codes "C,,,,,_C,,,,,") ≡ Some 0 ∷ None ∷ [] }
     ensures highest { keys_by in_common (codes "g''''^g''''") ≡ Some 127 ∷ None ∷ [] }
+{}
+
+/// A clef and `transpose` shift by semitones, `octave` by octaves. ABC 2.1 section 4.6; the sum is not in ABC 2.1.
+pub fn shifts()
+    ensures clef { keys_by (entry_after_header (codes "X:1" ∷ codes "K:C treble-8" ∷ [])) (codes "Cc") ≡ keys (48 ∷ 60 ∷ []) }
+    ensures transposed { keys_by (entry_after_header (codes "X:1" ∷ codes "K:C transpose=2" ∷ [])) (codes "CB,") ≡ keys (62 ∷ 61 ∷ []) }
+    ensures all { keys_by (entry_after_header (codes "X:1" ∷ codes "K:C clef=treble+8 octave=-2 transpose=-3" ∷ [])) (codes "C^c")
+        ≡ keys (45 ∷ 58 ∷ []) }
 {}
 
 /// The reach of accidentals. ABC 2.1 sections 4.2 and 11.3; the meaning of the words is not in ABC 2.1.

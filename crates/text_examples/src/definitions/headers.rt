@@ -5,14 +5,14 @@
 ghost use Rattle.std.specs.Prelude.{◌≡◌, pos, negsuc, true, false, [], ◌∷◌, codes, Some, None};
 ghost use Rattle.abc_bars_body.specs.declared.entry.Entry.TheVariants.{FileHeader, Opening};
 ghost use Rattle.abc_fields.specs.declared.fault_code.FaultCode.TheVariants.{BadKey, BadMeter, BadOrder, BadProgram, BadReference};
-ghost use Rattle.abc_fields.specs.declared.fault_code.FaultCode.TheVariants.{BadTempo, BadUnit, BadVoice};
+ghost use Rattle.abc_fields.specs.declared.fault_code.FaultCode.TheVariants.{BadTempo, BadUnit, BadVoice, TooManyVoices};
 ghost use Rattle.abc_fields.specs.declared.meter.Meter.TheVariants.{Free, Of};
 ghost use Rattle.abc_bars_header.specs.Defaults.{no_defaults};
 ghost use Rattle.abc_bars_items.specs.declared.item.Item.TheVariants as items;
 ghost use Rattle.abc_scan.specs.declared.directive.Reach.TheVariants.{Not, Octave, Pitch};
 ghost use Rattle.text_examples.specs.Bars.{entry_after, after_file_header, entry_after_header, faults_by, in_body, items_by};
 ghost use Rattle.text_examples.specs.Bars.{voice_state_in, voice_shift, with_unnamed_voice};
-ghost use Rattle.text_examples.specs.Headers.{opening_state, defaults, in_f, in_g, state_with_key, shifted_voices, two_voices};
+ghost use Rattle.text_examples.specs.Headers.{opening_state, defaults, fifteen_voices, in_f, in_g, state_with_key, shifted_voices, two_voices};
 ghost use Rattle.text_examples.specs.Values.{ratio};
 
 /// The meter and the unit with which a body begins. ABC 2.1 sections 3.1.6 and 3.1.7.
@@ -89,6 +89,8 @@ pub fn items_of_headers()
         ∷ items.Tempo true None false ∷ items.Meter true (Some Free) ∷ [] }
     ensures own_program { items_by (Opening no_defaults) (codes "%%MIDI program 7")
         ≡ items.Program true (Some 7) ∷ items.Tempo true None false ∷ items.Meter true (Some Free) ∷ [] }
+    ensures refused_program { items_by (Opening no_defaults) (codes "%%MIDI program 128")
+        ≡ items.Program true None ∷ items.Tempo true None false ∷ items.Meter true (Some Free) ∷ [] }
 {}
 
 /// The tempo of a tune whose header ends after a line: a number alone counts the unit there. ABC 2.1 section 3.1.8; the
@@ -113,6 +115,8 @@ pub fn faults_of_headers()
     ensures tempo { faults_by (Opening no_defaults) (codes "Q:=60") ≡ (1, BadTempo) ∷ [] }
     ensures order { faults_by (Opening no_defaults) (codes "P:a") ≡ (1, BadOrder) ∷ [] }
     ensures voice { faults_by (Opening no_defaults) (codes "V:1 octave=x") ≡ (1, BadVoice) ∷ [] }
+    ensures too_many { faults_by (entry_after_header (codes "X:1" ∷ fifteen_voices)) (codes "V:p") ≡ (1, TooManyVoices) ∷ [] }
+    ensures named_again { faults_by (entry_after_header (codes "X:1" ∷ fifteen_voices)) (codes "V:o") ≡ [] }
     ensures key { faults_by (Opening no_defaults) (codes "K:H") ≡ (1, BadKey) ∷ [] }
     ensures program { faults_by (Opening no_defaults) (codes "%%MIDI program 128") ≡ (1, BadProgram) ∷ [] }
     ensures other { faults_by (Opening no_defaults) (codes "R:x") ≡ [] }

@@ -16,7 +16,7 @@ ghost use Rattle.abc_scan.specs.Length.{length_at};
 ghost use Rattle.abc_scan.specs.Class.{class_of};
 ghost use Rattle.abc_scan.specs.Note.{octave};
 ghost use Rattle.abc_scan.specs.Text.{content};
-ghost use Rattle.text_examples.specs.Values.{blank, c_part, c_token, chord_token, part, plain, token};
+ghost use Rattle.text_examples.specs.Values.{blank, c_part, c_token, chord_token, double_bar, part, plain, token};
 
 /// Blank lines and comments. ABC 2.1 section 2.2. Only spaces and tabs are blanks, and one carriage return is dropped
 /// at the end: not in ABC 2.1.
@@ -141,6 +141,14 @@ pub fn longest_tokens()
     ensures rest { tokens_of (codes "z3/2") ≡ token (kinds.Rest (Factor 3 2)) 0 4 ∷ [] }
     ensures bar_line { tokens_of (codes "C|") ≡ c_token (pos 0) plain 0 1
         ∷ token (kinds.Bar (record { closes = 0; opens = 0; double = false })) 1 2 ∷ [] }
+{}
+
+/// Bar lines of two signs are double. ABC 2.1 section 4.8.
+pub fn tokens_of_double_bars()
+    ensures thin { tokens_of (codes "C||") ≡ c_token (pos 0) plain 0 1 ∷ token (double_bar 0) 1 3 ∷ [] }
+    ensures thick { tokens_of (codes "C|]") ≡ c_token (pos 0) plain 0 1 ∷ token (double_bar 0) 1 3 ∷ [] }
+    ensures before { tokens_of (codes "[|C") ≡ token (double_bar 0) 0 2 ∷ c_token (pos 0) plain 2 3 ∷ [] }
+    ensures repeated { tokens_of (codes "C:|]") ≡ c_token (pos 0) plain 0 1 ∷ token (double_bar 1) 1 4 ∷ [] }
 {}
 
 /// A dynamic is a token. Another decoration has no effect, and a decoration that is not closed is no token. In a chord
