@@ -11,13 +11,13 @@ pub enum Version {
 
 /// The account of one number: what the book has, what the directory holds, and what a job carries.
 #[derive(Clone, Copy)]
-pub struct Side {
+pub struct NumberAccount {
     pub book: Version,
     stored: Version,
     carried: Option<Version>,
 }
 
-impl Side {
+impl NumberAccount {
     pub fn is_pending(self) -> bool {
         self.stored != self.book
     }
@@ -30,28 +30,28 @@ impl Side {
         !self.is_pending() && self.carried.is_none()
     }
 
-    fn edit(self) -> Side {
+    fn edit(self) -> NumberAccount {
         let book = match self.book {
             Version::Absent => Version::WithC,
             Version::WithC => Version::WithD,
             _ => Version::Absent,
         };
-        Side { book, ..self }
+        NumberAccount { book, ..self }
     }
 
-    fn take(self) -> Side {
-        Side {
+    fn take(self) -> NumberAccount {
+        NumberAccount {
             carried: Some(self.book),
             ..self
         }
     }
 
-    fn end(self, done: bool) -> Side {
+    fn end(self, done: bool) -> NumberAccount {
         let stored = match self.carried {
             Some(carried) if done => carried,
             _ => Version::Unknown,
         };
-        Side {
+        NumberAccount {
             stored,
             carried: None,
             ..self
@@ -60,7 +60,7 @@ impl Side {
 }
 
 /// A tune that is there, and nothing is written.
-const NEW: Side = Side {
+const NEW: NumberAccount = NumberAccount {
     book: Version::WithC,
     stored: Version::Absent,
     carried: None,
@@ -69,8 +69,8 @@ const NEW: Side = Side {
 /// The account of both numbers.
 #[derive(Clone, Copy)]
 pub struct Account {
-    pub first: Side,
-    pub second: Side,
+    pub first: NumberAccount,
+    pub second: NumberAccount,
 }
 
 /// Both tunes are there, and nothing is written.

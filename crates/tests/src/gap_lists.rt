@@ -78,13 +78,13 @@ fn a_range_of_a_list_is_in_order(rt: HostRuntime) {
 }
 
 /// Counts up when it is dropped.
-struct Counted<'a> {
+struct DropCounter<'a> {
     drops: &'a Cell<u32>,
 }
 
-impl Drop for Counted<'_> {
+impl Drop for DropCounter<'_> {
     fn drop(self) {
-        let Counted { drops } = self;
+        let DropCounter { drops } = self;
         drops.set(drops.get().wrapping_add(1));
     }
 }
@@ -94,9 +94,9 @@ fn each_item_of_a_list_is_dropped_once(rt: HostRuntime) {
     let alloc = rt.alloc();
     let drops = Cell::new(0);
     let mut list = GapList::with_room(alloc, 8).expect(&rt, "there is memory");
-    list.insert(0, Counted { drops: &drops });
-    list.insert(1, Counted { drops: &drops });
-    list.insert(0, Counted { drops: &drops });
+    list.insert(0, DropCounter { drops: &drops });
+    list.insert(1, DropCounter { drops: &drops });
+    list.insert(0, DropCounter { drops: &drops });
     assert!(rt; drops.get() == 0);
     let taken = list.remove(1);
     assert!(rt; drops.get() == 0);
@@ -107,12 +107,16 @@ fn each_item_of_a_list_is_dropped_once(rt: HostRuntime) {
 }
 
 /// Returns `count` items that count up when they are dropped.
-fn several(alloc: Global, drops: &Cell<u32>, count: usize) -> Result<Vec<Counted<'_>>, AllocError> {
-    let mut counted = Vec::new(alloc);
+fn drop_counters(
+    alloc: Global,
+    drops: &Cell<u32>,
+    count: usize,
+) -> Result<Vec<DropCounter<'_>>, AllocError> {
+    let mut counters = Vec::new(alloc);
     for _ in 0..count {
-        counted.push(Counted { drops })?;
+        counters.push(DropCounter { drops })?;
     }
-    Ok(counted)
+    Ok(counters)
 }
 
 #[test]
@@ -120,9 +124,9 @@ fn each_item_of_a_splice_is_dropped_once(rt: HostRuntime) {
     let alloc = rt.alloc();
     let drops = Cell::new(0);
     let mut list = GapList::with_room(alloc, 2).expect(&rt, "there is memory");
-    list.insert(0, Counted { drops: &drops });
-    list.insert(0, Counted { drops: &drops });
-    let three = several(alloc, &drops, 3).expect(&rt, "there is memory");
+    list.insert(0, DropCounter { drops: &drops });
+    list.insert(0, DropCounter { drops: &drops });
+    let three = drop_counters(alloc, &drops, 3).expect(&rt, "there is memory");
     assert!(rt; list.len() == 2);
     let patch = list
         .splice_prepare(alloc, 1, 1, three)
@@ -133,7 +137,7 @@ fn each_item_of_a_splice_is_dropped_once(rt: HostRuntime) {
     assert!(rt; drops.get() == 1);
     assert!(rt; list.room() == 4);
     assert!(rt; list.len() == 4);
-    let one = several(alloc, &drops, 1).expect(&rt, "there is memory");
+    let one = drop_counters(alloc, &drops, 1).expect(&rt, "there is memory");
     let patch = list
         .splice_prepare(alloc, 0, 2, one)
         .expect(&rt, "there is memory");
@@ -141,7 +145,7 @@ fn each_item_of_a_splice_is_dropped_once(rt: HostRuntime) {
     assert!(rt; drops.get() == 3);
     assert!(rt; list.gap() == 1);
     assert!(rt; list.len() == 3);
-    let four = several(alloc, &drops, 4).expect(&rt, "there is memory");
+    let four = drop_counters(alloc, &drops, 4).expect(&rt, "there is memory");
     // seven do not fit, so that the patch has a list of its own
     let patch = list
         .splice_prepare(alloc, 3, 0, four)

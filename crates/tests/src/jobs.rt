@@ -35,9 +35,9 @@ pub const FILE_OF_D: &[u8] = b"MThd\0\0\0\x06\0\x01\0\x02\x01\xE0\
 
 /// Checks the number of the job that was taken last, and its bytes.
 pub fn check_newest(rt: &impl Abort, held: &HeldJobs, number: u32, file: Option<&[u8]>) {
-    let is_it = match held.newest() {
+    let is_expected = match held.newest() {
         Some(job) => job.number() == number && job.bytes() == file,
         None => false,
     };
-    assert!(rt; is_it);
+    assert!(rt; is_expected);
 }

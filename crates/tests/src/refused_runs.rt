@@ -2,7 +2,7 @@
 
 use crate::failing::Failing;
 use crate::shelf::Shelf;
-use crate::streams::{Kept, Pieces};
+use crate::streams::{MemorySink, PieceSource};
 use abc_fold::Work;
 use abc2midi_live::{RunFault, run};
 use out_of_memory_layers::report::{again, call, done};
@@ -29,19 +29,24 @@ const BUILD_ANSWERS: &[u8] = b"ok written 1 removed\nwritten 1.mid\nend\n";
 const FAILED_ANSWERS: &[u8] = b"ok written 1 removed\nfailed 1.mid\nend\n";
 
 /// A sink that takes the answers without an allocation.
-fn roomy(rt: &impl Abort, alloc: Global) -> Kept {
+fn roomy(rt: &impl Abort, alloc: Global) -> MemorySink {
     let bytes = Vec::with_capacity(alloc, 1_000).expect(rt, "there is memory");
-    Kept::new(bytes, Failing::Never)
+    MemorySink::new(bytes, Failing::Never)
 }
 
 /// Two such sinks.
-fn two_roomy(rt: &impl Abort, alloc: Global) -> (Kept, Kept) {
+fn two_roomy(rt: &impl Abort, alloc: Global) -> (MemorySink, MemorySink) {
     (roomy(rt, alloc), roomy(rt, alloc))
 }
 
 /// Runs commands.
-fn ran<R: Runtime>(rt: &R, alloc: Global, input: &[u8], writer: &mut Kept) -> Result<(), RunFault> {
-    let mut reader = Pieces::new(input, 1_000, Failing::Never);
+fn run_commands<R: Runtime>(
+    rt: &R,
+    alloc: Global,
+    input: &[u8],
+    writer: &mut MemorySink,
+) -> Result<(), RunFault> {
+    let mut reader = PieceSource::new(input, 1_000, Failing::Never);
     let mut store = Shelf::new(alloc, Failing::Never);
     let mut work = Work::mint(rt);
     run(alloc, None, &mut reader, writer, &mut store, &mut work)
@@ -57,12 +62,12 @@ fn a_run_of_the_first_tune(rt: HostRuntime) {
     let alloc = rt.alloc();
     let (mut first, mut second) = two_roomy(&rt, alloc);
     call(&rt, "run, the first tune");
-    match ran(&rt, alloc, FIRST_TUNE, &mut first) {
+    match run_commands(&rt, alloc, FIRST_TUNE, &mut first) {
         Ok(()) => assert!(rt; first.written() == ANSWERS),
         Err(fault) => {
             again(&rt);
             assert!(rt; fault == RunFault::Memory && is_beginning(first.written(), ANSWERS));
-            assert!(rt; ran(&rt, alloc, FIRST_TUNE, &mut second).is_ok());
+            assert!(rt; run_commands(&rt, alloc, FIRST_TUNE, &mut second).is_ok());
             assert!(rt; second.written() == ANSWERS);
         }
     }
@@ -82,11 +87,11 @@ fn a_run_that_builds(rt: HostRuntime) {
     let alloc = rt.alloc();
     let (mut first, mut second) = two_roomy(&rt, alloc);
     call(&rt, "run, a build");
-    let ended = ran(&rt, alloc, BUILD, &mut first).err();
+    let ended = run_commands(&rt, alloc, BUILD, &mut first).err();
     if ended.is_some() || first.written() != BUILD_ANSWERS {
         again(&rt);
         assert!(rt; is_refused(ended, first.written()));
-        assert!(rt; ran(&rt, alloc, BUILD, &mut second).is_ok());
+        assert!(rt; run_commands(&rt, alloc, BUILD, &mut second).is_ok());
         assert!(rt; second.written() == BUILD_ANSWERS);
     }
     done(&rt);

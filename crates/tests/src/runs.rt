@@ -3,7 +3,7 @@
 use crate::failing::Failing;
 use crate::jobs::{FILE_OF_C, FILE_OF_D};
 use crate::shelf::Shelf;
-use crate::streams::{Kept, Pieces};
+use crate::streams::{MemorySink, PieceSource};
 use abc_fold::Work;
 use abc2midi_live::{RunFault, run};
 use std::alloc::Global;
@@ -88,11 +88,11 @@ impl Outcome {
     fn of<R: Runtime>(
         rt: &R,
         alloc: Global,
-        mut reader: Pieces<'_>,
+        mut reader: PieceSource<'_>,
         writing: Failing,
         store: &mut Shelf,
     ) -> Outcome {
-        let mut writer = Kept::new(Vec::new(alloc), writing);
+        let mut writer = MemorySink::new(Vec::new(alloc), writing);
         let mut work = Work::mint(rt);
         let ended = run(alloc, None, &mut reader, &mut writer, store, &mut work);
         Outcome {
@@ -111,7 +111,7 @@ impl Outcome {
 fn is_whole<R: Runtime + Abort>(rt: &R, alloc: Global, steps: &[Step], most: usize) -> bool {
     let input = input_of(rt, alloc, steps);
     let answered = answers_within(rt, alloc, steps, input.len());
-    let reader = Pieces::new(input.as_slice(), most, Failing::Never);
+    let reader = PieceSource::new(input.as_slice(), most, Failing::Never);
     let mut store = Shelf::new(alloc, Failing::Never);
     Outcome::of(rt, alloc, reader, Failing::Never, &mut store).gives(answered.as_slice(), None)
 }
@@ -136,7 +136,7 @@ fn stops_reading<R: Runtime + Abort>(
 ) -> bool {
     let input = input_of(rt, alloc, steps);
     let answered = answers_within(rt, alloc, steps, read);
-    let reader = Pieces::new(input.as_slice(), 1, failing);
+    let reader = PieceSource::new(input.as_slice(), 1, failing);
     let mut store = Shelf::new(alloc, Failing::Never);
     // nothing is read after `quit`
     let fault = if read < size_of(steps) {
@@ -169,7 +169,7 @@ fn reads_that_fail(rt: HostRuntime) {
     let alloc = rt.alloc();
     check_reads(&rt, alloc, &FIRST_TUNE);
     check_reads(&rt, alloc, &BUILDS);
-    let reader = Pieces::new(b"titles\n", 1_000, Failing::ForGood(3));
+    let reader = PieceSource::new(b"titles\n", 1_000, Failing::ForGood(3));
     let mut store = Shelf::new(alloc, Failing::Never);
     assert!(rt; Outcome::of(&rt, alloc, reader, Failing::Never, &mut store).gives(b"end\n", None));
 }
@@ -204,7 +204,7 @@ fn stops_writing<R: Runtime + Abort>(
 ) -> bool {
     let input = input_of(rt, alloc, steps);
     let answered = answers_within(rt, alloc, answered, input.len());
-    let reader = Pieces::new(input.as_slice(), 1_000, Failing::Never);
+    let reader = PieceSource::new(input.as_slice(), 1_000, Failing::Never);
     let mut store = Shelf::new(alloc, Failing::Never);
     let outcome = Outcome::of(rt, alloc, reader, failing, &mut store);
     outcome.gives(answered.as_slice(), Some(RunFault::Write)) && store.get("1.mid") == file
@@ -237,7 +237,7 @@ fn writes_that_fail(rt: HostRuntime) {
 
 /// The result of the builds of `BUILDS` if calls of the store fail.
 #[derive(Drop)]
-struct Stored {
+struct BuildResults {
     /// How many calls of the store there were.
     calls: u64,
     answers: Vec<u8>,
@@ -247,7 +247,7 @@ struct Stored {
 /// After an edit come two builds, of which the second stores the files that the first could not.
 fn build_twice(
     rt: &impl Abort,
-    stored: &mut Stored,
+    results: &mut BuildResults,
     failing: Failing,
     line: &[u8],
     file: Option<&'static [u8]>,
@@ -255,45 +255,45 @@ fn build_twice(
     let mut is_pending = true;
     for _ in 0..2 {
         if is_pending {
-            stored.calls = stored.calls.saturating_add(1);
-            is_pending = failing.at(stored.calls);
+            results.calls = results.calls.saturating_add(1);
+            is_pending = failing.at(results.calls);
             if is_pending {
-                put(rt, &mut stored.answers, b"failed 1.mid\n");
+                put(rt, &mut results.answers, b"failed 1.mid\n");
             } else {
-                put(rt, &mut stored.answers, line);
-                stored.file = file;
+                put(rt, &mut results.answers, line);
+                results.file = file;
             }
         }
-        put(rt, &mut stored.answers, b"end\n");
+        put(rt, &mut results.answers, b"end\n");
     }
 }
 
 /// Returns the result of the builds.
-fn stored_by(rt: &impl Abort, alloc: Global, failing: Failing) -> Stored {
+fn results_of_builds(rt: &impl Abort, alloc: Global, failing: Failing) -> BuildResults {
     let answers = Vec::new(alloc);
-    let mut stored = Stored {
+    let mut results = BuildResults {
         calls: 0,
         answers,
         file: None,
     };
     for file in [Some(FILE_OF_C), Some(FILE_OF_D)] {
-        put(rt, &mut stored.answers, b"ok written 1 removed\n");
-        build_twice(rt, &mut stored, failing, b"written 1.mid\n", file);
+        put(rt, &mut results.answers, b"ok written 1 removed\n");
+        build_twice(rt, &mut results, failing, b"written 1.mid\n", file);
     }
-    put(rt, &mut stored.answers, b"ok written removed 1\n");
-    build_twice(rt, &mut stored, failing, b"removed 1.mid\n", None);
-    stored
+    put(rt, &mut results.answers, b"ok written removed 1\n");
+    build_twice(rt, &mut results, failing, b"removed 1.mid\n", None);
+    results
 }
 
 /// Checks the output of a run whose store fails so, and the contents of the store.
 fn check_store<R: Runtime + Abort>(rt: &R, alloc: Global, failing: Failing) {
     let input = input_of(rt, alloc, &BUILDS);
-    let stored = stored_by(rt, alloc, failing);
-    let reader = Pieces::new(input.as_slice(), 1_000, Failing::Never);
+    let results = results_of_builds(rt, alloc, failing);
+    let reader = PieceSource::new(input.as_slice(), 1_000, Failing::Never);
     let mut store = Shelf::new(alloc, failing);
-    let answered = stored.answers.as_slice();
+    let answered = results.answers.as_slice();
     assert!(rt; Outcome::of(rt, alloc, reader, Failing::Never, &mut store).gives(answered, None));
-    assert!(rt; store.get("1.mid") == stored.file);
+    assert!(rt; store.get("1.mid") == results.file);
 }
 
 /// Each call of the store fails in turn, once or for good: the file is reported as failed, and the next build tries it
@@ -314,7 +314,7 @@ const TWO_TUNES: &[u8] = b"insert 1 7\nX:1\nT:A\nK:C\nC\n\nX:2\nK:C\nbuild\nbuil
 #[test]
 fn the_second_file_fails(rt: HostRuntime) {
     let alloc = rt.alloc();
-    let reader = Pieces::new(TWO_TUNES, 1_000, Failing::Never);
+    let reader = PieceSource::new(TWO_TUNES, 1_000, Failing::Never);
     let mut store = Shelf::new(alloc, Failing::Once(2));
     let answered =
         b"ok written 1 2 removed\nwritten 1.mid\nfailed 2.mid\nend\nwritten 2.mid\nend\n";

@@ -7,7 +7,7 @@ use abc2midi_live::{Sink, Source, StreamFault};
 
 /// A source that returns at most `most` bytes at a time, and fails at some of its calls.
 #[derive(Drop)]
-pub struct Pieces<'a> {
+pub struct PieceSource<'a> {
     rest: &'a [u8],
     most: usize,
     failing: Failing,
@@ -15,9 +15,9 @@ pub struct Pieces<'a> {
     failures: u64,
 }
 
-impl<'a> Pieces<'a> {
-    pub fn new(rest: &'a [u8], most: usize, failing: Failing) -> Pieces<'a> {
-        Pieces {
+impl<'a> PieceSource<'a> {
+    pub fn new(rest: &'a [u8], most: usize, failing: Failing) -> PieceSource<'a> {
+        PieceSource {
             rest,
             most,
             failing,
@@ -28,7 +28,7 @@ impl<'a> Pieces<'a> {
 }
 
 #[tactic(auto, using(abc2midi_live::proofs::Counts::raised_none, abc2midi_live::proofs::Counts::raised_within))]
-impl Source for Pieces<'_> {
+impl Source for PieceSource<'_> {
     ghost failures = { λ s. s.failures };
 
     ghost calls = { λ s. s.calls };
@@ -51,17 +51,17 @@ impl Source for Pieces<'_> {
 
 /// A sink that stores the bytes that it gets, and fails at some of its calls.
 #[derive(Drop)]
-pub struct Kept {
+pub struct MemorySink {
     bytes: Vec<u8>,
     failing: Failing,
     calls: u64,
     failures: u64,
 }
 
-impl Kept {
+impl MemorySink {
     /// Nothing written yet.
-    pub fn new(bytes: Vec<u8>, failing: Failing) -> Kept {
-        Kept {
+    pub fn new(bytes: Vec<u8>, failing: Failing) -> MemorySink {
+        MemorySink {
             bytes,
             failing,
             calls: 0,
@@ -81,7 +81,7 @@ impl Kept {
 }
 
 #[tactic(auto, using(abc2midi_live::proofs::Counts::raised_none, abc2midi_live::proofs::Counts::raised_within))]
-impl Sink for Kept {
+impl Sink for MemorySink {
     ghost failures = { λ s. s.failures };
 
     ghost contents = { λ s. Some s.bytes.items };
