@@ -10,6 +10,7 @@ from abc2midi_live_clients.hints import NAMES, Finder, Hint, hints
 from abc2midi_live_clients.program import LiveBook, Tune
 
 NO_EXAMPLE = "ManyTunes"  # its text is too long for an example
+WHITE_LINES = ["V:\f", "V:\r\r", "[V:\v]C|", "K:D\v^c", "\f"]  # with white space that is no blank
 
 
 class Example(NamedTuple):
@@ -88,7 +89,7 @@ class Examples(trial.Folder):
             start = chance.randrange(len(lines) + 1)
             stop = min(len(lines), start + chance.choice([0, 0, 1, 1, 2, 9]))
             choices: list[list[str]] = [[], ["X:3"], [trial.random_line(chance)], trial.random_tune(chance, 2), ["M:6/8"]]
-            put = chance.choice(choices)
+            put = chance.choice([*choices, [chance.choice(WHITE_LINES)]])
             if chance.random() < 0.1:
                 start = stop = 0
             lines[start:stop] = [line.encode() for line in put]

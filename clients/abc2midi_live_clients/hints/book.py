@@ -45,7 +45,7 @@ def same_numbers(tunes: Sequence[Tune], faults: Sequence[Fault]) -> list[Hint]:
 
 def no_tune(lines: Sequence[bytes]) -> Iterator[Hint]:
     """Yields a hint if a text without tunes is not empty; lone carriage returns have a hint of their own."""
-    first = next((n for n, line in enumerate(lines) if line.strip()), None)
+    first = next((n for n, line in enumerate(lines) if kind_of(line) != BLANK), None)
     if first is None or any(_RETURN.search(line) for line in lines[:2]):
         return
     start = b"\n".join(lines[:LOOKED_AT])[:LOOKED_AT]

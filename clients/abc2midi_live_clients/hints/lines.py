@@ -17,6 +17,7 @@ _LINE = re.compile(
     re.DOTALL,
 )
 _COMMENT = re.compile(rb"(?<!\\)%")
+_WORD = re.compile(rb"[^ \t]+")
 
 
 def kind_of(line: bytes) -> str:
@@ -44,6 +45,11 @@ def content(line: bytes) -> bytes:
 def value(field: bytes) -> bytes:
     """Returns what follows the colon of a field, blanks cut at both ends."""
     return field[2:].strip(b" \t")
+
+
+def words_of(text: bytes) -> list[bytes]:
+    """Returns the words of a value: its parts between blanks. No other white space cuts it."""
+    return _WORD.findall(text)
 
 
 def length_of_tune(lines: tuple[bytes, ...]) -> int:

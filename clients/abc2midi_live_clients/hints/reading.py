@@ -8,7 +8,7 @@ from dataclasses import dataclass, field
 from typing import NamedTuple, Optional
 
 from . import tokens as kinds
-from .lines import BLANK, COMMENT, DIRECTIVE, FIELD, MUSIC, content, kind_of, length_of_tune, value
+from .lines import BLANK, COMMENT, DIRECTIVE, FIELD, MUSIC, content, kind_of, length_of_tune, value, words_of
 from .segments import Carried, Segment, cuts, segment_of
 from .tokens import Token, passes_of
 from .values import FREE, NATURAL, WHOLE, Meter, Signature, meter_of, signature_of, unit_of, unit_under
@@ -143,7 +143,7 @@ class TuneText:
             elif letter == b"L":
                 unit = unit_of(text) or unit
             elif letter == b"V" and text:
-                names.append(text.split()[0])
+                names.append(words_of(text)[0])
             elif letter == b"K":
                 self.signature = signature_of(text) or NATURAL
                 first = n + 1
@@ -221,7 +221,7 @@ class TuneText:
 
     def _read_voice(self, _: Place, text: bytes) -> None:
         """Reads `V:`: the voice goes on from here."""
-        name = text.split()[0] if text else UNNAMED
+        name = words_of(text)[0] if text else UNNAMED
         has_place = sum(1 for each, voice in self.voices.items() if each or voice.plays) < MOST_VOICES
         if name and (name in self.voices or has_place):
             self.current, self.voice = name, self._voice_named(name)

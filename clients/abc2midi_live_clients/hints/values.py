@@ -9,6 +9,8 @@ from functools import lru_cache
 from types import MappingProxyType
 from typing import NamedTuple, Optional
 
+from .lines import words_of
+
 WHOLE = 2**16 * 3**4 * 5**2 * 7**2 * 11 * 13  # the grains of a whole note: every usual length is a whole number of them
 MOST_SLASHES = 29
 MOST_DIGITS = 9
@@ -123,7 +125,7 @@ NATURAL: Signature = MappingProxyType({})
 @lru_cache(maxsize=1024)
 def signature_of(text: bytes) -> Optional[Signature]:
     """Returns the signature of the value of a `K:`, none of a refused one, or None if it has properties alone."""
-    words = text.split()
+    words = words_of(text)
     if not words or text == b"none":
         return NATURAL
     if words[0][:1] in (b"^", b"_", b"="):
@@ -138,7 +140,7 @@ def signature_of(text: bytes) -> Optional[Signature]:
 
 def signature_of_tonic(letter: bytes, sign: bytes, mode: bytes, rest: bytes) -> Signature:
     """Returns the signature of a tonic, a mode, and the words after them."""
-    words = rest.split()
+    words = words_of(rest)
     if not mode and words:
         run = re.match(rb"[A-Za-z]*", words[0])
         first = run[0] if run else b""

@@ -6,7 +6,7 @@ import re
 from collections.abc import Iterator
 
 from .hint import TuneHint, counted
-from .lines import MUSIC, value
+from .lines import MUSIC, content, value
 from .reading import Place, TuneText
 from .tokens import DECORATION, GRACE, QUOTED, Token
 
@@ -14,7 +14,7 @@ CHORD_NAME = re.compile(
     rb'"\(?[A-G](?:#|b|\xe2\x99\xaf|\xe2\x99\xad)?(?:maj|min|dim|aug|sus|add|M|m|[o+0-9#b()-]|\xc2\xb0)*'
     rb'(?:/[A-G](?:#|b|\xe2\x99\xaf|\xe2\x99\xad)?)?\)?"\Z'
 )
-CONTINUED = frozenset(b"|:(-[]")  # after a `.`: a dotted bar line, slur or tie, and no decoration
+CONTINUED = frozenset(b" \t|:(-[]")  # after a `.`: a blank, a dotted bar line, slur or tie, and no decoration
 
 
 def not_played(tune: TuneText) -> Iterator[TuneHint]:
@@ -22,7 +22,7 @@ def not_played(tune: TuneText) -> Iterator[TuneHint]:
     places = []
     counts = {"chord name": 0, "group of grace notes": 0, "decoration": 0, "line of lyrics": 0}
     for place, token in tune.others:
-        kind = kind_of_other(token, tune.lines[place.line][place.column + 1 : place.column + 2])
+        kind = kind_of_other(token, content(tune.lines[place.line])[place.column + 1 : place.column + 2])
         if kind:
             counts[kind] += 1
             places.append(place)
@@ -42,7 +42,7 @@ def kind_of_other(token: Token, after: bytes) -> str:
         return "chord name" if CHORD_NAME.match(token.text) else ""
     if token.kind == GRACE:
         return "group of grace notes"
-    if token.kind == DECORATION and not (token.text == b"." and (not after.strip() or after[0] in CONTINUED)):
+    if token.kind == DECORATION and not (token.text == b"." and (not after or after[0] in CONTINUED)):
         return "decoration"
     return ""
 
