@@ -20,7 +20,7 @@ _LENGTH = re.compile(rb"([0-9]*)(/*)([0-9]*)\Z")
 _METER = re.compile(rb"(?:\(([0-9]{1,9}(?:\+[0-9]{1,9})+)\)|([0-9]{1,9}(?:\+[0-9]{1,9})*))/([0-9]{1,9})\Z")
 _UNIT = re.compile(rb"1(?:/([0-9]{1,9}))?\Z")
 _NOTE = re.compile(rb"([\^_=]*)([A-Ga-g])([',]*)(.*)\Z", re.DOTALL)
-_TONIC = re.compile(rb"([A-G])([#b]?)([A-Za-z]*)[ \t]*(.*)\Z", re.DOTALL)
+_TONIC = re.compile(rb"([A-G])([#b]?)([ \t]*)([A-Za-z]*)(.*)\Z", re.DOTALL)
 _LISTED = re.compile(rb"(?:(?:\^\^?|__?|=)[A-Ga-g])+\Z")
 _PAIR = re.compile(rb"(\^\^?|__?|=)([A-Ga-g])")
 
@@ -138,21 +138,19 @@ def signature_of(text: bytes) -> Optional[Signature]:
     return None if alone else NATURAL
 
 
-def signature_of_tonic(letter: bytes, sign: bytes, mode: bytes, rest: bytes) -> Signature:
-    """Returns the signature of a tonic, a mode, and the words after them."""
-    words = words_of(rest)
-    if not mode and words:
-        run = re.match(rb"[A-Za-z]*", words[0])
-        first = run[0] if run else b""
-        if first == b"exp":
-            return listed(NATURAL, words)
-        mode = first if sharps_of_mode(first) is not None else b""
-    sharps = sharps_of(letter, sign, mode)
+def signature_of_tonic(letter: bytes, sign: bytes, blanks: bytes, run: bytes, rest: bytes) -> Signature:
+    """Returns the signature of a tonic, the blanks and then the letters after it, and the rest. After blanks letters that are
+    no mode begin a word like others."""
+    if blanks and run == b"exp":
+        return listed(NATURAL, words_of(rest))
+    is_word = blanks != b"" and sharps_of_mode(run) is None
+    sharps = sharps_of(letter, sign, b"" if is_word else run)
     if sharps is None:
         return NATURAL
     letters = ORDER_OF_SHARPS[:sharps] if sharps > 0 else ORDER_OF_SHARPS[7 + sharps :]
     alteration = 1 if sharps > 0 else -1
-    return listed({bytes([each]): alteration for each in letters} if sharps else NATURAL, words)
+    signature = {bytes([each]): alteration for each in letters} if sharps else NATURAL
+    return listed(signature, words_of(run + rest if is_word else rest))
 
 
 def sharps_of(letter: bytes, sign: bytes, mode: bytes) -> Optional[int]:
