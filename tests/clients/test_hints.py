@@ -6,7 +6,7 @@ from typing import NamedTuple, Optional
 
 import trial
 from abc2midi_live_clients.faults import sentences
-from abc2midi_live_clients.hints import NAMES, Finder, Hint, hints
+from abc2midi_live_clients.hints import NAMES, Finder, Hint
 from abc2midi_live_clients.program import LiveBook, Tune
 
 NO_EXAMPLE = "ManyTunes"  # its text is too long for an example
@@ -56,7 +56,7 @@ class Examples(trial.Folder):
     def test_examples(self) -> None:
         for name, wanted, lines in examples():
             self.book.replace(0, len(self.book.lines), lines)
-            found = hints(lines, self.book.tunes(), self.book.faults())
+            found = Finder().hints(lines, self.book.tunes(), self.book.faults())
             self.assertEqual(found, wanted, f"{name}: {lines}")
 
     def test_each_hint_has_an_example_that_gives_it_and_one_that_does_not(self) -> None:
@@ -103,13 +103,13 @@ class Examples(trial.Folder):
         """Long lines of bytes that begin a token and end none are read to their end."""
         for piece in (b"{", b"[K:", b'"', b"!", b"[", b"[1", b"(3:", b":", b"^", b"C/", b"[|", b"\xff", b"-", b"(", b"}{"):
             lines = [b"X:1", b"M:4/4", b"K:C", piece * (9_000 // len(piece)) + b"|"]
-            found = hints(lines, [Tune(1, "", 1)], [])
+            found = Finder().hints(lines, [Tune(1, "", 1)], [])
             self.assertEqual([hint for hint in found if not 1 <= hint.column <= 9_001], [])
 
     def test_a_book_of_very_many_tunes(self) -> None:
         numbers = [*range(1, 10_001), 1, 10_002]
         lines = [line for number in numbers for line in (b"X:%d" % number, b"K:C", b"|:C|", b"")]
         tunes = [Tune(number, "", 4 * n + 1) for n, number in enumerate(numbers)]
-        found = hints(lines, tunes, [])
+        found = Finder().hints(lines, tunes, [])
         self.assertEqual(len(found), 10_002)
         self.assertEqual([hint[:3] for hint in found[-3:]], [(39_999, 1, "OpenRepeat"), (40_001, 1, "ManyTunes"), (40_001, 1, "SameNumber")])
