@@ -14,6 +14,7 @@ INLINE = re.compile(rb"\[I:[ \t]*midi(?![A-Za-z])[^\]]*", re.IGNORECASE)
 PROGRAM = re.compile(rb"program(?:[ \t]+[0-9]+)?[ \t]+([0-9]+)[ \t]*(?:%.*|\Z)", re.IGNORECASE | re.DOTALL)
 WHERE = {DIRECTIVE: "in a tune or in the first block of the book", COMMENT: "from column 1 on, and no channel before the number"}
 ELSEWHERE = "on a line of its own"
+MOST_PROGRAM = 127
 
 
 def midi_lines(lines: tuple[bytes, ...], kept: range) -> Iterator[TuneHint]:
@@ -26,14 +27,21 @@ def midi_lines(lines: tuple[bytes, ...], kept: range) -> Iterator[TuneHint]:
         for column, setting in midi_texts(n, line, kept):
             program = PROGRAM.match(setting)
             if program:
-                number = program[1].decode()
-                text = f"this program has no effect; write `%%MIDI program {number}` {WHERE.get(kind_of(line), ELSEWHERE)}"
+                text = f"this program has no effect; write {directive_of(program[1])} {WHERE.get(kind_of(line), ELSEWHERE)}"
                 yield TuneHint(Place(n, column), "LostProgram", text)
             else:
                 others.append(Place(n, column))
     if others:
         what = "this line for players has" if len(others) == 1 else f"this line for players and {len(others) - 1} more have"
         yield TuneHint(others[0], "MidiLine", f"{what} no effect; of `%%MIDI` lines only `%%MIDI program N` is read")
+
+
+def directive_of(digits: bytes) -> str:
+    """Returns the directive to write for a program: with its number, if there is a program of that number."""
+    number = digits.lstrip(b"0").decode() or "0"
+    if len(number) <= len(str(MOST_PROGRAM)) and int(number) <= MOST_PROGRAM:
+        return f"`%%MIDI program {number}`"
+    return f"`%%MIDI program N`, N from 0 to {MOST_PROGRAM},"
 
 
 def midi_texts(number: int, line: bytes, kept: range) -> Iterator[tuple[int, bytes]]:
