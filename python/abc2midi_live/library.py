@@ -140,6 +140,12 @@ class LibrarySession(Session):
         if threading.get_ident() != self._thread:
             raise RuntimeError("a session of the library stays on the thread that opened it")
 
+    def close(self) -> None:
+        """Ends the session, on the thread that opened it. Twice is harmless, on any thread."""
+        if not self._is_closed:
+            self._check_open()
+        super().close()
+
     def _recover(self) -> None:
         count = c_uint32()
         check(self._calls.abc_live_line_count(byref(self._session), byref(count)))

@@ -86,8 +86,8 @@ class ProcessSession(Session):
     # ---- what the text has
 
     def output(self, number: int) -> Optional[bytes]:
+        self._check_ready()
         if not 0 <= index(number) <= MOST_NUMBER:
-            self._check_open()
             return None
         with self._exchange():
             answer = self._ask(f"hex {number:d}")
@@ -95,7 +95,7 @@ class ProcessSession(Session):
 
     @property
     def numbers(self) -> list[int]:
-        self._check_open()
+        self._check_ready()
         return sorted(self._numbers)
 
     @property
@@ -117,7 +117,7 @@ class ProcessSession(Session):
 
     @property
     def work(self) -> Optional[Work]:
-        self._check_open()
+        self._check_ready()
         return None
 
     # ---- the folder
@@ -139,14 +139,17 @@ class ProcessSession(Session):
     def _exchange(self) -> Iterator[None]:
         """One command and its whole answer. If that is interrupted, the next answer would belong to no command: so the
         program is ended."""
-        self._check_open()
-        if self._end:
-            raise ProgramEnded(self._end)
+        self._check_ready()
         try:
             yield
         except BaseException as error:
             self._lose(str(error) if isinstance(error, ProgramEnded) else "a call was interrupted")
             raise
+
+    def _check_ready(self) -> None:
+        super()._check_ready()
+        if self._end:
+            raise ProgramEnded(self._end)
 
     def _lose(self, why: str) -> None:
         """Ends the program: it has no more answers."""

@@ -64,7 +64,7 @@ class Session(ABC):
 
     def insert(self, at: int, lines: Lines) -> Report:
         """Inserts lines before line `at`, which is from 1 to `line_count + 1`."""
-        self._check_open()
+        self._check_ready()
         at, put = index(at), lines_of(lines)
         with self._whole_edit():
             report = self._insert(at, put)
@@ -73,7 +73,7 @@ class Session(ABC):
 
     def replace(self, from_line: int, to_line: int, lines: Lines) -> Report:
         """Replaces the lines from `from_line` to `to_line`, both included, by any number of lines."""
-        self._check_open()
+        self._check_ready()
         from_line, to_line, put = index(from_line), index(to_line), lines_of(lines)
         with self._whole_edit():
             report = self._replace(from_line, to_line, put)
@@ -82,7 +82,7 @@ class Session(ABC):
 
     def delete(self, from_line: int, to_line: int) -> Report:
         """Deletes the lines from `from_line` to `to_line`, both included."""
-        self._check_open()
+        self._check_ready()
         from_line, to_line = index(from_line), index(to_line)
         with self._whole_edit():
             report = self._delete(from_line, to_line)
@@ -95,13 +95,13 @@ class Session(ABC):
         All edits are one report. If one edit changes a file and another one changes it back, its number is in `written`.
         If an allocation fails between two edits, those before it stay: `lines` has the text so far, and the same call made
         again goes on from there."""
-        self._check_open()
+        self._check_ready()
         return self.apply(few_edits(self._lines, lines_of_book(text)))
 
     def apply(self, edits: Sequence[Edit]) -> Report:
         """Makes edits, which rise and do not overlap. Their places are those of the present text. Returns one report, as
         `set_text` does. If one would be refused, nothing is changed, but for allocations that fail between two edits."""
-        self._check_open()
+        self._check_ready()
         self._check_edits(edits)
         if len(edits) == 1:
             return self._apply_one(edits[0])
@@ -214,6 +214,10 @@ class Session(ABC):
         """Raises ClosedError after `close`."""
         if self._is_closed:
             raise ClosedError("the session is closed")
+
+    def _check_ready(self) -> None:
+        """Raises the exception of a session that takes no edit and no question any more."""
+        self._check_open()
 
     @abstractmethod
     def _insert(self, at: int, lines: list[bytes]) -> Report: ...

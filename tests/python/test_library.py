@@ -2,6 +2,7 @@
 
 import gc
 import threading
+from collections.abc import Callable
 from unittest import mock
 
 import abc2midi_live
@@ -40,20 +41,31 @@ class OverTheLibrary(sessions.Sessions):
         self.assertEqual(session.lines, [b"X:2", b"K:C", b"", *sessions.TUNE])
         self.assertEqual(session.numbers, [1, 2])
 
-    def test_another_thread(self) -> None:
-        session, raised = self.session(sessions.TUNE), []
+    def call_on_another_thread(self, call: Callable[[], object]) -> list[str]:
+        """Calls on a thread of its own; returns the text of the RuntimeError that this raises, if it does."""
+        raised: list[str] = []
 
-        def call() -> None:
+        def called() -> None:
             try:
-                session.titles
+                call()
             except RuntimeError as error:
                 raised.append(str(error))
 
-        thread = threading.Thread(target=call)
+        thread = threading.Thread(target=called)
         thread.start()
         thread.join()
-        self.assertRegex(raised[0], "thread")
-        self.assertEqual(session.numbers, [1])
+        return raised
+
+    def test_another_thread(self) -> None:
+        """A refused `close` leaves the session open, so that its own thread can close it."""
+        session = LibrarySession(setting.library)
+        inner = session._session
+        session.insert(1, sessions.TUNE)
+        for call in (lambda: session.titles, session.close):
+            self.assertRegex(self.call_on_another_thread(call)[0], "thread")
+        self.assertEqual((session.numbers, inner.state), ([1], 1))
+        session.close()
+        self.assertEqual((inner.state, self.call_on_another_thread(session.close)), (0, []))
 
     def test_a_session_that_is_dropped_is_closed(self) -> None:
         session = LibrarySession(setting.library)

@@ -2,6 +2,7 @@
 
 import os
 import signal
+from collections.abc import Callable
 from pathlib import Path
 from unittest import mock
 
@@ -40,6 +41,18 @@ class OverTheProcess(sessions.Sessions):
         with self.assertRaisesRegex(ProgramEnded, "status -9"):
             session.insert(1, "C")
         self.assertEqual(session.lines, sessions.TUNE)
+
+    def test_calls_after_the_end(self) -> None:
+        """All but those for lines raise the exception again, also those that need no answer of the program."""
+        session = ProcessSession("/bin/false", self.folder)
+        self.addCleanup(session.close)
+        calls: list[Callable[[], object]] = [lambda: session.faults, lambda: session.numbers, lambda: session.work, session.build]
+        calls += [lambda number=number: session.output(number) for number in (1, -1, 10**9)]
+        calls += [lambda: session.insert(7, "C"), lambda: session.delete(0, 10**9), lambda: session.set_text(""), lambda: session.apply([])]
+        for call in calls:
+            with self.assertRaisesRegex(ProgramEnded, "status 1"):
+                call()
+        self.assertEqual((session.lines, session.line_count), ([], 0))
 
     def test_a_program_that_ends_at_once(self) -> None:
         session = ProcessSession("/bin/false")
