@@ -3,8 +3,12 @@
 import os
 import shutil
 import signal
+from unittest import mock
 
 import trial
+from abc2midi_live_clients.midi_folder import MidiFolder
+from abc2midi_live_clients.reports import TextReport
+from abc2midi_live_clients.watched_book import prepare
 from watching import OTHER, TUNE, Looks, Process
 
 MISSING, NO_FOLDER = "No such file or directory; make the folder above it first", "Not a directory; name another folder by --dir"
@@ -73,6 +77,35 @@ class Clean(Files):
         what = "1 file of an earlier run that no tune of the book has: 7.mid; --clean removes them"
         self.assertEqual(self.look(), ["no file changed", what, "the book has no tune, so --clean removes nothing"])
         self.assertEqual(os.listdir(self.files), ["7.mid"])
+
+
+class Locks(trial.Folder):
+    """The lock in a folder of another user, where nobody else makes files."""
+
+    def prepare(self):
+        """What it prints to prepare the folder, which is then unlocked."""
+        told, opened = [], os.open
+
+        def refuse_new_files(path, flags, *mode):
+            if flags & os.O_CREAT:
+                raise PermissionError(13, "Permission denied", path)
+            return opened(path, flags, *mode)
+
+        folder = MidiFolder(str(self.files))
+        self.addCleanup(folder.release)
+        with mock.patch("os.open", refuse_new_files):
+            prepare(folder, TextReport("book.abc", {}, False, told.append))
+        self.is_locked = folder.lock is not None
+        return told
+
+    def test_no_lock_file(self):
+        """The reason is that of the folder."""
+        told = [f"{self.files}: Permission denied; so a second watcher of this folder is not noticed"]
+        self.assertEqual((self.prepare(), self.is_locked), (told, False))
+
+    def test_a_lock_file_to_read(self):
+        (self.files / ".watch.lock").touch()
+        self.assertEqual((self.prepare(), self.is_locked), ([], True))
 
 
 class Folders(Process):
