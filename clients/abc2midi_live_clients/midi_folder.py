@@ -30,7 +30,7 @@ class MidiFolder:
             os.mkdir(self.path)
         except FileExistsError:
             if not os.path.isdir(self.path):
-                raise NotADirectoryError(errno.ENOTDIR, os.strerror(errno.ENOTDIR)) from None
+                raise NotADirectoryError(errno.ENOTDIR, os.strerror(errno.ENOTDIR), self.path) from None
             return False
         return True
 

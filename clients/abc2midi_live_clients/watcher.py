@@ -70,8 +70,23 @@ def interrupt(*_: Any) -> None:
 
 
 def tell(line: str) -> None:
-    """Prints a line at once."""
-    print(line, flush=True)
+    """Prints a line at once. An OSError names standard output."""
+    try:
+        print(line, flush=True)
+    except OSError as error:
+        raise OSError(error.errno, error.strerror, "standard output") from error
+
+
+def drop_output() -> None:
+    """Lets Python drop what it could not print, and end without another try."""
+    os.dup2(os.open(os.devnull, os.O_WRONLY), sys.stdout.fileno())
+
+
+def why_failed(error: OSError, folder: str) -> str:
+    """The file that failed, if there is one, the reason, and what to do if it is the folder of the MIDI files."""
+    name = f"{printable(str(error.filename))}: " if error.filename is not None else ""
+    remedy = REMEDIES.get(error.errno or 0, "") if error.filename == folder else ""
+    return f"{name}{error.strerror}{remedy}"
 
 
 def begun(words: argparse.Namespace, folder: MidiFolder, report: Report) -> WatchedBook:
@@ -125,10 +140,11 @@ def main() -> int:
         print(f"watch: {error}", file=sys.stderr)
         return NO_PROGRAM
     except BrokenPipeError:  # nobody reads the lines
-        os.dup2(os.open(os.devnull, os.O_WRONLY), sys.stdout.fileno())
+        drop_output()
         return FAILED
     except OSError as error:
-        print(f"watch: {printable(words.dir)}: {error.strerror}{REMEDIES.get(error.errno or 0, '')}", file=sys.stderr)
+        drop_output()
+        print(f"watch: {why_failed(error, words.dir)}", file=sys.stderr)
         return FAILED
     finally:
         folder.release()

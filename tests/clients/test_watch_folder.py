@@ -3,6 +3,8 @@
 import os
 import shutil
 import signal
+import subprocess
+import sys
 from unittest import mock
 
 import trial
@@ -106,6 +108,27 @@ class Locks(trial.Folder):
     def test_a_lock_file_to_read(self):
         (self.files / ".watch.lock").touch()
         self.assertEqual((self.prepare(), self.is_locked), ([], True))
+
+
+class Output(trial.Folder):
+    """Standard output that takes no line. No program is needed: the first line says that the folder was made."""
+
+    def errors_over(self, output):
+        """What the watcher prints on standard error, and its exit status."""
+        words = [sys.executable, str(trial.CLIENTS / "watch"), "book.abc", "--dir", str(self.folder / "new")]
+        ended = subprocess.run(words, stdout=output, stderr=subprocess.PIPE, text=True, timeout=trial.SECONDS)
+        return ended.stderr, ended.returncode
+
+    def test_a_full_disk(self):
+        """The reason names standard output and not the folder."""
+        with open("/dev/full", "w") as full:
+            self.assertEqual(self.errors_over(full), ("watch: standard output: No space left on device\n", 1))
+
+    def test_nobody_reads(self):
+        reader, writer = os.pipe()
+        os.close(reader)
+        with open(writer, "w") as pipe:
+            self.assertEqual(self.errors_over(pipe), ("", 1))
 
 
 class Folders(Process):
