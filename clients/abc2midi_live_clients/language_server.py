@@ -3,7 +3,6 @@
 import argparse
 import json
 import os
-import shlex
 import sys
 import tempfile
 from collections.abc import Callable
@@ -32,7 +31,7 @@ from .messages import (
     read_message,
     write_message,
 )
-from .players import Player
+from .players import Player, command
 from .program import add_common_options, find_program
 from .remarks import diagnostic, remarks
 from .signals import when_told_to_end
@@ -320,9 +319,7 @@ def serve(server: Server) -> int:
 def arguments() -> argparse.Namespace:
     """The arguments of the command line."""
     parser = argparse.ArgumentParser(description=__doc__)
-    parser.add_argument(
-        "--play", metavar="COMMAND", type=shlex.split, help="the player for the action Play"
-    )
+    parser.add_argument("--play", metavar="COMMAND", type=command, help="the player for the action Play")
     add_common_options(parser)
     parser.add_argument("--no-hints", action="store_true", help="show no hints")
     return parser.parse_args()

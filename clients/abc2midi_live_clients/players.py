@@ -1,10 +1,19 @@
 """Players of MIDI files."""
 
+import shlex
 import subprocess
 from typing import Optional
 
 STANDARD_ERROR = 2
 SECONDS_TO_END = 1  # for a player that is asked to end
+
+
+def command(text: str) -> list[str]:
+    """The words of a command, as the option `--play` has it. Raises ValueError if there is none."""
+    words = shlex.split(text)
+    if not words:
+        raise ValueError
+    return words
 
 
 class Player:

@@ -4,7 +4,6 @@ import argparse
 import errno
 import io
 import os
-import shlex
 import shutil
 import signal
 import sys
@@ -18,7 +17,7 @@ from .book_file import BookFile
 from .faults import sentences
 from .hints import Finder
 from .midi_folder import FolderTaken, MidiFolder
-from .players import Player
+from .players import Player, command
 from .printing import printable
 from .program import LiveBook, add_common_options, find_program
 from .reports import JsonReport, Report, TextReport
@@ -28,14 +27,6 @@ from .watched_book import FAILED, WatchedBook, prepare
 SECONDS_BETWEEN_LOOKS = 0.5
 NO_PROGRAM = 127  # an exit status
 REMEDIES = {errno.ENOENT: "; make the folder above it first", errno.ENOTDIR: "; name another folder by --dir"}
-
-
-def command(text: str) -> list[str]:
-    """The words of a command. Raises ValueError if there is none."""
-    words = shlex.split(text)
-    if not words:
-        raise ValueError
-    return words
 
 
 def arguments() -> argparse.Namespace:

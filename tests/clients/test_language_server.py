@@ -432,6 +432,15 @@ class Starts(Editor):
         self.assertEqual(self.hover(2, 0), "1, 0:00")
         self.finish()
 
+    def test_no_player(self):
+        self.server.kill()
+        for words in (["--play", ""], ["--play", "'"]):
+            self.start(*words)
+            self.server.stdin.close()
+            self.server.stdin = None
+            self.assertEqual((self.server.wait(trial.SECONDS), self.server.stdout.read()), (2, b""))
+            self.assertIn(b"--play", self.server.stderr.read())
+
     def test_lengths_of_messages_that_cannot_be(self):
         """The session ends with a line that says why."""
         self.server.kill()
