@@ -1,11 +1,13 @@
 """A tune book that an editor has open: its text, the program that holds it, and its tunes."""
 
+import os
 import sys
+import tempfile
 from collections.abc import Callable
 from contextlib import suppress
-from typing import Optional, TypeVar
+from typing import NamedTuple, Optional, TypeVar
 
-from abc2midi_live import ClosedError, ProgramEnded, ProgramMissing
+from abc2midi_live import ProgramEnded, ProgramMissing
 from abc2midi_live.lines import without_empty_end
 
 from .changes import Change, Position
@@ -17,40 +19,57 @@ from .program import LiveBook, Tune, files_of
 Answer = TypeVar("Answer")
 
 
+class Running(NamedTuple):
+    """A program that runs, and the folder of its files."""
+
+    book: LiveBook
+    folder: "tempfile.TemporaryDirectory[str]"
+
+
 class Document:
     """A tune book that an editor has open. Its lines are the editor's, cut at line feeds; the last one is empty if the text
-    ends with a line feed. A running program holds the same text; if it ends, it is started again at the next question."""
+    ends with a line feed. A running program holds the same text. If there is none, the next question starts it."""
 
-    def __init__(self, text: str, program: str, directory: str, words: dict[str, str], with_hints: bool = True):
-        self.lines = [""]
-        self.program, self.directory = program, directory
+    def __init__(self, text: str, program: str, words: dict[str, str], with_hints: bool = True):
+        self.lines = text.split("\n")
+        self.program = program
         self.words = words
         self.finder = Finder() if with_hints else None
         self.changed = 0  # the line of the last change
         self.is_lost = False  # a change could not be read, so the text is not the editor's
-        self.begin(text)
-
-    def begin(self, text: str) -> None:
-        """Starts the program with a text."""
-        self.book = LiveBook(self.program, self.directory)
-        self.put(0, len(self.lines), text)
+        self.running: Optional[Running] = None
 
     def ask(self, question: Callable[[LiveBook], Answer]) -> Answer:
-        """What the program answers."""
+        """What the program answers. Raises ProgramEnded if there is none, and none can be started."""
+        if self.running:
+            try:
+                return question(self.running.book)
+            except ProgramEnded as ended:
+                print(f"language_server: {ended}; restarting it", file=sys.stderr)
+                self.close()
+        return question(self.start())
+
+    def start(self) -> LiveBook:
+        """Starts the program with the present text. Raises ProgramEnded if that fails."""
         try:
-            return question(self.book)
-        except (ProgramEnded, ClosedError) as ended:
-            print(f"language_server: {ended}; restarting it", file=sys.stderr)
-        self.close()
+            folder = tempfile.TemporaryDirectory(prefix="abc2midi_live-")
+        except OSError as error:
+            raise ProgramEnded(f"there is no folder for MIDI files: {error.strerror}") from error
         try:
-            self.begin("\n".join(self.lines))
+            self.running = Running(LiveBook(self.program, folder.name), folder)
         except ProgramMissing as missing:
+            folder.cleanup()
             raise ProgramEnded(str(missing)) from missing
-        return question(self.book)
+        self.running.book.replace(0, 0, without_empty_end([utf8(line) for line in self.lines]))
+        return self.running.book
 
     def close(self) -> None:
-        """Ends the program."""
-        self.book.close()
+        """Ends the program, and removes its folder."""
+        if self.running:
+            book, folder = self.running
+            self.running = None
+            book.close()
+            folder.cleanup()
 
     # ---- changes
 
@@ -59,9 +78,10 @@ class Document:
         at_end = stop == len(self.lines)
         texts = text.split("\n")
         self.lines[start:stop] = texts
-        lines = [utf8(line) for line in texts]
-        with suppress(ProgramEnded, ClosedError):  # the next question starts another one
-            self.book.replace(start, min(stop, len(self.book.lines)), without_empty_end(lines) if at_end else lines)
+        if self.running:
+            book, lines = self.running.book, [utf8(line) for line in texts]
+            with suppress(ProgramEnded):  # the next question starts another one
+                book.replace(start, min(stop, len(book.lines)), without_empty_end(lines) if at_end else lines)
 
     def change(self, change: Change) -> None:
         """Changes a range of the text, or the whole."""
@@ -102,7 +122,7 @@ class Document:
     def tunes(self) -> list[tuple[Tune, int]]:
         """The tunes, each with the line after it, counted from 0: a blank line, the next tune's, or the end."""
         tunes = self.ask(LiveBook.tunes)
-        ends = [tune.line - 1 for tune in tunes[1:]] + [len(self.book.lines)]
+        ends = [tune.line - 1 for tune in tunes[1:]] + [len(self.lines)]
         return [(tune, self.blank_line(tune.line, end)) for tune, end in zip(tunes, ends)]
 
     def blank_line(self, start: int, end: int) -> int:
@@ -112,7 +132,7 @@ class Document:
     def tune_at(self, line: int) -> Optional[Tune]:
         """The tune that has a line, counted from 0, or None."""
         before = [tune for tune in self.ask(LiveBook.tunes) if tune.line - 1 <= line]
-        is_in = before and line < len(self.book.lines) and self.blank_line(before[-1].line, line + 1) > line
+        is_in = before and line < len(self.lines) and self.blank_line(before[-1].line, line + 1) > line
         return before[-1] if is_in else None
 
     def has_file(self, tune: Tune) -> bool:
@@ -126,9 +146,19 @@ class Document:
             raise Failure(REQUEST_FAILED, "no tune is here")
         if not self.has_file(tune):
             raise Failure(REQUEST_FAILED, self.why_no_file(tune))
-        if self.ask(LiveBook.build).failed is not None:
-            raise Failure(REQUEST_FAILED, f"a file cannot be written in {self.book.directory}")
-        return self.book.path(tune.number)
+        path = self.built(tune.number)
+        if not path:  # some systems remove old temporary files: another program writes all into another folder
+            self.close()
+            path = self.built(tune.number)
+        if not path:
+            raise Failure(REQUEST_FAILED, f"a file cannot be written below {tempfile.gettempdir()}")
+        return path
+
+    def built(self, number: int) -> Optional[str]:
+        """The file of a number after a build, or None if the build fails, or the file of an earlier one is gone."""
+        is_built = self.ask(LiveBook.build).failed is None
+        path = self.ask(lambda book: book.path(number))
+        return path if is_built and os.path.exists(path) else None
 
     def why_no_file(self, tune: Tune) -> str:
         """The reason why a tune has no file."""

@@ -3,8 +3,8 @@
 import argparse
 import json
 import os
+import shutil
 import sys
-import tempfile
 from collections.abc import Callable
 from typing import Any, Optional
 
@@ -44,18 +44,15 @@ class Server:
         self,
         write: Callable[[Json], None],
         program: str,
-        folder: "tempfile.TemporaryDirectory[str]",
         player: Optional[Player] = None,
         with_hints: bool = True,
     ):
         self.write = write
         self.program = program
-        self.folder = folder
         self.player = player
         self.with_hints = with_hints
         self.words = sentences()
         self.documents: dict[str, Document] = {}
-        self.opened = 0
         self.initialized = False
         self.status: Optional[int] = None  # the exit status, once the session is over
         self.is_shut_down = False
@@ -158,23 +155,19 @@ class Server:
         self.status = 0 if self.is_shut_down else 1
 
     def end(self) -> None:
-        """Ends what is played, and each program, and takes their files away: an editor may not wait for more."""
+        """Ends what is played, and each program, and removes their files: an editor may not wait for more."""
         if self.player:
             self.player.stop()
         for document in self.documents.values():
             document.close()
         self.documents = {}
-        self.folder.cleanup()
 
     def open(self, params: Json) -> None:
-        """An editor opens a tune book: a program of its own holds it, with a folder of its own."""
+        """An editor opens a tune book, which has a program of its own."""
         given = params["textDocument"]
         if given["uri"] in self.documents:
             self.documents.pop(given["uri"]).close()
-        self.opened += 1
-        directory = os.path.join(self.folder.name, str(self.opened))
-        os.mkdir(directory)
-        self.documents[given["uri"]] = Document(given["text"], self.program, directory, self.words, self.with_hints)
+        self.documents[given["uri"]] = Document(given["text"], self.program, self.words, self.with_hints)
         self.publish(given)
 
     def change(self, params: Any) -> None:
@@ -316,6 +309,14 @@ def serve(server: Server) -> int:
     return server.status
 
 
+def program_of(named: Optional[str]) -> str:
+    """The program to start. Raises ProgramMissing if there is none at the start of the server; later the editor is told."""
+    program = named or find_program()
+    if not shutil.which(program):
+        raise ProgramMissing(f"{program}: no such program")
+    return program
+
+
 def arguments() -> argparse.Namespace:
     """The arguments of the command line."""
     parser = argparse.ArgumentParser(description=__doc__)
@@ -331,9 +332,8 @@ def main() -> int:
     when_told_to_end(lambda *_: sys.exit(1))
     server = None
     try:
-        program = words.program or find_program()
-        folder = tempfile.TemporaryDirectory(prefix="abc2midi_live-")
-        server = Server(write_message, program, folder, Player(words.play) if words.play else None, not words.no_hints)
+        player = Player(words.play) if words.play else None
+        server = Server(write_message, program_of(words.program), player, not words.no_hints)
         return serve(server)
     except (ProgramMissing, BadMessage) as error:
         print(f"language_server: {error}", file=sys.stderr)

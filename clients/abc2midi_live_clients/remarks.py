@@ -35,7 +35,8 @@ def remarks(document: Document) -> Iterator[Remark]:
         severity = ERROR if name in LEAVE_OUT else WARNING
         yield remark_at(document, line, column, name, document.words.get(name, name), severity)
     if document.finder:
-        hints = document.finder.hints(document.book.lines, document.ask(LiveBook.tunes), faults)
+        lines = document.ask(lambda book: book.lines)
+        hints = document.finder.hints(lines, document.ask(LiveBook.tunes), faults)
         for line, column, name, text in nearest(hints, document.changed + 1):
             yield remark_at(document, line, column, name, text, INFO)
 

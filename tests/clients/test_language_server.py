@@ -3,6 +3,7 @@
 import json
 import os
 import random
+import shutil
 import signal
 import subprocess
 import sys
@@ -521,14 +522,50 @@ class Programs(Editor):
         self.assertEqual(os.listdir(self.files), [])
 
 
+    def test_no_program_for_another_book(self):
+        """The session and its other books go on, and the book gets its program later."""
+        other = "file:///other"
+        self.open("X:1\nK:C\n&")
+        self.starter.rename(self.folder / "away")
+        book = {"uri": other, "languageId": "abc", "version": 0, "text": "X:2\nK:C\n-"}
+        self.notify("textDocument/didOpen", {"textDocument": book})
+        message = self.read()
+        self.assertEqual((message["method"], message["params"]["type"]), ("window/showMessage", 1))
+        self.assertEqual(message["params"]["message"], f"abc2midi_live: {self.starter}: No such file or directory")
+        self.assertEqual(self.ask("textDocument/documentSymbol", {"textDocument": {"uri": other}}), -32803)
+        self.assertEqual(starts(self.change(1, (span(2, 0, 2, 1), "-"))), [(2, 0, "LooseTie")])
+        self.assertEqual(len(os.listdir(self.files)), 1)
+        (self.folder / "away").rename(self.starter)
+        self.assertEqual(os.path.basename(self.play(other, 0)), "2.mid")
+        self.finish()
+
+    def test_files_that_the_system_removes(self):
+        """They are there again when they are played, and other books are opened as before."""
+        self.open(BOOK)
+        path = self.play(URI, 0)
+        os.unlink(path)
+        paths = [self.play(URI, 0)]
+        shutil.rmtree(os.path.dirname(paths[0]))
+        self.change(1, (span(3, 0, 3, 1), "A"))
+        for remove in (lambda: None, lambda: shutil.rmtree(os.path.dirname(paths[-1]))):
+            remove()
+            paths.append(self.play(URI, 0))
+            with open(paths[-1], "rb") as file:
+                self.assertEqual(file.read(), trial.fresh(BOOK.replace("GABc", "AABc").encode()).files["1.mid"])
+        shutil.rmtree(os.path.dirname(paths[-1]))
+        self.assertEqual(starts(self.open("X:1\nK:C\n&", "file:///other")), [(2, 0, "BadByte")])
+        self.assertIsNone(self.ask("shutdown"))
+        self.assertEqual(os.listdir(self.files), [])
+
+
 class Documents(trial.Folder):
     """A document by itself."""
 
     def test_the_lines_that_are_held(self):
         chance = random.Random(trial.seed)
-        book = document.Document("", trial.program, str(self.files), {})
-        self.addCleanup(book.book.process.stdout.close)
-        self.addCleanup(book.book.close)
+        book = document.Document("", trial.program, {})
+        self.addCleanup(book.close)
+        self.assertEqual(book.ask(lambda held: held.lines), [])
         text = ""
         for _ in range(200):
             start = chance.randrange(len(text) + 1)
@@ -537,7 +574,7 @@ class Documents(trial.Folder):
             place = changes.Range(changes.Position(*place_of(text, start)), changes.Position(*place_of(text, end)))
             book.change(changes.Change(place, put))
             text = text[:start] + put + text[end:]
-            self.assertEqual(book.book.lines, lines_of_book(text.encode()))
+            self.assertEqual(book.ask(lambda held: held.lines), lines_of_book(text.encode()))
 
 
 class Protocol(Editor):
@@ -604,11 +641,10 @@ class Protocol(Editor):
 
     def test_a_program_that_is_not_there(self):
         self.server.kill()
-        self.start("--program", str(self.folder / "none"))
-        self.ask("initialize", {})
-        self.notify("textDocument/didOpen", {"textDocument": {"uri": URI, "version": 1, "text": "&"}})
-        self.assertEqual(self.server.wait(trial.SECONDS), 127)
-        self.assertEqual(self.server.stderr.read().count(b"\n"), 1)
+        name = self.folder / "none"
+        self.start("--program", str(name))
+        self.assertEqual((self.server.wait(trial.SECONDS), self.server.stdout.read()), (127, b""))
+        self.assertEqual(self.server.stderr.read().decode(), f"language_server: {name}: no such program\n")
 
 
 def place_of(text: str, at: int) -> tuple:
