@@ -8,7 +8,7 @@ import sys
 from collections.abc import Callable
 from typing import Any, Optional
 
-from abc2midi_live import ProgramEnded, ProgramMissing
+from abc2midi_live import ProgramEnded, ProgramMissing, version
 
 from .assistance import completion, hover, quick_fixes, symbols
 from .changes import BadChange, Change, changes_of, position_of, range_of
@@ -142,7 +142,7 @@ class Server:
                 "completionProvider": {"triggerCharacters": [":", "%"]},
                 "executeCommandProvider": {"commands": ["play"]},
             },
-            "serverInfo": {"name": "abc2midi_live"},
+            "serverInfo": {"name": "abc2midi_live", "version": version()},
         }
 
     def shutdown(self, _: Any) -> None:

@@ -11,6 +11,7 @@ import sys
 import trial
 from abc2midi_live_clients import changes, document
 from abc2midi_live_clients.faults import sentences
+from abc2midi_live import version
 from abc2midi_live.lines import lines_of_book
 
 URI = "file:///book.abc"
@@ -424,6 +425,9 @@ class Starts(Editor):
         self.send(json.dumps({"jsonrpc": "2.0", "id": asked["id"], "result": None}).encode())
         self.assertEqual(starts(self.change(2, ("X:1\nK:C\n-",))), [(2, 0, "LooseTie")])
         self.finish()
+
+    def test_the_name_and_the_version(self):
+        self.assertEqual(self.ask("initialize", {})["serverInfo"], {"name": "abc2midi_live", "version": version()})
 
     def test_no_hints(self):
         self.server.kill()
