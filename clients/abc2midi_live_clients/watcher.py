@@ -43,7 +43,8 @@ def arguments() -> argparse.Namespace:
     parser.add_argument("--no-hints", action="store_true", help="print no hints")
     parser.add_argument("--json", action="store_true", help="print one JSON object a line, for other programs")
     parser.add_argument("--clean", action="store_true", help="at the start, remove files N.mid that no tune of the book has")
-    parser.add_argument("--play", metavar="COMMAND", type=command, help="play the last changed file after each save, as --play timidity")
+    play = "play a changed file after each save, that of the greatest number, as --play timidity"
+    parser.add_argument("--play", metavar="COMMAND", type=command, help=play)
     add_common_options(parser)
     words = parser.parse_args()
     if words.once and words.play:

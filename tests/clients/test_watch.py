@@ -110,7 +110,7 @@ class Saves(Looks):
         (self.files / "1.mid").rmdir()
         self.assertEqual(self.save(TUNE + OTHER + b"%"), ["written 1.mid (Kesh), 2.mid"])
 
-    def test_the_last_file_is_played(self):
+    def test_the_file_of_the_greatest_number_is_played(self):
         played = []
         self.watch.player = type("Player", (), {"play": played.append, "failure": lambda: None, "stop": lambda: None})
         self.save(TUNE)
