@@ -1,6 +1,7 @@
 """The package as pip installs it, its wheel, and its types."""
 
 import os
+import re
 import shutil
 import subprocess
 from pathlib import Path
@@ -10,7 +11,7 @@ import setting
 from abc2midi_live import version
 
 DEBIAN = "/usr/bin/python3"  # whose packages setuptools and wheel build the package
-NEEDED = subprocess.run([DEBIAN, "-c", "import venv, setuptools, wheel, pip"], capture_output=True).returncode == 0
+NEEDED = subprocess.run([DEBIAN, "-c", "import ensurepip, venv, setuptools, wheel, pip"], capture_output=True).returncode == 0
 OFFLINE = {"PIP_NO_INDEX": "1", "PIP_FIND_LINKS": "", "PIP_CONFIG_FILE": os.devnull, "PIP_DISABLE_PIP_VERSION_CHECK": "1"}
 MYPY = shutil.which("mypy")
 ASK = """
@@ -76,11 +77,24 @@ class Installed(setting.Room):
         words = [self.folder / "venv/bin/python", "-c", ASK.format(book=str(self.book))]
         return run(*words, cwd=self.folder, env={"PATH": path}).splitlines()
 
-    def test_from_a_checkout(self) -> None:
+    def checkout(self) -> Path:
+        """A copy of the files of which the package is built."""
         for part in ("python", "crates/program/src"):
             left_out = shutil.ignore_patterns("build", "*.egg-info", "__pycache__")
             shutil.copytree(setting.TOP / part, self.folder / "checkout" / part, ignore=left_out)
-        self.pip("install", "--no-build-isolation", self.folder / "checkout/python")
+        return self.folder / "checkout"
+
+    def test_the_commands_of_the_page(self) -> None:
+        """They install the package for somebody whose `python3` is Debian's."""
+        commands = re.search(r"(?:^    .+\n)+", (setting.TOP / "docs/python.md").read_text("utf-8"), re.M)
+        assert commands
+        environment = {**os.environ, **OFFLINE, "HOME": str(self.folder), "PATH": "/usr/bin:/bin"}
+        run("sh", "-e", "-c", commands[0], cwd=self.checkout(), env=environment)
+        words = [self.folder / "abc-python/bin/python", "-c", "import abc2midi_live; print(abc2midi_live.__version__)"]
+        self.assertEqual(run(*words, cwd=self.folder), f"{version()}\n")
+
+    def test_from_a_checkout(self) -> None:
+        self.pip("install", "--no-build-isolation", self.checkout() / "python")
         found = self.pip("show", "-f", "abc2midi_live")
         self.assertIn(f"Version: {version()}\n", found)
         self.assertIn("abc2midi_live/py.typed\n", found)
