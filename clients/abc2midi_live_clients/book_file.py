@@ -36,14 +36,14 @@ class BookFile:
         """The bytes of the book if somebody saved it since the last call that returned some, else None. The bytes may be
         the same as before. Raises OSError if the book cannot be read."""
         try:
-            return self.look()
+            return self.read_if_changed()
         except OSError:
             self.signature, self.was_empty = None, False
             raise
 
-    def look(self) -> Optional[bytes]:
+    def read_if_changed(self) -> Optional[bytes]:
         """Reads the book, unless its signature shows that nobody saved it."""
-        with opened(self.path) as file:
+        with open_regular(self.path) as file:
             signature = signature_of(file)
             if signature != self.signature:
                 self.signature, self.since, self.is_settled = signature, self.clock(), False
@@ -62,15 +62,15 @@ class BookFile:
     def read_again(self, signature: Signature, data: bytes) -> Optional[bytes]:
         """These bytes if a second read finds the same, else None: then the save goes on."""
         self.pause(SECONDS_TO_SETTLE)
-        with opened(self.path) as file:
+        with open_regular(self.path) as file:
             if file.read() != data:
                 return None
         self.data, self.data_signature = data, signature
         return data
 
 
-def opened(path: str) -> BinaryIO:
-    """A regular file, open for reading. A pipe or a device would block the reader."""
+def open_regular(path: str) -> BinaryIO:
+    """Opens a regular file for reading, also by a link to it. A pipe or a device would block the reader."""
     descriptor = os.open(path, os.O_RDONLY | os.O_NONBLOCK | os.O_CLOEXEC)
     mode = os.fstat(descriptor).st_mode
     if stat.S_ISREG(mode):

@@ -38,7 +38,7 @@ class MidiFolder:
         """Locks the folder against other watchers. The system frees the lock when this process ends, in whatever way."""
         self.release()
         while self.lock is None:
-            descriptor = opened_lock(self.inside(LOCK))
+            descriptor = open_lock(self.inside(LOCK))
             try:
                 lock_file(descriptor)
             except (OSError, FolderTaken):
@@ -113,8 +113,8 @@ class MidiFolder:
         return os.path.join(self.path, name)
 
 
-def opened_lock(path: str) -> int:
-    """A lock file, open. One that another user made may be read only, and can be locked too."""
+def open_lock(path: str) -> int:
+    """Opens a lock file. One that another user made may be read only, and can be locked too."""
     try:
         return os.open(path, os.O_RDWR | os.O_CREAT | os.O_NOFOLLOW | os.O_CLOEXEC, 0o666)
     except PermissionError:

@@ -60,7 +60,7 @@ class WatchedBook:
         with suppress(OSError, ValueError):
             self.book.close()
 
-    def look(self) -> None:
+    def update(self) -> None:
         """Looks at the book once, and brings the files up to date if it was saved."""
         since = time.perf_counter()
         self.hear_player()

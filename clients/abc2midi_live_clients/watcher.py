@@ -81,8 +81,8 @@ def why_failed(error: OSError, folder: str) -> str:
     return f"{name}{error.strerror}{remedy}"
 
 
-def begun(words: argparse.Namespace, folder: MidiFolder, report: Report) -> WatchedBook:
-    """The book that the command line names, with its program."""
+def start_book(words: argparse.Namespace, folder: MidiFolder, report: Report) -> WatchedBook:
+    """Starts the program of the book that the command line names."""
     player = Player(words.play) if words.play else None
     if player and not shutil.which(player.words[0]):
         report.message(f"{player.words[0]}: no such player; install it, or name another one by --play; each save tries it again")
@@ -96,10 +96,10 @@ def begun(words: argparse.Namespace, folder: MidiFolder, report: Report) -> Watc
 
 def watch(words: argparse.Namespace, folder: MidiFolder, report: Report) -> int:
     """Watches the book until Ctrl-C, or builds it once; the exit status."""
-    book = begun(words, folder, report)
+    book = start_book(words, folder, report)
     try:
         while not interrupted.is_set():
-            book.look()
+            book.update()
             if words.once and book.status is not None:
                 return book.status
             time.sleep(SECONDS_BETWEEN_LOOKS)

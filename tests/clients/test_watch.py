@@ -158,8 +158,8 @@ class Unsaved(Looks):
     def setUp(self):
         super().setUp()
         self.reads = 0
-        opened = book_file.opened
-        self.addCleanup(setattr, book_file, "opened", opened)
+        opened = book_file.open_regular
+        self.addCleanup(setattr, book_file, "open_regular", opened)
 
         def counted(path):
             file = opened(path)
@@ -168,7 +168,7 @@ class Unsaved(Looks):
             counting.read = lambda: self.count() or read()
             return counting
 
-        book_file.opened = counted
+        book_file.open_regular = counted
 
     def count(self):
         self.reads += 1

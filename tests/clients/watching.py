@@ -48,7 +48,7 @@ class Looks(trial.Folder):
     def look(self) -> list:
         """What a look tells, without how long it took and without the name of the folder."""
         self.told.clear()
-        self.watch.look()
+        self.watch.update()
         return [re.sub(r"; \d+ ms$", "", line).replace(str(self.folder), "") for line in self.told]
 
     def save(self, book: bytes) -> list:

@@ -87,11 +87,11 @@ def hints_of_tunes(known: Known, lines: list[bytes], defaults: Defaults, starts:
         for start, end in zip(starts[first:stop], ends[first:stop])
     ]
     tail = known.of_tunes[len(known.starts) - len(starts) + stop :]
-    return known.of_tunes[:first] + middle + moved(tail, len(lines) - len(known.lines))
+    return known.of_tunes[:first] + middle + move_hints(tail, len(lines) - len(known.lines))
 
 
-def moved(found: list[list[Hint]], by: int) -> list[list[Hint]]:
-    """Returns hints some lines further on."""
+def move_hints(found: list[list[Hint]], by: int) -> list[list[Hint]]:
+    """Returns hints as they are some lines further on."""
     if not by:
         return found
     return [[Hint(line + by, column, name, text) for line, column, name, text in of_tune] for of_tune in found]
