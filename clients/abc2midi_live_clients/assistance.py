@@ -6,9 +6,10 @@ from typing import Optional
 from .changes import Position, Range
 from .completion import completions
 from .document import Document, title_of
+from .hints.lines import content, value, words_of
 from .messages import KEYWORD, MODULE, VALUE, Json
 from .midi import clock, seconds_of
-from .places import WHOLE_LINE
+from .places import WHOLE_LINE, utf8
 from .program import LiveBook
 from .quick_fixes import Fix, closing, next_number, renumbering
 from .remarks import Remark, diagnostic, remarks
@@ -77,15 +78,14 @@ def completion(document: Document, position: Position) -> list[Json]:
     start = max((tune.line for tune in tunes if tune.line <= line), default=line)
     above = document.lines[start:line]
     in_tune = start < line or any(tune.line == line for tune in tunes)
-    in_tune = in_tune and all(text.strip() for text in above)
+    in_tune = in_tune and document.blank_line(start, line) == line
     in_header = not in_tune or all(WHOLE_LINE.match(text) and not text.startswith("K:") for text in above)
-    voices = dict.fromkeys(text[2:].split()[0] for text in above if text.startswith("V:") and text[2:].strip())
     numbers = [tune.number for tune in tunes]
     number = None if in_tune else next_number(numbers, max(numbers, default=0))
-    found = completions(document.lines[line][:character], in_header, number, list(voices))
+    found = completions(document.lines[line][:character], in_header, number, voices_in(above))
     return [
         {
-            "label": item.text.rstrip(),
+            "label": item.text.rstrip(" "),
             "detail": item.meaning,
             "kind": VALUE if item.start else KEYWORD,
             "sortText": f"{place:03}",
@@ -93,3 +93,10 @@ def completion(document: Document, position: Position) -> list[Json]:
         }
         for item, place in sorted((item, place) for place, item in enumerate(found))
     ]
+
+
+def voices_in(lines: list[str]) -> list[str]:
+    """Returns the identifiers of the voices that fields `V:` name, each once."""
+    values = [value(content(utf8(line))) for line in lines if line.startswith("V:")]
+    names = dict.fromkeys(words_of(each)[0] for each in values if each)
+    return [name.decode("utf-8", "surrogatepass") for name in names]

@@ -325,6 +325,12 @@ class Session(Editor):
         self.assertEqual(self.change(1, ("\n".join(f"X:{n}\nK:{key}" for n, key in enumerate(keys)),))[1:], [])
         self.finish()
 
+    def test_completion_of_voices(self):
+        """Their identifiers end at a blank, a space or a tab, or at a comment. Other white space is a part of them."""
+        self.open("X:1\nV:a\u00a0b x\nV:%c\nV:\f\nV:d%e\r\n\v\nV: \ud834\nK:C\nV:\n")
+        self.assertEqual(self.labels(8, 2), ["a\u00a0b", "\f", "d", "\ud834"])
+        self.finish()
+
     def test_malformed_changes(self):
         """After them only a whole text is taken, so that the text never is another one than the editor's."""
         good = {"range": span(2, 0, 2, 1), "text": ""}
