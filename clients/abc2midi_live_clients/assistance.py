@@ -6,7 +6,8 @@ from typing import Optional
 from .changes import Position, Range
 from .completion import completions
 from .document import Document, title_of
-from .hints.lines import content, value, words_of
+from .hints.lines import content, value
+from .hints.values import voice_of
 from .messages import KEYWORD, MODULE, VALUE, Json
 from .midi import clock, seconds_of
 from .places import WHOLE_LINE, utf8
@@ -97,6 +98,5 @@ def completion(document: Document, position: Position) -> list[Json]:
 
 def voices_in(lines: list[str]) -> list[str]:
     """Returns the identifiers of the voices that fields `V:` name, each once."""
-    values = [value(content(utf8(line))) for line in lines if line.startswith("V:")]
-    names = dict.fromkeys(words_of(each)[0] for each in values if each)
-    return [name.decode("utf-8", "surrogatepass") for name in names]
+    names = dict.fromkeys(voice_of(value(content(utf8(line)))) for line in lines if line.startswith("V:"))
+    return [name.decode("utf-8", "surrogatepass") for name in names if name]

@@ -8,10 +8,10 @@ from dataclasses import dataclass, field
 from typing import NamedTuple, Optional
 
 from . import tokens as kinds
-from .lines import BLANK, COMMENT, DIRECTIVE, FIELD, MUSIC, content, kind_of, length_of_tune, value, words_of
+from .lines import BLANK, COMMENT, DIRECTIVE, FIELD, MUSIC, content, kind_of, length_of_tune, value
 from .segments import Carried, Segment, cuts, segment_of
 from .tokens import Token, passes_of
-from .values import FREE, NATURAL, WHOLE, Meter, Signature, meter_of, signature_of, unit_of, unit_under
+from .values import FREE, NATURAL, WHOLE, Meter, Signature, meter_of, signature_of, unit_of, unit_under, voice_of
 
 PLAYED, KEY, METER, FAULT = "played", "key", "meter", "fault"  # kinds of items, beside bar lines and endings
 MOST_VOICES = 15
@@ -142,14 +142,14 @@ class TuneText:
                 meter = meter_of(text) or FREE
             elif letter == b"L":
                 unit = unit_of(text) or unit
-            elif letter == b"V" and text:
-                names.append(words_of(text)[0])
+            elif letter == b"V":
+                names.append(voice_of(text))
             elif letter == b"K":
                 self.signature = signature_of(text) or NATURAL
                 first = n + 1
                 break
         self.meter, self.unit = meter, unit or unit_under(meter)
-        self.declared = list(dict.fromkeys(names))[:MOST_VOICES]
+        self.declared = list(dict.fromkeys(filter(None, names)))[:MOST_VOICES]
         return first
 
     def _set_reach(self, line: bytes) -> None:
@@ -221,7 +221,7 @@ class TuneText:
 
     def _read_voice(self, _: Place, text: bytes) -> None:
         """Reads `V:`: the voice goes on from here."""
-        name = words_of(text)[0] if text else UNNAMED
+        name = voice_of(text)
         has_place = sum(1 for each, voice in self.voices.items() if each or voice.plays) < MOST_VOICES
         if name and (name in self.voices or has_place):
             self.current, self.voice = name, self._voice_named(name)

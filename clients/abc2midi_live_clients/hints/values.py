@@ -23,6 +23,7 @@ _NOTE = re.compile(rb"([\^_=]*)([A-Ga-g])([',]*)(.*)\Z", re.DOTALL)
 _TONIC = re.compile(rb"([A-G])([#b]?)([ \t]*)([A-Za-z]*)(.*)\Z", re.DOTALL)
 _LISTED = re.compile(rb"(?:(?:\^\^?|__?|=)[A-Ga-g])+\Z")
 _PAIR = re.compile(rb"(\^\^?|__?|=)([A-Ga-g])")
+_BAD_SHIFT = re.compile(rb'(?:octave|transpose)=(?!("?)[+-]?[0-9]{1,9}\1\Z)')  # an octave or a transposition without a number
 
 ACCIDENTALS = {b"^": 1, b"^^": 2, b"_": -1, b"__": -2, b"=": 0}
 SEMITONES = {b"C": 0, b"D": 2, b"E": 4, b"F": 5, b"G": 7, b"A": 9, b"B": 11}
@@ -135,7 +136,7 @@ def signature_of(text: bytes) -> Optional[Signature]:
         return signature_of_tonic(*found.groups())
     word = words[0]
     alone = b"=" in word or word.endswith((b"+8", b"-8")) or re.match(rb"(?:treble|bass|alto|tenor|perc)[1-5]?\Z", word)
-    return None if alone else NATURAL
+    return None if alone and not is_refused(words) else NATURAL
 
 
 def signature_of_tonic(letter: bytes, sign: bytes, blanks: bytes, run: bytes, rest: bytes) -> Signature:
@@ -167,8 +168,21 @@ def sharps_of_mode(mode: bytes) -> Optional[int]:
     return -3 if mode == b"m" else SHARPS_OF_MODE.get(mode[:3].lower())
 
 
+def is_refused(words: list[bytes]) -> bool:
+    """Returns whether a field with these words is refused."""
+    return any(_BAD_SHIFT.match(word) for word in words)
+
+
+def voice_of(text: bytes) -> bytes:
+    """Returns the identifier of the value of a `V:`, empty if it is refused."""
+    words = words_of(text)
+    return words[0] if words and not is_refused(words[1:]) else b""
+
+
 def listed(signature: Signature, words: list[bytes]) -> Signature:
-    """Returns a signature with the accidentals that words list."""
+    """Returns a signature with the accidentals that words list, none if they refuse the field."""
+    if is_refused(words):
+        return NATURAL
     found = dict(signature)
     for word in words:
         if _LISTED.match(word):
