@@ -3,7 +3,6 @@
 ghost use Rattle.std.specs.Prelude.{◌≡◌, ◌≢◌, IfOk};
 ghost use Rattle.c_handle.specs.Slot.{session_in};
 ghost use Rattle.c_handle.specs.Sessions.{IsClosed, IsFresh, IsOpened};
-ghost use Rattle.c_handle.specs.declared.codes.TheConstants.{CODE_OK};
 
 use crate::codes::{CODE_MISUSED, CODE_OK, CODE_OUT_OF_MEMORY};
 use crate::open_session::OpenSession;

@@ -1,12 +1,13 @@
 //! Calls that read a session, and the call that names the codes of faults.
 
-ghost use Rattle.std.specs.Prelude.{◌≡◌, option_map};
+ghost use Rattle.std.specs.Prelude.{◌≡◌, length, option_map};
 ghost use Rattle.c_handle.specs.Answers.{count_answer, line_in, lines_count, numbers_in, output_in, removed_in, title_number};
 ghost use Rattle.c_handle.specs.Answers.{title_text, titles_count, written_in};
 ghost use Rattle.c_handle.specs.Copies.{lookup_answer, slot_answer};
 ghost use Rattle.c_handle.specs.FaultNames.{IsEachNumbered, name_numbered};
 ghost use Rattle.c_handle.specs.Faults.{faults_in};
 ghost use Rattle.c_handle.specs.Slot.{session_in};
+ghost use Rattle.c_handle.specs.declared.fault_names.TheConstants.{FAULT_CODES};
 
 use c_handle::{FaultRecord, SessionSlot};
 use std::alloc::Global;
@@ -129,6 +130,7 @@ pub extern "C" fn abc_live_faults(
 pub extern "C" fn abc_live_fault_name(number: u32, bytes: &mut [u8], count: &mut usize) -> u32
     ensures value { (result, count.new, bytes.new) ≡ lookup_answer (name_numbered number) bytes.old }
     ensures exact { IsEachNumbered }
+    ensures few { length FAULT_CODES ≡ 27 }
 {
     let answer = c_handle::copy_fault_name(number, bytes);
     *count = answer.count;
