@@ -15,14 +15,15 @@ ENDED = (EOFError, OSError, ValueError, pickle.UnpicklingError)  # one of these 
 
 
 class OwnProcess:
-    """A process that answers questions by the function `serve` of a module of this package. It ends with the client."""
+    """A process that answers questions by the function `serve` of a module of this package. It ends with the client. It runs no
+    module of the present folder, and reads no variable `PYTHON..` of the environment."""
 
     def __init__(self, module: str, **environment: str) -> None:
-        start = f"from abc2midi_live_clients.{module} import serve; serve()"
-        path = os.pathsep.join(str(Path(file).resolve().parent.parent) for file in (abc2midi_live.__file__, __file__))
+        folders = [str(Path(file).resolve().parent.parent) for file in (abc2midi_live.__file__, __file__)]
+        start = f"import sys; sys.path[:0] = {folders!r}; from abc2midi_live_clients.{module} import serve; serve()"
         self.process = subprocess.Popen(
-            [sys.executable, "-c", start], stdin=subprocess.PIPE, stdout=subprocess.PIPE, start_new_session=True,
-            env={**os.environ, "PYTHONPATH": path, "PYTHONDONTWRITEBYTECODE": "1", **environment},
+            [sys.executable, "-I", "-B", "-c", start], stdin=subprocess.PIPE, stdout=subprocess.PIPE, start_new_session=True,
+            env={**os.environ, **environment},
         )  # fmt: skip
         assert self.process.stdin and self.process.stdout
         self.questions, self.answers = self.process.stdin, self.process.stdout
