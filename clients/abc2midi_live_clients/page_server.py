@@ -168,17 +168,27 @@ class HintKeeper:
         self.is_closed = False
 
     def keep(self) -> None:
-        """Looks for hints again and again."""
-        version = -1
+        """Looks for hints again and again. A version on which the process ended twice in a row has none."""
+        known = failed = -1  # the version whose hints are known, and the one on which the process ended last
         while not self.is_closed:
-            version, question = self.book.question(version, SECONDS_OF_REST)
+            version, question = self.book.question(known, SECONDS_OF_REST)
             try:
-                self.book.know_hints(version, self.process.rows(question))
+                hints = self.process.rows(question)
             except ENDED:
-                self.process.close()
-                time.sleep(SECONDS_OF_REST)
-                if not self.is_closed:
-                    self.process, version = HintProcess(), -1
+                self.restart()
+                if version != failed:
+                    failed = version
+                    continue
+                hints = []
+            self.book.know_hints(version, hints)
+            known = version
+
+    def restart(self) -> None:
+        """Starts another process, a moment after the last one ended."""
+        self.process.close()
+        time.sleep(SECONDS_OF_REST)
+        if not self.is_closed:
+            self.process = HintProcess()
 
     def close(self) -> None:
         """Ends the process."""
