@@ -47,11 +47,11 @@ class Disk(NamedTuple):
 
 
 class Version(NamedTuple):
-    """A text, what the program finds in it, and what is known of the file."""
+    """A text, what the program finds in it, and what is known of the file if the text comes from there."""
 
     text: Text
     rows: Rows
-    disk: Disk
+    disk: Optional[Disk] = None
 
 
 class SharedBook:
@@ -246,7 +246,7 @@ class SharedBook:
                 self.hand_over(edit, text)
                 rows = self.ask()
             shown = {"start": start, "stop": stop, "lines": lines}
-            return self.publish([shown], Version(text, rows, self.disk), asked.get("window"), since)[-1]
+            return self.publish([shown], Version(text, rows), asked.get("window"), since)[-1]
 
     def hand_over(self, edit: Edit, text: Text) -> None:
         """Lets the program have an edit that makes a text. An empty last line is none there."""
@@ -273,7 +273,8 @@ class SharedBook:
                 "removed": list(self.book.report.removed),
             }
         with self.moved:
-            self.text, self.rows, self.disk = version
+            self.text, self.rows = version.text, version.rows
+            self.disk = version.disk or self.disk  # a save may have changed it since the edit began
             self.is_unsaved = self.text.lines != self.disk.text.lines
             took = round(1000 * (time.perf_counter() - since), 1)
             for change in changes:
@@ -359,8 +360,8 @@ class SharedBook:
 
     def know(self, present: Optional[str], trouble: str = "") -> None:
         """Sends the windows the present state of the file."""
-        disk = self.disk._replace(present=present, trouble=trouble)
         with self.moved:
+            disk = self.disk._replace(present=present, trouble=trouble)
             if disk != self.disk:
                 self.disk = disk
                 self.moved.notify_all()
