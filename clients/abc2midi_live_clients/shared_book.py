@@ -152,11 +152,14 @@ class SharedBook:
             }
 
     def state(self) -> Json:
-        """How the book is: `saved` is what the text was last, `disk` is what the file is now."""
+        """How the book is: `saved` is what the text was last, `disk` is what the file is now. `mark` and `returns` are what the windows
+        do not see of the text."""
         since = self.asked_since
         return {
             "run": self.run,
             "version": self.version,
+            "mark": bool(self.text.mark),
+            "returns": self.text.returns,
             "unsaved": self.is_unsaved or (self.disk.saved is not None and self.disk.present is None),
             "saved": self.disk.saved,
             "disk": self.disk.present,

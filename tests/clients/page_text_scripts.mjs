@@ -7,6 +7,7 @@ import { run, same } from "./testing.mjs";
 
 const folder = process.argv[2];
 const from = (name) => import(pathToFileURL(`${folder}/${name}.js`));
+const { blobOf } = await from("blob");
 const { kindsOf, partsOf } = await from("colours");
 const { STARTER, whyBlank, whyNothing } = await from("empty");
 const { Filter, folded } = await from("filter");
@@ -341,6 +342,15 @@ const tests = {
   "what an empty sheet says"() {
     same([whyBlank("reels.abc", null), whyBlank("reels.abc", "a digest"), whyBlank("", null)],
       ["There is no file reels.abc yet. The first save makes it.", "The book is empty.", "The book is empty."]);
+  },
+
+  async "a download has the bytes of the book"() {
+    const halves = Array.from({ length: 256 }, (_, n) => n).filter((n) => n > 127 || (n < 32 && n !== 9 && n !== 10));
+    const lines = ["a\t\u00e9\ud834\udd1e", String.fromCharCode(...halves.map((n) => 0xdc00 + n)), "\udc0a\udc41\ud800", ""];
+    const text = [97, 9, 0xc3, 0xa9, 0xf0, 0x9d, 0x84, 0x9e], sign = [0xef, 0xbf, 0xbd], mark = [0xef, 0xbb, 0xbf];
+    const bytes = async (state) => [...new Uint8Array(await blobOf(lines, state).arrayBuffer())];
+    same(await bytes({ mark: false, returns: false }), [...text, 10, ...halves, 10, ...sign, ...sign, ...sign, 10]);
+    same(await bytes({ mark: true, returns: true }), [...mark, ...text, 13, 10, ...halves, 13, 10, ...sign, ...sign, ...sign, 13, 10]);
   },
 
   "names of keys on a Mac"() {

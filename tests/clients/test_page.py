@@ -283,8 +283,7 @@ class Requests(Page):
             told = self.ask("news/0/5")
             self.assertEqual((told["changes"], told["room"], told["state"]["windows"]), ([made], False, 5))
             self.assertEqual(self.ask("news/1/5")["changes"], [])
-        while not (told := self.ask("news/1/5"))["room"]:
-            pass
+        self.told(lambda _: self.ask("news/1/5")["room"])
         with self.window("5") as news:
             self.assertLess(next(news)["state"]["windows"], 5)
             self.finish()
@@ -472,12 +471,13 @@ class Files(Page):
         for written in (b"\xef\xbb\xbfX:1\r\nK:C\r\nC\r\n", b"X:1\nK:C\nC\n", b"X:2\r\nK:C\r\n", b"X:3\nK:C"):
             self.path.write_bytes(written)
             lines = written.replace(b"\xef\xbb\xbf", b"").replace(b"\r", b"").decode().split("\n")
-            while (book := self.book())["lines"] != lines:
-                pass
+            state = self.told(lambda state, written=written: state["saved"] == saving.digest(written))
+            self.assertEqual((state["mark"], state["returns"]), (written.startswith(b"\xef"), b"\r" in written))
+            self.assertEqual(self.book()["lines"], lines)
             self.edit(1, 2, "K:D")
             self.save()
             self.assertEqual(self.path.read_bytes(), written.replace(b"K:C", b"K:D"))
-        self.assertEqual([row[1] for row in book["tunes"]], [3])
+        self.assertEqual([row[1] for row in self.book()["tunes"]], [3])
         self.finish()
 
     def test_another_program_writes_the_book_while_text_is_unsaved(self):

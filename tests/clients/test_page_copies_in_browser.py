@@ -5,7 +5,19 @@ from browser_keys import CONTROL, END, ENTER, ESCAPE, SHIFT
 
 COPY = "return document.getElementById('copy').open"
 WRONG = "return document.getElementById('copy-wrong').textContent"
-DOWNLOADS = "window.downloads = []; HTMLAnchorElement.prototype.click = function () { downloads.push(this.download); };"
+DOWNLOADS = """
+window.downloads = [];
+const blobs = new Map(), make = URL.createObjectURL;
+URL.createObjectURL = (blob) => {
+  const address = make.call(URL, blob);
+  blobs.set(address, blob);
+  return address;
+};
+HTMLAnchorElement.prototype.click = async function () {
+  const { download, href } = this;
+  downloads.push([download, [...new Uint8Array(await blobs.get(href).arrayBuffer())]]);
+};
+"""  # keeps the name and the bytes of each download
 
 
 class CopiesInBrowser(test_page_in_browser.Browser):
@@ -70,11 +82,33 @@ class CopiesInBrowser(test_page_in_browser.Browser):
         self.wait(lambda: not self.run_script(COPY))
         self.assertEqual(sorted(one.name for one in self.folder.iterdir()), ["book.abc", "files", "pid", "program", "state"])
 
-    def test_downloads(self):
+
+class DownloadsInBrowser(test_page_in_browser.Browser):
+    """Saving by the browser."""
+
+    opening = b"\xef\xbb\xbfX:1\r\nT:\xe9 \xc3\xa9\x01\xff\xbf\r\nK:C\r\nC\r\n"
+
+    def test_a_download(self):
+        """It has the bytes that a save would write, and another name if the user names one."""
         self.run_script(DOWNLOADS)
+        self.type("% mine\n")
         self.run_script("document.getElementById('save-as').click()")
         self.press("a", CONTROL)
         self.press("mine")
         self.driver.find_element("id", "copy-download").click()
-        self.wait(lambda: self.run_script("return downloads") == ["mine.abc"])
+        data = self.opening.replace(b"X:1", b"% mine\r\nX:1")
+        self.wait(lambda: self.run_script("return downloads") == [["mine.abc", list(data)]])
         self.assertFalse(self.run_script(COPY))
+
+    def test_a_download_while_the_server_is_away(self):
+        """It has the line ends that another program gave the book meanwhile."""
+        data = b"X:1\nT:\xe9\n"
+        self.path.write_bytes(data)
+        self.wait(lambda: self.run_script(f"return {test_page_in_browser.AREA}.value.length") == len(data))
+        self.kill()
+        self.wait(lambda: "The server is away" in self.text("status"))
+        self.run_script(DOWNLOADS)
+        self.run_script("document.getElementById('save-as').click()")
+        self.wait(lambda: self.run_script(COPY))
+        self.driver.find_element("id", "copy-download").click()
+        self.wait(lambda: self.run_script("return downloads") == [["book copy.abc", list(data)]])

@@ -195,7 +195,7 @@ class Browser(test_page.Page):
         try:
             return browser.wait(comes)
         except AssertionError as error:
-            shown = self.run_script("return document.body.innerText")
+            shown = self.run_script("return document.body.innerText.toWellFormed()")  # the driver takes no lone halves
             raise AssertionError(f"{error}; the page shows {shown[:500]!r}") from error
 
     def run_script(self, script: str, *words):

@@ -1,5 +1,7 @@
 // The book on disk: saving it, under another name too, loading it, and what to ask if another program changed it.
 
+import { blobOf } from "./blob.js";
+
 export class Files {
   /** `book` has the name of the book; `say` shows a sentence; `doubt` returns the name of a question to be answered before a
    * save, if there is one. */
@@ -74,13 +76,13 @@ export class Files {
     });
   }
 
-  /** Hands the text out as a file of the browser. */
+  /** Offers the text as a file of the browser, with the bytes that a save would write. */
   download(name = this.book.name || "book.abc") {
-    const link = document.createElement("a");
-    link.href = URL.createObjectURL(new Blob([this.text.lines.join("\n")], { type: "text/vnd.abc" }));
-    link.download = name;
-    link.click();
-    setTimeout(() => URL.revokeObjectURL(link.href), 60000);
+    const anchor = document.createElement("a");
+    anchor.href = URL.createObjectURL(blobOf(this.text.lines, this.link.state ?? {}));
+    anchor.download = name;
+    anchor.click();
+    setTimeout(() => URL.revokeObjectURL(anchor.href), 60000);
   }
 }
 

@@ -12,7 +12,7 @@ export class Link {
     this.text = text;
     this.server = server;
     this.window = crypto.randomUUID?.() ?? String(Math.random());
-    this.state = null; // of the server: run, version, unsaved, saved, disk, trouble, slow, windows, hints
+    this.state = null; // of the server: run, version, mark, returns, unsaved, saved, disk, trouble, slow, windows, hints
     this.sent = null; // the edit on its way, or one that was not answered: whether it arrived is not known
     this.stuck = null; // the lines of the text that the server did not take
     this.tries = 0;
@@ -261,6 +261,6 @@ function isSame({ start, stop, lines }, edit) {
 
 const START = { start: { line: 0, column: 0 }, end: { line: 0, column: 0 }, direction: "forward" };
 
-function stateOf({ run, version, unsaved, saved, disk, trouble, slow, windows, hints }) {
-  return { run, version, unsaved, saved, disk, trouble, slow, windows, hints };
+function stateOf({ run, version, mark, returns, unsaved, saved, disk, trouble, slow, windows, hints }) {
+  return { run, version, mark, returns, unsaved, saved, disk, trouble, slow, windows, hints };
 }
