@@ -25,25 +25,34 @@ def proof(key: str, who: str, port: int, run: str, nonce: str) -> str:
 def book_key(path: Optional[str]) -> str:
     """The secret of a book, one and the same for each start. It is in a file that nobody else may read. If there can be no such
     file, the secret is this start's alone."""
-    state = Path(os.environ.get("XDG_STATE_HOME") or Path.home() / ".local/state")
-    file = state / "abc2midi_live/keys" / digest(os.fsencode(path or ""))[:32]
     key = secrets.token_hex(32)
-    with suppress(OSError, ValueError, RuntimeError):
+    with suppress(OSError, ValueError, RuntimeError, KeyError):  # there is no home: RuntimeError; before Python 3.10 KeyError
+        state = Path(os.environ.get("XDG_STATE_HOME") or Path.home() / ".local/state")
+        file = state / "abc2midi_live/keys" / digest(os.fsencode(path or ""))[:32]
         file.parent.mkdir(mode=0o700, parents=True, exist_ok=True)
-        try:
-            with open(os.open(file, os.O_WRONLY | os.O_CREAT | os.O_EXCL, 0o600), "w") as new:
-                new.write(key)
-        except FileExistsError:
-            return kept_key(file) or key
+        return kept_key(file, key) or key
     return key
 
 
-def kept_key(file: Path) -> Optional[str]:
-    """The secret in a file, if it is one and nobody else may read it."""
-    descriptor = os.open(file, os.O_RDONLY | os.O_NONBLOCK | os.O_NOFOLLOW | os.O_CLOEXEC)
+def kept_key(file: Path, new: str) -> Optional[str]:
+    """The secret in a file, if it is one and nobody else may read it. A file that is missing or empty, as a full disk leaves it, gets
+    a new secret."""
+    descriptor = open_key(file)
     with open(descriptor, "rb") as kept:
         found = os.fstat(descriptor)
         if not stat.S_ISREG(found.st_mode) or found.st_uid != os.getuid() or found.st_mode & 0o077:
             return None
         key = kept.read(100).decode("ascii", "replace")
+        if not key:
+            os.write(descriptor, new.encode())
+            return new
     return key if KEY.fullmatch(key) else None
+
+
+def open_key(file: Path) -> int:
+    """A descriptor of the file of a secret, which is made if it is missing. It can only be read if nobody may write it."""
+    flags = os.O_NONBLOCK | os.O_NOFOLLOW | os.O_CLOEXEC
+    try:
+        return os.open(file, flags | os.O_RDWR | os.O_CREAT, 0o600)
+    except OSError:
+        return os.open(file, flags | os.O_RDONLY)
