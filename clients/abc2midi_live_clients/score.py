@@ -15,7 +15,6 @@ from typing import NamedTuple, Optional
 
 from .own_process import answer_all
 from .places import utf8, utf16
-from .rows import Json
 from .score_markup import Node, NoDrawing, images_of
 from .score_text import TuneLine, header_lines, tune_lines
 
@@ -39,6 +38,17 @@ class NoScore(Exception):
     """Why there is no score, as a sentence."""
 
 
+class NoScoreNow(NoScore):
+    """Why there is no score at present. The reason is not the tune, so a later try may draw it."""
+
+
+class Answer(NamedTuple):
+    """What became of a tune, as JSON, and whether a later try gives the same."""
+
+    data: bytes
+    is_final: bool
+
+
 class Question(NamedTuple):
     """The lines of a file header and of a tune, and how many pixels wide the staves are to be on a screen; None for pages of
     paper."""
@@ -49,16 +59,21 @@ class Question(NamedTuple):
 
 
 def serve() -> None:
-    """Answers questions till there are no more: each is a program and a question, each answer is JSON."""
-    answer_all(lambda asked: json.dumps(outcome(*asked)).encode(), NICENESS)
+    """Answers questions till there are no more: each is a program and a question."""
+    answer_all(lambda asked: answer(*asked), NICENESS)
 
 
-def outcome(program: str, question: Question) -> Json:
+def answer(program: str, question: Question) -> Answer:
     """The images of a tune, or why there are none."""
     try:
-        return {"images": images(program, question)}
+        return Answer(json.dumps({"images": images(program, question)}).encode(), True)
     except NoScore as why:
-        return {"why": str(why)}
+        return Answer(refusal_json(str(why)), not isinstance(why, NoScoreNow))
+
+
+def refusal_json(why: str, **more: bool) -> bytes:
+    """Why there is no score, as JSON."""
+    return json.dumps({"why": why, **more}).encode()
 
 
 def images(program: str, question: Question) -> list[Node]:
@@ -117,7 +132,7 @@ def drawing(program: str, width: Optional[int], text: bytes) -> bytes:
                 command, stdin=asked, stdout=subprocess.PIPE, stderr=subprocess.DEVNULL, cwd=folder, env=ENVIRONMENT, start_new_session=True
             )
         except OSError as error:
-            raise NoScore(f"abcm2ps cannot be started: {error.strerror}.") from error
+            raise NoScoreNow(f"abcm2ps cannot be started: {error.strerror}.") from error
         try:
             data = read_output(process)
         finally:

@@ -1,6 +1,5 @@
 """The scores that windows ask for: each tune is drawn once, in a process of its own."""
 
-import json
 import os
 import shutil
 import tempfile
@@ -10,7 +9,7 @@ from typing import Optional
 
 from .own_process import ENDED, OwnProcess
 from .rows import Json
-from .score import Question
+from .score import Answer, Question, refusal_json
 from .shared_book import Refused
 
 PROGRAM = "abcm2ps"
@@ -20,8 +19,8 @@ MOST_KEPT = 8  # answers
 
 
 class Scorer:
-    """Draws one tune at a time, in a process that starts with the first. What became of the last ones is kept, for other windows and
-    for a tune that is looked at again: `abcm2ps` does not run for ever again on a text on which it did so."""
+    """Draws one tune at a time, in a process that starts with the first. The last final answers are kept, for other windows and for
+    a tune that is looked at again: `abcm2ps` does not run for ever again on a text on which it did so."""
 
     def __init__(self) -> None:
         self.turn = threading.Lock()
@@ -40,7 +39,10 @@ class Scorer:
             return refusal_json("abcm2ps is busy with other tunes.")
         try:
             if question not in self.kept:
-                self.kept[question] = self.ask_process(program, question)
+                answer = self.ask_process(program, question)
+                if not answer.is_final:
+                    return answer.data
+                self.kept[question] = answer.data
             self.kept.move_to_end(question)
             while len(self.kept) > MOST_KEPT:
                 self.kept.popitem(last=False)
@@ -48,17 +50,17 @@ class Scorer:
         finally:
             self.turn.release()
 
-    def ask_process(self, program: str, question: Question) -> bytes:
+    def ask_process(self, program: str, question: Question) -> Answer:
         """What the process answers."""
         self.folder = self.folder or tempfile.TemporaryDirectory()
         self.process = self.process or OwnProcess("score", TMPDIR=self.folder.name)
         try:
-            answer: bytes = self.process.ask((program, question))
+            answer: Answer = self.process.ask((program, question))
             return answer
         except ENDED:
             self.process.close()
             self.process = None
-            return refusal_json("The process that draws scores ended on this tune.")
+            return Answer(refusal_json("The process that draws scores ended on this tune."), False)
         finally:
             if self.is_closed:
                 self.close()
@@ -70,11 +72,6 @@ class Scorer:
             self.process.close()
         if self.folder:
             self.folder.cleanup()
-
-
-def refusal_json(why: str, **more: bool) -> bytes:
-    """Why there is no score, as JSON."""
-    return json.dumps({"why": why, **more}).encode()
 
 
 def found_program() -> Optional[str]:

@@ -1,5 +1,6 @@
 """What `abcm2ps` may read of a tune, what the page may show of its drawing, and the limits in which it runs."""
 
+import errno
 import json
 import os
 import random
@@ -472,6 +473,15 @@ class Limits(trial.Folder):
         (self.bin / "abcm2ps").chmod(0o755)
         self.assertRegex(self.why(), "no notes|can be shown|started|failed")
 
+    def test_answers_that_are_final(self):
+        """An answer is not if something else than the tune is its reason."""
+        question = Question((), ("X:1", "K:C", "C"), 600)
+        self.program("exit 1")
+        self.assertTrue(score.answer(found_program(), question).is_final)
+        with mock.patch.object(score.subprocess, "Popen", side_effect=OSError(errno.EAGAIN, "Try again")):
+            answer = score.answer(found_program(), question)
+        self.assertEqual(answer, (b'{"why": "abcm2ps cannot be started: Try again."}', False))
+
     def ask(self, scorer: Scorer, width=600) -> dict:
         """What is answered to a question for a tune."""
         return json.loads(scorer.answer({"header": [], "tune": ["X:1", "K:C", "C"], "width": width}))
@@ -504,13 +514,13 @@ class Limits(trial.Folder):
         self.assertEqual(len(scorer.kept), MOST_KEPT)
 
     def test_a_process_that_ends(self):
-        """The next question starts another one."""
+        """The next question starts another one, and the tune is tried again."""
         scorer = self.scorer()
         self.program("sleep 1000")
         threading.Timer(1, lambda: scorer.process.process.kill()).start()
         self.assertEqual(self.ask(scorer), {"why": "The process that draws scores ended on this tune."})
         self.program("exit 1")
-        self.assertIn("no notes", self.ask(scorer, 500)["why"])
+        self.assertIn("no notes", self.ask(scorer)["why"])
 
     def test_the_end_while_it_draws(self):
         """Nothing is left."""
