@@ -144,6 +144,19 @@ const tests = {
     same([score.notes.length, asked.length], [0, 2]);
   },
 
+  async "a page without a tune is printed as it is"() {
+    const { score, asked } = scored();
+    let prints = 0;
+    globalThis.window = { print: () => (prints += 1) };
+    score.see({ first: 0, lines: ["X:1", "K:C", "C"], header: [] });
+    await rest();
+    asked[0].done({ images: [image(place(2, 0))] });
+    await rest();
+    score.see(null);
+    await score.print();
+    same([prints, asked.length], [1, 1]);
+  },
+
   "the lines of a tune and of the file header"() {
     const lines = ["% words", " \t", "%%flatbeams 1", "M:6/8", " ", "free text", "X:1", "K:C", "C", "", "more", "X:2", "K:D", "X:3"];
     const rows = [[6, 1, "", true], [11, 2, "", true], [13, 3, "", true]];

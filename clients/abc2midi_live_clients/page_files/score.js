@@ -80,7 +80,7 @@ export class Score {
   }
 
   async print() {
-    const answer = this.notes.length ? await this.ask({ ...this.lines(), width: null }).catch(() => null) : null;
+    const answer = this.seen && this.notes.length ? await this.ask({ ...this.lines(), width: null }).catch(() => null) : null;
     if (answer?.images) this.layOut(answer.images);
     window.print();
   }
