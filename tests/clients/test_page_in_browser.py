@@ -5,7 +5,6 @@ import random
 import signal
 import subprocess
 import sys
-import time
 import unittest
 from contextlib import suppress
 
@@ -566,14 +565,17 @@ class Losing(Browser):
         self.type("X:1\nK:C\nC")
         self.settled("X:1\nK:C\nC")
         self.kill()
-        thief = subprocess.Popen([sys.executable, "-c", THIEF, str(self.port)], stdout=subprocess.PIPE, text=True)
+        requests = self.folder / "requests"
+        with requests.open("w") as written:
+            thief = subprocess.Popen([sys.executable, "-c", THIEF, str(self.port)], stdout=written)
         self.limit(thief)
         self.wait(lambda: "another program has its port" in self.text("status"))
         self.type("secret")
-        time.sleep(1)
+        proofs = requests.read_text().count("GET /proof/")
+        self.wait(lambda: requests.read_text().count("GET /proof/") >= proofs + 2)  # so the page has read an answer since
         thief.terminate()
-        asked = thief.stdout.read()
-        self.assertIn("GET /proof/", asked)
+        thief.wait(trial.SECONDS)
+        asked = requests.read_text()
         self.assertEqual((self.token in asked, "secret" in asked, asked.count("POST")), (False, False, 0))
         self.start(str(self.path), port=str(self.port))
         self.settled("X:1\nK:C\nCsecret")
