@@ -10,6 +10,7 @@ import tempfile
 import threading
 import time
 import zlib
+from contextlib import suppress
 from http.server import ThreadingHTTPServer
 from pathlib import Path
 from typing import Any
@@ -140,6 +141,16 @@ def serving(words: argparse.Namespace, book: SharedBook) -> Server:
     raise OSError("there is no free port")
 
 
+def serve(server: Server) -> None:
+    """Serves till Ctrl-C. Then it prints where text is that is not saved."""
+    try:
+        server.serve_forever(poll_interval=0.1)
+    finally:
+        if server.book.now()["unsaved"]:
+            with suppress(OSError):  # the terminal was closed
+                tell(f"the text is not saved; the browser keeps it, and offers it when the page is at port {server.server_port} again")
+
+
 def tell(sentence: str) -> None:
     """Prints a sentence on standard error."""
     print(f"page: {printable(sentence)}", file=sys.stderr, flush=True)
@@ -221,7 +232,7 @@ def main() -> int:
                 print(f"http://127.0.0.1:{server.server_port}/{server.token}/", flush=True)
                 if sys.stdout.isatty():
                     tell("open this address in a browser of this machine; Ctrl-C ends the page")
-                server.serve_forever(poll_interval=0.1)
+                serve(server)
         return 0
     except KeyboardInterrupt:
         return 0

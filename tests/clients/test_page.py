@@ -24,6 +24,7 @@ from abc2midi_live_clients.faults import meanings
 
 BOOK = b"X:1\nT:Kesh\nK:G\nGABc &\n\nX:2\nK:C\nCDE -\n"
 BOOK_FAULTS = [[3, 5, 6, "BadByte"], [7, 4, 5, "LooseTie"]]
+UNSAVED = "page: the text is not saved; the browser keeps it, and offers it when the page is at port {} again\n"
 
 
 class Page(trial.Folder):
@@ -82,10 +83,12 @@ class Page(trial.Folder):
         return self.ask("save", {"run": state["run"], "version": state["version"], **more})
 
     def finish(self, by=signal.SIGTERM, new=""):
-        """Ends the server, which leaves nothing. It printed nothing, but for the name of a new book."""
+        """Ends the server, which leaves nothing. It printed nothing, but for the name of a new book, and where unsaved text is."""
+        is_unsaved = self.ask("state")["unsaved"]
         self.server.send_signal(by)
         said = self.server.communicate(timeout=trial.SECONDS)
         wanted = f"page: {new}: there is no such file; the page begins with an empty text, and the first save makes the file\n" if new else ""
+        wanted += UNSAVED.format(self.port) if is_unsaved else ""
         self.assertEqual((said, self.server.returncode, os.listdir(self.files)), ((b"", wanted.encode()), 0, []))
 
     def raw(self, data: bytes) -> bytes:
@@ -250,6 +253,22 @@ class Requests(Page):
         trial.hear_of_the_terminal(self)
         self.start(str(self.path))
         self.finish(signal.SIGHUP)
+
+    def test_the_end_with_text_that_is_not_saved(self):
+        """The server prints where the text is, but not if nobody can read that."""
+        self.edit(0, 0, "%")
+        self.assertTrue(self.ask("state")["unsaved"])
+        self.finish(signal.SIGINT)
+        self.start(str(self.path))
+        self.edit(0, 0, "%")
+        self.save()
+        self.finish(signal.SIGINT)
+        self.start(str(self.path))
+        self.edit(0, 0, "%")
+        self.server.stderr.close()
+        self.server.terminate()
+        self.server.wait(trial.SECONDS)
+        self.assertEqual(os.listdir(self.files), [])
 
     def test_hints(self):
         """They are found when nobody edits for a moment, and move with edits; `--no-hints` turns them off."""
