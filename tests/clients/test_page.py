@@ -644,6 +644,12 @@ class Strangers(Page):
             self.assertEqual((said.returncode, said.stderr.endswith(b"write a number from 0 to 65535\n")), (2, True))
         self.finish()
 
+    def test_no_program(self):
+        words = [sys.executable, str(trial.CLIENTS / "page"), "--program", str(self.folder / "missing")]
+        said = subprocess.run(words, capture_output=True, timeout=trial.SECONDS)
+        self.assertEqual((said.returncode, said.stderr), (127, b"page: %s/missing: No such file or directory\n" % os.fsencode(self.folder)))
+        self.finish()
+
     def test_a_folder_is_no_book(self):
         words = [sys.executable, str(trial.CLIENTS / "page"), "--program", trial.program, str(self.folder)]
         said = subprocess.run(words, capture_output=True, timeout=trial.SECONDS)
