@@ -26,7 +26,7 @@ def book_key(path: Optional[str]) -> str:
     """The secret of a book, one and the same for each start. It is in a file that nobody else may read. If there can be no such
     file, the secret is this start's alone."""
     key = secrets.token_hex(32)
-    with suppress(OSError, ValueError, RuntimeError, KeyError):  # there is no home: RuntimeError; before Python 3.10 KeyError
+    with suppress(OSError, ValueError, RuntimeError, KeyError):  # without a home RuntimeError, before Python 3.10 KeyError
         state = Path(os.environ.get("XDG_STATE_HOME") or Path.home() / ".local/state")
         file = state / "abc2midi_live/keys" / digest(os.fsencode(path or ""))[:32]
         file.parent.mkdir(mode=0o700, parents=True, exist_ok=True)
@@ -35,7 +35,7 @@ def book_key(path: Optional[str]) -> str:
 
 
 def kept_key(file: Path, new: str) -> Optional[str]:
-    """The secret in a file, if it is one and nobody else may read it. A file that is missing or empty, as a full disk leaves it, gets
+    """The secret in a file, if it is one and nobody else may read it. A file that is missing, or empty as a full disk leaves it, gets
     a new secret."""
     descriptor = open_key(file)
     with open(descriptor, "rb") as kept:

@@ -1,7 +1,7 @@
 """Starts a program within limits: `score_limits.py PROGRAM [WORD..]`. It needs no other module of the package.
 
-The program can use so much memory and time, and write no file. Where Linux has Landlock it can also read no file but those of
-the system's programs, libraries and fonts, and open no connection."""
+The program can use so much memory and time, and write no byte into a file. If Linux has Landlock, it can also create and remove no
+file, read none but those of the system's programs, libraries and fonts, and open no connection."""
 
 import os
 import resource

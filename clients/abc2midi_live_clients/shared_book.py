@@ -152,8 +152,8 @@ class SharedBook:
             }
 
     def state(self) -> Json:
-        """How the book is: `saved` is what the text was last, `disk` is what the file is now. `mark` and `returns` are what the windows
-        do not see of the text."""
+        """How the book is: `saved` is what the text was last, `disk` is what the file is now. `mark` and `returns` are what windows do
+        not see of the text."""
         since = self.asked_since
         return {
             "run": self.run,

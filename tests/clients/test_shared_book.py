@@ -37,8 +37,8 @@ class Saves(trial.Folder):
 
         with mock.patch.object(self.book, "publish", save_and_publish):
             self.edit("X:3")
-        state = self.book.now()
-        saved = digest(b"X:2\nK:C\nC\n")
-        self.assertEqual((digest(self.path.read_bytes()), state["saved"], state["disk"], state["unsaved"]), (saved, saved, saved, True))
+        state, saved = self.book.now(), b"X:2\nK:C\nC\n"
+        self.assertEqual(self.path.read_bytes(), saved)
+        self.assertEqual((state["saved"], state["disk"], state["unsaved"]), (digest(saved), digest(saved), True))
         self.assertFalse(self.ask(self.book.save)["unsaved"])
         self.assertEqual(self.path.read_bytes(), b"X:3\nK:C\nC\n")
