@@ -267,8 +267,7 @@ class Requests(Page):
         self.edit(0, 0, "%")
         self.server.stderr.close()
         self.server.terminate()
-        self.server.wait(trial.SECONDS)
-        self.assertEqual(os.listdir(self.files), [])
+        self.assertEqual((self.server.wait(trial.SECONDS), os.listdir(self.files)), (0, []))
 
     def test_hints(self):
         """They are found when nobody edits for a moment, and move with edits; `--no-hints` turns them off."""
