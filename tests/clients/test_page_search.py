@@ -119,6 +119,7 @@ class Search(test_page_in_browser.Browser):
         self.press("C ")
         self.wait(lambda: self.run_script(MARKED)[0] == [0, 0, "C", ""])
         self.found("304 found")
+        self.wait(lambda: self.book()["lines"][0] == "C X:1")
         self.edit(0, 0, "C", "C")
         self.found("306 found")
 
