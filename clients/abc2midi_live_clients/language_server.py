@@ -310,7 +310,7 @@ def serve(server: Server) -> int:
 
 
 def program_of(named: Optional[str]) -> str:
-    """The program to start. Raises ProgramMissing if there is none at the start of the server; later the editor is told."""
+    """Returns the program to start. Raises ProgramMissing if it is missing when the server starts; later a message says so."""
     program = named or find_program()
     if not shutil.which(program):
         raise ProgramMissing(f"{program}: no such program")
