@@ -42,7 +42,7 @@ static int write_tune(abc_live_session *session, const char *dir, uint32_t numbe
     if (ok)
         printf("wrote %u.mid\n", (unsigned)number);
     else
-        perror(path);
+        fprintf(stderr, "%s/%u.mid cannot be written\n", dir, (unsigned)number);
     free(path);
     free(midi);
     return ok;
@@ -64,6 +64,8 @@ int main(int argc, char **argv)
              && abc_live_insert(&session, 1, book, size, &work) == ABC_LIVE_OK
              && abc_live_insert(&session, 1, (const uint8_t *)tune, strlen(tune), &work) == ABC_LIVE_OK
              && abc_live_written(&session, numbers, 1000, &count) == ABC_LIVE_OK;
+    if (book && !ok)
+        fputs("the book is refused, or there is not enough memory\n", stderr);
     for (size_t i = 0; ok && i < count; i++)
         ok = write_tune(&session, argv[2], numbers[i]);
     abc_live_close(&session);
