@@ -63,7 +63,7 @@ fn new_lines(text: &LineBuffer) -> usize {
         .count()
 }
 
-/// Returns a text of so many lines after splices of one line, each `step` lines after the one before it.
+/// Returns a text of `lines` lines after `splices` splices of one line. Each splice is `step` lines after the one before it.
 fn splice_lines(
     alloc: Global,
     lines: u32,

@@ -65,7 +65,7 @@ pub fn list_of(alloc: Global, item: u32) -> Result<GapList<u32>, AllocError>
     Ok(list)
 }
 
-/// Returns how many items a list has, for how many more there is room, where the gap is, and how far it has moved.
+/// Returns the count of a list's items, its room for more, the place of its gap, and how far the gap has moved.
 pub fn sizes_of(list: &GapList<u32>) -> (usize, usize, usize, u64)
     ensures value { result ≡ (length list.now.items, list.now.room, list.now.gap, list.now.moved) }
 {

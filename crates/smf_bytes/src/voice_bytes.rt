@@ -1,6 +1,5 @@
 //! The bytes of a voice's events, each after its delta time.
-ghost use Rattle.std.specs.Prelude.{◌≡◌, ◌<◌, ◌≤◌, ◌+◌, ◌^◌, ◌++◌, IsTrue, OnOk};
-ghost use Rattle.std.specs.Vec.{vec_capacity, vec_len};
+ghost use Rattle.std.specs.Prelude.{◌≡◌, ◌<◌, ◌^◌, ◌++◌, IsTrue, OnOk};
 ghost use Rattle.smf_bytes.specs.Number.{number_text};
 ghost use Rattle.smf_bytes.specs.Voice.{bytes_of, is_note};
 
@@ -77,25 +76,11 @@ pub(crate) fn put_both(
         put_note(out, rest, on)?;
         return put_note(out, length, off);
     }
-    out.reserve(9)?;
-    out.push_reserved(rest as u8);
-    push_three(out, on);
-    out.push_reserved(leading_byte(length / 0x80));
-    out.push_reserved((length % 0x80) as u8);
-    push_three(out, off);
-    Ok(())
-}
-
-/// Appends three bytes, for which there is room.
-#[inline(always)]
-fn push_three(out: &mut Vec<u8>, bytes: [u8; 3])
-    requires room { vec_len out.old + 3 ≤ vec_capacity out.old }
-    ensures items { out.new.items ≡ out.old.items ++ bytes }
-    ensures len { vec_len out.new ≡ vec_len out.old + 3 }
-    ensures capacity { vec_capacity out.new ≡ vec_capacity out.old }
-{
-    let [first, second, third] = bytes;
-    out.push_reserved(first);
-    out.push_reserved(second);
-    out.push_reserved(third);
+    let first = leading_byte(length / 0x80);
+    let last = (length % 0x80) as u8;
+    let [begins, key, velocity] = on;
+    let [ends, same_key, release] = off;
+    out.extend_from_slice(&[
+        rest as u8, begins, key, velocity, first, last, ends, same_key, release,
+    ])
 }

@@ -40,7 +40,7 @@ token kind from to = record { kind = kind; from = from; to = to }
 abbrev pub c_token : ℤ → WrittenLength → ℕ → ℕ → Spanned TokenKind
 c_token octave length from to = token (note letters.C octave length) from to
 
--- A double bar line with so many colons before it and none after it.
+-- A double bar line with `closes` colons before it and none after it.
 abbrev pub double_bar : ℕ → TokenKind
 double_bar closes = kinds.Bar (record { closes = closes; opens = 0; double = true })
 
