@@ -1,5 +1,4 @@
 pub mod BodyOpenings
-pub mod CellLoop
 pub mod FieldLaws
 pub mod HereLaws
 pub mod Mentions

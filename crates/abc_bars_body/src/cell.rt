@@ -154,18 +154,20 @@ impl CellResult {
     }
 
     /// A note that may change the state of the current voice.
+    #[inline(never)]
     fn changing_note(
         &mut self,
         alloc: Global,
-        note: Note,
-        factors: &BrokenFactors,
+        note: &Note,
         place: NotePlace,
+        ahead: &[Token],
     ) -> Result<(), AllocError>
         ensures { OnOk result (self.new ≡ with_result_in self.old self.old.body
-            (play_note (here self.old.body) factors.now place.tied place.from note)) }
+            (play_note (here self.old.body) (factors_of self.old.preceding ahead.now) place.tied place.from note.now)) }
     {
+        let factors = BrokenFactors::of(self.preceding, ahead);
         let mut here = self.body.take_here()?;
-        play_note(alloc, &mut here, &mut self.items, note, factors, place)?;
+        play_note(alloc, &mut here, &mut self.items, *note, &factors, place)?;
         self.body.put_here(here);
         Ok(())
     }
@@ -177,10 +179,10 @@ impl CellResult {
         &mut self,
         alloc: Global,
         place: usize,
-        note: Note,
+        note: &Note,
         ahead: &[Token],
     ) -> Result<(), AllocError>
-        ensures { OnOk result (self.new ≡ with_note self.old place note ahead.now) }
+        ensures { OnOk result (self.new ≡ with_note self.old place note.now ahead.now) }
     {
         let factors = BrokenFactors::of(self.preceding, ahead);
         let place = NotePlace {
@@ -188,10 +190,10 @@ impl CellResult {
             tied: tie_ahead(ahead),
         };
         self.body.mention(alloc)?;
-        if play_steady_note(self.body.here(), &mut self.items, note, &factors, place)? {
+        if play_steady_note(self.body.here(), &mut self.items, *note, &factors, place)? {
             return Ok(());
         }
-        self.changing_note(alloc, note, &factors, place)
+        self.changing_note(alloc, note, place, ahead)
     }
 
     /// A rest, which mentions its voice.
@@ -343,7 +345,7 @@ impl CellResult {
         ensures { OnOk result (self.new ≡ with_kind self.old place kind.now ahead.now) }
     {
         match kind {
-            TokenKind::Note(note) => self.note(alloc, place, *note, ahead),
+            TokenKind::Note(note) => self.note(alloc, place, note, ahead),
             TokenKind::Rest(written) => self.rest(alloc, place, *written, ahead),
             TokenKind::BarRest(bars) => self.bar_rest(alloc, place, *bars),
             TokenKind::Chord(chord) => self.chord(alloc, place, chord.get(), ahead),
@@ -376,7 +378,7 @@ impl CellResult {
     {
         let place = token.from as usize;
         if let TokenKind::Note(note) = &token.kind {
-            self.note(alloc, place, *note, ahead)?;
+            self.note(alloc, place, note, ahead)?;
             self.preceding = Preceding::TimeToken;
             self.after_note = true;
             return Ok(());
@@ -393,8 +395,10 @@ impl CellResult {
     fn tokens(&mut self, alloc: Global, cell: &[Token]) -> Result<(), AllocError>
         ensures { OnOk result (self.new ≡ cell_result_from self.old cell.now) }
     {
-        for (at, token) in cell.iter().enumerate() {
-            self.token(alloc, token, &cell[at + 1..])?;
+        let mut left = cell;
+        while let [token, ahead @ ..] = left {
+            self.token(alloc, token, ahead)?;
+            left = ahead;
         }
         Ok(())
     }

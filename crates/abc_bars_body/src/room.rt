@@ -1,8 +1,7 @@
 //! The room for the items of a cell.
 
 use abc_bars_header::{FieldKind, kind_of};
-use abc_bars_notes::has_note;
-use abc_scan::{Directive, Field, Token, TokenKind};
+use abc_scan::{Field, Token, TokenKind};
 
 /// Whether a field of a body gives an item, unless it is refused.
 fn is_item_field(field: &Field) -> bool {
@@ -16,23 +15,23 @@ fn is_item_field(field: &Field) -> bool {
     }
 }
 
-/// Whether a token gives an item, unless it is refused.
+/// Whether a token gives an item, unless it is refused or has no effect.
 fn may_give(token: &Token) -> bool {
     match &token.kind {
         TokenKind::Note(_)
         | TokenKind::Rest(_)
         | TokenKind::BarRest(_)
+        | TokenKind::Chord(_)
         | TokenKind::Bar(_)
-        | TokenKind::Ending(Some(_))
-        | TokenKind::Directive(Directive::Program(_)) => true,
-        TokenKind::Chord(chord) => has_note(chord.get().parts.as_slice()),
+        | TokenKind::Ending(_)
+        | TokenKind::Directive(_) => true,
         TokenKind::Field(field) | TokenKind::InlineField(field) => is_item_field(field.get()),
         _ => false,
     }
 }
 
-/// The number of items for which there is room at first: exact unless a field of the cell is refused. The items are stored
-/// with their room, so spare room would be stored too. No result depends on it.
+/// The number of items for which there is room at first: exact unless a token is refused or has no effect. The items are
+/// stored with their room, so spare room would be stored too. No result depends on it.
 pub(crate) fn room_for(cell: &[Token]) -> usize {
     cell.iter().filter(|token| may_give(token)).count()
 }

@@ -1,10 +1,10 @@
 //! Notes, chords and rests: their items and faults, and the state of the voice after them.
 
-ghost use Rattle.std.specs.Prelude.{◌≡◌, ℕ, List, ◌∷◌, ◌++◌, [], false, All, IfOk, IsTrue, None, OnErr, OnOk, is_none, unwrap_or};
+ghost use Rattle.std.specs.Prelude.{◌≡◌, ℕ, List, ◌∷◌, [], false, All, IfOk, IsTrue, None, OnErr, OnOk, is_none, unwrap_or};
 ghost use Rattle.abc_time.specs.declared.ratio.Ratio.{Ratio};
 ghost use Rattle.abc_fields.specs.declared.fault_code.FaultCode.TheVariants.{BadLength, EmptyChord, KeyRange};
 ghost use Rattle.abc_bars_items.specs.Column.{column_of};
-ghost use Rattle.abc_bars_items.specs.Item.{AreTones, IsTone, IsWithinLongest, append_faults, append_item};
+ghost use Rattle.abc_bars_items.specs.Item.{AreTones, IsItem, IsTone, IsWithinLongest, append_faults, append_item};
 ghost use Rattle.abc_bars_notes.specs.Sound.{fault_if, length_in, tied_note_in, tone_in};
 ghost use Rattle.abc_bars_items.specs.declared.item.Item.TheVariants as item_kinds;
 ghost use Rattle.abc_bars_voice.specs.Tuplet.{count_down};
@@ -75,7 +75,7 @@ fn push_notes(
     Ok(())
 }
 
-/// Adds a single note, and its faults: its length is refused, or MIDI has no key for it.
+/// Adds a single note, and its faults: its length is refused, or MIDI has no key for it. Few notes have one.
 #[inline(always)]
 fn push_note(
     items: &mut ItemsBuilder,
@@ -87,10 +87,37 @@ fn push_note(
     ensures ok { OnOk result (items.new ≡ with_tone items.old tone refused column) }
     ensures unchanged { OnErr result (items.new ≡ items.old) }
 {
-    let item = Item::Tone {
+    if refused || tone.key.is_none() {
+        return push_faulty_note(items, tone, refused, column);
+    }
+    items.push_item(item_of(tone))
+}
+
+/// The item of a single note.
+fn item_of(tone: Tone) -> Item
+    requires { IsTone tone }
+    ensures value { result ≡ item_kinds.Tone (tone ∷ []) tone.length }
+    ensures range { IsItem result }
+{
+    Item::Tone {
         tones: Tones::one(tone),
         length: tone.length,
-    };
+    }
+}
+
+/// Adds a single note that has faults.
+#[inline(never)]
+fn push_faulty_note(
+    items: &mut ItemsBuilder,
+    tone: Tone,
+    refused: bool,
+    column: u32,
+) -> Result<(), AllocError>
+    requires { IsTone tone }
+    ensures ok { OnOk result (items.new ≡ with_tone items.old tone refused column) }
+    ensures unchanged { OnErr result (items.new ≡ items.old) }
+{
+    let item = item_of(tone);
     let length = (column, FaultCode::BadLength);
     let key = (column, FaultCode::KeyRange);
     match (refused, tone.key) {

@@ -1,6 +1,6 @@
 //! The cells of a line.
 
-ghost use Rattle.std.specs.Prelude.{◌≡◌, ◌≤◌, [], IfOk, IsOk, length};
+ghost use Rattle.std.specs.Prelude.{◌≡◌, ◌≤◌, ◌<◌, ◌^◌, [], IfOk, IsOk, length};
 ghost use Rattle.abc_scan.specs.Cell.{AreCells, cells_of, first_size};
 
 use crate::token::{Token, is_bar};
@@ -65,7 +65,7 @@ impl Cell {
 /// Returns the number of these tokens. A line with more than a `u32` can count is refused as out of memory.
 fn count_of(tokens: &[Token]) -> Result<u32, AllocError>
     ensures value { IfOk result (λ count. count ≡ length tokens.now) }
-    ensures silent { tokens.now ≡ [] → IsOk result }
+    ensures accepted { length tokens.now < 2 ^ 32 → IsOk result }
 {
     if tokens.len() > u32::MAX as usize {
         return Err(AllocError);

@@ -27,6 +27,7 @@ const LONGEST_CUT: usize = (1 << 31) - 1;
 fn check_length(text: &[u8]) -> Result<&[u8], AllocError>
     ensures same { IfOk result (λ short. short.now ≡ text.now) }
     ensures short { IfOk result (λ short. length short.now < 2 ^ 31) }
+    ensures accepted { length text.now < 2 ^ 31 → IsOk result }
 {
     if text.len() > LONGEST_CUT {
         Err(AllocError)

@@ -9,22 +9,27 @@ ghost use Rattle.abc_scan.specs.Line.{has_tokens, tokens_in, tokens_of};
 use crate::cell::{Cell, cells_with_room};
 use crate::line::tokens_in;
 use crate::line_class::{LineClass, class_of};
-use crate::token::Token;
+use crate::token::{Token, is_bar};
 use abc_fold::Work;
 use abc_text::without_return;
 use std::alloc::{AllocError, Global};
 
-/// The first capacity of the list of a music line's cells.
-const USUAL_CELLS: usize = 8;
+/// The number of the cells of these tokens. No result depends on it.
+fn count_cells(tokens: &[Token]) -> usize {
+    let bars = tokens.iter().filter(|token| is_bar(&token.kind)).count();
+    match tokens {
+        [.., last] if is_bar(&last.kind) => bars,
+        _ => bars.saturating_add(1),
+    }
+}
 
-/// The cells of a music line of these tokens. Both lists give back their spare room.
+/// The cells of a music line of these tokens. Both lists have exactly the room that they need.
 fn cells_of_music(alloc: Global, mut tokens: Vec<Token>) -> Result<Vec<Cell>, AllocError>
     ensures { IfOk result (λ cells. cells.items ≡ cells_of tokens.items) }
 {
     let own = tokens.split_off(0)?;
-    let mut cells = cells_with_room(alloc, own, USUAL_CELLS)?;
-    cells.shrink_to_fit();
-    Ok(cells)
+    let room = count_cells(own.as_slice());
+    cells_with_room(alloc, own, room)
 }
 
 /// The cells of a text of this class, which has no carriage return at its end.

@@ -12,6 +12,7 @@ pub mod laws;
 mod number;
 mod order;
 mod track;
+mod track_bytes;
 mod voice;
 mod voice_bytes;
 mod voice_event;

@@ -3,7 +3,8 @@ ghost use Rattle.std.specs.Prelude.{◌≡◌, ◌<◌, ◌^◌, ◌++◌, IsTru
 ghost use Rattle.smf_bytes.specs.Number.{number_text};
 ghost use Rattle.smf_bytes.specs.Voice.{bytes_of, is_note};
 
-use crate::number::{leading_byte, put_number};
+use crate::number::leading_byte;
+use crate::track_bytes::TrackBytes;
 use crate::voice_event::{VoiceEvent, VoiceEventKind};
 use std::alloc::AllocError;
 
@@ -17,22 +18,22 @@ pub(crate) fn is_note(first: &VoiceEvent, second: &VoiceEvent) -> bool
 
 /// Appends an event of a voice, `delta` ticks after the one before it.
 pub(crate) fn put_voice_event(
-    out: &mut Vec<u8>,
+    out: &mut TrackBytes,
     delta: u32,
     channel: u8,
     event: &VoiceEvent,
 ) -> Result<(), AllocError>
     requires delta { delta < 2 ^ 28 }
     requires channel { channel < 16 }
-    ensures { OnOk result (out.new.items
-        ≡ out.old.items ++ number_text delta ++ bytes_of event.now.kind channel event.now.key event.now.value) }
+    ensures { OnOk result (out.new
+        ≡ out.old ++ number_text delta ++ bytes_of event.now.kind channel event.now.key event.now.value) }
 {
     let status = match event.kind {
         VoiceEventKind::NoteOff => 0x80,
         VoiceEventKind::NoteOn => 0x90,
         VoiceEventKind::ProgramChange => {
-            put_number(out, delta)?;
-            return out.extend_from_slice(&[0xC0 + channel, event.value]);
+            out.put_number(delta)?;
+            return out.put(&[0xC0 + channel, event.value]);
         }
     };
     put_note(out, delta, [status + channel, event.key, event.value])
@@ -42,27 +43,28 @@ pub(crate) fn put_voice_event(
 /// bytes, as most are, is appended in the same call.
 #[inline(always)]
 #[tactic(auto, unfolding(crate::specs::Number::number_text))]
-fn put_note(out: &mut Vec<u8>, delta: u32, bytes: [u8; 3]) -> Result<(), AllocError>
+fn put_note(out: &mut TrackBytes, delta: u32, bytes: [u8; 3]) -> Result<(), AllocError>
     requires delta { delta < 2 ^ 28 }
-    ensures { OnOk result (out.new.items ≡ out.old.items ++ number_text delta ++ bytes) }
+    ensures { OnOk result (out.new ≡ out.old ++ number_text delta ++ bytes) }
 {
     let [status, key, velocity] = bytes;
     if delta < 0x80 {
-        out.extend_from_slice(&[delta as u8, status, key, velocity])
+        out.put(&[delta as u8, status, key, velocity])
     } else if delta < 0x4000 {
         let last = (delta % 0x80) as u8;
-        out.extend_from_slice(&[leading_byte(delta / 0x80), last, status, key, velocity])
+        out.put(&[leading_byte(delta / 0x80), last, status, key, velocity])
     } else {
-        put_number(out, delta)?;
-        out.extend_from_slice(&bytes)
+        out.put_number(delta)?;
+        out.put(&bytes)
     }
 }
 
 /// Appends the bytes of a note's beginning and end, each after its delta time. Most notes follow at once on the one before
 /// them, which takes one byte, and have a length of two bytes: then one call appends all.
+#[inline(always)]
 #[tactic(auto, unfolding(crate::specs::Number::number_text))]
 pub(crate) fn put_both(
-    out: &mut Vec<u8>,
+    out: &mut TrackBytes,
     rest: u32,
     on: [u8; 3],
     length: u32,
@@ -70,17 +72,33 @@ pub(crate) fn put_both(
 ) -> Result<(), AllocError>
     requires rest { rest < 2 ^ 28 }
     requires length { length < 2 ^ 28 }
-    ensures { OnOk result (out.new.items ≡ out.old.items ++ number_text rest ++ on ++ number_text length ++ off) }
+    ensures { OnOk result (out.new ≡ out.old ++ number_text rest ++ on ++ number_text length ++ off) }
 {
     if 0x80 <= rest || length < 0x80 || 0x4000 <= length {
-        put_note(out, rest, on)?;
-        return put_note(out, length, off);
+        return put_apart(out, rest, on, length, off);
     }
     let first = leading_byte(length / 0x80);
     let last = (length % 0x80) as u8;
     let [begins, key, velocity] = on;
     let [ends, same_key, release] = off;
-    out.extend_from_slice(&[
+    out.put(&[
         rest as u8, begins, key, velocity, first, last, ends, same_key, release,
     ])
+}
+
+/// Appends the bytes of a note's beginning and end, one after the other.
+#[inline(never)]
+fn put_apart(
+    out: &mut TrackBytes,
+    rest: u32,
+    on: [u8; 3],
+    length: u32,
+    off: [u8; 3],
+) -> Result<(), AllocError>
+    requires rest { rest < 2 ^ 28 }
+    requires length { length < 2 ^ 28 }
+    ensures { OnOk result (out.new ≡ out.old ++ number_text rest ++ on ++ number_text length ++ off) }
+{
+    put_note(out, rest, on)?;
+    put_note(out, length, off)
 }

@@ -10,13 +10,14 @@ ghost use Rattle.smf_bytes.specs.TrackEvents.{IsMusicWithin, is_plain, music_eve
 ghost use Rattle.smf_bytes.specs.Voice.{event_at};
 
 use crate::groups::{are_in_turn, first_group};
-use crate::track::put_end;
+use crate::track_bytes::TrackBytes;
 use crate::voice::{RELEASE_VELOCITY, events_of_voice};
 use crate::voice_bytes::{is_note, put_both, put_voice_event};
 use crate::voice_event::{VoiceEvent, order_voice};
 use abc_time::{Grains, tick_of};
 use abc_voices_score::{ProgramChange, Sounding};
 use std::alloc::{AllocError, Global};
+use std::mem;
 
 /// What a voice plays, on a channel.
 #[derive(Clone, Copy)]
@@ -38,11 +39,14 @@ pub(crate) fn put_music(out: &mut Vec<u8>, music: VoiceMusic) -> Result<(), Allo
 {
     // Most notes take nine bytes.
     out.reserve(10 * music.notes.len())?;
+    let mut track = TrackBytes::of(mem::replace(out, Vec::new(music.alloc)));
     if is_plain(music) {
-        put_in_turn(out, music)
+        put_in_turn(&mut track, music)?;
     } else {
-        put_sorted(out, music)
+        put_sorted(&mut track, music)?;
     }
+    *out = track.into_vec()?;
+    Ok(())
 }
 
 /// Whether a voice has no programs, and its notes begin in turn.
@@ -58,22 +62,22 @@ fn is_plain(music: VoiceMusic) -> bool
 }
 
 /// Appends the events of a voice, all in one list, and the end of the track.
-fn put_sorted(out: &mut Vec<u8>, music: VoiceMusic) -> Result<(), AllocError>
+fn put_sorted(out: &mut TrackBytes, music: VoiceMusic) -> Result<(), AllocError>
     requires within { IsMusicWithin music }
-    ensures { OnOk result (out.new.items ≡ out.old.items
+    ensures { OnOk result (out.new ≡ out.old
         ++ track_body (tick_at music.entry.end.0) (music_events music.entry)) }
 {
     let last = put_together(out, 0, music)?;
     let delta = tick_of(music.end) - last;
-    put_end(out, delta)
+    out.put_end(delta)
 }
 
 /// Appends the events of notes that begin in turn, group by group, and the end of the track.
-fn put_in_turn(out: &mut Vec<u8>, music: VoiceMusic) -> Result<(), AllocError>
+fn put_in_turn(out: &mut TrackBytes, music: VoiceMusic) -> Result<(), AllocError>
     requires within { IsMusicWithin music }
     requires programs { music.programs.now ≡ [] }
     requires turn { AreInTurn music.notes.now }
-    ensures { OnOk result (out.new.items ≡ out.old.items
+    ensures { OnOk result (out.new ≡ out.old
         ++ track_body (tick_at music.entry.end.0) (music_events music.entry)) }
 {
     let end = music.end;
@@ -87,7 +91,7 @@ fn put_in_turn(out: &mut Vec<u8>, music: VoiceMusic) -> Result<(), AllocError>
         left = later;
     }
     let delta = tick_of(end) - before;
-    put_end(out, delta)
+    out.put_end(delta)
 }
 
 /// Appends the events of notes in their order, from the tick `before` on, and returns the tick of the last. Most groups are
@@ -95,7 +99,7 @@ fn put_in_turn(out: &mut Vec<u8>, music: VoiceMusic) -> Result<(), AllocError>
 #[inline(always)]
 fn put_group(
     alloc: Global,
-    out: &mut Vec<u8>,
+    out: &mut TrackBytes,
     before: u32,
     end: Grains,
     channel: u8,
@@ -105,7 +109,7 @@ fn put_group(
     requires end { end.0 ≤ grains_of_the_latest_end }
     requires notes { IsVoiceWithin end notes.now }
     requires in_time { Follows (tick_at end.0) before (in_order (voice_events channel [] notes.now)) }
-    ensures bytes { OnOk result (out.new.items ≡ out.old.items
+    ensures bytes { OnOk result (out.new ≡ out.old
         ++ timed_events before (in_order (voice_events channel [] notes.now))) }
     ensures last { IfOk result (λ last. last ≡ tick_after before (in_order (voice_events channel [] notes.now))) }
 {
@@ -127,7 +131,7 @@ fn put_group(
 /// Appends the on and the off of a note, from the tick `before` on, and returns the tick of the last event so far.
 #[inline(always)]
 fn put_sounding(
-    out: &mut Vec<u8>,
+    out: &mut TrackBytes,
     before: u32,
     end: Grains,
     channel: u8,
@@ -137,7 +141,7 @@ fn put_sounding(
     requires end { end.0 ≤ grains_of_the_latest_end }
     requires note { IsSoundingWithin end note.now }
     requires in_time { Follows (tick_at end.0) before (note_events channel note.now) }
-    ensures bytes { OnOk result (out.new.items ≡ out.old.items ++ timed_events before (note_events channel note.now)) }
+    ensures bytes { OnOk result (out.new ≡ out.old ++ timed_events before (note_events channel note.now)) }
     ensures last { IfOk result (λ last. last ≡ tick_after before (note_events channel note.now)) }
 {
     let on = tick_of(note.on);
@@ -155,11 +159,11 @@ fn put_sounding(
 
 /// Appends the events of a voice in their order, from the tick `before` on, and returns the tick of the last.
 #[inline(never)]
-fn put_together(out: &mut Vec<u8>, before: u32, music: VoiceMusic) -> Result<u32, AllocError>
+fn put_together(out: &mut TrackBytes, before: u32, music: VoiceMusic) -> Result<u32, AllocError>
     requires within { IsMusicWithin music }
     requires in_time { Follows (tick_at music.end.0) before
         (in_order (music_events music)) }
-    ensures bytes { OnOk result (out.new.items ≡ out.old.items
+    ensures bytes { OnOk result (out.new ≡ out.old
         ++ timed_events before (in_order (music_events music.entry))) }
     ensures last { IfOk result (λ last.
         last ≡ tick_after before (in_order (music_events music.entry))) }
@@ -170,7 +174,7 @@ fn put_together(out: &mut Vec<u8>, before: u32, music: VoiceMusic) -> Result<u32
 
 /// Appends events of a voice in their order, from the tick `before` on, and returns the tick of the last.
 fn put_ordered(
-    out: &mut Vec<u8>,
+    out: &mut TrackBytes,
     before: u32,
     end: Grains,
     channel: u8,
@@ -179,7 +183,7 @@ fn put_ordered(
     requires channel { channel < 16 }
     requires end { end.0 ≤ grains_of_the_latest_end }
     requires in_time { Follows (tick_at end.0) before (in_order (map (event_at channel) events.items)) }
-    ensures bytes { OnOk result (out.new.items ≡ out.old.items
+    ensures bytes { OnOk result (out.new ≡ out.old
         ++ timed_events before (in_order (map (event_at channel) events.items))) }
     ensures last { IfOk result (λ last. last ≡ tick_after before (in_order (map (event_at channel) events.items))) }
 {

@@ -18,7 +18,7 @@ put_sounding-requires-clause-in_time c =
 pub returns-in-len1-clause-bytes : goal.returns-in-len1-clause-bytes
 returns-in-len1-clause-bytes c =
     let same = alone c.args.channel c.args.end c.args.notes.now none (omega (arith, c.in-len1.len_at_least, c.in-len1.len_below)) c.requires.notes.each in
-    subst (λ (l : List Event). OnOk c.put_sounding.result (c.put_sounding.new.out.items ≡ c.args.out.now.items ++ timed_events c.args.before l))
+    subst (λ (l : List Event). OnOk c.put_sounding.result (c.put_sounding.new.out ≡ c.args.out.now ++ timed_events c.args.before l))
     (sym same) c.put_sounding.ensures.bytes
 
 pub returns-in-len1-clause-last : goal.returns-in-len1-clause-last

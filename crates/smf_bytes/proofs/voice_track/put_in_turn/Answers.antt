@@ -21,7 +21,7 @@ loop-left-init c =
       notes = c.requires.within.notes;
       turn = c.requires.turn;
       follows = all_follow c.args.music.end music.channel [] music.notes.now (All-nil (IsProgramWithin c.args.music.end)) c.requires.within.notes.each;
-      written = ap (λ (programs : List ProgramChange). c.args.out.now.items ++ track_body (tick_at c.args.music.end.0) (voice_events music.channel programs music.notes.now)) (sym c.requires.programs);
+      written = ap (λ (programs : List ProgramChange). c.args.out.now ++ track_body (tick_at c.args.music.end.0) (voice_events music.channel programs music.notes.now)) (sym c.requires.programs);
     }
 
 pub first_group-start-requires-clause-some : goal.first_group-start-requires-clause-some
@@ -68,7 +68,7 @@ loop-left-preserved c =
       };
       turn = subst AreInTurn (sym c.split_at.ensures.front) (turn_take c.first_group-start.result.0 left c.loop-left.invariant.turn);
       follows = subst (λ (n : ℕ). Follows end n (own later)) (sym last) (follows_back end before (own group) (own later) (subst (Follows end before) e c.loop-left.invariant.follows));
-      written = written_on c.loop-left.out.items c.put_group.new.out.items _ before _ (own left) (own group) (own later) (end_event end ∷ []) e c.in_ok-before.ensures.bytes last
+      written = written_on c.loop-left.out c.put_group.new.out _ before _ (own left) (own group) (own later) (end_event end ∷ []) e c.in_ok-before.ensures.bytes last
           c.loop-left.invariant.written;
     }
 
@@ -81,10 +81,10 @@ overflow_sub-delta c =
 pub returns : goal.returns
 returns c =
     let end = tick_at c.args.music.end.0 in
-    let body = c.loop-left.out.items in
+    let body = c.loop-left.out in
     let before = c.loop-left.before in
     let done : c.loop-left.left.now ≡ [] = none_left c.loop-left.left.now (sym c.is_empty.ensures ∙ c.loop-left-test.false) in
     let shut =
     closed body _ before c.tick_of.result end c.tick_of.ensures.value
     (ap (λ (l : List Sounding). body ++ timed_events before (in_order (voice_events c.args.music.channel [] l) ++ end_event end ∷ [])) (sym done) ∙ c.loop-left.invariant.written) in
-    subst (λ l. OnOk c.put_end.result (c.put_end.new.out.items ≡ l)) shut c.put_end.ensures
+    subst (λ l. OnOk c.put_end.result (c.put_end.new.self ≡ l)) shut c.put_end.ensures

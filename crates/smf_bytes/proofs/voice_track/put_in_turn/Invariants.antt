@@ -14,8 +14,8 @@ invariant-loop-left l =
       notes : IsVoiceWithin l.fn.music.end l.left;
       turn : AreInTurn l.left;
       follows : Follows (tick_at l.fn.music.end.0) l.before (in_order (voice_events l.fn.music.channel [] l.left));
-      written : l.out.items ++ timed_events l.before (in_order (voice_events l.fn.music.channel [] l.left) ++ end_event (tick_at l.fn.music.end.0) ∷ [])
-          ≡ l.fn.out.items ++ track_body (tick_at l.fn.music.end.0) (voice_events l.fn.music.channel l.fn.music.programs.now l.fn.music.notes.now);
+      written : l.out ++ timed_events l.before (in_order (voice_events l.fn.music.channel [] l.left) ++ end_event (tick_at l.fn.music.end.0) ∷ [])
+          ≡ l.fn.out ++ track_body (tick_at l.fn.music.end.0) (voice_events l.fn.music.channel l.fn.music.programs.now l.fn.music.notes.now);
     }
 
 abbrev pub decreases-loop-left : goal.decreases-loop-left

@@ -14,7 +14,7 @@ loop-left-init c =
     let left = c.as_slice-left.result.now in
     let same : map f left ≡ in_order (map f c.args.events.items) = ap (map f) c.as_slice-left.ensures.value ∙ c.in_ok-ordered.ensures.exact c.args.channel in
     record {
-      written = ap (λ l. c.args.out.now.items ++ timed_events c.args.before l) same;
+      written = ap (λ l. c.args.out.now ++ timed_events c.args.before l) same;
       last = ap (tick_after c.args.before) same;
       follows = subst (Follows (tick_at c.args.end.0) c.args.before) (sym same) c.requires.in_time;
       fits = tick_fits c.args.end.0 c.requires.end;
@@ -22,7 +22,7 @@ loop-left-init c =
 
 pub returns-clause-bytes : goal.returns-clause-bytes
 returns-clause-bytes c =
-    let body = c.loop-left.out.items in
+    let body = c.loop-left.out in
     let done : c.loop-left.left.now ≡ [] = nil_from_length c.loop-left.left.now (omega (arith, c.in_default.len_below)) in
     sym (append-nil body) ∙ ap (λ (l : List VoiceEvent). body ++ timed_events c.loop-left.at (map (event_at c.args.channel) l)) (sym done) ∙ c.loop-left.invariant.written
 

@@ -9,7 +9,7 @@ use Rattle.smf_bytes.proofs.voice_track.put_ordered.Given as goal
 abbrev pub invariant-loop-left : goal.invariant-loop-left
 invariant-loop-left l =
     record {
-      written : l.out.items ++ timed_events l.at (map (event_at l.channel) l.left) ≡ l.fn.out.items ++ timed_events l.before (in_order (map (event_at l.channel) l.fn.events.items));
+      written : l.out ++ timed_events l.at (map (event_at l.channel) l.left) ≡ l.fn.out ++ timed_events l.before (in_order (map (event_at l.channel) l.fn.events.items));
       last : tick_after l.at (map (event_at l.channel) l.left) ≡ tick_after l.before (in_order (map (event_at l.channel) l.fn.events.items));
       follows : Follows (tick_at l.fn.end.0) l.at (map (event_at l.channel) l.left);
       fits : tick_at l.fn.end.0 < 2 ^ 28;

@@ -25,6 +25,6 @@ pub returns : goal.returns
 returns c =
     let music = c.args.music in
     let written =
-    all_written c.args.out.now.items c.put_together.new.out.items c.in_ok-last.last c.tick_of.result (tick_at c.args.music.end.0)
+    all_written c.args.out.now c.put_together.new.out c.in_ok-last.last c.tick_of.result (tick_at c.args.music.end.0)
     (voice_events music.channel music.programs.now music.notes.now) c.in_ok-last.ensures.bytes c.in_ok-last.ensures.last c.tick_of.ensures.value in
-    subst (λ l. OnOk c.put_end.result (c.put_end.new.out.items ≡ l)) written c.put_end.ensures
+    subst (λ l. OnOk c.put_end.result (c.put_end.new.self ≡ l)) written c.put_end.ensures

@@ -13,7 +13,7 @@ put_ordered-requires-clause-in_time c =
 
 pub returns-clause-bytes : goal.returns-clause-bytes
 returns-clause-bytes c =
-    subst (λ (l : List Event). OnOk c.put_ordered.result (c.put_ordered.new.out.items ≡ c.args.out.now.items ++ timed_events c.args.before l))
+    subst (λ (l : List Event). OnOk c.put_ordered.result (c.put_ordered.new.out ≡ c.args.out.now ++ timed_events c.args.before l))
     (same_order c.args.music.channel c.args.music.programs.now c.args.music.notes.now c.in_ok-events.events.items c.in_ok-events.ensures) c.put_ordered.ensures.bytes
 
 pub returns-clause-last : goal.returns-clause-last

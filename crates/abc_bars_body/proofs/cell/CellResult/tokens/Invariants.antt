@@ -1,5 +1,10 @@
-use Rattle.abc_bars_body.proofs.CellLoop.{IsGivenSoFar}
+use Rattle.std.proofs.Common.{◌≡◌, length}
+use Rattle.abc_bars_body.specs.Cell.{cell_result_from}
 use Rattle.abc_bars_body.proofs.cell.CellResult.tokens.Given as goal
 
-abbrev pub invariant-loop-at : goal.invariant-loop-at
-invariant-loop-at l = IsGivenSoFar l.fn.self l.cell l.at l.self
+-- the tokens that are left
+abbrev pub invariant-loop-left : goal.invariant-loop-left
+invariant-loop-left l = cell_result_from l.self l.left ≡ cell_result_from l.fn.self l.cell
+
+abbrev pub decreases-loop-left : goal.decreases-loop-left
+decreases-loop-left l = length l.left
