@@ -124,19 +124,19 @@ def form_of(width: Optional[int]) -> list[str]:
 def drawing(program: str, width: Optional[int], text: bytes) -> bytes:
     """What `abcm2ps` writes for a text. It runs in an empty folder, in a group of processes that is killed at the end."""
     command = [sys.executable, "-I", "-S", LIMITS, program, *OPTIONS, *form_of(width), *TO_OUTPUT]
-    with tempfile.TemporaryDirectory() as folder, tempfile.TemporaryFile() as asked:
-        asked.write(text)
-        asked.seek(0)
-        try:
+    try:
+        with tempfile.TemporaryDirectory() as folder, tempfile.TemporaryFile() as asked:
+            asked.write(text)
+            asked.seek(0)
             process = subprocess.Popen(
                 command, stdin=asked, stdout=subprocess.PIPE, stderr=subprocess.DEVNULL, cwd=folder, env=ENVIRONMENT, start_new_session=True
             )
-        except OSError as error:
-            raise NoScoreNow(f"abcm2ps cannot be started: {error.strerror}.") from error
-        try:
-            data = read_output(process)
-        finally:
-            end(process)
+            try:
+                data = read_output(process)
+            finally:
+                end(process)
+    except OSError as error:
+        raise NoScoreNow(f"abcm2ps cannot be run: {error.strerror}.") from error
     if process.returncode in (-signal.SIGXCPU, -signal.SIGKILL):
         raise NoScore(LATE)
     if process.returncode < 0:

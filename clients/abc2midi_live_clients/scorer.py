@@ -52,8 +52,11 @@ class Scorer:
 
     def ask_process(self, program: str, question: Question) -> Answer:
         """What the process answers."""
-        self.folder = self.folder or tempfile.TemporaryDirectory()
-        self.process = self.process or OwnProcess("score", TMPDIR=self.folder.name)
+        try:
+            self.folder = self.folder or tempfile.TemporaryDirectory()
+            self.process = self.process or OwnProcess("score", TMPDIR=self.folder.name)
+        except OSError as error:
+            return Answer(refusal_json(f"The process that draws scores cannot be started: {error.strerror}."), False)
         try:
             answer: Answer = self.process.ask((program, question))
             return answer

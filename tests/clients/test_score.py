@@ -16,6 +16,7 @@ from unittest import mock
 import page_in_node
 import trial
 from abc2midi_live_clients import score, score_markup, score_text
+from abc2midi_live_clients import scorer as scorer_module
 from abc2midi_live_clients.score import NoScore, Question
 from abc2midi_live_clients.score_markup import NoDrawing, images_of
 from abc2midi_live_clients.scorer import INSTALL, MOST_KEPT, Scorer, found_program
@@ -480,7 +481,21 @@ class Limits(trial.Folder):
         self.assertTrue(score.answer(found_program(), question).is_final)
         with mock.patch.object(score.subprocess, "Popen", side_effect=OSError(errno.EAGAIN, "Try again")):
             answer = score.answer(found_program(), question)
-        self.assertEqual(answer, (b'{"why": "abcm2ps cannot be started: Try again."}', False))
+        self.assertEqual(answer, (b'{"why": "abcm2ps cannot be run: Try again."}', False))
+
+    def test_a_full_disk(self):
+        """The sentence says so, and the process that draws goes on."""
+        self.program("exit 1")
+        question = Question((), ("X:1", "K:C", "C"), 600)
+        with mock.patch.object(score.tempfile, "TemporaryFile", lambda: open("/dev/full", "w+b")):
+            answer = score.answer(found_program(), question)
+        self.assertEqual(answer, (b'{"why": "abcm2ps cannot be run: No space left on device."}', False))
+        full = OSError(errno.ENOSPC, "No space left on device")
+        scorer = self.scorer()
+        with mock.patch.object(scorer_module.tempfile, "TemporaryDirectory", side_effect=full):
+            why = self.ask(scorer)["why"]
+        self.assertEqual(why, "The process that draws scores cannot be started: No space left on device.")
+        self.assertIn("no notes", self.ask(scorer)["why"])
 
     def ask(self, scorer: Scorer, width=600) -> dict:
         """What is answered to a question for a tune."""
