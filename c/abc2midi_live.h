@@ -136,9 +136,10 @@ abc_live_code abc_live_output(abc_live_session *session, uint32_t number, uint8_
 abc_live_code abc_live_title_count(abc_live_session *session, size_t *count);
 
 /*
- * Sets `*number` to that of the tune at an index, and copies the bytes of its title: its first `T:`, without a comment and without
- * blanks at both ends. The index is from 0, in the order of the text. The number is set also if the buffer is too short. Returns
- * ABC_LIVE_NOT_FOUND, with the number 0, if there is no such tune.
+ * Sets `*number` to that of the tune at an index, and copies the bytes of its title: the first `T:` of its header, without a comment
+ * and without blanks at both ends. The index is from 0, in the order of the text: the tune of index k begins at the line that is the
+ * k-th, from 0, of those that begin with `X:`. The number is set also if the buffer is too short. Returns ABC_LIVE_NOT_FOUND, with the
+ * number 0, if there is no such tune.
  */
 abc_live_code abc_live_title(abc_live_session *session, size_t index, uint32_t *number, uint8_t *bytes, size_t room, size_t *count);
 
@@ -147,7 +148,8 @@ abc_live_code abc_live_faults(abc_live_session *session, abc_live_fault *faults,
 
 /*
  * Copies the name of a fault code, as `BadMeter`: the word that the program prints, and the key of its sentences in faults.json.
- * A name has only letters of ASCII. The call needs no session. Returns ABC_LIVE_NOT_FOUND if no code has the number.
+ * A name has at most 31 letters of ASCII. The call needs no session. Returns ABC_LIVE_NOT_FOUND if no code has the number. A code
+ * keeps its number and its name within 1.x; new ones come at the end.
  */
 abc_live_code abc_live_fault_name(uint32_t code, uint8_t *bytes, size_t room, size_t *count);
 
