@@ -69,19 +69,20 @@ def lone_returns(lines: tuple[bytes, ...]) -> Iterator[TuneHint]:
 def free_music(lines: tuple[bytes, ...], start: int, after_tune: bool) -> Iterator[TuneHint]:
     """Yields a hint at the first line of each block from a line on that looks like music and is in no tune. After a `K:` of
     its own every line of music does."""
-    is_open, has_key = True, False
+    is_open, has_key, fields = True, False, -1
     for n in range(start, len(lines)):
         kind = kind_of(lines[n])
         if kind == BLANK:
-            is_open, has_key = True, False
+            is_open, has_key, fields = True, False, -1
         elif kind == FIELD:
             has_key |= lines[n].startswith(b"K:")
+            fields = n if fields < 0 else fields
         elif kind == MUSIC and is_open and (has_key or looks_like_music(content(lines[n]))):
             is_open = False
             if after_tune and not has_key:
                 text = "this music is in no tune: the blank line before it ends the tune; write a `%` on that line"
             else:
-                text = "this music is in no tune; write a line `X:` with a new number before it"
+                text = f"this music is in no tune; write a line `X:` with a new number before {'it' if fields < 0 else f'line {fields + 1}'}"
             yield TuneHint(Place(n, 0), "FreeMusic", text)
 
 
