@@ -8,12 +8,12 @@ def printable(text: str) -> str:
     return "".join(character if character.isprintable() else "?" for character in text)
 
 
-def counted(number: int, thing: str) -> str:
+def count_of(number: int, thing: str) -> str:
     """A number of things."""
     return f"{number} {thing}{'' if number == 1 else 's'}"
 
 
-def listed(names: list[str]) -> str:
+def list_of(names: list[str]) -> str:
     """Names in a line; of many the first ones."""
     more = len(names) - MOST_NAMES
     return ", ".join(names[:MOST_NAMES] + ([f"and {more} more"] if more > 0 else []))

@@ -23,7 +23,7 @@ class Tune(NamedTuple):
     line: int
 
 
-class Known(NamedTuple):
+class KnownTunes(NamedTuple):
     """What is known of the tunes: the titles as the program sent them, the lines that begin tunes, and the tunes."""
 
     titles: list[Title]
@@ -60,7 +60,7 @@ class LiveBook:
         self.lines: list[bytes] = []
         self.starts: list[int] = []  # the lines that begin tunes, counted from 0
         self.left_out: list[int] = []  # the lines that are too long, counted from 0
-        self.known = Known([], [], [])
+        self.known = KnownTunes([], [], [])
         self.report = Report((), ())  # of the last replacement
         self.directory = directory
         self.session = ProcessSession(program, directory)
@@ -107,7 +107,7 @@ class LiveBook:
         titles = self.session.titles
         if titles != self.known.titles or self.starts != self.known.starts:
             tunes = [Tune(number, text_of(title), n + 1) for (number, title), n in zip(titles, self.starts)]
-            self.known = Known(titles, self.starts, tunes)
+            self.known = KnownTunes(titles, self.starts, tunes)
         return list(self.known.tunes)
 
     def midi(self, number: int) -> Optional[bytes]:

@@ -7,7 +7,7 @@ from typing import NamedTuple, Optional, Protocol
 from abc2midi_live import Fault
 
 from .hints import Hint
-from .printing import counted, listed, printable
+from .printing import count_of, list_of, printable
 
 Write = Callable[[str], object]
 MOST_HINTS = 20  # that are printed when the book is opened
@@ -61,8 +61,8 @@ class TextReport:
         if change.failed is not None:
             parts.append(f"failed {change.failed}.mid; the next build retries it and the later ones")
         parts = [part for part in parts if part] or ["no file changed"]
-        parts += [numbered("fault", [is_new for _, is_new in change.faults])]
-        parts += [numbered("hint", [is_new for _, is_new in change.hints]) + (" (--all prints them)" if too_many else "")]
+        parts += [new_count_of("fault", [is_new for _, is_new in change.faults])]
+        parts += [new_count_of("hint", [is_new for _, is_new in change.hints]) + (" (--all prints them)" if too_many else "")]
         self.write("; ".join([*filter(None, parts), f"{change.milliseconds:.0f} ms"]))
         for fault, is_new in change.faults:
             if is_new or self.in_full:
@@ -81,8 +81,8 @@ class TextReport:
 
     def leftovers(self, names: list[str], removed: bool) -> None:
         """Prints the names of some, and what removes them."""
-        what = f"{counted(len(names), 'file')} of an earlier run that no tune of the book has"
-        self.write(f"removed {what}: {listed(names)}" if removed else f"{what}: {listed(names)}; --clean removes them")
+        what = f"{count_of(len(names), 'file')} of an earlier run that no tune of the book has"
+        self.write(f"removed {what}: {list_of(names)}" if removed else f"{what}: {list_of(names)}; --clean removes them")
 
 
 class JsonReport:
@@ -124,9 +124,9 @@ class JsonReport:
 def list_files(what: str, files: list[File]) -> str:
     """Files by name, with the titles of their tunes; of many the first ones."""
     names = [f"{number}.mid" + (f" ({printable(title)})" if title else "") for number, title in files]
-    return f"{what} {listed(names)}" if names else ""
+    return f"{what} {list_of(names)}" if names else ""
 
 
-def numbered(thing: str, are_new: list[bool]) -> str:
+def new_count_of(thing: str, are_new: list[bool]) -> str:
     """How many faults or hints there are, and how many of them are new."""
-    return f"{counted(len(are_new), thing)}, {sum(are_new)} new" if are_new else ""
+    return f"{count_of(len(are_new), thing)}, {sum(are_new)} new" if are_new else ""

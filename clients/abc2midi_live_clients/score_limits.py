@@ -1,7 +1,7 @@
 """Starts a program within limits: `score_limits.py PROGRAM [WORD..]`. It needs no other module of the package.
 
-The program can use so much memory and time, and write no byte into a file. If Linux has Landlock, it can also create and remove no
-file, read none but those of the system's programs, libraries and fonts, and open no connection."""
+The program has limits of memory and time, and can write no byte into a file. If Linux has Landlock, it can also create and remove
+no file, read none but those of the system's programs, libraries and fonts, and open no connection."""
 
 import os
 import resource
@@ -21,7 +21,8 @@ LIMITS = {
     resource.RLIMIT_FSIZE: 0,  # the output goes to a pipe
     resource.RLIMIT_NOFILE: DESCRIPTORS,
 }
-SYSTEM = ["/usr", "/bin", "/lib", "/lib64", "/etc/fonts", "/etc/ld.so.cache", "/etc/localtime", "/var/cache/fontconfig", "/nix/store", "/dev/null"]
+SYSTEM = ["/usr", "/bin", "/lib", "/lib64", "/nix/store", "/dev/null"]
+SYSTEM += ["/etc/fonts", "/etc/ld.so.cache", "/etc/localtime", "/var/cache/fontconfig"]
 
 PR_SET_PDEATHSIG, PR_SET_NO_NEW_PRIVS = 1, 38
 CREATE_RULESET, ADD_RULE, RESTRICT_SELF = 444, 445, 446  # of Landlock, on all processors alike

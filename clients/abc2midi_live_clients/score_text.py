@@ -1,8 +1,8 @@
 """What `abcm2ps` may read of a tune: lines of which it can make staves and words, and nothing else.
 
-Every line is allowed by its form; what is not is taken out. `abcm2ps` counts columns after it has replaced escapes, and runs as
-PostScript what comes after an escaped line end or is the quoted name of a clef: so no backslash is left but the last of a line,
-and no value of a form that is not listed here."""
+Every line is allowed by its form; what is not is taken out. `abcm2ps` counts columns after it has replaced escapes. It runs as
+PostScript what comes after an escaped line end, and the quoted name of a clef. So no backslash is left but the last of a line, and
+no value of a form that is not listed here."""
 
 import re
 import unicodedata
@@ -45,8 +45,12 @@ VALUES = {
 }
 
 MARKS = dict(zip("`'^~\"cvuH=/o,;.", "\u0300\u0301\u0302\u0303\u0308\u0327\u030c\u0306\u030b\u0304\u0338\u030a\u0327\u0328\u0307"))
-LIGATURES = {"aa": "å", "AA": "Å", "ae": "æ", "AE": "Æ", "oe": "œ", "OE": "Œ", "ss": "ß", "/o": "ø", "/O": "Ø", "dh": "ð", "th": "þ"}
-ESCAPE = re.compile(r"\\(?:u([0-9A-Fa-f]{4})|([0-3][0-7]{2})|(aa|AA|ae|AE|oe|OE|ss|/[oO]|dh|th)|([`'^~\"cvuH=/o,;.])([A-Za-z])|([-%&\\$]))|\$[0-4]")
+LIGATURES = {"aa": "å", "AA": "Å", "ae": "æ", "AE": "Æ", "oe": "œ", "OE": "Œ", "ss": "ß", "/o": "ø", "/O": "Ø"}
+LIGATURES |= {"dh": "ð", "th": "þ"}
+ESCAPE = re.compile(
+    r"\\(?:u([0-9A-Fa-f]{4})|([0-3][0-7]{2})|(aa|AA|ae|AE|oe|OE|ss|/[oO]|dh|th)|([`'^~\"cvuH=/o,;.])([A-Za-z])|([-%&\\$]))"
+    r"|\$[0-4]"
+)
 LITERAL = {"-": "\u2010", "%": "\uff05", "&": "&", "\\": " ", "$": "$"}  # others that look so, if a byte means something else
 
 

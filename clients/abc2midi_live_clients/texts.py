@@ -2,7 +2,7 @@
 
 from typing import NamedTuple
 
-from abc2midi_live.edits import Edit, edits, joined
+from abc2midi_live.edits import Edit, edits, merge_edits
 
 MARK = b"\xef\xbb\xbf"
 MOST_EDITS = 20  # that one writing of another program becomes
@@ -47,7 +47,7 @@ def edits_of(old: Text, new: Text) -> list[Edit]:
     """Few edits that make one text of another, as windows see their lines."""
     if old.returns != new.returns:
         return [Edit(0, len(old.lines), new.lines)]
-    return joined(edits(old.lines, new.lines), old.lines, MOST_EDITS)
+    return merge_edits(edits(old.lines, new.lines), old.lines, MOST_EDITS)
 
 
 def with_ends(text: Text, edit: Edit) -> Edit:

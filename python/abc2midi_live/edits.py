@@ -29,7 +29,7 @@ def few_edits(old: list[bytes], new: list[bytes]) -> list[Edit]:
 def join_edits(found: list[Edit], old: list[bytes]) -> list[Edit]:
     """Edits of a text joined to few, and to one if the text could have too many lines on the way."""
     on_the_way = len(old) + sum(len(edit.lines) for edit in found)
-    return joined(found, old, MOST_EDITS if on_the_way <= MOST_LINES else 1)
+    return merge_edits(found, old, MOST_EDITS if on_the_way <= MOST_LINES else 1)
 
 
 def edits(old: list[bytes], new: list[bytes]) -> list[Edit]:
@@ -91,9 +91,9 @@ def longest_rise(numbers: list[int]) -> list[int]:
     return chosen[::-1]
 
 
-def joined(found: list[Edit], old: list[bytes], most: int) -> list[Edit]:
+def merge_edits(found: list[Edit], old: list[bytes], most: int) -> list[Edit]:
     """The same change in at most `most` edits, and in one for each tune. An edit costs about half of opening its tune, so
-    two in one tune cost as much as the whole tune. Far edits stay apart: unchanged lines between joined ones are sent too."""
+    two in one tune cost as much as the whole tune. Far edits stay apart: unchanged lines between merged ones are sent too."""
     gaps = [
         (after.start - before.stop, n)
         for n, (before, after) in enumerate(zip(found, found[1:]), 1)

@@ -5,7 +5,7 @@ from unittest import mock
 
 import setting
 from abc2midi_live import edits as edits_module
-from abc2midi_live.edits import Edit, edits, few_edits, joined
+from abc2midi_live.edits import Edit, edits, few_edits, merge_edits
 
 
 def lines(text: str) -> list[bytes]:
@@ -51,19 +51,19 @@ class Edits(setting.Room):
         self.assertEqual(len(self.check(old, [b"a", *one, b"b"])), 3)
         self.check(old, [line for line in old for _ in range(2)])
 
-    def test_edits_that_are_joined(self) -> None:
+    def test_edits_that_are_merge_edits(self) -> None:
         """Those of one tune, and those nearest to each other where there are too many. Here `T` begins a tune."""
         old, new = ([b"X:" if line == b"T" else line for line in lines(text)] for text in ("aTcdefgTijkTmn", "ATcDeFgTIjkTmN"))
         found = self.check(old, new)
         self.assertEqual([edit.start for edit in found], [0, 3, 5, 8, 13])
         inside = Edit(3, 6, lines("DeF"))
-        self.assertEqual(joined(found, old, 9), [found[0], inside, *found[3:]])
-        self.assertEqual(joined(found, old, 3), [Edit(0, 6, new[:6]), *found[3:]])
-        self.assertEqual(joined(found, old, 2), [Edit(0, 9, new[:9]), found[4]])
-        self.assertEqual(joined(found, old, 1), [Edit(0, 14, new)])
-        self.assertEqual(joined([], old, 1), [])
+        self.assertEqual(merge_edits(found, old, 9), [found[0], inside, *found[3:]])
+        self.assertEqual(merge_edits(found, old, 3), [Edit(0, 6, new[:6]), *found[3:]])
+        self.assertEqual(merge_edits(found, old, 2), [Edit(0, 9, new[:9]), found[4]])
+        self.assertEqual(merge_edits(found, old, 1), [Edit(0, 14, new)])
+        self.assertEqual(merge_edits([], old, 1), [])
         found = self.check(old, [line for line in old if line != b"X:"])
-        self.assertEqual((len(found), joined(found, old, 9)), (3, [Edit(1, 12, lines("cdefgijk"))]))
+        self.assertEqual((len(found), merge_edits(found, old, 9)), (3, [Edit(1, 12, lines("cdefgijk"))]))
 
     def test_a_text_that_is_nearly_too_large(self) -> None:
         """Several edits, made one after another, could have too many lines on the way; one has not."""
