@@ -120,8 +120,8 @@ abc_live_code abc_live_replace(abc_live_session *session, uint32_t from, uint32_
 abc_live_code abc_live_delete(abc_live_session *session, uint32_t from, uint32_t to, abc_live_work *work);
 
 /*
- * Copy the report of the last edit that returned ABC_LIVE_OK: the tune numbers whose files are new or have other bytes than before
- * it, and those that no longer have a file. Both lists rise, and are empty before the first edit.
+ * Copy the report of the last edit that returned ABC_LIVE_OK. The first has the tune numbers whose files are new or have other
+ * bytes than before it, the second those that no longer have a file. Both lists rise, and are empty before the first edit.
  */
 abc_live_code abc_live_written(abc_live_session *session, uint32_t *numbers, size_t room, size_t *count);
 abc_live_code abc_live_removed(abc_live_session *session, uint32_t *numbers, size_t room, size_t *count);
@@ -136,10 +136,10 @@ abc_live_code abc_live_output(abc_live_session *session, uint32_t number, uint8_
 abc_live_code abc_live_title_count(abc_live_session *session, size_t *count);
 
 /*
- * Sets `*number` to that of the tune at an index, and copies the bytes of its title: the first `T:` of its header, without a comment
- * and without blanks at both ends. The index is from 0, in the order of the text: the tune of index k begins at the line that is the
- * k-th, from 0, of those that begin with `X:`. The number is set also if the buffer is too short. Returns ABC_LIVE_NOT_FOUND, with the
- * number 0, if there is no such tune.
+ * Sets `*number` to that of the tune at an index, and copies the bytes of its title. That is the first `T:` of its header, without
+ * a comment and without blanks at both ends. The index counts from 0, in the order of the text: each line that begins with `X:`
+ * begins a tune. The number is set also if the buffer is too short. Returns ABC_LIVE_NOT_FOUND, with the number 0, if there is no
+ * such tune.
  */
 abc_live_code abc_live_title(abc_live_session *session, size_t index, uint32_t *number, uint8_t *bytes, size_t room, size_t *count);
 

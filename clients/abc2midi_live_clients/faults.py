@@ -8,8 +8,8 @@ FILE = Path(__file__).resolve().parent / "faults.json"
 
 
 class FaultMeaning(NamedTuple):
-    """A fault: its name, whether the program or the clients find it, what is wrong, what to write instead, and, for the program's,
-    a text with the fault and one without it: the lines of a tune, or of its body."""
+    """A fault: its name, whether the program or the clients find it, what is wrong, and what to write instead. One of the program
+    also has a text with the fault and one without it: the lines of a tune, or of its body."""
 
     name: str
     of: str

@@ -20,7 +20,7 @@ MOST_KEPT = 8  # answers
 
 class Scorer:
     """Draws one tune at a time, in a process that starts with the first. The last final answers are kept, for other windows and for
-    a tune that is looked at again: `abcm2ps` does not run for ever again on a text on which it did so."""
+    a tune that is looked at again. So a text on which `abcm2ps` takes too long is not drawn twice."""
 
     def __init__(self) -> None:
         self.turn = threading.Lock()

@@ -37,7 +37,7 @@ def home() -> Iterator[None]:
 
 class Fresh(NamedTuple):
     """What a program makes of a book from nothing: its files by name, and (line, column, name) of each fault that the clients
-    show: of `BadByte` at each byte of a character the first."""
+    show. Of `BadByte` at each byte of a character they show the first."""
 
     files: dict[str, bytes]
     faults: list[tuple[int, int, str]]
