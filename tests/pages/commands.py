@@ -68,7 +68,7 @@ def is_flag_of_ours(flag: str) -> bool:
     return any(re.search(rf"(?<![\w-]){flag}(?![\w-])", words) for words in found)
 
 
-def described() -> Outcomes:
+def client_flags() -> Outcomes:
     """Each flag of a client, which the client's page has to describe."""
     for name, page in PAGES.items():
         text = (TOP / page).read_text("utf-8")
@@ -77,7 +77,7 @@ def described() -> Outcomes:
             yield Outcome(f"{page}: {flag}", None if is_there else f"it does not describe {flag} of clients/{name}")
 
 
-def quoted() -> Outcomes:
+def code_lines() -> Outcomes:
     """Each line of code that names a file, a command or a flag of ours."""
     for page in pages():
         for line in dict.fromkeys(code(page)):

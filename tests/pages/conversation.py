@@ -14,7 +14,7 @@ PAGE = TOP / "docs/protocol.md"
 SECONDS = 300
 
 
-def replayed(program: str) -> Optional[str]:
+def replay(program: str) -> Optional[str]:
     """What is wrong with the conversation, or None: each answer has to come before the next command is written."""
     lines = [line for line in INDENTED.findall(text_of(PAGE)) if line.startswith(("> ", "< "))]
     found: list[str] = []
@@ -40,6 +40,6 @@ def replayed(program: str) -> Optional[str]:
 def conversation(program: Optional[str]) -> Outcomes:
     """The conversation, if there is a program."""
     if program:
-        yield Outcome("the conversation of docs/protocol.md", replayed(program))
+        yield Outcome("the conversation of docs/protocol.md", replay(program))
     else:
         yield Outcome("the conversation of docs/protocol.md: no program was named", is_skipped=True)

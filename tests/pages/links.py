@@ -10,8 +10,8 @@ from .markdown import TOP, anchors, links, pages
 from .outcome import Outcome, Outcomes
 
 
-def broken(page: Path, link: str) -> Optional[str]:
-    """Says what is wrong with a link of a page, or None."""
+def wrong_link(page: Path, link: str) -> Optional[str]:
+    """What is wrong with a link of a page, or None."""
     path, _, anchor = link.partition("#")
     target = (page.parent / path).resolve() if path else page
     if not target.exists():
@@ -31,4 +31,4 @@ def relative_links() -> Outcomes:
     for page in pages():
         for link in links(page):
             if not re.match(r"[a-z]+:", link):
-                yield Outcome(f"{page.relative_to(TOP)}: {link}", broken(page, link))
+                yield Outcome(f"{page.relative_to(TOP)}: {link}", wrong_link(page, link))

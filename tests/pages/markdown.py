@@ -33,7 +33,7 @@ def text_of(page: Path) -> str:
     return COMMENT.sub("", page.read_text(encoding="utf-8"))
 
 
-def fenced(page: Path) -> list[Block]:
+def fenced_blocks(page: Path) -> list[Block]:
     """The blocks of a page that are between fences."""
     return [Block(*found) for found in FENCED.findall(text_of(page))]
 
@@ -49,7 +49,7 @@ def links(page: Path) -> list[str]:
 def code(page: Path) -> Iterator[str]:
     """Each line of code of a page, and each code span."""
     text = text_of(page)
-    for block in fenced(page):
+    for block in fenced_blocks(page):
         yield from block.text.split("\n")
     text = FENCED.sub("", text)
     yield from INDENTED.findall(text)

@@ -8,7 +8,7 @@ from functools import lru_cache
 from pathlib import Path
 from typing import Iterator, NamedTuple, Optional
 
-from .markdown import FENCED, TOP, fenced, text_of
+from .markdown import FENCED, TOP, fenced_blocks, text_of
 from .outcome import Outcome, Outcomes
 
 DOCUMENTS = ("architecture", "DECISIONS", "glossary", "library", "promises", "verification")
@@ -107,7 +107,7 @@ def names() -> Outcomes:
 def clauses() -> Outcomes:
     """Each piece of code that docs/verification.md quotes word for word: its paragraphs are in the sources, but for the blanks."""
     page = TOP / "docs/verification.md"
-    for block in (block for block in fenced(page) if block.kind == "rust") if page.exists() else ():
+    for block in (block for block in fenced_blocks(page) if block.kind == "rust") if page.exists() else ():
         for piece in re.split(r"^\.\.$|\n\s*(?=ensures|requires|pub )", block.text, flags=re.M):
             words = " ".join(piece.split())
             if words:

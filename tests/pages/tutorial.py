@@ -13,7 +13,7 @@ import threading
 from pathlib import Path
 from typing import Optional
 
-from .markdown import TOP, Block, fenced
+from .markdown import TOP, Block, fenced_blocks
 from .outcome import Outcome, Outcomes, difference
 
 PAGE = TOP / "docs/tutorial.md"
@@ -88,7 +88,7 @@ def tutorial(program: Optional[str]) -> Outcomes:
     with tempfile.TemporaryDirectory() as folder:
         reader = Reader(program, folder)
         try:
-            for block in fenced(PAGE):
+            for block in fenced_blocks(PAGE):
                 yield Outcome(f"docs/tutorial.md: {block.text.splitlines()[-1]}", reader.follow(block))
         finally:
             reader.stop()
