@@ -29,7 +29,7 @@ RECORD = re.compile(r"^(?:pub )?record (?:pub )?(\w+)[^\n]*\n((?:  [^\n]*\n|--[^
 SPAN = re.compile(r"`([^`\n]+)`")
 NAME = re.compile(r"[A-Za-z]\w*(?:::\w+)*")
 LABELS = re.compile(r"\(((?:`[a-z_]+`(?:, | and | or )?)+)\)")
-SOURCES = ("crates/*/src/**/*.rt", "crates/*/specs/**/*.antt", "crates/*/proofs/**/*.antt", "clients/**/*.py", "tests/pages/*.py")
+SOURCES = ("crates/*/src/**/*.rt", "crates/*/specs/**/*.antt", "clients/**/*.py", "tests/pages/*.py")
 
 
 class Sources(NamedTuple):
