@@ -5,7 +5,7 @@ ghost use Rattle.public_surface.specs.Fields.{name_of, key_of, capital, meter_of
 ghost use Rattle.public_surface.specs.Fields.{words_of};
 
 use abc_fields::{
-    FaultCode, Key, Letter, Meter, Ratio, Signature, Tempo, Voice, alteration, read_key,
+    FaultCode, Key, Letter, Meter, Ratio, Shift, Signature, Tempo, Voice, alteration, read_key,
     read_meter, read_parts, read_tempo, read_unit, read_voice,
 };
 
@@ -50,6 +50,13 @@ pub fn voice_value(value: &[u8]) -> Result<Voice, FaultCode>
         (λ voice. words_of value.now ≡ slice_range value.now voice.from voice.to ∷ words_of (drop voice.to value.now)) }
 {
     read_voice(value)
+}
+
+/// Returns the shift of a voice.
+pub fn shift_of(voice: Voice) -> Shift
+    ensures value { result ≡ voice.shift }
+{
+    voice.shift
 }
 
 /// Returns how a signature alters a letter.

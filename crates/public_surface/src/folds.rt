@@ -49,6 +49,27 @@ pub fn are_alike<F: Fold>(a: &F::State, b: &F::State) -> bool {
     F::same(a, b)
 }
 
+/// Copies a state.
+pub fn copy_of_state<F: Fold>(alloc: Global, state: &F::State) -> Result<F::State, AllocError>
+    ensures ok { IfOk result (λ copy. copy ≡ state.now) }
+{
+    F::copy_state(alloc, state)
+}
+
+/// Copies a cell.
+pub fn copy_of_cell<F: Fold>(alloc: Global, cell: &F::Cell) -> Result<F::Cell, AllocError>
+    ensures ok { IfOk result (λ copy. copy ≡ cell.now) }
+{
+    F::copy_cell(alloc, cell)
+}
+
+/// Copies the items of a cell.
+pub fn copy_of_items<F: Fold>(alloc: Global, items: &F::Items) -> Result<F::Items, AllocError>
+    ensures ok { IfOk result (λ copy. copy ≡ items.now) }
+{
+    F::copy_items(alloc, items)
+}
+
 /// Whether a piece is a cell that is in no chain.
 pub fn is_new<F: Fold>(piece: &Piece<F>) -> bool {
     match piece {
