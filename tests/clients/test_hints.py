@@ -102,9 +102,9 @@ class Examples(trial.Folder):
     def test_lines_that_nothing_closes(self) -> None:
         """Long lines of bytes that begin a token and end none are read to their end."""
         for piece in (b"{", b"[K:", b'"', b"!", b"[", b"[1", b"(3:", b":", b"^", b"C/", b"[|", b"\xff", b"-", b"(", b"}{"):
-            lines = [b"X:1", b"M:4/4", b"K:C", piece * (9_000 // len(piece)) + b"|"]
+            lines = [b"X:1", b"M:4/4", b"K:C", piece * (9_000 // len(piece)) + b"#|"]
             found = Finder().hints(lines, [Tune(1, "", 1)], [])
-            self.assertEqual([hint for hint in found if not 1 <= hint.column <= 9_001], [])
+            self.assertEqual([hint for hint in found if not 1 <= hint.column <= 9_002], [])
 
     def test_a_book_of_very_many_tunes(self) -> None:
         numbers = [*range(1, 10_001), 1, 10_002]

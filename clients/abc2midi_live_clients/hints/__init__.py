@@ -19,6 +19,7 @@ NAMES = (
     "NotPlayed",  # words
     "TextBlock",
     "Overlay",
+    "LostSharp",
     "BagpipeKey",
     "MidiLine",  # directives
     "LostProgram",

@@ -20,13 +20,14 @@ from .reading import Defaults, TuneText, defaults_of
 from .repeats import repeats
 from .ties import ties
 from .voices import music_before_voice
-from .words import bagpipe_keys, not_played, overlays, text_blocks
+from .words import bagpipe_keys, lost_sharps, not_played, overlays, text_blocks
 
 # The families of hints that look at one tune.
 OF_A_TUNE: tuple[Callable[[TuneText], Iterator[TuneHint]], ...] = (
     not_played,
     text_blocks,
     overlays,
+    lost_sharps,
     bagpipe_keys,
     programs_without_voice,
     repeats,

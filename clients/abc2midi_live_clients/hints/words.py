@@ -1,4 +1,4 @@
-"""Hints about what is written and not played as meant: `NotPlayed`, `TextBlock`, `Overlay`, `BagpipeKey`."""
+"""Hints about what is written and not played as meant: `NotPlayed`, `TextBlock`, `Overlay`, `LostSharp`, `BagpipeKey`."""
 
 from __future__ import annotations
 
@@ -13,6 +13,11 @@ from .tokens import DECORATION, GRACE, QUOTED, Token
 CHORD_NAME = re.compile(
     rb'"\(?[A-G](?:#|b|\xe2\x99\xaf|\xe2\x99\xad)?(?:maj|min|dim|aug|sus|add|M|m|[o+0-9#b()-]|\xc2\xb0)*'
     rb'(?:/[A-G](?:#|b|\xe2\x99\xaf|\xe2\x99\xad)?)?\)?"\Z'
+)
+# A `#` beside a note, or a text in which it has another meaning; what nothing closes has no such sign after it.
+SHARP = re.compile(
+    rb'"[^"]*(?:"|\Z)|![^!]*(?:!|\Z)|\{[^}]*(?:\}|\Z)|\[[A-Za-z]:[^\]]*(?:\]|\Z)|\[[^\[\]|]*\]'
+    rb"|(?P<sharp>(?<=[A-Ga-g',])#|#(?=[A-Ga-g]))"
 )
 CONTINUED = frozenset(b" \t|:(-[]")  # after a `.`: a blank, a dotted bar line, slur or tie, and no decoration
 
@@ -64,6 +69,17 @@ def overlays(tune: TuneText) -> Iterator[TuneHint]:
         what = "what follows this `&` is" if len(places) == 1 else f"what follows the {len(places)} signs `&` of this tune is"
         text = f"{what} played after what precedes it, not together with it; write a second voice (`V:`)"
         yield TuneHint(min(places), "Overlay", text)
+
+
+def lost_sharps(tune: TuneText) -> Iterator[TuneHint]:
+    """Yields one hint for all signs `#` of a tune before or after a note, where they have no effect."""
+    places = []
+    for n, line in enumerate(tune.lines):
+        if b"#" in line and tune.kinds[n] == MUSIC and n not in tune.in_block:
+            places += [Place(n, found.start()) for found in SHARP.finditer(content(line)) if found["sharp"]]
+    if places:
+        what = "this `#` has" if len(places) == 1 else f"this `#` and {len(places) - 1} more have"
+        yield TuneHint(places[0], "LostSharp", f"{what} no effect; write a sharp before its note, as `^F`, and a flat as `_B`")
 
 
 def bagpipe_keys(tune: TuneText) -> Iterator[TuneHint]:
