@@ -33,12 +33,12 @@ class BookFile:
         self.was_empty = False  # at the last look: an editor may empty a file before it writes it
 
     def saved(self) -> Optional[bytes]:
-        """The bytes of the book if somebody saved it since the last call that returned some, else None. The bytes may be
-        the same as before. Raises OSError if the book cannot be read."""
+        """The bytes of the book if somebody saved it since the last call that returned some, or if it could not be read
+        meanwhile, else None. The bytes may be the same as before. Raises OSError if the book cannot be read."""
         try:
             return self.read_if_changed()
         except OSError:
-            self.signature, self.was_empty = None, False
+            self.signature, self.data_signature, self.was_empty = None, None, False
             raise
 
     def read_if_changed(self) -> Optional[bytes]:

@@ -45,6 +45,7 @@ class WatchedBook:
         self.goes_on = goes_on  # after the first build
         self.book = start()
         self.is_down = False  # the program, which the next save starts again
+        self.is_away = False  # the book could not be read since the last build
         self.pending: Optional[bytes] = None  # a save that the files do not follow yet
         self.built: Optional[bytes] = None  # the save that they follow
         self.files: dict[int, Tune] = {}
@@ -67,6 +68,7 @@ class WatchedBook:
         try:
             data = self.file.saved()
         except OSError as error:
+            self.is_away = True
             self.wait(f"{self.file.path}: {error.strerror}", "waiting for it")
             return
         if data is not None:
@@ -132,6 +134,9 @@ class WatchedBook:
             removed = [File(number, before[number].title if number in before else "") for number in built.removed]
             remarks = self.remarks(tunes, faults)
             self.report.change(Change(written, removed, built.failed, *remarks, is_opening, milliseconds))
+        elif self.is_away:
+            self.report.message(f"{self.file.path}: there again, unchanged")
+        self.is_away = False
         if is_opening:
             self.look_for_leftovers()
         elif self.player and built.written:

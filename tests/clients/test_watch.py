@@ -88,6 +88,22 @@ class Saves(Looks):
         self.path.mkdir()
         self.assertEqual(self.look(), ["/book.abc: Is a directory; waiting for it"])
 
+    def test_gone_and_back_unchanged(self):
+        """One line says so, also if the file is the old one, moved away and back."""
+        self.save(TUNE)
+        away = self.folder / "away"
+        os.rename(self.path, away)
+        self.look()
+        os.rename(away, self.path)
+        there = ["/book.abc: there again, unchanged"]
+        self.assertEqual([self.look(), self.look()], [there, []])
+        self.path.unlink()
+        self.look()
+        self.path.write_bytes(b"")
+        self.assertEqual(self.look(), [])
+        self.assertEqual(self.save(TUNE), there)
+        self.assertEqual(self.save(TUNE + OTHER), ["written 2.mid"])
+
     def test_half_of_a_save(self):
         """While the first look waits whether the save is through, the rest of it is written."""
         self.path.write_bytes(TUNE[:9])
