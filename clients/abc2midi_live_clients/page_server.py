@@ -34,6 +34,7 @@ KINDS = {".html": "text/html; charset=utf-8", ".css": "text/css; charset=utf-8",
 SECONDS_BETWEEN_LOOKS = 0.5  # at the book on disk
 SECONDS_OF_REST = 0.3  # after an edit, before hints are looked for
 SECONDS_FOR_A_DESCRIPTOR = 0.05
+PERHAPS = ", perhaps by a page that you started before"
 FIRST_PORT, PORTS, TRIES, MOST_PORT = 20_000, 12_000, 20, 65_535
 
 
@@ -128,7 +129,8 @@ def serving(words: argparse.Namespace, book: SharedBook) -> Server:
         except OSError as error:
             if error.errno not in (errno.EADDRINUSE, errno.EACCES):
                 raise
-            raise OSError(f"port {words.port}: {error.strerror}; name another one, or leave out --port") from None
+            perhaps = PERHAPS if error.errno == errno.EADDRINUSE else ""
+            raise OSError(f"port {words.port}: {error.strerror}{perhaps}; name another one by --port, or leave out --port") from None
     first = FIRST_PORT + zlib.crc32(os.fsencode(book.path or "")) % PORTS
     for port in [*range(first, first + TRIES), 0]:
         try:
@@ -136,7 +138,7 @@ def serving(words: argparse.Namespace, book: SharedBook) -> Server:
         except OSError:
             continue
         if port != first:
-            tell(f"port {first} of this book is taken; the page is at port {server.server_port} this time")
+            tell(f"port {first} of this book is taken{PERHAPS}; this page is at port {server.server_port}")
         return server
     raise OSError("there is no free port")
 

@@ -630,10 +630,12 @@ class Strangers(Page):
             self.assertNotEqual(self.port, port)
             self.server.send_signal(signal.SIGTERM)
             said = self.server.communicate(timeout=trial.SECONDS)[1].decode()
-            self.assertEqual(said, f"page: port {port} of this book is taken; the page is at port {self.port} this time\n")
+            before = ", perhaps by a page that you started before"
+            self.assertEqual(said, f"page: port {port} of this book is taken{before}; this page is at port {self.port}\n")
             words = [sys.executable, str(trial.CLIENTS / "page"), "--program", trial.program, "--port", str(port)]
             again = subprocess.run(words, capture_output=True, timeout=trial.SECONDS)
-            self.assertEqual(again.stderr, b"page: port %d: Address already in use; name another one, or leave out --port\n" % port)
+            remedy = "; name another one by --port, or leave out --port"
+            self.assertEqual(again.stderr.decode(), f"page: port {port}: Address already in use{before}{remedy}\n")
             self.assertEqual(again.returncode, 1)
 
     def test_no_port(self):
