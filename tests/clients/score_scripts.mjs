@@ -24,7 +24,12 @@ class Element {
   }
 
   append(...children) {
-    this.children.push(...children);
+    this.children = this.children.filter((child) => !children.includes(child)).concat(children);
+    for (const child of children) if (child instanceof Element) child.parent = this;
+  }
+
+  remove() {
+    if (this.parent) this.parent.children = this.parent.children.filter((child) => child !== this);
   }
 
   replaceChildren(...children) {
@@ -142,6 +147,39 @@ const tests = {
     score.see(null);
     await rest();
     same([score.notes.length, asked.length], [0, 2]);
+  },
+
+  async "a drawn tune with faults is doubted, and no other one"() {
+    const { score, asked } = scored();
+    const told = () => score.view.children.map(({ className }) => className).filter(Boolean);
+    let faults = 1;
+    score.hasFaults = ({ first }) => first === 5 && faults > 0;
+    score.see({ first: 5, lines: ["X:1", "K:C", "C"], header: [] });
+    score.doubt();
+    await rest();
+    same(told(), []);
+    asked[0].done({ images: [image(place(2, 0))] });
+    await rest();
+    same(told(), ["doubt"]);
+    score.doubt();
+    same([told(), score.view.children.at(-1).className], [["doubt"], "doubt"]);
+    faults = 0;
+    score.doubt();
+    same(told(), []);
+    faults = 1;
+    score.doubt();
+    score.see({ first: 9, lines: ["X:2", "K:C", "C"], header: [] });
+    score.doubt();
+    same(told(), ["doubt"]);
+    await rest();
+    asked[1].done({ images: [image(place(2, 0))] });
+    await rest();
+    same(told(), []);
+    score.see({ first: 5, lines: ["X:1", "K:C"], header: [] });
+    await rest();
+    asked[2].done({ why: "none" });
+    await rest();
+    same(told(), ["why"]);
   },
 
   async "a page without a tune is printed as it is"() {

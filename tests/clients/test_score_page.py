@@ -19,6 +19,7 @@ EVIL = '<script>window.evil = 1</script><img src=x onerror="window.evil = 1"> --
 NOTES = "return [...document.querySelectorAll('#score .score-place')].map(({ note }) => [note.line, note.column, note.length, note.kind])"
 HERE = "return [...document.querySelectorAll('#score .score-here')].map(({ note }) => [note.line, note.column])"
 WHY = "return document.querySelector('#score .why')?.textContent"
+DOUBT = "return document.querySelector('#score .doubt')?.textContent"
 CARET = """
 const area = document.querySelector("textarea");
 const before = area.value.slice(0, area.selectionStart).split("\\n");
@@ -193,6 +194,17 @@ class Staves(test_page_in_browser.Browser):
         self.type("C")
         self.notes((2, 0, 1, "note"))
         self.assertIsNone(self.run_script(WHY))
+
+    def test_a_tune_with_faults(self):
+        """A line below its score says that the sound may differ, till the faults are gone; on paper it is not."""
+        self.type("X:1\nK:C\nC -D")
+        self.notes((2, 0, 1, "note"), (2, 3, 1, "note"))
+        self.wait(lambda: self.run_script(DOUBT) == "This tune has faults. The score may differ from what you hear.")
+        with self.media(media="print"):
+            self.assertFalse(self.run_script("return document.querySelector('#score .doubt').checkVisibility()"))
+        self.press("\ue003\ue003")
+        self.notes((2, 0, 1, "note"))
+        self.wait(lambda: self.run_script(DOUBT) is None)
 
     def test_light_dark_and_paper(self):
         """The score has the colour of the text; on paper it is black on white, and alone."""

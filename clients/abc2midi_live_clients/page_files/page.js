@@ -101,6 +101,7 @@ function tell() {
   if (!player.playing) show(at < 0 ? null : rows[at]);
   const played = (row) => row[1] === shown.number && row[3];
   staves.see(tuneOf(text.lines, rows, player.playing ? rows.findIndex(played) : at));
+  staves.doubt();
 }
 
 /** Shows the tunes that the filter lets through. */
@@ -245,6 +246,7 @@ staves.drawn = () => {
   find("print").hidden = !staves.notes.length;
   follower.lit(follower.sounding);
 };
+staves.hasFaults = ({ first, lines }) => rowsIn(faults, first, first + lines.length).length > 0;
 staves.picked = (line, column) => sheet.go(line, column, true);
 sheet.pointed = (under, event) => remarks.point(under, event);
 tunes.faultsOf = ([line]) => rowsIn(faults, line, endOf(tuneAt(line))).length;

@@ -13,6 +13,8 @@
 //   see(tune)      says which tune is to be drawn: { first, lines, header }, the place of its first line in the book, its
 //                  lines, and those of the file header; null for none
 //   caret(place)   says where the caret is
+//   hasFaults      is asked whether a tune has faults; `abcm2ps` may draw them in another way than the program plays them
+//   doubt()        says below the drawing that it may differ from the sound, if the drawn tune has faults
 //   print()        prints the tune, page by page
 //
 // The element that is given has the attribute `aria-busy` while a drawing is asked for, and `document.body.dataset.score` is
@@ -24,6 +26,7 @@ const REST = 200; // milliseconds after the last key
 const BETWEEN = 50; // milliseconds between pages that are not seen
 const LEAST = 12; // pixels by which the width must differ before it is drawn anew
 const MOST_LINES = 5000; // the server draws no tune that has as many
+const DOUBT = "This tune has faults. The score may differ from what you hear.";
 const BLANK = /^[ \t]*$/;
 const PRECEDES = /^(?!%%)[ \t]*(?:%|$)/; // a comment or a blank line, which may precede a file header
 const LENGTH = /(?:[_^=]{0,2}[A-Ga-gxyzXZ][',]*|\[[^\]|]*\])\d*\/*\d*|/y; // of a note, a rest or a chord
@@ -43,8 +46,10 @@ export class Score {
     this.isFailed = false; // the server did not answer
     this.asking = false;
     this.at = { line: -1, column: 0 }; // the caret
+    this.doubts = Object.assign(document.createElement("p"), { className: "doubt", textContent: DOUBT });
     this.drawn = () => {};
     this.picked = () => {};
+    this.hasFaults = () => false;
     view.addEventListener("click", ({ target }) => target.note && this.picked(target.note.line, target.note.column));
     document.addEventListener("visibilitychange", () => this.shown !== this.seen && this.soon());
     new ResizeObserver(() => this.seen && Math.abs(this.room() - this.width) >= LEAST && this.soon()).observe(view);
@@ -77,6 +82,13 @@ export class Score {
 
   clear() {
     this.mark([]);
+  }
+
+  /** Another tune that is to be drawn leaves the words as they are till it is there. */
+  doubt() {
+    if (this.shown !== this.seen) return;
+    if (this.notes.length && this.hasFaults(this.shown)) this.view.append(this.doubts);
+    else this.doubts.remove();
   }
 
   async print() {
@@ -153,6 +165,7 @@ export class Score {
     this.fill(pages);
     document.body.dataset.score = missing ? "missing" : "here";
     this.markCaret();
+    this.doubt();
     this.drawn();
   }
 
