@@ -75,7 +75,7 @@ class Tied(NamedTuple):
 
 
 def ties(tune: TuneText) -> Iterator[TuneHint]:
-    """Yields the ties that join nothing: the next note of the voice has another key, or is a rest. After a repeat, an ending
+    """Yields the ties that join nothing: the next note of the voice has another pitch, or is a rest. After a repeat, an ending
     or a part several notes may be next, so these ties have no hint, and neither has one at the end of the voice."""
     for voice in tune.voices.values():
         if any(item.segment.has_tie for item in voice.items()):
@@ -131,6 +131,6 @@ def loose(tied: Tied, tones: list[Tone]) -> Iterator[TuneHint]:
     one_joins = not tied.common or any(tone.key() in keys for tone in tied.common)
     if own_join and one_joins:
         return
-    what = "a note of another key" if tones else "a rest"
+    what = "a note of another pitch" if tones else "a rest"
     instead = "write a slur as `(C D)`, or the same note after it" if tones else "delete it"
     yield TuneHint(tied.place, "TieToOtherKey", f"{what} follows this tie, so it joins nothing; {instead}")
