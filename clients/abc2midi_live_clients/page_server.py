@@ -129,8 +129,8 @@ def serving(words: argparse.Namespace, book: SharedBook) -> Server:
         except OSError as error:
             if error.errno not in (errno.EADDRINUSE, errno.EACCES):
                 raise
-            perhaps = PERHAPS if error.errno == errno.EADDRINUSE else ""
-            raise OSError(f"port {words.port}: {error.strerror}{perhaps}; name another one by --port, or leave out --port") from None
+            why = f"{error.strerror}{PERHAPS if error.errno == errno.EADDRINUSE else ''}"
+            raise OSError(f"port {words.port}: {why}; name another one by --port, or leave out --port") from None
     first = FIRST_PORT + zlib.crc32(os.fsencode(book.path or "")) % PORTS
     for port in [*range(first, first + TRIES), 0]:
         try:
