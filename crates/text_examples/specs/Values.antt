@@ -1,8 +1,10 @@
 -- Values as the worked examples write them: a tick is 484,323,840 grains. Not in ABC 2.1.
-use Rattle.std.specs.Prelude.{ℕ, ℤ, ◌*◌, true, List, pos, Option, Some, None, Result, Ok, Err}
+use Rattle.std.specs.Prelude.{ℕ, ℤ, ◌*◌, true, false, List, [], ◌∷◌, map, pos, neg_ℤ, Option, option_map, Some, None, Result, Ok, Err}
+use Rattle.abc_fields.specs.Key.{key_of}
 use Rattle.abc_fields.specs.declared.fault_code.FaultCode.{FaultCode}
 use Rattle.abc_fields.specs.declared.key.Key.{Key}
 use Rattle.abc_fields.specs.declared.shift.Shift.{Shift}
+use Rattle.abc_fields.specs.declared.signature.Signature.{Signature}
 use Rattle.abc_fields.specs.declared.voice.Voice.{Voice}
 use Rattle.abc_scan.specs.declared.length.WrittenLength.{WrittenLength}
 use Rattle.abc_scan.specs.declared.length.WrittenLength.TheVariants.{Factor}
@@ -77,3 +79,27 @@ sharps_of (Err fault) = None
 abbrev pub shift_in_key : Result Key FaultCode → Option Shift
 shift_in_key (Ok key) = Some key.shift
 shift_in_key (Err fault) = None
+
+-- The sharps of the keys of these values. Flats are negative.
+abbrev pub sharps_of_keys : List (List ℕ) → List (Option ℤ)
+sharps_of_keys values = map (λ value. sharps_of (key_of value)) values
+
+-- As many sharps, and as many flats.
+abbrev pub sharps : List ℕ → List (Option ℤ)
+sharps counts = map (λ n. Some (pos n)) counts
+
+abbrev pub flats : List ℕ → List (Option ℤ)
+flats counts = map (λ n. Some (neg_ℤ (pos n))) counts
+
+-- The alterations of the letters F, C, G, D, A, E and B in a signature.
+abbrev pub by_fifths : Signature → List ℤ
+by_fifths s = s.f ∷ s.c ∷ s.g ∷ s.d ∷ s.a ∷ s.e ∷ s.b ∷ []
+
+-- The same of a key that is accepted and has a signature.
+abbrev pub by_fifths_in_key : Result Key FaultCode → Option (List ℤ)
+by_fifths_in_key (Ok key) = option_map by_fifths key.signature
+by_fifths_in_key (Err fault) = None
+
+-- The key of a value without a tonic, accidentals and numbers.
+abbrev pub no_key : Key
+no_key = record { signature = None; sharps = pos 0; minor = false; shift = shift None None None }

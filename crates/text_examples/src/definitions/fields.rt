@@ -1,7 +1,7 @@
 //! Values of fields, by their definitions (ABC 2.1 section 3.1; bounds and refusals are not in ABC 2.1).
 #![tactic(auto, unfolding(crate::specs::Opened::fields, crate::specs::Opened::orders))]
 
-ghost use Rattle.std.specs.Prelude.{◌≡◌, pos, negsuc, false, [], ◌∷◌, codes, map, replicate, Some, None, Ok, Err};
+ghost use Rattle.std.specs.Prelude.{◌≡◌, pos, negsuc, neg_ℤ, false, [], ◌∷◌, codes, map, replicate, Some, None, Ok, Err};
 ghost use Rattle.abc_fields.specs.Key.{key_of};
 ghost use Rattle.abc_fields.specs.Letters.{letters_of};
 ghost use Rattle.abc_fields.specs.Meter.{meter_of};
@@ -14,7 +14,8 @@ ghost use Rattle.abc_fields.specs.declared.fault_code.FaultCode.TheVariants.{Bad
 ghost use Rattle.abc_fields.specs.declared.meter.Meter.TheVariants.{Free, Of};
 ghost use Rattle.abc_fields.specs.declared.tempo.Tempo.TheVariants.{Beat, Units, Unset};
 ghost use Rattle.abc_time.specs.Tempo.{quarter_micros_of};
-ghost use Rattle.text_examples.specs.Values.{ratio, sharps_of, shift, shift_in_key, voice};
+ghost use Rattle.text_examples.specs.Values.{by_fifths_in_key, flats, no_key, ratio, sharps, sharps_of, sharps_of_keys, shift};
+ghost use Rattle.text_examples.specs.Values.{shift_in_key, voice};
 
 /// The meter: symbols, fractions and sums.
 pub fn meters()
@@ -110,6 +111,58 @@ pub fn keys()
         ≡ Some (shift (Some (negsuc 11)) None (Some (negsuc 1))) }
     ensures properties { key_of (codes "alto1") ≡ Ok
         (record { signature = None; sharps = pos 0; minor = false; shift = shift None None None }) }
+{}
+
+/// The tonics of the table of keys, from seven sharps to seven flats. ABC 2.1 section 3.1.14.
+pub fn tonics()
+    ensures with_sharps { sharps_of_keys (codes "C#" ∷ codes "F#" ∷ codes "B" ∷ codes "E" ∷ codes "A" ∷ codes "D" ∷ codes "G"
+        ∷ codes "C" ∷ []) ≡ sharps (7 ∷ 6 ∷ 5 ∷ 4 ∷ 3 ∷ 2 ∷ 1 ∷ 0 ∷ []) }
+    ensures with_flats { sharps_of_keys (codes "F" ∷ codes "Bb" ∷ codes "Eb" ∷ codes "Ab" ∷ codes "Db" ∷ codes "Gb" ∷ codes "Cb"
+        ∷ []) ≡ flats (1 ∷ 2 ∷ 3 ∷ 4 ∷ 5 ∷ 6 ∷ 7 ∷ []) }
+{}
+
+/// Rows of the table of keys: major, minor, Mixolydian, Dorian, Phrygian, Lydian and Locrian keys of one signature. ABC
+/// 2.1 section 3.1.14.
+pub fn modes()
+    ensures natural { sharps_of_keys (codes "C" ∷ codes "Am" ∷ codes "GMix" ∷ codes "DDor" ∷ codes "EPhr" ∷ codes "FLyd"
+        ∷ codes "BLoc" ∷ []) ≡ replicate 7 (Some (pos 0)) }
+    ensures sharps { sharps_of_keys (codes "A" ∷ codes "F#m" ∷ codes "EMix" ∷ codes "BDor" ∷ codes "C#Phr" ∷ codes "DLyd"
+        ∷ codes "G#Loc" ∷ []) ≡ replicate 7 (Some (pos 3)) }
+    ensures flats { sharps_of_keys (codes "Bb" ∷ codes "Gm" ∷ codes "FMix" ∷ codes "CDor" ∷ codes "DPhr" ∷ codes "EbLyd"
+        ∷ codes "ALoc" ∷ []) ≡ replicate 7 (Some (negsuc 1)) }
+    ensures names { sharps_of_keys (codes "C major" ∷ codes "C Ionian" ∷ codes "A minor" ∷ codes "A AEOLIAN" ∷ codes "G mixolydian"
+        ∷ []) ≡ replicate 5 (Some (pos 0)) }
+{}
+
+/// The letters that sharps and flats alter: F C G D A E B, and backwards. The examples of listed accidentals are in ABC
+/// 2.1 section 3.1.14.
+pub fn signatures_of_keys()
+    ensures three_sharps { by_fifths_in_key (key_of (codes "A"))
+        ≡ Some (map pos (1 ∷ 1 ∷ 1 ∷ 0 ∷ 0 ∷ 0 ∷ 0 ∷ [])) }
+    ensures six_sharps { by_fifths_in_key (key_of (codes "F#"))
+        ≡ Some (map pos (1 ∷ 1 ∷ 1 ∷ 1 ∷ 1 ∷ 1 ∷ 0 ∷ [])) }
+    ensures three_flats { by_fifths_in_key (key_of (codes "Eb"))
+        ≡ Some (map (λ n. neg_ℤ (pos n)) (0 ∷ 0 ∷ 0 ∷ 0 ∷ 1 ∷ 1 ∷ 1 ∷ [])) }
+    ensures six_flats { by_fifths_in_key (key_of (codes "Gb"))
+        ≡ Some (map (λ n. neg_ℤ (pos n)) (0 ∷ 1 ∷ 1 ∷ 1 ∷ 1 ∷ 1 ∷ 1 ∷ [])) }
+    ensures sharp { by_fifths_in_key (key_of (codes "D Phr ^f"))
+        ≡ Some (pos 1 ∷ pos 0 ∷ pos 0 ∷ pos 0 ∷ pos 0 ∷ negsuc 0 ∷ negsuc 0 ∷ []) }
+    ensures natural { by_fifths_in_key (key_of (codes "D =c"))
+        ≡ Some (pos 1 ∷ pos 0 ∷ pos 0 ∷ pos 0 ∷ pos 0 ∷ pos 0 ∷ pos 0 ∷ []) }
+    ensures explicit { by_fifths_in_key (key_of (codes "D exp _b _e ^f"))
+        ≡ Some (pos 1 ∷ pos 0 ∷ pos 0 ∷ pos 0 ∷ pos 0 ∷ negsuc 0 ∷ negsuc 0 ∷ []) }
+    ensures none { map (λ value. by_fifths_in_key (key_of value)) (codes "none" ∷ [] ∷ [])
+        ≡ replicate 2 (Some (replicate 7 (pos 0))) }
+{}
+
+/// The names of clefs, perhaps with a line of the staff from 1 to 5. ABC 2.1 section 4.6; that the lines have no effect, and
+/// the other words, are not in ABC 2.1.
+pub fn clefs()
+    ensures names { map key_of (codes "treble" ∷ codes "alto" ∷ codes "tenor" ∷ codes "bass" ∷ codes "perc" ∷ [])
+        ≡ replicate 5 (Ok no_key) }
+    ensures lines { map key_of (codes "treble1" ∷ codes "bass3" ∷ codes "alto5" ∷ []) ≡ replicate 3 (Ok no_key) }
+    ensures other_lines { map key_of (codes "bass0" ∷ codes "bass6" ∷ codes "bass33" ∷ []) ≡ replicate 3 (Err BadKey) }
+    ensures other_names { map key_of (codes "soprano" ∷ codes "Treble" ∷ []) ≡ replicate 2 (Err BadKey) }
 {}
 
 /// Voices: the first word is the identifier, with any bytes, and words without effect may follow.
