@@ -1,7 +1,8 @@
 -- Values as the worked examples write them: a tick is 484,323,840 grains. Not in ABC 2.1.
-use Rattle.std.specs.Prelude.{ℕ, ℤ, ◌*◌, true, false, List, [], ◌∷◌, map, pos, neg_ℤ, Option, option_map, Some, None, Result, Ok, Err}
+use Rattle.std.specs.Prelude.{ℕ, ℤ, ◌*◌, Bool, true, false, List, [], ◌∷◌, map, pos, neg_ℤ, Option, option_map, Some, None, Result, Ok, Err}
 use Rattle.abc_fields.specs.Key.{key_of}
 use Rattle.abc_fields.specs.declared.fault_code.FaultCode.{FaultCode}
+use Rattle.abc_fields.specs.declared.fault_code.FaultCode.TheVariants as faults
 use Rattle.abc_fields.specs.declared.key.Key.{Key}
 use Rattle.abc_fields.specs.declared.shift.Shift.{Shift}
 use Rattle.abc_fields.specs.declared.signature.Signature.{Signature}
@@ -45,6 +46,14 @@ c_token octave length from to = token (note letters.C octave length) from to
 -- A double bar line with `closes` colons before it and none after it.
 abbrev pub double_bar : ℕ → TokenKind
 double_bar closes = kinds.Bar (record { closes = closes; opens = 0; double = true })
+
+-- A bar line with colons before it and after it, and whether it is double, from one byte of a line to another.
+abbrev pub bar_token : ℕ → ℕ → Bool → ℕ → ℕ → Spanned TokenKind
+bar_token closes opens double from to = token (kinds.Bar (record { closes = closes; opens = opens; double = double })) from to
+
+-- The kinds of tokens.
+abbrev pub kinds_of : List (Spanned TokenKind) → List TokenKind
+kinds_of tokens = map (λ t. t.kind) tokens
 
 -- A blank from one byte of a line to another.
 abbrev pub blank : ℕ → ℕ → Spanned TokenKind
@@ -103,3 +112,12 @@ by_fifths_in_key (Err fault) = None
 -- The key of a value without a tonic, accidentals and numbers.
 abbrev pub no_key : Key
 no_key = record { signature = None; sharps = pos 0; minor = false; shift = shift None None None }
+
+-- The codes of faults in the order in which they are declared.
+abbrev pub fault_codes : List FaultCode
+fault_codes =
+    faults.BadReference ∷ faults.BadMeter ∷ faults.BadUnit ∷ faults.BadTempo ∷ faults.BadKey ∷ faults.BadOrder ∷ faults.BadPart
+    ∷ faults.BadVoice ∷ faults.TooManyVoices ∷ faults.BadByte ∷ faults.Unclosed ∷ faults.BadLength ∷ faults.BadTuplet
+    ∷ faults.NestedTuplet ∷ faults.BadBroken ∷ faults.LooseTie ∷ faults.EmptyChord ∷ faults.BigChord ∷ faults.BadEnding
+    ∷ faults.FreeBarRest ∷ faults.KeyRange ∷ faults.MissingKey ∷ faults.TempoRange ∷ faults.UnknownPart ∷ faults.UnevenVoices
+    ∷ faults.TuneTooLong ∷ faults.BadProgram ∷ []

@@ -2,6 +2,7 @@
 #![tactic(auto, unfolding(crate::specs::Opened::fields, crate::specs::Opened::orders))]
 
 ghost use Rattle.std.specs.Prelude.{◌≡◌, pos, negsuc, neg_ℤ, false, [], ◌∷◌, codes, map, replicate, Some, None, Ok, Err};
+ghost use Rattle.abc_fields.specs.Fault.{name_of, number_of};
 ghost use Rattle.abc_fields.specs.Key.{key_of};
 ghost use Rattle.abc_fields.specs.Letters.{letters_of};
 ghost use Rattle.abc_fields.specs.Meter.{meter_of};
@@ -14,8 +15,8 @@ ghost use Rattle.abc_fields.specs.declared.fault_code.FaultCode.TheVariants.{Bad
 ghost use Rattle.abc_fields.specs.declared.meter.Meter.TheVariants.{Free, Of};
 ghost use Rattle.abc_fields.specs.declared.tempo.Tempo.TheVariants.{Beat, Units, Unset};
 ghost use Rattle.abc_time.specs.Tempo.{quarter_micros_of};
-ghost use Rattle.text_examples.specs.Values.{by_fifths_in_key, flats, no_key, ratio, sharps, sharps_of, sharps_of_keys, shift};
-ghost use Rattle.text_examples.specs.Values.{shift_in_key, voice};
+ghost use Rattle.text_examples.specs.Values.{by_fifths_in_key, fault_codes, flats, no_key, ratio, sharps, sharps_of};
+ghost use Rattle.text_examples.specs.Values.{sharps_of_keys, shift, shift_in_key, voice};
 
 /// The meter: symbols, fractions and sums.
 pub fn meters()
@@ -51,6 +52,23 @@ pub fn tempos()
     ensures no_beat { tempo_of (codes "=60") ≡ Err BadTempo }
     ensures zero { tempo_of (codes "0") ≡ Err BadTempo }
     ensures inner_blank { tempo_of (codes "1 /4=60") ≡ Err BadTempo }
+{}
+
+/// The bounds of meters, units and beats. Not in ABC 2.1.
+pub fn bounds()
+    ensures meters { map meter_of (codes "255/1" ∷ codes "1/64" ∷ codes "254+1/2" ∷ [])
+        ≡ Ok (Of 255 1) ∷ Ok (Of 1 64) ∷ Ok (Of 255 2) ∷ [] }
+    ensures other_meters { map meter_of (codes "256/1" ∷ codes "255+1/2" ∷ codes "1/128" ∷ codes "0/4" ∷ codes "4/0" ∷ [])
+        ≡ replicate 5 (Err BadMeter) }
+    ensures other_units { map unit_of (codes "1/1024" ∷ codes "1/0" ∷ codes "2/8" ∷ codes "1/" ∷ []) ≡ replicate 4 (Err BadUnit) }
+    ensures beats { map tempo_of (codes "512/512=1" ∷ codes "1/512=999999999" ∷ [])
+        ≡ Ok (Beat (ratio 1 1) 1) ∷ Ok (Beat (ratio 1 512) 999999999) ∷ [] }
+    ensures other_beats { map tempo_of (codes "513/512=1" ∷ codes "1/1024=1" ∷ codes "0/4=1" ∷ codes "1/3=1" ∷ codes "1/4=0" ∷ [])
+        ≡ replicate 5 (Err BadTempo) }
+    ensures sixteen_fractions { tempo_of (codes "1/4 1/4 1/4 1/4 1/4 1/4 1/4 1/4 1/4 1/4 1/4 1/4 1/4 1/4 1/4 1/4=1")
+        ≡ Ok (Beat (ratio 4 1) 1) }
+    ensures seventeen_fractions { tempo_of (codes "1/4 1/4 1/4 1/4 1/4 1/4 1/4 1/4 1/4 1/4 1/4 1/4 1/4 1/4 1/4 1/4 1/4=1")
+        ≡ Err BadTempo }
 {}
 
 /// Microseconds of a quarter note: a file can hold three bytes, and not 0.
@@ -183,6 +201,7 @@ pub fn properties_of_voices()
     ensures last { voice_of (codes "Solo octave=1 octave=-1") ≡ Ok (voice 0 4 None (Some (negsuc 0)) None) }
     ensures both { voice_of (codes "Solo octave=-1 transpose=3") ≡ Ok (voice 0 4 None (Some (negsuc 0)) (Some (pos 3))) }
     ensures nine_digits { voice_of (codes "Solo transpose=-000000007") ≡ Ok (voice 0 4 None None (Some (negsuc 6))) }
+    ensures plus { voice_of (codes "Solo octave=+1") ≡ Ok (voice 0 4 None (Some (pos 1)) None) }
     ensures quoted { voice_of (codes "Solo octave=\"1\"") ≡ Ok (voice 0 4 None (Some (pos 1)) None) }
     ensures clef { voice_of (codes "Solo clef=bass") ≡ Ok (voice 0 4 (Some (pos 0)) None None) }
     ensures octave_clef { voice_of (codes "Solo clef=\"+8\"") ≡ Ok (voice 0 4 (Some (pos 12)) None None) }
@@ -201,4 +220,15 @@ pub fn refused_voices()
         ≡ replicate 2 (Err BadVoice) }
     ensures ten_digits { map voice_of (codes "Solo transpose=12345678901" ∷ codes "Solo transpose=-0000000007" ∷ [])
         ≡ replicate 2 (Err BadVoice) }
+{}
+
+/// The names of faults, in the order of their numbers from 1. Not in ABC 2.1.
+pub fn names_of_faults()
+    ensures numbers { map number_of fault_codes ≡ 1 ∷ 2 ∷ 3 ∷ 4 ∷ 5 ∷ 6 ∷ 7 ∷ 8 ∷ 9 ∷ 10 ∷ 11 ∷ 12 ∷ 13 ∷ 14 ∷ 15 ∷ 16 ∷ 17 ∷ 18 ∷ 19
+        ∷ 20 ∷ 21 ∷ 22 ∷ 23 ∷ 24 ∷ 25 ∷ 26 ∷ 27 ∷ [] }
+    ensures names { map name_of fault_codes ≡ codes "BadReference" ∷ codes "BadMeter" ∷ codes "BadUnit" ∷ codes "BadTempo"
+        ∷ codes "BadKey" ∷ codes "BadOrder" ∷ codes "BadPart" ∷ codes "BadVoice" ∷ codes "TooManyVoices" ∷ codes "BadByte"
+        ∷ codes "Unclosed" ∷ codes "BadLength" ∷ codes "BadTuplet" ∷ codes "NestedTuplet" ∷ codes "BadBroken" ∷ codes "LooseTie"
+        ∷ codes "EmptyChord" ∷ codes "BigChord" ∷ codes "BadEnding" ∷ codes "FreeBarRest" ∷ codes "KeyRange" ∷ codes "MissingKey"
+        ∷ codes "TempoRange" ∷ codes "UnknownPart" ∷ codes "UnevenVoices" ∷ codes "TuneTooLong" ∷ codes "BadProgram" ∷ [] }
 {}

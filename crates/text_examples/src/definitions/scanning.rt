@@ -1,7 +1,7 @@
 //! Line classes, the text read of a line, and its tokens, by the definitions of `abc_scan`.
-#![tactic(auto, unfolding(crate::specs::Opened::tokens))]
+#![tactic(auto, unfolding(crate::specs::Opened::music))]
 
-ghost use Rattle.std.specs.Prelude.{◌≡◌, false, pos, negsuc, [], ◌∷◌, codes, drop, map, replicate, take};
+ghost use Rattle.std.specs.Prelude.{◌≡◌, true, false, pos, negsuc, [], ◌∷◌, codes, drop, map, replicate, take};
 ghost use Rattle.abc_scan.specs.declared.line_class.LineClass.TheVariants.{Blank, Comment, Directive, Field, Music};
 ghost use Rattle.abc_scan.specs.declared.length.WrittenLength.TheVariants.{Factor, Refused};
 ghost use Rattle.abc_text.specs.declared.accidental.Accidental.TheVariants.{DoubleSharp};
@@ -16,7 +16,8 @@ ghost use Rattle.abc_scan.specs.Length.{length_at};
 ghost use Rattle.abc_scan.specs.Class.{class_of};
 ghost use Rattle.abc_scan.specs.Note.{octave};
 ghost use Rattle.abc_scan.specs.Text.{content};
-ghost use Rattle.text_examples.specs.Values.{blank, c_part, c_token, chord_token, double_bar, part, plain, token};
+ghost use Rattle.text_examples.specs.Values.{bar_token, blank, c_part, c_token, chord_token, double_bar, kinds_of};
+ghost use Rattle.text_examples.specs.Values.{part, plain, token};
 
 /// Blank lines and comments. ABC 2.1 section 2.2. Only spaces and tabs are blanks, and one carriage return is dropped
 /// at the end: not in ABC 2.1.
@@ -149,6 +150,50 @@ pub fn tokens_of_double_bars()
     ensures thick { tokens_of (codes "C|]") ≡ c_token (pos 0) plain 0 1 ∷ token (double_bar 0) 1 3 ∷ [] }
     ensures before { tokens_of (codes "[|C") ≡ token (double_bar 0) 0 2 ∷ c_token (pos 0) plain 2 3 ∷ [] }
     ensures repeated { tokens_of (codes "C:|]") ≡ c_token (pos 0) plain 0 1 ∷ token (double_bar 1) 1 4 ∷ [] }
+{}
+
+/// Repeat bars. Colons before the strokes close and those after them open; k colons alone close and open k - 1 times. ABC 2.1
+/// section 4.8; what double means, and three colons alone, are not in ABC 2.1.
+pub fn tokens_of_repeat_bars()
+    ensures open { tokens_of (codes "|:") ≡ bar_token 0 1 false 0 2 ∷ [] }
+    ensures close { tokens_of (codes ":|") ≡ bar_token 1 0 false 0 2 ∷ [] }
+    ensures both { tokens_of (codes ":|:") ≡ bar_token 1 1 false 0 3 ∷ [] }
+    ensures double { tokens_of (codes ":||:") ≡ bar_token 1 1 true 0 4 ∷ [] }
+    ensures colons { tokens_of (codes "::") ≡ bar_token 1 1 true 0 2 ∷ [] }
+    ensures three_colons { tokens_of (codes ":::") ≡ bar_token 2 2 true 0 3 ∷ [] }
+    ensures played_three_times { tokens_of (codes "|::::|") ≡ bar_token 0 4 false 0 5 ∷ bar_token 0 0 false 5 6 ∷ [] }
+    ensures one_colon { tokens_of (codes ":") ≡ token kinds.BadByte 0 1 ∷ [] }
+{}
+
+/// Ending marks: numbers, ranges and lists of them, up to 32. Directly after a bar line the bracket may be left out. ABC 2.1
+/// sections 4.9 and 4.10; the bound and the refusals are not in ABC 2.1. Pass i is bit i - 1.
+pub fn tokens_of_endings()
+    ensures first { tokens_of (codes "[1") ≡ token (kinds.Ending (Some 1)) 0 2 ∷ [] }
+    ensures range { tokens_of (codes "[1-3") ≡ token (kinds.Ending (Some 7)) 0 4 ∷ [] }
+    ensures list { tokens_of (codes "[1,3,5-7") ≡ token (kinds.Ending (Some 117)) 0 8 ∷ [] }
+    ensures last { tokens_of (codes "[32") ≡ token (kinds.Ending (Some 2147483648)) 0 3 ∷ [] }
+    ensures refused { kinds_of (tokens_of (codes "[33 [0 [2-1")) ≡ kinds.Ending None ∷ kinds.Blank ∷ kinds.Ending None ∷ kinds.Blank
+        ∷ kinds.Ending None ∷ [] }
+    ensures after_a_bar { tokens_of (codes "|2") ≡ bar_token 0 0 false 0 1 ∷ token (kinds.Ending (Some 2)) 1 2 ∷ [] }
+    ensures after_a_blank { tokens_of (codes "| 2") ≡ bar_token 0 0 false 0 1 ∷ blank 1 2 ∷ token kinds.BadByte 2 3 ∷ [] }
+    ensures unfinished { kinds_of (tokens_of (codes "[1, [1-2-3")) ≡ kinds.Ending (Some 1) ∷ kinds.BadByte ∷ kinds.Blank
+        ∷ kinds.Ending (Some 3) ∷ kinds.Tie ∷ kinds.BadByte ∷ [] }
+{}
+
+/// Tokens without effect: quoted text, decorations, grace groups, spaces, and single bytes. ABC 2.1 sections 4.7, 4.11, 4.12,
+/// 4.14, 4.16, 4.18, 4.19, 6.1 and 8.1. A byte that opens one and is not closed is no token: not in ABC 2.1.
+pub fn tokens_without_effect()
+    ensures quoted { tokens_of (codes "\"Am7\"C") ≡ token kinds.NoEffect 0 5 ∷ c_token (pos 0) plain 5 6 ∷ [] }
+    ensures grace_notes { tokens_of (codes "{/gag}C") ≡ token kinds.NoEffect 0 6 ∷ c_token (pos 0) plain 6 7 ∷ [] }
+    ensures decoration { tokens_of (codes "!trill!C") ≡ token kinds.NoEffect 0 7 ∷ c_token (pos 0) plain 7 8 ∷ [] }
+    ensures spaces { tokens_of (codes "yy10C") ≡ token kinds.NoEffect 0 1 ∷ token kinds.NoEffect 1 4 ∷ c_token (pos 0) plain 4 5
+        ∷ [] }
+    ensures marks { kinds_of (tokens_of (codes "`.~\\$#*;?@()")) ≡ replicate 12 kinds.NoEffect }
+    ensures capitals { kinds_of (tokens_of (codes "HIJKLMNOPQRSTUVW")) ≡ replicate 16 kinds.NoEffect }
+    ensures small_letters { kinds_of (tokens_of (codes "hijklmnopqrstuvw")) ≡ replicate 16 kinds.NoEffect }
+    ensures bad_bytes { kinds_of (tokens_of (codes "Y&+,/'5]}")) ≡ replicate 9 kinds.BadByte }
+    ensures unclosed { map (λ line. kinds_of (tokens_of line)) (codes "\"" ∷ codes "!" ∷ codes "{" ∷ codes "[" ∷ [])
+        ≡ replicate 4 (kinds.Unclosed ∷ []) }
 {}
 
 /// A dynamic is a token. Another decoration has no effect, and a decoration that is not closed is no token. In a chord
