@@ -19,6 +19,7 @@ ghost use Rattle.text_examples.specs.Bars.{lengths_by, sound, ticks, tone_length
 /// in MIDI 1.0.
 pub fn keys_of_notes()
     ensures letters { keys_by in_common (codes "CDEFGABc") ≡ keys (60 ∷ 62 ∷ 64 ∷ 65 ∷ 67 ∷ 69 ∷ 71 ∷ 72 ∷ []) }
+    ensures small_letters { keys_by in_common (codes "cdefgab") ≡ keys (72 ∷ 74 ∷ 76 ∷ 77 ∷ 79 ∷ 81 ∷ 83 ∷ []) }
     ensures octaves { keys_by in_common (codes "C,c'C'") ≡ keys (48 ∷ 84 ∷ 72 ∷ []) }
     ensures accidentals { keys_by in_common (codes "^C_B=E^^F__A") ≡ keys (61 ∷ 70 ∷ 64 ∷ 67 ∷ 67 ∷ []) }
     ensures lowest { keys_by in_common (codes "C,,,,,_C,,,,,") ≡ Some 0 ∷ None ∷ [] }
@@ -61,6 +62,8 @@ pub fn tied_notes()
     ensures rest { keys_by in_common (codes "^F-|zF") ≡ keys (66 ∷ 65 ∷ []) }
     ensures rest_of_bars { keys_by in_common (codes "^F-|ZF") ≡ keys (66 ∷ 66 ∷ []) }
     ensures chord { keys_by in_common (codes "[^F_A]-|[FA]") ≡ keys (66 ∷ 68 ∷ 66 ∷ 68 ∷ []) }
+    ensures last { keys_by in_common (codes "[^F_F]-|F") ≡ keys (66 ∷ 64 ∷ 64 ∷ []) }
+    ensures chord_without_notes { keys_by in_common (codes "^F-[]|F") ≡ keys (66 ∷ 66 ∷ []) }
     ensures in_a_chord { keys_by in_common (codes "[^F-_A]|[FA]") ≡ keys (66 ∷ 68 ∷ 66 ∷ 69 ∷ []) }
 {}
 
@@ -100,6 +103,28 @@ pub fn lengths_in_broken_rhythm()
     ensures silent_chord { lengths_by in_common (codes "C>[]&D") ≡ ticks (360 ∷ 120 ∷ []) }
     ensures bar { lengths_by in_common (codes "C>|D") ≡ ticks (240 ∷ 240 ∷ []) }
     ensures field { lengths_by in_common (codes "C>[L:1/8]D") ≡ ticks (240 ∷ 240 ∷ []) }
+{}
+
+/// What may be between a mark of broken rhythm and its notes: endings, ties, dynamics, blanks, tokens without effect and bytes
+/// that begin no token; but no rest of bars, no field and no other mark. Not in ABC 2.1.
+pub fn tokens_beside_marks()
+    ensures others { lengths_by in_common (codes "C- >!f! \"G\".[1&D") ≡ ticks (360 ∷ 120 ∷ []) }
+    ensures bar_rest { lengths_by in_common (codes "C>ZD") ≡ ticks (240 ∷ 1920 ∷ 240 ∷ []) }
+    ensures bar_rest_before { lengths_by in_common (codes "CZ>D") ≡ ticks (240 ∷ 1920 ∷ 240 ∷ []) }
+    ensures field { lengths_by in_common (codes "C[T:a]>D") ≡ ticks (240 ∷ 240 ∷ []) }
+    ensures another_mark { lengths_by in_common (codes "C><D") ≡ ticks (240 ∷ 240 ∷ []) }
+{}
+
+/// The unit, the meter, the key, the accidentals and the tied notes belong to the current voice. A part ends the accidentals of
+/// all voices. ABC 2.1 section 7; the details are not in ABC 2.1.
+pub fn settings_of_voices()
+    ensures unit { lengths_by in_common (codes "[V:1][L:1/4]C[V:2]C[V:1]C") ≡ ticks (480 ∷ 240 ∷ 480 ∷ []) }
+    ensures meter { lengths_by in_common (codes "[V:1][M:3/4]Z[V:2]Z[V:1]Z") ≡ ticks (1440 ∷ 1920 ∷ 1440 ∷ []) }
+    ensures meter_without_unit { lengths_by in_common (codes "[M:2/4]C") ≡ ticks (240 ∷ []) }
+    ensures key { keys_by in_common (codes "[V:1][K:G]F[V:2]F[V:1]F") ≡ keys (66 ∷ 65 ∷ 66 ∷ []) }
+    ensures bar_line { keys_by in_common (codes "[V:1]^F[V:2]^F|[V:1]F[V:2]F") ≡ keys (66 ∷ 66 ∷ 66 ∷ 65 ∷ []) }
+    ensures part { keys_by in_common (codes "[V:1]^F[V:2]^F[P:A]F[V:1]F") ≡ keys (66 ∷ 66 ∷ 65 ∷ 65 ∷ []) }
+    ensures tie { keys_by in_common (codes "[V:1]^F-[V:2]F[V:1]|F") ≡ keys (66 ∷ 65 ∷ 66 ∷ []) }
 {}
 
 /// A chord lasts as long as its first note, each note for its own length. ABC 2.1 section 4.17.

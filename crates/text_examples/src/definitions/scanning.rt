@@ -6,9 +6,10 @@ ghost use Rattle.abc_scan.specs.declared.line_class.LineClass.TheVariants.{Blank
 ghost use Rattle.abc_scan.specs.declared.length.WrittenLength.TheVariants.{Factor, Refused};
 ghost use Rattle.abc_text.specs.declared.accidental.Accidental.TheVariants.{DoubleSharp};
 ghost use Rattle.abc_text.specs.declared.letter.Letter.TheVariants.{C};
+ghost use Rattle.abc_scan.specs.declared.broken.Direction.TheVariants.{Left, Right};
 ghost use Rattle.abc_scan.specs.declared.directive.Directive.TheVariants as directives;
 ghost use Rattle.abc_scan.specs.declared.directive.Reach.TheVariants.{Octave};
-ghost use Rattle.abc_scan.specs.declared.dynamic.Dynamic.TheVariants.{Ppp, Mp, Mf, F, Fff};
+ghost use Rattle.abc_scan.specs.declared.dynamic.Dynamic.TheVariants.{Ppp, Pp, P, Mp, Mf, F, Ff, Fff};
 ghost use Rattle.abc_scan.specs.declared.chord_part.ChordPartKind.TheVariants as parts;
 ghost use Rattle.abc_scan.specs.declared.token.TokenKind.TheVariants as kinds;
 ghost use Rattle.abc_scan.specs.Line.{tokens_of};
@@ -18,6 +19,7 @@ ghost use Rattle.abc_scan.specs.Note.{octave};
 ghost use Rattle.abc_scan.specs.Text.{content};
 ghost use Rattle.text_examples.specs.Values.{bar_token, blank, c_part, c_token, chord_token, double_bar, kinds_of};
 ghost use Rattle.text_examples.specs.Values.{part, plain, token};
+ghost use Rattle.text_examples.specs.VoiceStates.{broken, mark};
 
 /// Blank lines and comments. ABC 2.1 section 2.2. Only spaces and tabs are blanks, and one carriage return is dropped
 /// at the end: not in ABC 2.1.
@@ -74,6 +76,9 @@ pub fn notes_before_repeat_bars()
     ensures rests { map class_of (codes "z:|" ∷ codes "x::" ∷ []) ≡ replicate 2 Music }
     ensures bar_rest { class_of (codes "Z:|") ≡ Field 90 }
     ensures reference { class_of (codes "X:|") ≡ Field 88 }
+    ensures letters { map (λ letter. class_of (letter ∷ codes ":|")) (codes "ABCDEFGabcdefgxz") ≡ replicate 16 Music }
+    ensures other_letters { map (λ letter. class_of (letter ∷ codes ":|")) (codes "HWXYZhwy+")
+        ≡ map (λ letter. Field letter) (codes "HWXYZhwy+") }
     ensures no_note { class_of (codes "H:|") ≡ Field 72 }
     ensures no_bar { class_of (codes "C:1D") ≡ Field 67 }
     ensures comment { class_of (codes "C:%|") ≡ Field 67 }
@@ -196,12 +201,48 @@ pub fn tokens_without_effect()
         ≡ replicate 4 (kinds.Unclosed ∷ []) }
 {}
 
+/// Tuplet marks: p, and after colons q and r, which may be left out. ABC 2.1 section 4.13.
+pub fn tokens_of_tuplets()
+    ensures all { tokens_of (codes "(3:2:4") ≡ token (kinds.Tuplet (mark 3 (Some 2) (Some 4))) 0 6 ∷ [] }
+    ensures no_r { tokens_of (codes "(3:2") ≡ token (kinds.Tuplet (mark 3 (Some 2) None)) 0 4 ∷ [] }
+    ensures no_q { tokens_of (codes "(3::4") ≡ token (kinds.Tuplet (mark 3 None (Some 4))) 0 5 ∷ [] }
+    ensures p_alone { tokens_of (codes "(12C") ≡ token (kinds.Tuplet (mark 12 None None)) 0 3 ∷ c_token (pos 0) plain 3 4 ∷ [] }
+    ensures before_a_bar { tokens_of (codes "(3:|") ≡ token (kinds.Tuplet (mark 3 None None)) 0 3 ∷ bar_token 0 0 false 3 4 ∷ [] }
+    ensures slur { tokens_of (codes "(C)") ≡ token kinds.NoEffect 0 1 ∷ c_token (pos 0) plain 1 2 ∷ token kinds.NoEffect 2 3 ∷ [] }
+{}
+
+/// Marks of broken rhythm: up to three of one direction. ABC 2.1 section 4.4; that there are at most three is not in ABC 2.1.
+pub fn tokens_of_broken_rhythm()
+    ensures right { tokens_of (codes ">>>>") ≡ token (kinds.Broken (broken Right 3)) 0 3 ∷ token (kinds.Broken (broken Right 1)) 3 4
+        ∷ [] }
+    ensures left { tokens_of (codes "<<>") ≡ token (kinds.Broken (broken Left 2)) 0 2 ∷ token (kinds.Broken (broken Right 1)) 2 3
+        ∷ [] }
+{}
+
+/// Inline fields and chords. No chord has a bracket or a bar line inside. ABC 2.1 sections 3.2 and 4.17; a bracket that is not
+/// closed is not in ABC 2.1.
+pub fn tokens_in_brackets()
+    ensures field { tokens_of (codes "[K: G ]") ≡ token (kinds.InlineField (record { letter = 75; value = codes "G" })) 0 7 ∷ [] }
+    ensures bar_inside { tokens_of (codes "[r:a|[b]") ≡ token (kinds.InlineField (record { letter = 114; value = codes "a|[b" })) 0 8
+        ∷ [] }
+    ensures chord { tokens_of (codes "[C C]") ≡ chord_token (c_part 1 2 ∷ part parts.NoEffect 2 3 ∷ c_part 3 4 ∷ []) 0 5 ∷ [] }
+    ensures length_after { tokens_of (codes "[C]3/2") ≡ token (kinds.Chord (record { parts = c_part 1 2 ∷ []; length = Factor 3 2 })) 0 6
+        ∷ [] }
+    ensures bar_in_a_chord { tokens_of (codes "[C|") ≡ token kinds.Unclosed 0 1 ∷ c_token (pos 0) plain 1 2 ∷ bar_token 0 0 false 2 3
+        ∷ [] }
+    ensures bracket_in_a_chord { tokens_of (codes "[C[C]") ≡ token kinds.Unclosed 0 1 ∷ c_token (pos 0) plain 1 2
+        ∷ chord_token (c_part 1 2 ∷ []) 2 5 ∷ [] }
+    ensures open_field { kinds_of (tokens_of (codes "[K:H")) ≡ kinds.Unclosed ∷ kinds.NoEffect ∷ kinds.BadByte ∷ kinds.NoEffect ∷ [] }
+{}
+
 /// A dynamic is a token. Another decoration has no effect, and a decoration that is not closed is no token. In a chord
 /// a dynamic has no effect. ABC 2.1 section 4.14; the last is not in ABC 2.1.
 pub fn tokens_of_dynamics()
     ensures between_notes { tokens_of (codes "C!f!C!foo!C") ≡
         c_token (pos 0) plain 0 1 ∷ token (kinds.Dynamic F) 1 4
         ∷ c_token (pos 0) plain 4 5 ∷ token kinds.NoEffect 5 10 ∷ c_token (pos 0) plain 10 11 ∷ [] }
+    ensures names { kinds_of (tokens_of (codes "!ppp!!pp!!p!!mp!!mf!!f!!ff!!fff!"))
+        ≡ map (λ dynamic. kinds.Dynamic dynamic) (Ppp ∷ Pp ∷ P ∷ Mp ∷ Mf ∷ F ∷ Ff ∷ Fff ∷ []) }
     ensures loudest { tokens_of (codes "!fff!!ppp!") ≡ token (kinds.Dynamic Fff) 0 5 ∷ token (kinds.Dynamic Ppp) 5 10 ∷ [] }
     ensures middle { tokens_of (codes "!mp!!mf!") ≡ token (kinds.Dynamic Mp) 0 4 ∷ token (kinds.Dynamic Mf) 4 8 ∷ [] }
     ensures too_many { tokens_of (codes "!ffff!") ≡ token kinds.NoEffect 0 6 ∷ [] }
