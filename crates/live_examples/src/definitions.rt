@@ -3,4 +3,6 @@
 
 pub mod answers;
 pub mod books;
+pub mod commands;
+pub mod counting;
 pub mod edits;
