@@ -2,7 +2,8 @@
 //! `abc_bars_voice`, `abc_bars_notes`, `abc_bars_header` and `abc_bars_body`.
 #![tactic(auto, unfolding(crate::specs::Opened::texts, crate::specs::Opened::times, abc_bars_notes::specs::BarRest::bar_grains))]
 
-ghost use Rattle.std.specs.Prelude.{◌≡◌, ◌^◌, ◌-◌, pos, negsuc, true, false, [], ◌∷◌, codes, map, replicate, Some, None, Ok, Err};
+ghost use Rattle.std.specs.Prelude.{◌≡◌, ◌^◌, ◌-◌, pos, negsuc, true, false, [], ◌∷◌, codes, map, replicate, take, Some, None, Ok, Err};
+ghost use Rattle.abc_bars_body.specs.Body.{with_current};
 ghost use Rattle.abc_bars_body.specs.BodyFields.{part_of};
 ghost use Rattle.abc_bars_body.specs.BodyOpening.{zero_shift};
 ghost use Rattle.abc_fields.specs.Shift.{no_shift};
@@ -28,8 +29,9 @@ ghost use Rattle.abc_bars_voice.specs.Tempo.{micros_by};
 ghost use Rattle.abc_bars_voice.specs.Tuplet.{count_down, default_q, tuplet_by, begin_tuplet};
 ghost use Rattle.abc_bars_voice.specs.Unit.{unit_by};
 ghost use Rattle.abc_bars_voice.specs.VoiceShift.{with_properties};
+ghost use Rattle.abc_bars_voice.specs.declared.voice_state.VoiceState.{VoiceState};
 ghost use Rattle.text_examples.specs.Bars.{bar_rest, voice_shift};
-ghost use Rattle.text_examples.specs.VoiceStates.{broken, fifteen_voices, mark, open_tuplet, voice_a};
+ghost use Rattle.text_examples.specs.VoiceStates.{body_of, broken, fifteen_voices, mark, open_tuplet, voice_a, voices_in};
 ghost use Rattle.text_examples.specs.Values.{ratio, shift};
 
 /// The number of notes whose time p notes take. ABC 2.1 section 4.13; p below 2 and above 9 are not in ABC 2.1.
@@ -206,4 +208,12 @@ pub fn voices_of_headers()
         ≡ (voice_a (shift (Some (pos 12)) (Some (pos 0)) (Some (pos 2))), None) }
     ensures one_of_fifteen { declare fifteen_voices (codes "o") no_shift ≡ (fifteen_voices, None) }
     ensures sixteenth { declare fifteen_voices (codes "p") no_shift ≡ (fifteen_voices, Some TooManyVoices) }
+{}
+
+/// A body has at most fifteen voices. Another one cannot become the current voice, and a known one can. Not in ABC 2.1.
+pub fn voices_of_bodies()
+    ensures fifteenth { (state : VoiceState) → voices_in (with_current (body_of state (take 14 fifteen_voices)) (codes "o") no_shift)
+        ≡ Some 15 }
+    ensures sixteenth { (state : VoiceState) → with_current (body_of state fifteen_voices) (codes "p") no_shift ≡ None }
+    ensures again { (state : VoiceState) → voices_in (with_current (body_of state fifteen_voices) (codes "o") no_shift) ≡ Some 15 }
 {}
