@@ -13,19 +13,19 @@ use Rattle.abc_live_text.specs.Chains.{AreChains}
 use Rattle.abc_live_text.specs.NewParts.{HeaderIsReplaced, AreNewParts, MayReplaceHeader, HeaderStays, chains_after}
 use Rattle.abc_live_text.specs.NewParts.{NewPartsView, tunes_after}
 use Rattle.abc_live_text.specs.Row.{Row}
-use Rattle.abc_live_text.specs.KeptText.{AreRows, KeptPatchView, IsStretch, KeptTextView, LiesAmong, ArePartsOf, block_after}
+use Rattle.abc_live_text.specs.KeptText.{AreRows, KeptPatchView, IsStretch, KeptTextView, LiesInNew, ArePartsOf, block_after}
 use Rattle.abc_live_text.specs.KeptText.{Parts, kept_patch_view, parts}
 use Rattle.abc_live_text.proofs.EditCost.{IsKept}
 use Rattle.abc_live_text.specs.declared.stretch.Stretch.{Stretch}
 use Rattle.std.proofs.lemmas.List.{length-take-le, length-map}
 use Rattle.abc_live_text.proofs.Edits.{spliced_is}
 
-all_among : (stretch : Stretch) (tunes : List Block) → All (LiesWithin stretch.lines.came) tunes → All (LiesAmong stretch) (map (move_block stretch.lines.from) tunes)
-all_among stretch [] all = All-nil (LiesAmong stretch)
+all_among : (stretch : Stretch) (tunes : List Block) → All (LiesWithin stretch.lines.came) tunes → All (LiesInNew stretch) (map (move_block stretch.lines.from) tunes)
+all_among stretch [] all = All-nil (LiesInNew stretch)
 all_among stretch (block ∷ tunes) all =
     let known = all 0 block (omega arith) in
-    let own : LiesAmong stretch (move_block stretch.lines.from block) = (omega arith, omega (arith, known.1)) in
-    All-cons (LiesAmong stretch) (move_block stretch.lines.from block) (map (move_block stretch.lines.from) tunes) own (all_among stretch tunes (λ i d l. all (suc i) d (omega arith)))
+    let own : LiesInNew stretch (move_block stretch.lines.from block) = (omega arith, omega (arith, known.1)) in
+    All-cons (LiesInNew stretch) (move_block stretch.lines.from block) (map (move_block stretch.lines.from) tunes) own (all_among stretch tunes (λ i d l. all (suc i) d (omega arith)))
 
 tunes_following : {State Cell Items Defaults : Type 0} (steps : Steps State Cell Items) (rules : Rules State Cell Items Defaults)
     (text : Text) (first : Option (ChainView State Cell Items)) (stretch : Stretch) (old made : List (ChainView State Cell Items)) → AreChains steps rules text old
@@ -86,7 +86,7 @@ module _ {C State Cell Items Defaults : Type 0} {steps : Steps State Cell Items}
     places_count = ap length p ∙ (length-map new.tunes (move_block new.stretch.lines.from) ∙ sym new_parts.count);
     before = new_parts.before;
     beyond = new_parts.beyond;
-    among = subst (All (LiesAmong new.stretch)) (sym p) (all_among new.stretch new.tunes new_parts.among);
+    among = subst (All (LiesInNew new.stretch)) (sym p) (all_among new.stretch new.tunes new_parts.among);
     amid = new_parts.amid;
     header_is = ⊎_elim
         (λ (stays : HeaderStays new.first new.header on.header new.stretch). inr (record {

@@ -21,7 +21,7 @@ use Rattle.abc_live_text.specs.Blocks.{tunes_among}
 use Rattle.abc_live_text.specs.Lead.{IsKeptOpening}
 use Rattle.abc_live_text.specs.NewParts.{AreNewParts, HeaderIsReplaced, HeaderStays, chains_after, new_parts_view, span_stretch}
 use Rattle.abc_live_text.specs.Row.{CarriedRow, carried_row}
-use Rattle.abc_live_text.specs.KeptText.{KeptTextView, LiesAmid, LiesBefore, LiesAfter, ArePartsOf, kept_numbers, parts_of}
+use Rattle.abc_live_text.specs.KeptText.{KeptTextView, LiesInOld, LiesBefore, LiesAfter, ArePartsOf, kept_numbers, parts_of}
 use Rattle.abc_live_text.specs.KeptText.{reused_tunes_after}
 use Rattle.abc_live_text.specs.ReusedTunes.{AreRefolded, GoesAlong, KnowsAlong}
 use Rattle.abc_live_cost.specs.OldItems.{HasItemsOf, IsChainOf}
@@ -275,7 +275,7 @@ module _ {C State Cell Items Defaults : Type 0} {steps : Steps State Cell Items}
           before = All-weaker (Ends span.lines.from) (LiesBefore stretch) (λ b h. h.1) (take span.tunes.from on.tunes) before;
           beyond = All-weaker (StartsFrom span.lines.to) (LiesAfter stretch) (λ b h. h.0) (drop span.tunes.to on.tunes) following;
           among = here;
-          amid = subst (λ (t : List Block). All (LiesAmid stretch) (take (span.tunes.to - span.tunes.from) (drop span.tunes.from t))) (sym same) facts.amid;
+          amid = subst (λ (t : List Block). All (LiesInOld stretch) (take (span.tunes.to - span.tunes.from) (drop span.tunes.from t))) (sym same) facts.amid;
           keeps = keeps;
           lines_before = lines_before on.lines.text s span.lines.from facts.begins inside;
           lines_after = lines_past ∙ ap (λ n. drop n on.lines.text) line_sum;

@@ -127,19 +127,20 @@ old_tunes patch = drop 1 patch.on.chains.items
 abbrev pub block_after : Stretch → Block → Block
 block_after stretch block = shift_block (gone stretch.lines) stretch.lines.came block
 
--- Blocks before a stretch, after it, and in the lines that replace it.
+-- Blocks before a stretch, and after it.
 abbrev pub LiesBefore : Stretch → Block → Type 0
 LiesBefore stretch block = block.to ≤ stretch.lines.from
 
 abbrev pub LiesAfter : Stretch → Block → Type 0
 LiesAfter stretch block = stretch.lines.to ≤ block.from
 
-abbrev pub LiesAmong : Stretch → Block → Type 0
-LiesAmong stretch block = (stretch.lines.from ≤ block.from) × (block.to ≤ stretch.lines.from + stretch.lines.came)
+-- Blocks in the lines that replace those of the stretch.
+abbrev pub LiesInNew : Stretch → Block → Type 0
+LiesInNew stretch block = (stretch.lines.from ≤ block.from) × (block.to ≤ stretch.lines.from + stretch.lines.came)
 
 -- Blocks in the lines that are replaced.
-abbrev pub LiesAmid : Stretch → Block → Type 0
-LiesAmid stretch block = (stretch.lines.from ≤ block.from) × (block.to ≤ stretch.lines.to)
+abbrev pub LiesInOld : Stretch → Block → Type 0
+LiesInOld stretch block = (stretch.lines.from ≤ block.from) × (block.to ≤ stretch.lines.to)
 
 abbrev pub MayLieBefore : Stretch → Option Block → Type 0
 MayLieBefore stretch header = (block : Block) → header ≡ Some block → LiesBefore stretch block
@@ -176,8 +177,8 @@ pub record IsStretch {C State Cell Items : Type 0} (s : Splice) (patch : KeptPat
   pub places_count : length patch.places ≡ length patch.new_chains
   pub before : All (LiesBefore patch.stretch) (take patch.stretch.tunes.from patch.on.tunes)
   pub beyond : All (LiesAfter patch.stretch) (drop patch.stretch.tunes.to patch.on.tunes)
-  pub among : All (LiesAmong patch.stretch) patch.places
-  pub amid : All (LiesAmid patch.stretch) (take (patch.stretch.tunes.to - patch.stretch.tunes.from)
+  pub among : All (LiesInNew patch.stretch) patch.places
+  pub amid : All (LiesInOld patch.stretch) (take (patch.stretch.tunes.to - patch.stretch.tunes.from)
       (drop patch.stretch.tunes.from patch.on.tunes))
   pub header_is : HoldsHeader patch ⊎ KeepsHeader patch
   pub lines_before : take patch.stretch.lines.from patch.text ≡ take patch.stretch.lines.from patch.on.lines.text

@@ -14,7 +14,7 @@ use Rattle.abc_live_text.specs.Pieces.{LiesWithin}
 use Rattle.abc_live_text.specs.Chains.{AreChains}
 use Rattle.abc_live_text.specs.Origin.{rows_until}
 use Rattle.abc_live_text.specs.Row.{CarriedRow, Row, carried_row, new_row}
-use Rattle.abc_live_text.specs.KeptText.{KeptTextView, LiesAmid, LiesBefore, LiesAfter, MayEndBy, MayLieBefore, block_after}
+use Rattle.abc_live_text.specs.KeptText.{KeptTextView, LiesInOld, LiesBefore, LiesAfter, MayEndBy, MayLieBefore, block_after}
 use Rattle.abc_live_text.specs.KeptText.{reused_tunes_after}
 use Rattle.abc_live_cost.specs.OldItems.{HasItemsOf, TakesUntouched}
 use Rattle.abc_live_text.specs.declared.new_parts.NewParts.{NewParts}
@@ -146,7 +146,7 @@ pub record AreNewParts {C State Cell Items Defaults : Type 0} (steps : Steps Sta
   pub before : All (LiesBefore new.stretch) (take new.stretch.tunes.from on.tunes)
   pub beyond : All (LiesAfter new.stretch) (drop new.stretch.tunes.to on.tunes)
   pub among : All (LiesWithin new.stretch.lines.came) new.tunes
-  pub amid : All (LiesAmid new.stretch) (take (new.stretch.tunes.to - new.stretch.tunes.from)
+  pub amid : All (LiesInOld new.stretch) (take (new.stretch.tunes.to - new.stretch.tunes.from)
       (drop new.stretch.tunes.from on.tunes))
   pub keeps : HeaderStays new.first new.header on.header new.stretch ⊎ HeaderIsReplaced new.first new.header on.header new.stretch
   pub lines_before : take new.stretch.lines.from (spliced on.lines.text s) ≡ take new.stretch.lines.from on.lines.text
