@@ -6,7 +6,7 @@ use Rattle.std.proofs.lemmas.List.{map-append}
 use Rattle.abc_lines.specs.Text.{Text}
 use Rattle.abc_tune_compiler.specs.Tune.{lines_in}
 use Rattle.abc_fold.specs.Steps.{Steps}
-use Rattle.abc_live_cost.specs.Layout.{Chain}
+use Rattle.abc_live_cost.specs.Layout.{FoldedBlock}
 use Rattle.abc_live_cost.specs.Spot.{Spot, spot_at, state_after, spots_in_line, spots_along, spots_of}
 use Rattle.abc_live_cost.specs.Past.{Past, past_of, pasts_in_line, pasts_along, flat_option, past_at}
 use Rattle.abc_live_cost.proofs.Lists.{find_after, find_before}
@@ -37,7 +37,7 @@ full_along steps read line source place state (bytes ∷ lines) =
     full_line steps.next line 0 source place state (read bytes)
     ++ full_along steps read (line + 1) source (place + length (read bytes)) (state_after steps.next state (read bytes)) lines
 
-abbrev pub full_of : {State Cell Items : Type 0} → Steps State Cell Items → (List ℕ → List Cell) → Text → Chain State → List (Full State)
+abbrev pub full_of : {State Cell Items : Type 0} → Steps State Cell Items → (List ℕ → List Cell) → Text → FoldedBlock State → List (Full State)
 full_of steps read text chain = full_along steps read chain.block.from chain.source 0 chain.opening (lines_in text chain.block)
 
 abbrev pub is_at : {State : Type 0} → ℕ → ℕ → Full State → Bool
@@ -60,7 +60,7 @@ along_spots steps read line source place state (bytes ∷ lines) =
     ++ along_spots steps read (line + 1) source (place + length (read bytes)) (state_after steps.next state (read bytes)) lines i)
 
 pub all_spots : {State Cell Items : Type 0} (steps : Steps State Cell Items) (read : List ℕ → List Cell) (text : Text)
-    (chains : List (Chain State)) → map as_spot (flat_map (full_of steps read text) chains) ≡ flat_map (spots_of steps read text) chains
+    (chains : List (FoldedBlock State)) → map as_spot (flat_map (full_of steps read text) chains) ≡ flat_map (spots_of steps read text) chains
 all_spots steps read text [] = refl
 all_spots steps read text (chain ∷ chains) =
     map-append as_spot (full_of steps read text chain) (flat_map (full_of steps read text) chains)

@@ -6,7 +6,7 @@ use Rattle.std.proofs.lemmas.List.{length-take}
 use Rattle.abc_lines.specs.Text.{Text}
 use Rattle.abc_tune_compiler.specs.Tune.{lines_in}
 use Rattle.abc_fold.specs.Steps.{Steps}
-use Rattle.abc_live_cost.specs.Layout.{Chain, ChainsRise}
+use Rattle.abc_live_cost.specs.Layout.{FoldedBlock, ChainsRise}
 use Rattle.abc_live_cost.specs.Spot.{state_after}
 use Rattle.abc_live_cost.proofs.AllCells.{Full, full_at, full_line, full_along, full_of, is_at}
 
@@ -124,12 +124,13 @@ along_rises steps read line source place state (bytes ∷ lines) =
     (along_each steps read (line + 1) source (place + length cells) (state_after steps.next state cells) lines)
     (λ x y h k. record { lines = inl (omega (arith, h.line_is, k.line_from)); chains = inr (h.source_is ∙ sym k.source_is, omega (arith, h.below, k.from)) })
 
-abbrev pub SourcesRise : {State : Type 0} → ℕ → List (Chain State) → Type 0
+abbrev pub SourcesRise : {State : Type 0} → ℕ → List (FoldedBlock State) → Type 0
 SourcesRise source [] = Unit {0}
 SourcesRise source (chain ∷ chains) = (source ≤ chain.source) × SourcesRise (chain.source + 1) chains
 
 pub chains_each : {State Cell Items : Type 0} (steps : Steps State Cell Items) (read : List ℕ → List Cell) (text : Text)
-    (first source : ℕ) (chains : List (Chain State)) (last : ℕ) → ChainsRise first chains last → SourcesRise source chains → Each (InChains first source) (flat_map (full_of steps read text) chains)
+    (first source : ℕ) (chains : List (FoldedBlock State)) (last : ℕ) → ChainsRise first chains last → SourcesRise source chains
+    → Each (InChains first source) (flat_map (full_of steps read text) chains)
 chains_each steps read text first source [] last h k = tt
 chains_each steps read text first source (chain ∷ chains) last h k =
     let a : first ≤ chain.block.from = h.0 in
@@ -145,7 +146,7 @@ chains_each steps read text first source (chain ∷ chains) last h k =
     (chains_each steps read text chain.block.to (chain.source + 1) chains last h.2 k.1))
 
 pub chains_rise : {State Cell Items : Type 0} (steps : Steps State Cell Items) (read : List ℕ → List Cell) (text : Text)
-    (first source : ℕ) (chains : List (Chain State)) (last : ℕ) → ChainsRise first chains last → SourcesRise source chains → Rising (flat_map (full_of steps read text) chains)
+    (first source : ℕ) (chains : List (FoldedBlock State)) (last : ℕ) → ChainsRise first chains last → SourcesRise source chains → Rising (flat_map (full_of steps read text) chains)
 chains_rise steps read text first source [] last h k = tt
 chains_rise steps read text first source (chain ∷ chains) last h k =
     let b : chain.block.from ≤ chain.block.to = omega (arith, h.1) in

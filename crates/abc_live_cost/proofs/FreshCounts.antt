@@ -5,7 +5,7 @@ use Rattle.std.proofs.lemmas.List.Sums.{sum_by-append, sum_by-cons}
 use Rattle.abc_lines.specs.Text.{Text, Splice, spliced}
 use Rattle.abc_tune_compiler.specs.Tune.{lines_in}
 use Rattle.abc_fold.specs.Steps.{Steps}
-use Rattle.abc_live_cost.specs.Layout.{Layout, layout_of, Chain, chains_of, LiesInOrder}
+use Rattle.abc_live_cost.specs.Layout.{Layout, layout_of, FoldedBlock, chains_of, LiesInOrder}
 use Rattle.abc_live_cost.specs.Spot.{Spot, spot_at, state_after, spots_in_line, spots_along, spots_of}
 use Rattle.abc_live_cost.specs.FreshCells.{is_fresh_after, is_fresh}
 use Rattle.abc_live_cost.specs.Past.{Past, pasts, flat_option, row_at, past_at, entry_of_past, first_past, first_row, rest}
@@ -65,7 +65,7 @@ count_along steps read past line state (bytes ∷ lines) rows h =
     (spots_along steps read (line + 1) (state_after steps.next state cells) lines))
 
 pub count_chains : {State Cell Items : Type 0} (steps : Steps State Cell Items) (read : List ℕ → List Cell) (text : Text)
-    (rows : List (List (Option (Past State)))) (chains : List (Chain State))
+    (rows : List (List (Option (Past State)))) (chains : List (FoldedBlock State))
     → sum_by (fresh_cells_of steps read text rows) chains ≡ count_by (by_look_up steps read (past_at rows)) (flat_map (spots_of steps read text) chains)
 count_chains steps read text rows [] = refl
 count_chains steps read text rows (chain ∷ chains) =
@@ -90,7 +90,7 @@ edits_count steps rules text s inside = rows_count_fresh_cells steps rules.cells
 
 -- the fresh cells of one chain
 pub fresh_of_chain : {State Cell Items : Type 0} (steps : Steps State Cell Items) (read : List ℕ → List Cell) (old : Layout State)
-    (s : Splice) (text : Text) (chain : Chain State) → LiesInOrder old → s.at + s.removed ≤ length old.text
+    (s : Splice) (text : Text) (chain : FoldedBlock State) → LiesInOrder old → s.at + s.removed ≤ length old.text
     → fresh_cells_of steps read text (pasts steps read old s) chain ≡ count_by (is_fresh steps read old s) (spots_of steps read text chain)
 fresh_of_chain steps read old s text chain h inside =
     count_along steps read (past_at (pasts steps read old s)) chain.block.from chain.opening (lines_in text chain.block)

@@ -8,7 +8,7 @@ use Rattle.abc_live_cost.proofs.Pieces.{look, pieces_are}
 use Rattle.abc_live_cost.proofs.Steps.{found_past, source_is}
 use Rattle.abc_lines.specs.Text.{Text, Splice, spliced}
 use Rattle.abc_fold.specs.Steps.{Steps, IsAlike}
-use Rattle.abc_live_cost.specs.Layout.{Layout, Chain, chains_of, LiesInOrder}
+use Rattle.abc_live_cost.specs.Layout.{Layout, FoldedBlock, chains_of, LiesInOrder}
 use Rattle.abc_live_cost.specs.Spot.{Spot, spots_of}
 use Rattle.abc_live_cost.specs.FreshCells.{old_line}
 use Rattle.abc_live_cost.specs.Past.{Past, rows_of, pasts, past_at}
@@ -25,7 +25,7 @@ contains_from_in x (y ∷ ys) h = ⊎_elim (λ (e : y ≡ x). (0, omega arith, e
 
 -- a past is of some old chain
 chain_of_past : {State Cell Items : Type 0} (steps : Steps State Cell Items) (read : List ℕ → List Cell) (old : Layout State)
-    (line nth : ℕ) (past : Past State) → LiesInOrder old → past_at (rows_of steps read old) line nth ≡ Some past → (was : Chain State) × Contains (chains_of old) was × (was.source ≡ past.source)
+    (line nth : ℕ) (past : Past State) → LiesInOrder old → past_at (rows_of steps read old) line nth ≡ Some past → (was : FoldedBlock State) × Contains (chains_of old) was × (was.source ≡ past.source)
 chain_of_past steps read old line nth past h e =
     let found = found_past steps read old line nth past h e in
     (found.chain, contains_from_in found.chain (chains_of old) found.among, sym (source_is steps read old.text found.chain found.cell found.inside) ∙ ap (λ p. p.source) found.is)
@@ -46,7 +46,7 @@ stands_one steps cell kept past a b e k h m =
 
 -- of the kept states of its chain
 stands_in : {State Cell Items : Type 0} (steps : Steps State Cell Items) (read : List ℕ → List Cell) (old : Layout State)
-    (kept : ℕ → List State) (was : Chain State) (past : Past State) (cell : Cell) → was.source ≡ past.source
+    (kept : ℕ → List State) (was : FoldedBlock State) (past : Past State) (cell : Cell) → was.source ≡ past.source
     → AllZip (IsAlike steps) (kept was.source) (states_of steps read old.text was)
     → (slice_get (states_of steps read old.text was) past.place ≡ Some past.entered) ×
     (slice_get (states_of steps read old.text was) (past.place + 1) ≡ Some (steps.next past.entered cell)) → MatchesPast steps cell (kept_state_at kept (address_of (Some past))) (Some past)

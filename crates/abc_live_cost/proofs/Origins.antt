@@ -7,7 +7,7 @@ use Rattle.std.proofs.lemmas.Option.{slice_get-map}
 use Rattle.abc_lines.specs.Text.{Text, spliced}
 use Rattle.abc_tune_compiler.specs.Tune.{lines_in}
 use Rattle.abc_fold.specs.Steps.{Steps, states_from}
-use Rattle.abc_live_cost.specs.Layout.{Chain, chains_of, ChainsRise}
+use Rattle.abc_live_cost.specs.Layout.{FoldedBlock, chains_of, ChainsRise}
 use Rattle.abc_live_cost.specs.Spot.{Spot, state_after, spots_in_line, spots_along, spots_of}
 use Rattle.abc_live_cost.specs.FreshCells.{old_line}
 use Rattle.abc_live_cost.specs.Past.{Past, past_of, pasts_in_line, no_pasts, pasts_along, lines_between, rows_from, rows_of}
@@ -82,7 +82,7 @@ split text at to h =
     sym (take-append-drop (to - at) (drop at text)) ∙ ap (λ l. lines_between text at to ++ l) (drop-drop (to - at) at text ∙ ap (λ n. drop n text) here)
 
 rows_stand : {State Cell Items : Type 0} (steps : Steps State Cell Items) (read : List ℕ → List Cell) (text : Text) (at : ℕ)
-    (chains : List (Chain State)) → ChainsRise at chains (length text) → addressed (rows_from steps read text at chains) ≡ addresses_beside read (origins_from read text at chains) (drop at text)
+    (chains : List (FoldedBlock State)) → ChainsRise at chains (length text) → addressed (rows_from steps read text at chains) ≡ addresses_beside read (origins_from read text at chains) (drop at text)
 rows_stand steps read text at [] h = none_along steps read (drop at text)
 rows_stand {State = State} steps read text at (chain ∷ chains) h =
     let gap = lines_between text at chain.block.from in
@@ -101,7 +101,7 @@ rows_stand {State = State} steps read text at (chain ∷ chains) h =
     ∙ ap (addresses_beside read (origins_from read text at (chain ∷ chains))) (sym cut))))
 
 length-origins : {State Cell Items : Type 0} (steps : Steps State Cell Items) (read : List ℕ → List Cell) (text : Text) (at : ℕ)
-    (chains : List (Chain State)) → ChainsRise at chains (length text) → length (origins_from read text at chains) ≡ length (drop at text)
+    (chains : List (FoldedBlock State)) → ChainsRise at chains (length text) → length (origins_from read text at chains) ≡ length (drop at text)
 length-origins steps read text at [] h = length-map (drop at text) (λ _. None)
 length-origins steps read text at (chain ∷ chains) h =
     let gap = lines_between text at chain.block.from in
@@ -177,7 +177,7 @@ some_through g (Some m) a h = (m, refl, h)
 
 -- of a cell that is named, whose line has the same bytes
 held_by : {State Cell Items : Type 0} (steps : Steps State Cell Items) (read : List ℕ → List Cell) (text : Text) (bytes : List ℕ)
-    (m nth : ℕ) (past : Past State) (was : Chain State) (cell : Cell) → Named steps read text m nth past was → bytes ≡ row_at text m
+    (m nth : ℕ) (past : Past State) (was : FoldedBlock State) (cell : Cell) → Named steps read text m nth past was → bytes ≡ row_at text m
     → slice_get (read bytes) nth ≡ Some cell → (slice_get (states_of steps read text was) past.place ≡ Some past.entered)
     × (slice_get (states_of steps read text was) (past.place + 1) ≡ Some (steps.next past.entered cell))
 held_by {State = State} {Cell = Cell} steps read text bytes m nth past was cell name row c =

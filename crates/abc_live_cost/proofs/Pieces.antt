@@ -9,11 +9,11 @@ use Rattle.abc_lines.specs.Text.{Text, Splice}
 use Rattle.abc_tune_compiler.specs.Tune.{lines_in}
 use Rattle.abc_book.specs.declared.block.Block.{Block}
 use Rattle.abc_fold.specs.Steps.{Steps}
-use Rattle.abc_live_cost.specs.Layout.{Layout, Chain, header_chain, tune_chains, chains_of, LiesInOrder}
+use Rattle.abc_live_cost.specs.Layout.{Layout, FoldedBlock, header_chain, tune_chains, chains_of, LiesInOrder}
 use Rattle.abc_live_cost.specs.Spot.{Spot, state_after, spots_in_line, spots_along, spots_of}
 use Rattle.abc_live_cost.specs.FreshCells.{old_line, is_line, is_carried_from, are_carried_from}
 use Rattle.abc_live_cost.specs.Past.{Past, rows_of, pasts, flat_option, past_at, first_past, first_row, rest}
-use Rattle.abc_live_cost.specs.Pieces.{pasts_beside, pasts_over, pieces_of, is_place, are_places}
+use Rattle.abc_live_cost.specs.Pieces.{pasts_beside, pasts_over, pasts_of_chain, is_place, are_places}
 use Rattle.abc_live_cost.specs.Laws.{PiecesDecide}
 use Rattle.abc_live_cost.proofs.Lists.{row_drop}
 use Rattle.abc_live_cost.proofs.AllCells.{Full, as_past, as_spot, is_at, full_line, full_along, full_of, along_spots}
@@ -53,7 +53,7 @@ pieces_along steps read past line state (bytes ∷ lines) rows h =
     ∙ sym (map-append (look past) (spots_in_line steps.next line 0 state cells) (spots_along steps read (line + 1) (state_after steps.next state cells) lines))
 
 pub pieces_are : {State Cell Items : Type 0} (steps : Steps State Cell Items) (read : List ℕ → List Cell) (text : Text)
-    (rows : List (List (Option (Past State)))) (chain : Chain State) → pieces_of read text rows chain ≡ map (look (past_at rows)) (spots_of steps read text chain)
+    (rows : List (List (Option (Past State)))) (chain : FoldedBlock State) → pasts_of_chain read text rows chain ≡ map (look (past_at rows)) (spots_of steps read text chain)
 pieces_are steps read text rows chain = pieces_along steps read (past_at rows) chain.block.from chain.opening
     (lines_in text chain.block) (drop chain.block.from rows) (λ i k. ap (λ row. flat_option (slice_get row k)) (sym (row_drop chain.block.from rows i)))
 
@@ -72,7 +72,7 @@ sources_from source opening (block ∷ blocks) = (omega arith, sources_from (sou
 pub sources_rise : {State : Type 0} (layout : Layout State) → SourcesRise 0 (chains_of layout)
 sources_rise layout = by_header layout.header
   where
-    low : {State : Type 0} (chains : List (Chain State)) → SourcesRise 1 chains → SourcesRise 0 chains
+    low : {State : Type 0} (chains : List (FoldedBlock State)) → SourcesRise 1 chains → SourcesRise 0 chains
     low [] h = tt
     low (chain ∷ chains) h = let a : 1 ≤ chain.source = h.0 in (omega arith, h.1)
 
@@ -108,7 +108,7 @@ in_flat g x (y ∷ ys) w h k = ⊎_elim
     h
 
 pub chain_follows : {State Cell Items : Type 0} (steps : Steps State Cell Items) (read : List ℕ → List Cell) (text : Text)
-    (chains : List (Chain State)) (was : Chain State) → In was chains → Follow (flat_map (full_of steps read text) chains) was.source 0 (full_of steps read text was)
+    (chains : List (FoldedBlock State)) (was : FoldedBlock State) → In was chains → Follow (flat_map (full_of steps read text) chains) was.source 0 (full_of steps read text was)
 chain_follows steps read text chains was h =
     along_follows (flat_map (full_of steps read text) chains) steps read was.block.from was.source 0 was.opening (lines_in text was.block) (λ w m. in_flat (full_of steps read text) was chains w h m)
 
@@ -173,9 +173,9 @@ all_pieces steps read old s source place (spot ∷ spots) (w ∷ ws) h inside k 
     λ i. here i && more i
 
 pub tune_pieces : {State Cell Items : Type 0} (steps : Steps State Cell Items) (read : List ℕ → List Cell) (old : Layout State)
-    (s : Splice) (text : Text) (chain was : Chain State) → LiesInOrder old → s.at + s.removed ≤ length old.text
+    (s : Splice) (text : Text) (chain was : FoldedBlock State) → LiesInOrder old → s.at + s.removed ≤ length old.text
     → In was (chains_of old) → are_places was.source 0 (length (spots_of steps read old.text was))
-    (pieces_of read text (pasts steps read old s) chain) ≡ are_carried_from s (spots_of steps read text chain) (spots_of steps read old.text was)
+    (pasts_of_chain read text (pasts steps read old s) chain) ≡ are_carried_from s (spots_of steps read text chain) (spots_of steps read old.text was)
 tune_pieces steps read old s text chain was h inside i =
     let ws = full_of steps read old.text was in
     let spots = along_spots steps read was.block.from was.source 0 was.opening (lines_in old.text was.block) in
@@ -193,7 +193,7 @@ pieces_decide steps read old s text chain h inside =
     let count = fresh_of_chain steps read old s text chain h inside in
     let tunes = tune_chains 1 old.opening old.tunes in
     let any = any_alike
-    (λ tune. are_places tune.source 0 (length (spots_of steps read old.text tune)) (pieces_of read text (pasts steps read old s) chain))
+    (λ tune. are_places tune.source 0 (length (spots_of steps read old.text tune)) (pasts_of_chain read text (pasts steps read old s) chain))
     (λ tune. are_carried_from s (spots_of steps read text chain) (spots_of steps read old.text tune))
     tunes
     (λ was m. tune_pieces steps read old s text chain was h inside (in_right was (header_chain old.first old.header) tunes m)) in

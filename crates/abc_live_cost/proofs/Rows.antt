@@ -7,7 +7,7 @@ use Rattle.std.proofs.lemmas.List.{length-take, length-drop, length-map}
 use Rattle.abc_lines.specs.Text.{Text, Splice}
 use Rattle.abc_tune_compiler.specs.Tune.{lines_in}
 use Rattle.abc_fold.specs.Steps.{Steps}
-use Rattle.abc_live_cost.specs.Layout.{Layout, Chain, chains_of, ChainsRise, LiesInOrder}
+use Rattle.abc_live_cost.specs.Layout.{Layout, FoldedBlock, chains_of, ChainsRise, LiesInOrder}
 use Rattle.abc_live_cost.specs.Spot.{Spot, state_after, is_spot_at, entry_at}
 use Rattle.abc_live_cost.specs.FreshCells.{old_line}
 use Rattle.abc_live_cost.specs.Past.{Past, past_of, no_pasts, pasts_along, lines_between, rows_from, rows_of, pasts, flat_option}
@@ -34,12 +34,12 @@ length-along steps read source place state (bytes ∷ lines) = ap suc (length-al
 pub length-between : (text : Text) (from to : ℕ) → from ≤ to → to ≤ length text → length (lines_between text from to) ≡ to - from
 length-between text from to h k = length-take (to - from) (drop from text) ∙ omega (arith, length-drop from text)
 
-pub rise_end : {State : Type 0} (first : ℕ) (chains : List (Chain State)) (last : ℕ) → ChainsRise first chains last → first ≤ last
+pub rise_end : {State : Type 0} (first : ℕ) (chains : List (FoldedBlock State)) (last : ℕ) → ChainsRise first chains last → first ≤ last
 rise_end first [] last h = h
 rise_end first (chain ∷ chains) last h = let more = rise_end chain.block.to chains last h.2 in omega (arith, h.0, h.1, more)
 
 pub length-rows : {State Cell Items : Type 0} (steps : Steps State Cell Items) (read : List ℕ → List Cell) (text : Text) (at : ℕ)
-    (chains : List (Chain State)) → ChainsRise at chains (length text) → length (rows_from steps read text at chains) ≡ length text - at
+    (chains : List (FoldedBlock State)) → ChainsRise at chains (length text) → length (rows_from steps read text at chains) ≡ length text - at
 length-rows steps read text at [] h = length-map (drop at text) (no_pasts steps read) ∙ length-drop at text
 length-rows steps read text at (chain ∷ chains) h =
     let end : chain.block.to ≤ length text = rise_end chain.block.to chains (length text) h.2 in
@@ -56,7 +56,7 @@ length-rows steps read text at (chain ∷ chains) h =
     ∙ omega (arith, a, b, c))
 
 pub before_chains : {State Cell Items : Type 0} (steps : Steps State Cell Items) (read : List ℕ → List Cell) (text : Text)
-    (first : ℕ) (chains : List (Chain State)) (last : ℕ) (n k : ℕ) → ChainsRise first chains last → n < first → find (is_at n k) (flat_map (full_of steps read text) chains) ≡ None
+    (first : ℕ) (chains : List (FoldedBlock State)) (last : ℕ) (n k : ℕ) → ChainsRise first chains last → n < first → find (is_at n k) (flat_map (full_of steps read text) chains) ≡ None
 before_chains steps read text first [] last n k h below = refl
 before_chains steps read text first (chain ∷ chains) last n k h below =
     let a : first ≤ chain.block.from = h.0 in
@@ -68,7 +68,7 @@ before_chains steps read text first (chain ∷ chains) last n k h below =
 -- the rows from a line on, looked up at any line from there
 
 pub in_chains : {State Cell Items : Type 0} (steps : Steps State Cell Items) (read : List ℕ → List Cell) (text : Text) (at : ℕ)
-    (chains : List (Chain State)) (i k : ℕ) → ChainsRise at chains (length text)
+    (chains : List (FoldedBlock State)) (i k : ℕ) → ChainsRise at chains (length text)
     → option_map as_past (find (is_at (at + i) k) (flat_map (full_of steps read text) chains)) ≡ past_at (rows_from steps read text at chains) i k
 in_chains steps read text at [] i k h = sym (none_in_rows steps read (drop at text) i k)
 in_chains {State = State} steps read text at (chain ∷ chains) i k h =

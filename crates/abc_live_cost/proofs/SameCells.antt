@@ -8,7 +8,7 @@ use Rattle.abc_lines.specs.Text.{Text, Splice, spliced}
 use Rattle.abc_tune_compiler.specs.Placed.{Placed, placed_at, placed_values, cells_from, items_along}
 use Rattle.abc_tune_compiler.specs.Tune.{lines_in}
 use Rattle.abc_fold.specs.Steps.{Steps, IsResumable}
-use Rattle.abc_live_cost.specs.Layout.{Chain}
+use Rattle.abc_live_cost.specs.Layout.{FoldedBlock}
 use Rattle.abc_live_cost.specs.Spot.{Spot, state_after, spots_in_line, spots_along, spots_of}
 use Rattle.abc_live_cost.specs.FreshCells.{old_line, is_line, is_carried_from, are_carried_from}
 use Rattle.abc_live_cost.specs.Past.{row_at}
@@ -45,7 +45,7 @@ pub cells_are_things : {State Cell : Type 0} → CellsAreThings State Cell
 cells_are_things read text chain = things_from read (chain.block.from + 1) (lines_in text chain.block)
 
 pub items_given : {State Cell Items : Type 0} (steps : Steps State Cell Items) (read : List ℕ → List Cell) (text : Text)
-    (chain : Chain State) → placed_values (items_of steps read text chain) ≡ given_over steps chain.opening (cells_of read text chain)
+    (chain : FoldedBlock State) → placed_values (items_of steps read text chain) ≡ given_over steps chain.opening (cells_of read text chain)
 items_given steps read text chain =
     things_given steps chain.opening (cells_from read (chain.block.from + 1) (lines_in text chain.block))
     ∙ ap (given_over steps chain.opening) (cells_are_things read text chain)
@@ -79,7 +79,7 @@ cells_along {Cell = Cell} steps read text line state (bytes ∷ lines) h =
     ∙ ((λ i. here i ++ more i) ∙ sym (map-append some (read bytes) (flat_map read lines)))
 
 pub cells_of_chain : {State Cell Items : Type 0} (steps : Steps State Cell Items) (read : List ℕ → List Cell) (text : Text)
-    (chain : Chain State) → map (cell_at steps read text) (spots_of steps read text chain) ≡ map (λ cell. Some cell) (cells_of read text chain)
+    (chain : FoldedBlock State) → map (cell_at steps read text) (spots_of steps read text chain) ≡ map (λ cell. Some cell) (cells_of read text chain)
 cells_of_chain steps read text chain =
     let short = length-take (chain.block.to - chain.block.from) (drop chain.block.from text) in
     cells_along steps read text chain.block.from chain.opening (lines_in text chain.block)

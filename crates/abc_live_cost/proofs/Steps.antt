@@ -11,13 +11,13 @@ use Rattle.std.proofs.lemmas.Option.{slice_get-map}
 use Rattle.abc_lines.specs.Text.{Text, Splice, spliced}
 use Rattle.abc_tune_compiler.specs.Tune.{lines_in}
 use Rattle.abc_fold.specs.Steps.{Steps, IsResumable}
-use Rattle.abc_live_cost.specs.Layout.{Layout, Chain, header_chain, tune_chains, chains_of, LiesInOrder}
+use Rattle.abc_live_cost.specs.Layout.{Layout, FoldedBlock, header_chain, tune_chains, chains_of, LiesInOrder}
 use Rattle.abc_live_cost.specs.Spot.{Spot, spot_at, state_after, spots_in_line, spots_along, spots_of, entry_at}
 use Rattle.abc_live_cost.specs.FreshCells.{old_line, cell_at, entry_before, is_fresh_after, is_fresh, is_line, is_carried_from}
 use Rattle.abc_live_cost.specs.FreshCells.{are_carried_from}
 use Rattle.abc_live_cost.specs.Past.{Past, rows_of, past_at, entry_of_past, first_past, first_row, rest, fresh_cells_in_line}
 use Rattle.abc_live_cost.specs.Past.{fresh_cells_along}
-use Rattle.abc_live_cost.specs.Pieces.{pasts_beside, pasts_over, pieces_of}
+use Rattle.abc_live_cost.specs.Pieces.{pasts_beside, pasts_over, pasts_of_chain}
 use Rattle.abc_live_cost.specs.KeptState.{cells_of, KeptState, entry_of, following, steps_over, MatchesPast, MatchPasts}
 use Rattle.abc_live_cost.specs.Laws.{PastsNameCells}
 use Rattle.abc_live_cost.specs.EditLaws.{UntouchedItems, StepsAreFresh}
@@ -90,7 +90,7 @@ steps_along steps a b (cell ∷ cells) kept_states pieces one h k =
 
 pub steps_are_fresh : {State Cell Items : Type 0} → StepsAreFresh State Cell Items
 steps_are_fresh steps read text rows chain state kept_states one h k =
-    steps_along steps state chain.opening (cells_of read text chain) kept_states (pieces_of read text rows chain) one h k
+    steps_along steps state chain.opening (cells_of read text chain) kept_states (pasts_of_chain read text rows chain) one h k
     ∙ sym (fresh_flat steps read chain.opening (lines_in text chain.block) (drop chain.block.from rows))
 
 -- pasts name cells
@@ -113,14 +113,14 @@ from_flat {B = B} g (x ∷ xs) w h = ⊎_elim (λ (m : In w (g x)). (x, inl refl
     either [] zs h = inr h
     either (y ∷ ys) zs h = ⊎_elim (λ (e : y ≡ w). inl (inl e)) (λ (m : In w (ys ++ zs)). ⊎_elim (λ (l : In w ys). inl (inr l)) (λ (r : In w zs). inr r) (either ys zs m)) h
 
-source_low : {State : Type 0} (source : ℕ) (chains : List (Chain State)) (x : Chain State) → SourcesRise source chains → In x chains → source ≤ x.source
+source_low : {State : Type 0} (source : ℕ) (chains : List (FoldedBlock State)) (x : FoldedBlock State) → SourcesRise source chains → In x chains → source ≤ x.source
 source_low source [] x h k = absurd k
 source_low source (chain ∷ chains) x h k =
     let a : source ≤ chain.source = h.0 in
     ⊎_elim (λ (e : chain ≡ x). let same : chain.source ≡ x.source = ap (λ y. y.source) e in omega arith)
     (λ (m : In x chains). let more : chain.source + 1 ≤ x.source = source_low (chain.source + 1) chains x h.1 m in omega arith) k
 
-one_source : {State : Type 0} (source : ℕ) (chains : List (Chain State)) (x y : Chain State) → SourcesRise source chains → In x chains → In y chains → x.source ≡ y.source → x ≡ y
+one_source : {State : Type 0} (source : ℕ) (chains : List (FoldedBlock State)) (x y : FoldedBlock State) → SourcesRise source chains → In x chains → In y chains → x.source ≡ y.source → x ≡ y
 one_source source [] x y h i j e = absurd i
 one_source source (chain ∷ chains) x y h i j e = ⊎_elim
     (λ (a : chain ≡ x). ⊎_elim
@@ -150,7 +150,7 @@ at_place all source place (w ∷ ws) x (suc i) h k e =
     (λ (m : In x ws). at_place all source (place + 1) ws x i h.1 m (omega arith)) k
 
 -- the cell that a past names
-pub record Named {State Cell Items : Type 0} (steps : Steps State Cell Items) (read : List ℕ → List Cell) (text : Text) (n k : ℕ) (past : Past State) (was : Chain State) : Type 0 where
+pub record Named {State Cell Items : Type 0} (steps : Steps State Cell Items) (read : List ℕ → List Cell) (text : Text) (n k : ℕ) (past : Past State) (was : FoldedBlock State) : Type 0 where
   pub one : Full State
   pub spot : slice_get (spots_of steps read text was) past.place ≡ Some (as_spot one)
   pub line : one.line ≡ n
@@ -159,13 +159,13 @@ pub record Named {State Cell Items : Type 0} (steps : Steps State Cell Items) (r
 
 -- a cell has the number of its chain
 pub source_is : {State Cell Items : Type 0} (steps : Steps State Cell Items) (read : List ℕ → List Cell) (text : Text)
-    (chain : Chain State) (x : Full State) → In x (full_of steps read text chain) → x.source ≡ chain.source
+    (chain : FoldedBlock State) (x : Full State) → In x (full_of steps read text chain) → x.source ≡ chain.source
 source_is steps read text chain x h =
     (each_in (InLines chain.block.from (chain.block.from + length (lines_in text chain.block)) chain.source 0) x
     (full_of steps read text chain) (along_each steps read chain.block.from chain.source 0 chain.opening (lines_in text chain.block)) h).source_is
 
 named_by : {State Cell Items : Type 0} (steps : Steps State Cell Items) (read : List ℕ → List Cell) (old : Layout State)
-    (line nth : ℕ) (past : Past State) (was chain : Chain State) (x : Full State) → Contains (chains_of old) was
+    (line nth : ℕ) (past : Past State) (was chain : FoldedBlock State) (x : Full State) → Contains (chains_of old) was
     → was.source ≡ past.source → as_past x ≡ past → is_at line nth x ≡ true → In chain (chains_of old) → In x (full_of steps read old.text chain) → Named steps read old.text line nth past was
 named_by {State = State} steps read old line nth past was chain x member source e stands own inside =
     let both = and_parts (x.line == line) (x.nth == nth) stands in
@@ -188,7 +188,7 @@ named_by {State = State} steps read old line nth past was chain x member source 
 -- the cell of a past, and its chain
 pub record Found {State Cell Items : Type 0} (steps : Steps State Cell Items) (read : List ℕ → List Cell) (old : Layout State) (line nth : ℕ) (past : Past State) : Type 0 where
   pub cell : Full State
-  pub chain : Chain State
+  pub chain : FoldedBlock State
   pub is : as_past cell ≡ past
   pub stands : is_at line nth cell ≡ true
   pub among : In chain (chains_of old)
@@ -204,7 +204,7 @@ found_past steps read old line nth past h e =
     record { cell = some.0; chain = own.0; is = some.2; stands = stands.1; among = own.1; inside = own.2 }
 
 pub named : {State Cell Items : Type 0} (steps : Steps State Cell Items) (read : List ℕ → List Cell) (old : Layout State)
-    (line nth : ℕ) (past : Past State) (was : Chain State) → LiesInOrder old → Contains (chains_of old) was
+    (line nth : ℕ) (past : Past State) (was : FoldedBlock State) → LiesInOrder old → Contains (chains_of old) was
     → was.source ≡ past.source → past_at (rows_of steps read old) line nth ≡ Some past → Named steps read old.text line nth past was
 named steps read old line nth past was h member source e =
     let found = found_past steps read old line nth past h e in
@@ -245,7 +245,7 @@ no_cells p (spot ∷ spots) (cell ∷ cells) h e = absurd (cc)
 
 -- the openings are the same if the first cell is not fresh
 same_openings : {State Cell Items : Type 0} (steps : Steps State Cell Items) (read : List ℕ → List Cell) (old : Layout State)
-    (s : Splice) (was : Chain State) (opening : State) (spot : Spot State) (spots : List (Spot State)) → LiesInOrder old
+    (s : Splice) (was : FoldedBlock State) (opening : State) (spot : Spot State) (spots : List (Spot State)) → LiesInOrder old
     → In was (chains_of old) → spot.entered ≡ opening → are_carried_from s (spot ∷ spots) (spots_of steps read old.text was) ≡ true
     → count_by (is_fresh steps read old s) (spot ∷ spots) ≡ 0 → IsTrue (steps.alike was.opening opening)
 same_openings {State = State} steps read old s was opening spot spots h i first carry none =
@@ -288,7 +288,7 @@ untouched_items {State = State} {Cell = Cell} {Items = Items} steps read old s c
       items_given steps read text chain ∙ (by_spots (spots_of steps read text chain) refl was member cells none any.4 ∙ sym (items_given steps read old.text was)),
     )
   where
-    by_spots : (spots : List (Spot State)) → spots_of steps read (spliced old.text s) chain ≡ spots → (was : Chain State)
+    by_spots : (spots : List (Spot State)) → spots_of steps read (spliced old.text s) chain ≡ spots → (was : FoldedBlock State)
         → In was (chains_of old) → cells_of read (spliced old.text s) chain ≡ cells_of read old.text was
         → count_by (is_fresh steps read old s) (spots_of steps read (spliced old.text s) chain) ≡ 0
         → are_carried_from s (spots_of steps read (spliced old.text s) chain) (spots_of steps read old.text was) ≡ true

@@ -16,7 +16,7 @@ use Rattle.abc_book.specs.declared.block.BlockKind.TheVariants.{FileHeader, Tune
 use Rattle.abc_tune_compiler.specs.Book.{blocks_in, header_in, is_file_header, is_tune, opening_of, tunes_in}
 use Rattle.abc_tune_compiler.specs.Placed.{Placed, placed_at, cells_from, items_along}
 use Rattle.abc_fold.specs.Steps.{Steps}
-use Rattle.abc_live_cost.specs.Layout.{header_chain, Chain, tune_chains, chains_of, ChainsRise}
+use Rattle.abc_live_cost.specs.Layout.{header_chain, FoldedBlock, tune_chains, chains_of, ChainsRise}
 use Rattle.abc_live_cost.specs.Spot.{Spot, state_after, spots_in_line, spots_along, spots_of, is_spot_at}
 use Rattle.abc_live_cost.specs.Laws.{ChainsLieInOrder, EnteredAreItems, NthOfLine}
 use Rattle.abc_live_cost.proofs.Lists.{find_after, find_before}
@@ -121,7 +121,7 @@ along_alike {State = State} steps read line state (bytes ∷ lines) n k =
     (cases_eq line n)
 
 before_chains : {State Cell Items : Type 0} (steps : Steps State Cell Items) (read : List ℕ → List Cell) (text : Text) (first : ℕ)
-    (chains : List (Chain State)) (last n : ℕ) → ChainsRise first chains last → n < first → Nothing n (flat_map (spots_of steps read text) chains)
+    (chains : List (FoldedBlock State)) (last n : ℕ) → ChainsRise first chains last → n < first → Nothing n (flat_map (spots_of steps read text) chains)
 before_chains steps read text first [] last n h below = record { kept = refl; found = λ k. refl }
 before_chains steps read text first (chain ∷ chains) last n h below =
     let a : first ≤ chain.block.from = h.0 in
@@ -132,7 +132,7 @@ before_chains steps read text first (chain ∷ chains) last n h below =
     (before_chains steps read text chain.block.to chains last n h.2 (omega arith))
 
 chains_alike : {State Cell Items : Type 0} (steps : Steps State Cell Items) (read : List ℕ → List Cell) (text : Text) (first : ℕ)
-    (chains : List (Chain State)) (last n k : ℕ) → ChainsRise first chains last → Alike n k (flat_map (spots_of steps read text) chains)
+    (chains : List (FoldedBlock State)) (last n k : ℕ) → ChainsRise first chains last → Alike n k (flat_map (spots_of steps read text) chains)
 chains_alike steps read text first [] last n k h = refl
 chains_alike steps read text first (chain ∷ chains) last n k h =
     let b : chain.block.from ≤ chain.block.to = omega (arith, h.1) in
@@ -152,7 +152,7 @@ nth_of_line steps read layout line nth h = chains_alike steps read layout.text 0
 
 -- blocks that rise
 
-lower : {State : Type 0} (low first : ℕ) (chains : List (Chain State)) (last : ℕ) → low ≤ first → ChainsRise first chains last → ChainsRise low chains last
+lower : {State : Type 0} (low first : ℕ) (chains : List (FoldedBlock State)) (last : ℕ) → low ≤ first → ChainsRise first chains last → ChainsRise low chains last
 lower low first [] last e h = omega arith
 lower low first (chain ∷ chains) last e h = let a : first ≤ chain.block.from = h.0 in (omega arith, h.1, h.2)
 

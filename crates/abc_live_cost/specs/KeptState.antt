@@ -6,23 +6,24 @@ use Rattle.abc_lines.specs.Text.{Text}
 use Rattle.abc_tune_compiler.specs.Placed.{Placed, cells_from, items_along}
 use Rattle.abc_tune_compiler.specs.Tune.{lines_in}
 use Rattle.abc_live_cost.specs.FreshCells.{is_fresh_after}
-use Rattle.abc_live_cost.specs.Layout.{Chain, Layout, chains_of}
+use Rattle.abc_live_cost.specs.Layout.{FoldedBlock, Layout, chains_of}
 use Rattle.abc_live_cost.specs.Origin.{address_of}
 use Rattle.abc_live_cost.specs.Past.{Past, first_past, rest}
 use Rattle.abc_fold.specs.Steps.{IsAlike, Steps, states_from}
 
 -- The cells of a chain.
-abbrev pub cells_of : {State Cell : Type 0} → (List ℕ → List Cell) → Text → Chain State → List Cell
+abbrev pub cells_of : {State Cell : Type 0} → (List ℕ → List Cell) → Text → FoldedBlock State → List Cell
 cells_of read text chain = flat_map read (lines_in text chain.block)
 
 -- The items of a chain, with the numbers of their lines, counted from 1.
-abbrev pub items_of : {State Cell Items : Type 0} → Steps State Cell Items → (List ℕ → List Cell) → Text → Chain State
+abbrev pub items_of : {State Cell Items : Type 0} → Steps State Cell Items → (List ℕ → List Cell) → Text → FoldedBlock State
     → List (Placed Items)
 items_of steps read text chain =
     items_along steps.next steps.gives chain.opening (cells_from read (chain.block.from + 1) (lines_in text chain.block))
 
 -- The states of a chain, from scratch.
-abbrev pub states_of : {State Cell Items : Type 0} → Steps State Cell Items → (List ℕ → List Cell) → Text → Chain State → List State
+abbrev pub states_of : {State Cell Items : Type 0} → Steps State Cell Items → (List ℕ → List Cell) → Text → FoldedBlock State
+    → List State
 states_of steps read text chain = states_from steps chain.opening (cells_of read text chain)
 
 -- The kept states before and after a cell of an old chain.
@@ -81,5 +82,5 @@ kept_states_for kept pieces = map (λ piece. kept_state_at kept (address_of piec
 -- The kept states of each old chain are equivalent to those from scratch, one by one.
 abbrev pub AreKeptStates : {State Cell Items : Type 0} → Steps State Cell Items → (List ℕ → List Cell) → Layout State
     → (ℕ → List State) → Type 0
-AreKeptStates steps read old kept = (was : Chain _) → Contains (chains_of old) was
+AreKeptStates steps read old kept = (was : FoldedBlock _) → Contains (chains_of old) was
     → AllZip (IsAlike steps) (kept was.source) (states_of steps read old.text was)

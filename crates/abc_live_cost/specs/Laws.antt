@@ -8,7 +8,7 @@ use Rattle.abc_tune_compiler.specs.Rules.{Rules}
 use Rattle.abc_live_cost.specs.Spot.{spots_along, entry_at, spots_in, spots_of}
 use Rattle.abc_live_cost.specs.FreshCells.{are_carried_from, cell_at, entry_before, fresh_cells_after, fresh_cells_in, is_untouched}
 use Rattle.abc_live_cost.specs.KeptState.{states_of}
-use Rattle.abc_live_cost.specs.Layout.{Chain, Layout, LiesInOrder, chains_of, layout_of}
+use Rattle.abc_live_cost.specs.Layout.{FoldedBlock, Layout, LiesInOrder, chains_of, layout_of}
 use Rattle.abc_live_cost.specs.Origin.{address_of, addresses_beside, origins}
 use Rattle.abc_live_cost.specs.Past.{Past, entry_of_past, fresh_cells_of, past_at, pasts, row_at, rows_of}
 use Rattle.abc_live_cost.specs.Pieces.{have_lines_of, is_untouched_by, text_with_rows}
@@ -61,7 +61,7 @@ EditsCount State Cell Items Defaults =
 abbrev pub PiecesDecide : Type 0 → Type 0 → Type 0 → Type 0
 PiecesDecide State Cell Items =
     (steps : Steps State Cell Items) (read : List ℕ → List Cell) (old : Layout State) (s : Splice) (text : Text)
-    (chain : Chain State)
+    (chain : FoldedBlock State)
     → LiesInOrder old → s.at + s.removed ≤ length old.text
     → is_untouched_by steps read old (text_with_rows text (pasts steps read old s)) chain
     ≡ is_untouched steps read old s (spots_of steps read text chain)
@@ -69,7 +69,7 @@ PiecesDecide State Cell Items =
 -- Whether the cells of a chain are those of an old one follows from their lines alone.
 abbrev pub LinesSuffice : Type 0 → Type 0 → Type 0 → Type 0
 LinesSuffice State Cell Items =
-    (steps : Steps State Cell Items) (read : List ℕ → List Cell) (old text : Text) (s : Splice) (chain was : Chain State)
+    (steps : Steps State Cell Items) (read : List ℕ → List Cell) (old text : Text) (s : Splice) (chain was : FoldedBlock State)
     → have_lines_of s (spots_of steps read text chain) (spots_of steps read old was)
     ≡ are_carried_from s (spots_of steps read text chain) (spots_of steps read old was)
 
@@ -85,7 +85,7 @@ OriginsAgree State Cell Items =
 abbrev pub PastsNameCells : Type 0 → Type 0 → Type 0 → Type 0
 PastsNameCells State Cell Items =
     (steps : Steps State Cell Items) (read : List ℕ → List Cell) (old : Layout State) (line nth : ℕ) (past : Past State)
-    (was : Chain State)
+    (was : FoldedBlock State)
     → LiesInOrder old → Contains (chains_of old) was → was.source ≡ past.source
     → past_at (rows_of steps read old) line nth ≡ Some past
     → option_map (λ spot. spot.entered) (slice_get (spots_of steps read old.text was) past.place) ≡ Some past.entered
@@ -95,7 +95,7 @@ PastsNameCells State Cell Items =
 abbrev pub PastsHaveStates : Type 0 → Type 0 → Type 0 → Type 0
 PastsHaveStates State Cell Items =
     (steps : Steps State Cell Items) (read : List ℕ → List Cell) (old : Layout State) (s : Splice) (line nth : ℕ)
-    (past : Past State) (was : Chain State) (cell : Cell)
+    (past : Past State) (was : FoldedBlock State) (cell : Cell)
     → LiesInOrder old → s.at + s.removed ≤ length old.text → Contains (chains_of old) was → was.source ≡ past.source
     → past_at (pasts steps read old s) line nth ≡ Some past
     → slice_get (read (row_at (spliced old.text s) line)) nth ≡ Some cell

@@ -29,30 +29,30 @@ layout_of steps rules text = record {
 
 -- A block along which the fold goes, from its opening on: the file header, which is number 0, or a tune, which is
 -- counted from 1.
-pub record Chain (State : Type 0) : Type 0 where
+pub record FoldedBlock (State : Type 0) : Type 0 where
   pub source : ℕ
   pub block : Block
   pub opening : State
 
-abbrev pub chain_at : {State : Type 0} → ℕ → State → Block → Chain State
+abbrev pub chain_at : {State : Type 0} → ℕ → State → Block → FoldedBlock State
 chain_at source opening block = record { source = source; block = block; opening = opening }
 
 -- The chain of the file header, if there is one.
-abbrev pub header_chain : {State : Type 0} → State → Option Block → List (Chain State)
+abbrev pub header_chain : {State : Type 0} → State → Option Block → List (FoldedBlock State)
 header_chain first None = []
 header_chain first (Some block) = chain_at 0 first block ∷ []
 
 -- The chains of tunes, of which the first has this number.
-abbrev pub tune_chains : {State : Type 0} → ℕ → State → List Block → List (Chain State)
+abbrev pub tune_chains : {State : Type 0} → ℕ → State → List Block → List (FoldedBlock State)
 tune_chains source opening [] = []
 tune_chains source opening (block ∷ blocks) = chain_at source opening block ∷ tune_chains (source + 1) opening blocks
 
 -- The chains of a text, in order.
-abbrev pub chains_of : {State : Type 0} → Layout State → List (Chain State)
+abbrev pub chains_of : {State : Type 0} → Layout State → List (FoldedBlock State)
 chains_of layout = header_chain layout.first layout.header ++ tune_chains 1 layout.opening layout.tunes
 
 -- The blocks of chains follow one another from one line to another.
-abbrev pub ChainsRise : {State : Type 0} → ℕ → List (Chain State) → ℕ → Type 0
+abbrev pub ChainsRise : {State : Type 0} → ℕ → List (FoldedBlock State) → ℕ → Type 0
 ChainsRise first chains last = RiseFromTo first (map (λ chain. chain.block) chains) last
 
 -- The file header and the tunes follow one another within the text.

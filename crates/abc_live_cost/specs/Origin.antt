@@ -4,7 +4,7 @@ use Rattle.std.specs.Prelude.{ℕ, ◌+◌, List, [], ◌∷◌, ◌++◌, take,
 use Rattle.std.specs.Option.{option_map}
 use Rattle.abc_lines.specs.Text.{Splice, Text}
 use Rattle.abc_tune_compiler.specs.Tune.{lines_in}
-use Rattle.abc_live_cost.specs.Layout.{Chain, Layout, chains_of}
+use Rattle.abc_live_cost.specs.Layout.{FoldedBlock, Layout, chains_of}
 use Rattle.abc_live_cost.specs.Past.{Past, lines_between}
 
 -- The chain of a line, and the place in it of the line's first cell.
@@ -26,7 +26,7 @@ origins_along read source place (bytes ∷ lines) = origin_at source place
     ∷ origins_along read source (place + length (read bytes)) lines
 
 -- The origins of a text from a line on, by the chains that begin there or later.
-abbrev pub origins_from : {State Cell : Type 0} → (List ℕ → List Cell) → Text → ℕ → List (Chain State) → List (Option Origin)
+abbrev pub origins_from : {State Cell : Type 0} → (List ℕ → List Cell) → Text → ℕ → List (FoldedBlock State) → List (Option Origin)
 origins_from read text at [] = no_origins (drop at text)
 origins_from read text at (chain ∷ chains) =
     no_origins (lines_between text at chain.block.from)

@@ -6,7 +6,7 @@ use Rattle.abc_lines.specs.Text.{Splice, Text}
 use Rattle.abc_tune_compiler.specs.Tune.{lines_in}
 use Rattle.abc_live_cost.specs.Spot.{state_after}
 use Rattle.abc_live_cost.specs.FreshCells.{is_fresh_after}
-use Rattle.abc_live_cost.specs.Layout.{Chain, Layout, chains_of}
+use Rattle.abc_live_cost.specs.Layout.{FoldedBlock, Layout, chains_of}
 use Rattle.abc_fold.specs.Steps.{Steps}
 
 -- A cell of the old text: which cell of which chain it is, and the state in which it was entered.
@@ -44,7 +44,7 @@ lines_between text from to = take (to - from) (drop from text)
 
 -- The rows of a text from a line on, by the chains that begin there or later.
 abbrev pub rows_from : {State Cell Items : Type 0} → Steps State Cell Items → (List ℕ → List Cell) → Text → ℕ
-    → List (Chain State) → List (List (Option (Past State)))
+    → List (FoldedBlock State) → List (List (Option (Past State)))
 rows_from steps read text at [] = map (no_pasts steps read) (drop at text)
 rows_from steps read text at (chain ∷ chains) =
     map (no_pasts steps read) (lines_between text at chain.block.from)
@@ -110,6 +110,6 @@ fresh_cells_along steps read state (bytes ∷ lines) rows =
 
 -- How many cells of a chain are fresh, by the rows of the text.
 abbrev pub fresh_cells_of : {State Cell Items : Type 0} → Steps State Cell Items → (List ℕ → List Cell) → Text
-    → List (List (Option (Past State))) → Chain State → ℕ
+    → List (List (Option (Past State))) → FoldedBlock State → ℕ
 fresh_cells_of steps read text rows chain =
     fresh_cells_along steps read chain.opening (lines_in text chain.block) (drop chain.block.from rows)

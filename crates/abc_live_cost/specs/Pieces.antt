@@ -6,7 +6,7 @@ use Rattle.abc_lines.specs.Text.{Splice, Text}
 use Rattle.abc_tune_compiler.specs.Tune.{lines_in}
 use Rattle.abc_live_cost.specs.Spot.{Spot, spots_of}
 use Rattle.abc_live_cost.specs.FreshCells.{old_line, is_line}
-use Rattle.abc_live_cost.specs.Layout.{Chain, Layout, tune_chains}
+use Rattle.abc_live_cost.specs.Layout.{FoldedBlock, Layout, tune_chains}
 use Rattle.abc_live_cost.specs.Past.{Past, first_past, first_row, fresh_cells_of, rest}
 use Rattle.abc_fold.specs.Steps.{Steps}
 
@@ -22,9 +22,9 @@ pasts_over read [] rows = []
 pasts_over read (bytes ∷ lines) rows = pasts_beside (read bytes) (first_row rows) ++ pasts_over read lines (rest rows)
 
 -- The pasts of the cells of a chain.
-abbrev pub pieces_of : {State Cell : Type 0} → (List ℕ → List Cell) → Text → List (List (Option (Past State))) → Chain State
-    → List (Option (Past State))
-pieces_of read text rows chain = pasts_over read (lines_in text chain.block) (drop chain.block.from rows)
+abbrev pub pasts_of_chain : {State Cell : Type 0} → (List ℕ → List Cell) → Text → List (List (Option (Past State)))
+    → FoldedBlock State → List (Option (Past State))
+pasts_of_chain read text rows chain = pasts_over read (lines_in text chain.block) (drop chain.block.from rows)
 
 abbrev pub is_place : {State : Type 0} → ℕ → ℕ → Option (Past State) → Bool
 is_place source place None = false
@@ -54,9 +54,10 @@ text_with_rows text rows = record { text = text; rows = rows }
 
 -- Whether a tune is untouched by its pieces: none of its cells is fresh, and they are all those of one old tune.
 abbrev pub is_untouched_by : {State Cell Items : Type 0} → Steps State Cell Items → (List ℕ → List Cell) → Layout State
-    → TextWithRows State → Chain State → Bool
+    → TextWithRows State → FoldedBlock State → Bool
 is_untouched_by steps read old new chain =
-    (fresh_cells_of steps read new.text new.rows chain == 0) && are_one_tune steps read old (pieces_of read new.text new.rows chain)
+    (fresh_cells_of steps read new.text new.rows chain == 0)
+    && are_one_tune steps read old (pasts_of_chain read new.text new.rows chain)
 
 -- Whether the lines of these cells of the new text are carried, in order, from those of these of the old.
 abbrev pub have_lines_of : {State : Type 0} → Splice → List (Spot State) → List (Spot State) → Bool

@@ -4,7 +4,7 @@ use Rattle.std.specs.List.{flat_map, find}
 use Rattle.std.specs.Option.{option_map}
 use Rattle.abc_lines.specs.Text.{Text}
 use Rattle.abc_tune_compiler.specs.Tune.{lines_in}
-use Rattle.abc_live_cost.specs.Layout.{Chain, Layout, chains_of}
+use Rattle.abc_live_cost.specs.Layout.{FoldedBlock, Layout, chains_of}
 use Rattle.abc_fold.specs.Steps.{Steps}
 
 -- A cell: its line and its place in the line, both counted from 0, and the state in which it is entered.
@@ -36,7 +36,7 @@ spots_along steps read line state (bytes ∷ lines) =
     (state_after steps.next state (read bytes)) lines
 
 -- The cells of a chain.
-abbrev pub spots_of : {State Cell Items : Type 0} → Steps State Cell Items → (List ℕ → List Cell) → Text → Chain State
+abbrev pub spots_of : {State Cell Items : Type 0} → Steps State Cell Items → (List ℕ → List Cell) → Text → FoldedBlock State
     → List (Spot State)
 spots_of steps read text chain = spots_along steps read chain.block.from chain.opening (lines_in text chain.block)
 

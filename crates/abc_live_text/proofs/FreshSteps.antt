@@ -11,10 +11,10 @@ use Rattle.abc_lines.specs.Text.{Splice, Text, spliced}
 use Rattle.abc_live_cost.specs.FreshCells.{fresh_cells_after}
 use Rattle.abc_live_cost.specs.KeptState.{AreKeptStates, KeptState, kept_state_at, steps_over, states_of}
 use Rattle.abc_live_cost.specs.KeptState.{cells_of as chain_cells}
-use Rattle.abc_live_cost.specs.Layout.{Chain, Layout, LiesInOrder, chain_at, header_chain, layout_of, tune_chains}
+use Rattle.abc_live_cost.specs.Layout.{FoldedBlock, Layout, LiesInOrder, chain_at, header_chain, layout_of, tune_chains}
 use Rattle.abc_live_cost.specs.Origin.{Origin, addresses, address_of, addresses_beside, addresses_from, origins}
 use Rattle.abc_live_cost.specs.Past.{Past, fresh_cells_of, pasts}
-use Rattle.abc_live_cost.specs.Pieces.{pieces_of, pasts_beside, pasts_over}
+use Rattle.abc_live_cost.specs.Pieces.{pasts_of_chain, pasts_beside, pasts_over}
 use Rattle.abc_live_cost.proofs.FreshCounts.{edits_count}
 use Rattle.abc_live_cost.proofs.KeptStates.{kept_states_match}
 use Rattle.abc_live_cost.proofs.Origins.{origins_agree}
@@ -114,7 +114,7 @@ walk {State = State} {Cell = Cell} read (suc n) (row ∷ rows) (bytes ∷ text) 
 pub block_addresses : {State Cell Items : Type 0} (steps : Steps State Cell Items) (read : List ℕ → List Cell) (laid : Layout State)
     (s : Splice) (rows : List (CarriedRow Cell)) (source : ℕ) (opening : State) (block : Block)
     → LiesInOrder laid → s.at + s.removed ≤ length laid.text → map cells_in rows ≡ map read (spliced laid.text s) → map origin_in rows ≡ origins read laid s
-    → map (address_of {State = State}) (pieces_of read (spliced laid.text s) (pasts steps read laid s)
+    → map (address_of {State = State}) (pasts_of_chain read (spliced laid.text s) (pasts steps read laid s)
     (chain_at source opening block)) ≡ flat_map (λ (r : CarriedRow Cell). addresses r.origin r.cells) (rows_in rows block)
 block_addresses {State = State} {Cell = Cell} steps read laid s rows source opening block lies inside cells from =
     let text = spliced laid.text s in
@@ -134,10 +134,10 @@ block_helds : {State Cell Items : Type 0} (steps : Steps State Cell Items) (read
     (s : Splice) (old : List (ChainView State Cell Items)) (rows : List (CarriedRow Cell)) (source : ℕ) (opening : State) (block : Block)
     → LiesInOrder laid → s.at + s.removed ≤ length laid.text → map cells_in rows ≡ map read (spliced laid.text s) → map origin_in rows ≡ origins read laid s
     → kept_states_over old rows block ≡ map (λ piece. kept_state_at (entries_at old) (address_of piece))
-    (pieces_of read (spliced laid.text s) (pasts steps read laid s) (chain_at source opening block))
+    (pasts_of_chain read (spliced laid.text s) (pasts steps read laid s) (chain_at source opening block))
 block_helds {State = State} {Cell = Cell} steps read laid s old rows source opening block lies inside cells from =
     let hold : Option (ℕ × ℕ) → Option (KeptState State) = kept_state_at (entries_at old) in
-    let pieces = pieces_of read (spliced laid.text s) (pasts steps read laid s) (chain_at source opening block) in
+    let pieces = pasts_of_chain read (spliced laid.text s) (pasts steps read laid s) (chain_at source opening block) in
     sym (map_flat hold (λ (r : CarriedRow Cell). addresses r.origin r.cells) (rows_in rows block))
     ∙ (ap (map hold) (sym (block_addresses steps read laid s rows source opening block lies inside cells from)) ∙ map-over hold (address_of {State = State}) pieces)
 
@@ -194,7 +194,7 @@ kept_here steps read opening text chain source block own =
     subst (AllZip (IsAlike steps) chain.entries) (ap (states_from steps opening) own.cells) own.folds.entries
 
 kept_among : {State Cell Items : Type 0} (steps : Steps State Cell Items) (read : List ℕ → List Cell) (opening : State)
-    (text : Text) (source : ℕ) (chains : List (ChainView State Cell Items)) (blocks : List Block) (was : Chain State) (i : ℕ)
+    (text : Text) (source : ℕ) (chains : List (ChainView State Cell Items)) (blocks : List Block) (was : FoldedBlock State) (i : ℕ)
     → AllZip (IsChainOf steps read opening text) chains blocks
     → i < length (tune_chains source opening blocks) → get_or (tune_chains source opening blocks) i was ≡ was
     → (k : ℕ) × (was.source ≡ source + k) × AllZip (IsAlike steps) (entries_at chains k) (states_of steps read text was)
@@ -202,15 +202,15 @@ kept_among steps read opening text source [] [] was i all h e = absurd (omega ar
 kept_among steps read opening text source [] (block ∷ blocks) was i all h e = absurd all
 kept_among steps read opening text source (chain ∷ chains) [] was i all h e = absurd all
 kept_among {State = State} steps read opening text source (chain ∷ chains) (block ∷ blocks) was zero all h e =
-    let number : was.source ≡ source + 0 = sym (ap (λ (c : Chain State). c.source) e) ∙ (let n : source ≡ source + 0 = omega arith in n) in
-    (0, number, subst (λ (c : Chain State). AllZip (IsAlike steps) chain.entries (states_of steps read text c)) e (kept_here steps read opening text chain source block all.0))
+    let number : was.source ≡ source + 0 = sym (ap (λ (c : FoldedBlock State). c.source) e) ∙ (let n : source ≡ source + 0 = omega arith in n) in
+    (0, number, subst (λ (c : FoldedBlock State). AllZip (IsAlike steps) chain.entries (states_of steps read text c)) e (kept_here steps read opening text chain source block all.0))
 kept_among steps read opening text source (chain ∷ chains) (block ∷ blocks) was (suc i) all h e =
     let more = kept_among steps read opening text (source + 1) chains blocks was i all.1 (omega arith) e in
     let number : was.source ≡ source + suc more.0 = more.1 ∙ (let n : source + 1 + more.0 ≡ source + suc more.0 = omega arith in n) in
     (suc more.0, number, more.2)
 
 kept_tune : {State Cell Items : Type 0} (steps : Steps State Cell Items) (read : List ℕ → List Cell) (opening : State) (text : Text)
-    (chain : ChainView State Cell Items) (chains : List (ChainView State Cell Items)) (blocks : List Block) (was : Chain State) (i : ℕ)
+    (chain : ChainView State Cell Items) (chains : List (ChainView State Cell Items)) (blocks : List Block) (was : FoldedBlock State) (i : ℕ)
     → AllZip (IsChainOf steps read opening text) chains blocks
     → i < length (tune_chains 1 opening blocks) → get_or (tune_chains 1 opening blocks) i was ≡ was
     → AllZip (IsAlike steps) (entries_at (chain ∷ chains) was.source) (states_of steps read text was)
@@ -222,14 +222,14 @@ kept_tune steps read opening text chain chains blocks was i all h e =
 kept_all : {State Cell Items Defaults : Type 0} (steps : Steps State Cell Items) (rules : Rules State Cell Items Defaults)
     (opening : State) (text : Text) (chain : ChainView State Cell Items) (chains : List (ChainView State Cell Items)) (header : Option Block) (blocks : List Block)
     → IsHeaderChainOf steps rules text chain header → AllZip (IsChainOf steps rules.cells opening text) chains blocks
-    → (was : Chain State) → Contains (header_chain rules.header header ++ tune_chains 1 opening blocks) was
+    → (was : FoldedBlock State) → Contains (header_chain rules.header header ++ tune_chains 1 opening blocks) was
     → AllZip (IsAlike steps) (entries_at (chain ∷ chains) was.source) (states_of steps rules.cells text was)
 kept_all steps rules opening text chain chains None blocks own all was member =
     kept_tune steps rules.cells opening text chain chains blocks was member.0 all member.1 member.2
 kept_all {State = State} steps rules opening text chain chains (Some block) blocks own all was (zero, h, e) =
-    let number : 0 ≡ was.source = ap (λ (c : Chain State). c.source) e in
+    let number : 0 ≡ was.source = ap (λ (c : FoldedBlock State). c.source) e in
     subst (λ k. AllZip (IsAlike steps) (entries_at (chain ∷ chains) k) (states_of steps rules.cells text was)) number
-    (subst (λ (c : Chain State). AllZip (IsAlike steps) chain.entries (states_of steps rules.cells text c)) e (kept_here steps rules.cells rules.header text chain 0 block own))
+    (subst (λ (c : FoldedBlock State). AllZip (IsAlike steps) chain.entries (states_of steps rules.cells text c)) e (kept_here steps rules.cells rules.header text chain 0 block own))
 kept_all steps rules opening text chain chains (Some block) blocks own all was (suc i, h, e) =
     kept_tune steps rules.cells opening text chain chains blocks was i all (omega arith) e
 

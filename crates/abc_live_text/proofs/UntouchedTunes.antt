@@ -21,10 +21,10 @@ use Rattle.abc_lines.specs.Text.{Splice, Text, spliced}
 use Rattle.abc_live_cost.specs.Spot.{spots_of}
 use Rattle.abc_live_cost.specs.FreshCells.{is_fresh_after, is_untouched}
 use Rattle.abc_live_cost.specs.KeptState.{KeptState, following, both_kept, entry_of, kept_state_at, steps_over}
-use Rattle.abc_live_cost.specs.Layout.{Chain, chain_at, layout_of, tune_chains}
+use Rattle.abc_live_cost.specs.Layout.{FoldedBlock, chain_at, layout_of, tune_chains}
 use Rattle.abc_live_cost.specs.Origin.{Origin, address_of, addresses, addresses_from, origins}
 use Rattle.abc_live_cost.specs.Past.{Past, first_past, fresh_cells_of, pasts, rest}
-use Rattle.abc_live_cost.specs.Pieces.{are_one_tune, are_places, is_place, pieces_of}
+use Rattle.abc_live_cost.specs.Pieces.{are_one_tune, are_places, is_place, pasts_of_chain}
 use Rattle.abc_live_cost.proofs.Pieces.{pieces_decide}
 use Rattle.abc_live_cost.proofs.SameCells.{cells_of_chain}
 use Rattle.abc_live_cost.proofs.Words.{chains_lie_in_order}
@@ -131,7 +131,7 @@ first_from source place n (Some o) (cell ∷ cells) last e some =
 
 -- which old tune
 
-any_tune : {State : Type 0} (p : Chain State → Bool) (source : ℕ) (opening : State) (blocks : List Block) → list_any p (tune_chains source opening blocks) ≡ true
+any_tune : {State : Type 0} (p : FoldedBlock State → Bool) (source : ℕ) (opening : State) (blocks : List Block) → list_any p (tune_chains source opening blocks) ≡ true
     → (k : ℕ) × (block : Block) × (slice_get blocks k ≡ Some block) × (p (chain_at (source + k) opening block) ≡ true)
 any_tune p source opening [] e = absurd (cc)
 any_tune p source opening (block ∷ blocks) e = ⊎_elim
@@ -240,8 +240,8 @@ goes_along {State = State} {Cell = Cell} {Items = Items} steps rules text s head
     let tune = chain_at source opening block in
     let old : List (ChainView State Cell Items) = header ∷ tunes in
     let lies = chains_lie_in_order steps rules text in
-    let pieces = pieces_of read_cells new all tune in
-    let by : (Chain State → Bool) = λ was. are_places was.source 0 (length (spots_of steps read_cells text was)) pieces in
+    let pieces = pasts_of_chain read_cells new all tune in
+    let by : (FoldedBlock State → Bool) = λ was. are_places was.source 0 (length (spots_of steps read_cells text was)) pieces in
     let both = and_parts (fresh_cells_of steps read_cells new all tune == 0) (are_one_tune steps read_cells laid pieces) (pieces_decide steps read_cells laid s new tune lies inside ∙ untouched) in
     let fresh : fresh_cells_of steps read_cells new all tune ≡ 0 = eqb-true (fresh_cells_of steps read_cells new all tune) 0 both.0 in
     let none : steps_over steps opening (cells_over rows block) (kept_states_over old rows block) ≡ 0 =
