@@ -11,9 +11,10 @@ use Rattle.std.proofs.lemmas.List.Elements.{All-head}
 use Rattle.std.proofs.lemmas.Slice.Eq.{bytes_eq-Decides}
 use Rattle.std.specs.Char.{is_ascii_digit}
 use Rattle.abc_text.specs.Number.{IsNumber, number_of}
+use Rattle.abc_text.specs.Word.{begins_with}
 use Rattle.abc_fields.specs.declared.property.Property.{Property}
 use Rattle.abc_fields.specs.declared.property.Property.TheVariants.{Clef, Octave, Transpose, Other}
-use Rattle.abc_fields.specs.Property.{clef_name, octave_name, transpose_name, is_quoted, unquote, signed_number, begins_with, property_of}
+use Rattle.abc_fields.specs.Property.{clef_name, octave_name, transpose_name, is_quoted, unquote, signed_number, property_of}
 use Rattle.abc_fields.specs.Spelling.Property.{IsUnquoted, IsSignedNumber, Gives, BeginsWith, HasNoName, IsProperty}
 use Rattle.abc_fields.specs.Clef.{mark_of, clef_of}
 use Rattle.abc_text.proofs.Fronts.{last_split}

@@ -1,9 +1,9 @@
 -- The properties of the fields K: and V:. ABC 2.1 sections 4.6 and 7.1.
-use Rattle.std.specs.Prelude.{ℕ, ℤ, pos, neg_ℤ, ◌-◌, ◌==◌, ◌&&◌, nat_le, Bool, Option, Some, None, List, [], ◌∷◌, length, take}
+use Rattle.std.specs.Prelude.{ℕ, ℤ, pos, neg_ℤ, ◌-◌, ◌==◌, ◌&&◌, nat_le, Bool, Option, Some, None, List, [], ◌∷◌, length}
 use Rattle.std.specs.Prelude.{drop, codes, slice_index, slice_range, if◌then◌else◌}
 use Rattle.std.specs.Option.{option_map, option_map_or}
-use Rattle.std.specs.Str.{bytes_eq}
 use Rattle.abc_text.specs.Number.{number_of}
+use Rattle.abc_text.specs.Word.{begins_with}
 use Rattle.abc_fields.specs.declared.property.Property.{Property}
 use Rattle.abc_fields.specs.declared.property.Property.TheVariants.{Clef, Octave, Transpose, Other}
 use Rattle.abc_fields.specs.Clef.{clef_of, mark_of}
@@ -36,10 +36,6 @@ signed_number (b ∷ bs) =
     if b == minus_sign then option_map (λ n. neg_ℤ (pos n)) (number_of bs)
     else (if b == plus_sign then option_map pos (number_of bs)
     else option_map pos (number_of (b ∷ bs)))
-
--- A word begins with a name.
-abbrev pub begins_with : List ℕ → List ℕ → Bool
-begins_with name word = bytes_eq (take (length name) word) name
 
 -- The property that a word sets; none if its number is refused.
 unfoldable pub property_of : List ℕ → Option Property

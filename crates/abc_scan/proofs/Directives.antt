@@ -10,14 +10,14 @@ use Rattle.std.proofs.lemmas.Slice.Eq.{bytes_eq-Decides}
 use Rattle.abc_text.specs.Blank.{is_blank}
 use Rattle.abc_text.specs.Digit.{is_digit}
 use Rattle.abc_text.specs.Number.{IsNumber}
-use Rattle.abc_text.specs.Word.{leading_blanks}
+use Rattle.abc_text.specs.Word.{begins_with, leading_blanks}
 use Rattle.abc_text.proofs.Decimals.{digit_range}
 use Rattle.abc_text.proofs.Fronts.{front_exact, front_none, front_passes, drop_exact}
 use Rattle.abc_scan.specs.declared.directive.Directive.{Directive}
 use Rattle.abc_scan.specs.declared.directive.Directive.TheVariants as directives
 use Rattle.abc_scan.specs.declared.directive.Reach.{Reach}
 use Rattle.abc_scan.specs.declared.directive.Reach.TheVariants.{Not, Octave, Pitch}
-use Rattle.abc_scan.specs.Directive.{IsGap, IsEnd, IsProgramLine, name_of, IsReachLine, IsDirective, IsDirectiveLine, begins_with, after_gap, is_comment_or_none, directive_at_end, program_by}
+use Rattle.abc_scan.specs.Directive.{IsGap, IsEnd, IsProgramLine, name_of, IsReachLine, IsDirective, IsDirectiveLine, after_gap, is_comment_or_none, directive_at_end, program_by}
 use Rattle.abc_scan.specs.Directive.{program_directive, midi_directive, reach_directive, directive_of, is_directive, ReadsDirectives}
 use Rattle.abc_scan.specs.Number.{number_at}
 use Rattle.abc_scan.proofs.Numbers.{number_exact, number_sound}

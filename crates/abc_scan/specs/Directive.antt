@@ -1,10 +1,9 @@
 -- Directives. ABC 2.1 section 11: it names `%%propagate-accidentals`; `%%MIDI program` is an extension of abc2midi.
-use Rattle.std.specs.Prelude.{◌≡◌, ◌⊎◌, ◌↔◌, ◌≤◌, ℕ, Bool, true, Option, Some, None, List, [], ◌∷◌, ◌++◌, codes, length, take, drop}
+use Rattle.std.specs.Prelude.{◌≡◌, ◌⊎◌, ◌↔◌, ◌≤◌, ℕ, Bool, true, Option, Some, None, List, [], ◌∷◌, ◌++◌, codes, length, drop}
 use Rattle.std.specs.Prelude.{is_some, if◌then◌else◌, ◌==◌}
-use Rattle.std.specs.Str.{bytes_eq}
 use Rattle.abc_text.specs.Blank.{AreBlanks}
 use Rattle.abc_text.specs.Number.{IsNumber}
-use Rattle.abc_text.specs.Word.{leading_blanks}
+use Rattle.abc_text.specs.Word.{begins_with, leading_blanks}
 use Rattle.abc_scan.specs.declared.directive.Directive.{Directive}
 use Rattle.abc_scan.specs.declared.directive.Directive.TheVariants as directives
 use Rattle.abc_scan.specs.declared.directive.Reach.{Reach}
@@ -58,10 +57,6 @@ IsDirective text (directives.Reach reach) = IsReachLine text reach
 -- A line that is a directive.
 abbrev pub IsDirectiveLine : List ℕ → Type 0
 IsDirectiveLine text = (directive : Directive) × IsDirective text directive
-
--- A text begins with a word.
-abbrev pub begins_with : List ℕ → List ℕ → Bool
-begins_with word text = bytes_eq (take (length word) text) word
 
 -- The reading of a text after its leading blanks; none if it has no leading blank.
 abbrev pub after_gap : (List ℕ → Option Directive) → List ℕ → Option Directive

@@ -1,7 +1,8 @@
 -- Words, which are separated by blanks.
 use Rattle.std.specs.Prelude.{◌≡◌, ℕ, ◌+◌, ◌<◌, ◌⊎◌, Bool, true, false, nat_lt, Option, Some, None, List, [], ◌∷◌, ◌++◌, length}
-use Rattle.std.specs.Prelude.{drop, if◌then◌else◌}
+use Rattle.std.specs.Prelude.{drop, if◌then◌else◌, take}
 use Rattle.std.specs.List.{All, AllPass, filter, position_or_len, prefix_len, slice_split}
+use Rattle.std.specs.Str.{bytes_eq}
 use Rattle.abc_text.specs.Blank.{is_blank}
 
 -- A word has at least one byte.
@@ -25,6 +26,10 @@ pub record IsFirstWord (text word following : List ℕ) : Type 0 where
 abbrev pub AreWords : List ℕ → List (List ℕ) → Type 0
 AreWords text [] = AllPass is_blank text
 AreWords text (word ∷ words) = (following : List ℕ) × IsFirstWord text word following × AreWords following words
+
+-- A text begins with a word.
+abbrev pub begins_with : List ℕ → List ℕ → Bool
+begins_with word text = bytes_eq (take (length word) text) word
 
 -- The number of blanks at the front of a text.
 abbrev pub leading_blanks : List ℕ → ℕ
