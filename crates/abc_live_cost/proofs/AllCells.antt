@@ -3,12 +3,13 @@ use Rattle.std.proofs.Common.{◌≡◌, ℕ, zero, suc, ◌+◌, ◌<◌, ◌�
 use Rattle.std.proofs.Common.{slice_get, None, option_map, find, flat_map, refl, sym, ap, ◌∙◌, arith, zero-add, add-zero}
 use Rattle.std.proofs.lemmas.Bool.{eq-eqb, ne_eqb, and_left, and_right}
 use Rattle.std.proofs.lemmas.List.{map-append}
+use Rattle.std.specs.Option.{option_flatten}
 use Rattle.abc_lines.specs.Text.{Text}
 use Rattle.abc_tune_compiler.specs.Tune.{lines_in}
 use Rattle.abc_fold.specs.Steps.{Steps}
 use Rattle.abc_live_cost.specs.Layout.{FoldedBlock}
 use Rattle.abc_live_cost.specs.Spot.{Spot, spot_at, state_after, spots_in_line, spots_along, spots_of}
-use Rattle.abc_live_cost.specs.Past.{Past, past_of, pasts_in_line, pasts_along, flat_option, past_at}
+use Rattle.abc_live_cost.specs.Past.{Past, past_of, pasts_in_line, pasts_along, past_at}
 use Rattle.abc_live_cost.proofs.Lists.{find_after, find_before}
 
 pub record Full (State : Type 0) : Type 0 where
@@ -76,7 +77,7 @@ other_line next line nth source place state (cell ∷ cells) n k h =
     simp no (other_line next line (nth + 1) source (place + 1) (next state cell) cells n k h)
 
 pub in_line : {State Cell : Type 0} (next : State → Cell → State) (line nth source place : ℕ) (state : State) (cells : List Cell)
-    (k : ℕ) → option_map as_past (find (is_at line (nth + k)) (full_line next line nth source place state cells)) ≡ flat_option (slice_get (pasts_in_line next source place state cells) k)
+    (k : ℕ) → option_map as_past (find (is_at line (nth + k)) (full_line next line nth source place state cells)) ≡ option_flatten (slice_get (pasts_in_line next source place state cells) k)
 in_line next line nth source place state [] k = refl
 in_line next line nth source place state (cell ∷ cells) zero =
     let a : (line == line) ≡ true = eq-eqb line line refl in

@@ -2,13 +2,14 @@
 use Rattle.std.proofs.Common.{◌≡◌, ℕ, suc, ◌+◌, ◌≤◌, cond, Bool, List, [], ◌∷◌, drop, length, slice_get, Option, sum_by, count_by}
 use Rattle.std.proofs.Common.{flat_map, refl, sym, ap, ◌∙◌, arith, zero-add}
 use Rattle.std.proofs.lemmas.List.Sums.{sum_by-append, sum_by-cons}
+use Rattle.std.specs.Option.{option_flatten}
 use Rattle.abc_lines.specs.Text.{Text, Splice, spliced}
 use Rattle.abc_tune_compiler.specs.Tune.{lines_in}
 use Rattle.abc_fold.specs.Steps.{Steps}
 use Rattle.abc_live_cost.specs.Layout.{Layout, layout_of, FoldedBlock, chains_of, LiesInOrder}
 use Rattle.abc_live_cost.specs.Spot.{Spot, spot_at, state_after, spots_in_line, spots_along, spots_of}
 use Rattle.abc_live_cost.specs.FreshCells.{is_fresh_after, is_fresh}
-use Rattle.abc_live_cost.specs.Past.{Past, pasts, flat_option, row_at, past_at, entry_of_past, first_past, first_row, rest}
+use Rattle.abc_live_cost.specs.Past.{Past, pasts, row_at, past_at, entry_of_past, first_past, first_row, rest}
 use Rattle.abc_live_cost.specs.Past.{fresh_cells_in_line, fresh_cells_along, fresh_cells_of}
 use Rattle.abc_live_cost.specs.Laws.{RowsCountFreshCells, EditsCount}
 use Rattle.abc_live_cost.proofs.Words.{chains_lie_in_order}
@@ -19,7 +20,7 @@ use Rattle.abc_live_cost.proofs.Rows.{rows_agree}
 abbrev pub by_look_up : {State Cell Items : Type 0} → Steps State Cell Items → (List ℕ → List Cell) → (ℕ → ℕ → Option (Past State)) → Spot State → Bool
 by_look_up steps read past spot = is_fresh_after steps.alike spot.entered (entry_of_past (past spot.line spot.nth))
 
-pub first_get : {A : Type 0} (options : List (Option A)) → flat_option (slice_get options 0) ≡ first_past options
+pub first_get : {A : Type 0} (options : List (Option A)) → option_flatten (slice_get options 0) ≡ first_past options
 first_get [] = refl
 first_get (a ∷ more) = refl
 
@@ -37,13 +38,13 @@ first_row_at (row ∷ rows) = refl
 
 pub count_line : {State Cell Items : Type 0} (steps : Steps State Cell Items) (read : List ℕ → List Cell)
     (past : ℕ → ℕ → Option (Past State)) (line nth : ℕ) (state : State) (cells : List Cell) (row : List (Option (Past State)))
-    → ((k : ℕ) → past line (nth + k) ≡ flat_option (slice_get row k))
+    → ((k : ℕ) → past line (nth + k) ≡ option_flatten (slice_get row k))
     → fresh_cells_in_line steps state cells row ≡ count_by (by_look_up steps read past) (spots_in_line steps.next line nth state cells)
 count_line steps read past line nth state [] row h = refl
 count_line {State = State} steps read past line nth state (cell ∷ cells) row h =
     let here : first_past row ≡ past line nth = sym (ap (λ m. past line m) (omega arith) ∙ (h 0 ∙ first_get row)) in
     let more : fresh_cells_in_line steps (steps.next state cell) cells (rest row) ≡ count_by (by_look_up steps read past) (spots_in_line steps.next line (nth + 1) (steps.next state cell) cells) =
-    count_line steps read past line (nth + 1) (steps.next state cell) cells (rest row) (λ k. ap (λ m. past line m) (omega arith) ∙ (h (suc k) ∙ ap flat_option (sym (rest_get row k)))) in
+    count_line steps read past line (nth + 1) (steps.next state cell) cells (rest row) (λ k. ap (λ m. past line m) (omega arith) ∙ (h (suc k) ∙ ap option_flatten (sym (rest_get row k)))) in
     (λ i. cond (is_fresh_after steps.alike state (entry_of_past (here i))) 1 0 + more i)
     ∙ sym (sum_by-cons (λ spot. cond (by_look_up steps read past spot) 1 0) (spot_at line nth state) (spots_in_line steps.next line (nth + 1) (steps.next state cell) cells))
 
@@ -55,11 +56,11 @@ count_along steps read past line state (bytes ∷ lines) rows h =
     let cells = read bytes in
     let here : fresh_cells_in_line steps state cells (first_row rows) ≡ count_by (by_look_up steps read past) (spots_in_line steps.next line 0 state cells) =
     count_line steps read past line 0 state cells (first_row rows)
-    (λ k. ap (λ m. past m (0 + k)) (omega arith) ∙ (ap (λ m. past (line + 0) m) (zero-add k) ∙ (h 0 k ∙ ap (λ row. flat_option (slice_get row k)) (first_row_at rows)))) in
+    (λ k. ap (λ m. past m (0 + k)) (omega arith) ∙ (ap (λ m. past (line + 0) m) (zero-add k) ∙ (h 0 k ∙ ap (λ row. option_flatten (slice_get row k)) (first_row_at rows)))) in
     let more : fresh_cells_along steps read (state_after steps.next state cells) lines (rest rows)
     ≡ count_by (by_look_up steps read past) (spots_along steps read (line + 1) (state_after steps.next state cells) lines) =
     count_along steps read past (line + 1) (state_after steps.next state cells) lines (rest rows)
-    (λ i k. ap (λ m. past m k) (omega arith) ∙ (h (suc i) k ∙ ap (λ row. flat_option (slice_get row k)) (sym (rest_row rows i)))) in
+    (λ i k. ap (λ m. past m k) (omega arith) ∙ (h (suc i) k ∙ ap (λ row. option_flatten (slice_get row k)) (sym (rest_row rows i)))) in
     (λ i. here i + more i)
     ∙ sym (sum_by-append (λ spot. cond (by_look_up steps read past spot) 1 0) (spots_in_line steps.next line 0 state cells)
     (spots_along steps read (line + 1) (state_after steps.next state cells) lines))
@@ -71,7 +72,7 @@ count_chains steps read text rows [] = refl
 count_chains steps read text rows (chain ∷ chains) =
     let here : fresh_cells_of steps read text rows chain ≡ count_by (by_look_up steps read (past_at rows)) (spots_of steps read text chain) =
     count_along steps read (past_at rows) chain.block.from chain.opening (lines_in text chain.block) (drop chain.block.from rows)
-    (λ i k. ap (λ row. flat_option (slice_get row k)) (sym (row_drop chain.block.from rows i))) in
+    (λ i k. ap (λ row. option_flatten (slice_get row k)) (sym (row_drop chain.block.from rows i))) in
     sum_by-cons (fresh_cells_of steps read text rows) chain chains
     ∙ ((λ i. here i + count_chains steps read text rows chains i)
     ∙ sym (sum_by-append (λ spot. cond (by_look_up steps read (past_at rows) spot) 1 0) (spots_of steps read text chain) (flat_map (spots_of steps read text) chains)))
@@ -94,6 +95,6 @@ pub fresh_of_chain : {State Cell Items : Type 0} (steps : Steps State Cell Items
     → fresh_cells_of steps read text (pasts steps read old s) chain ≡ count_by (is_fresh steps read old s) (spots_of steps read text chain)
 fresh_of_chain steps read old s text chain h inside =
     count_along steps read (past_at (pasts steps read old s)) chain.block.from chain.opening (lines_in text chain.block)
-    (drop chain.block.from (pasts steps read old s)) (λ i k. ap (λ row. flat_option (slice_get row k)) (sym (row_drop chain.block.from (pasts steps read old s) i)))
+    (drop chain.block.from (pasts steps read old s)) (λ i k. ap (λ row. option_flatten (slice_get row k)) (sym (row_drop chain.block.from (pasts steps read old s) i)))
     ∙ counted_alike (by_look_up steps read (past_at (pasts steps read old s))) (is_fresh steps read old s)
     (spots_of steps read text chain) (λ spot. ap (is_fresh_after steps.alike spot.entered) (rows_agree steps read old s spot.line spot.nth h inside))

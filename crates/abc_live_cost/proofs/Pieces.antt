@@ -5,6 +5,7 @@ use Rattle.std.proofs.Common.{ap, ◌∙◌, subst, ⊎_elim, arith, add-zero, z
 use Rattle.std.specs.List.{list_any}
 use Rattle.std.proofs.lemmas.Bool.{cases_Bool, eq-eqb, eqb-true, and_from, and_parts, false_from_ne_true}
 use Rattle.std.proofs.lemmas.List.{map-append, length-map}
+use Rattle.std.specs.Option.{option_flatten}
 use Rattle.abc_lines.specs.Text.{Text, Splice}
 use Rattle.abc_tune_compiler.specs.Tune.{lines_in}
 use Rattle.abc_book.specs.declared.block.Block.{Block}
@@ -12,7 +13,7 @@ use Rattle.abc_fold.specs.Steps.{Steps}
 use Rattle.abc_live_cost.specs.Layout.{Layout, FoldedBlock, header_chain, tune_chains, chains_of, LiesInOrder}
 use Rattle.abc_live_cost.specs.Spot.{Spot, state_after, spots_in_line, spots_along, spots_of}
 use Rattle.abc_live_cost.specs.FreshCells.{old_line, is_line, is_carried_from, are_carried_from}
-use Rattle.abc_live_cost.specs.Past.{Past, rows_of, pasts, flat_option, past_at, first_past, first_row, rest}
+use Rattle.abc_live_cost.specs.Past.{Past, rows_of, pasts, past_at, first_past, first_row, rest}
 use Rattle.abc_live_cost.specs.Pieces.{pasts_beside, pasts_over, pasts_of_chain, is_place, are_places}
 use Rattle.abc_live_cost.specs.Laws.{PiecesDecide}
 use Rattle.abc_live_cost.proofs.Lists.{row_drop}
@@ -29,12 +30,12 @@ look past spot = past spot.line spot.nth
 
 pieces_line : {State Cell : Type 0} (next : State → Cell → State) (past : ℕ → ℕ → Option (Past State)) (line nth : ℕ)
     (state : State) (cells : List Cell) (row : List (Option (Past State)))
-    → ((k : ℕ) → past line (nth + k) ≡ flat_option (slice_get row k)) → pasts_beside cells row ≡ map (look past) (spots_in_line next line nth state cells)
+    → ((k : ℕ) → past line (nth + k) ≡ option_flatten (slice_get row k)) → pasts_beside cells row ≡ map (look past) (spots_in_line next line nth state cells)
 pieces_line next past line nth state [] row h = refl
 pieces_line next past line nth state (cell ∷ cells) row h =
     let here : first_past row ≡ past line nth = sym (ap (λ m. past line m) (omega arith) ∙ (h 0 ∙ first_get row)) in
     let more : pasts_beside cells (rest row) ≡ map (look past) (spots_in_line next line (nth + 1) (next state cell) cells) =
-    pieces_line next past line (nth + 1) (next state cell) cells (rest row) (λ k. ap (λ m. past line m) (omega arith) ∙ (h (suc k) ∙ ap flat_option (sym (rest_get row k)))) in
+    pieces_line next past line (nth + 1) (next state cell) cells (rest row) (λ k. ap (λ m. past line m) (omega arith) ∙ (h (suc k) ∙ ap option_flatten (sym (rest_get row k)))) in
     λ i. here i ∷ more i
 
 pieces_along : {State Cell Items : Type 0} (steps : Steps State Cell Items) (read : List ℕ → List Cell)
@@ -45,17 +46,17 @@ pieces_along steps read past line state (bytes ∷ lines) rows h =
     let cells = read bytes in
     let here : pasts_beside cells (first_row rows) ≡ map (look past) (spots_in_line steps.next line 0 state cells) =
     pieces_line steps.next past line 0 state cells (first_row rows)
-    (λ k. ap (λ m. past m (0 + k)) (omega arith) ∙ (ap (λ m. past (line + 0) m) (zero-add k) ∙ (h 0 k ∙ ap (λ row. flat_option (slice_get row k)) (first_row_at rows)))) in
+    (λ k. ap (λ m. past m (0 + k)) (omega arith) ∙ (ap (λ m. past (line + 0) m) (zero-add k) ∙ (h 0 k ∙ ap (λ row. option_flatten (slice_get row k)) (first_row_at rows)))) in
     let more : pasts_over read lines (rest rows) ≡ map (look past) (spots_along steps read (line + 1) (state_after steps.next state cells) lines) =
     pieces_along steps read past (line + 1) (state_after steps.next state cells) lines (rest rows)
-    (λ i k. ap (λ m. past m k) (omega arith) ∙ (h (suc i) k ∙ ap (λ row. flat_option (slice_get row k)) (sym (rest_row rows i)))) in
+    (λ i k. ap (λ m. past m k) (omega arith) ∙ (h (suc i) k ∙ ap (λ row. option_flatten (slice_get row k)) (sym (rest_row rows i)))) in
     (λ i. here i ++ more i)
     ∙ sym (map-append (look past) (spots_in_line steps.next line 0 state cells) (spots_along steps read (line + 1) (state_after steps.next state cells) lines))
 
 pub pieces_are : {State Cell Items : Type 0} (steps : Steps State Cell Items) (read : List ℕ → List Cell) (text : Text)
     (rows : List (List (Option (Past State)))) (chain : FoldedBlock State) → pasts_of_chain read text rows chain ≡ map (look (past_at rows)) (spots_of steps read text chain)
 pieces_are steps read text rows chain = pieces_along steps read (past_at rows) chain.block.from chain.opening
-    (lines_in text chain.block) (drop chain.block.from rows) (λ i k. ap (λ row. flat_option (slice_get row k)) (sym (row_drop chain.block.from rows i)))
+    (lines_in text chain.block) (drop chain.block.from rows) (λ i k. ap (λ row. option_flatten (slice_get row k)) (sym (row_drop chain.block.from rows i)))
 
 -- cells of one chain, one after another, each in a list
 

@@ -4,19 +4,20 @@ use Rattle.std.proofs.Common.{slice_get, nat_lt, Option, Some, None, option_map,
 use Rattle.std.proofs.Common.{◌∙◌, ⊎_elim, arith, length-append, zero-add}
 use Rattle.std.proofs.lemmas.Bool.{cases_lt, lt-ltb, le-ltb}
 use Rattle.std.proofs.lemmas.List.{length-take, length-drop, length-map}
+use Rattle.std.specs.Option.{option_flatten}
 use Rattle.abc_lines.specs.Text.{Text, Splice}
 use Rattle.abc_tune_compiler.specs.Tune.{lines_in}
 use Rattle.abc_fold.specs.Steps.{Steps}
 use Rattle.abc_live_cost.specs.Layout.{Layout, FoldedBlock, chains_of, ChainsRise, LiesInOrder}
 use Rattle.abc_live_cost.specs.Spot.{Spot, state_after, is_spot_at, entry_at}
 use Rattle.abc_live_cost.specs.FreshCells.{old_line}
-use Rattle.abc_live_cost.specs.Past.{Past, past_of, no_pasts, pasts_along, lines_between, rows_from, rows_of, pasts, flat_option}
+use Rattle.abc_live_cost.specs.Past.{Past, past_of, no_pasts, pasts_along, lines_between, rows_from, rows_of, pasts}
 use Rattle.abc_live_cost.specs.Past.{row_at, past_at, entry_of_past}
 use Rattle.abc_live_cost.specs.Laws.{RowsAgree}
 use Rattle.abc_live_cost.proofs.Lists.{find-map, find_after, find_before, row_before, row_after, row_take, row_drop}
 use Rattle.abc_live_cost.proofs.AllCells.{Full, full_of, as_past, as_spot, is_at, all_spots, before_lines, after_lines, in_lines}
 
-none_in_line : {A C : Type 0} (cells : List C) (k : ℕ) → flat_option (slice_get (map (λ (_ : C). let none : Option A = None in none) cells) k) ≡ None
+none_in_line : {A C : Type 0} (cells : List C) (k : ℕ) → option_flatten (slice_get (map (λ (_ : C). let none : Option A = None in none) cells) k) ≡ None
 none_in_line [] k = refl
 none_in_line (cell ∷ cells) zero = refl
 none_in_line {A = A} (cell ∷ cells) (suc k) = none_in_line {A = A} cells k
@@ -89,7 +90,7 @@ in_chains {State = State} steps read text at (chain ∷ chains) i k h =
     find_after (is_at (at + i) k) (full_of steps read text chain) flat (before_lines steps read chain.block.from chain.source 0 chain.opening lines (at + i) k l)
     ∙ before_chains steps read text chain.block.to chains (length text) (at + i) k h.2 (omega arith) in
     ap (option_map as_past) e
-    ∙ sym (ap (λ row. flat_option (slice_get row k)) (row_before gap (own ++ others) i (omega arith)) ∙ none_in_rows steps read (lines_between text at chain.block.from) i k))
+    ∙ sym (ap (λ row. option_flatten (slice_get row k)) (row_before gap (own ++ others) i (omega arith)) ∙ none_in_rows steps read (lines_between text at chain.block.from) i k))
     (λ (l : chain.block.from ≤ at + i).
     let j = at + i - chain.block.from in
     let here : chain.block.from + j ≡ at + i = omega arith in
@@ -99,7 +100,7 @@ in_chains {State = State} steps read text at (chain ∷ chains) i k h =
     ap (option_map as_past) (find_before (is_at (at + i) k) (full_of steps read text chain) flat (before_chains steps read text chain.block.to chains (length text) (at + i) k h.2 m))
     ∙ (ap (λ n. option_map as_past (find (is_at n k) (full_of steps read text chain))) (sym here)
     ∙ (in_lines steps read chain.block.from chain.source 0 chain.opening lines j k
-    ∙ sym (ap (λ row. flat_option (slice_get row k)) (ap (row_at (gap ++ (own ++ others))) (sym there) ∙ (row_after gap (own ++ others) j ∙ row_before own others j (omega arith)))))))
+    ∙ sym (ap (λ row. option_flatten (slice_get row k)) (ap (row_at (gap ++ (own ++ others))) (sym there) ∙ (row_after gap (own ++ others) j ∙ row_before own others j (omega arith)))))))
     (λ (m : chain.block.to ≤ at + i).
     let q = at + i - chain.block.to in
     let further : chain.block.to + q ≡ at + i = omega arith in
@@ -107,7 +108,7 @@ in_chains {State = State} steps read text at (chain ∷ chains) i k h =
     ap (option_map as_past) (find_after (is_at (at + i) k) (full_of steps read text chain) flat (after_lines steps read chain.block.from chain.source 0 chain.opening lines (at + i) k (omega arith)))
     ∙ (ap (λ n. option_map as_past (find (is_at n k) flat)) (sym further)
     ∙ (in_chains steps read text chain.block.to chains q k h.2
-    ∙ sym (ap (λ row. flat_option (slice_get row k)) (ap (row_at (gap ++ (own ++ others))) (sym there)
+    ∙ sym (ap (λ row. option_flatten (slice_get row k)) (ap (row_at (gap ++ (own ++ others))) (sym there)
     ∙ (row_after gap (own ++ others) j ∙ (ap (row_at (own ++ others)) (sym following) ∙ row_after own others q)))))))
     (cases_lt (at + i) chain.block.to))
     (cases_lt (at + i) chain.block.from)
@@ -148,7 +149,7 @@ carried_rows steps read old s line k h inside =
     ⊎_elim
     (λ (l : line < s.at).
     let yes : nat_lt line s.at ≡ true = lt-ltb line s.at l in
-    simp yes (ap (λ row. flat_option (slice_get row k)) (row_before front (fresh ++ tail) line (omega arith) ∙ row_take s.at rows line l)))
+    simp yes (ap (λ row. option_flatten (slice_get row k)) (row_before front (fresh ++ tail) line (omega arith) ∙ row_take s.at rows line l)))
     (λ (l : s.at ≤ line).
     let no : nat_lt line s.at ≡ false = le-ltb line s.at l in
     let j = line - s.at in
@@ -157,13 +158,13 @@ carried_rows steps read old s line k h inside =
     ⊎_elim
     (λ (m : line < s.at + length s.lines).
     let yes : nat_lt line (s.at + length s.lines) ≡ true = lt-ltb line (s.at + length s.lines) m in
-    simp (no, yes) (ap (λ row. flat_option (slice_get row k)) (step ∙ row_before fresh tail j (omega arith)) ∙ none_in_rows steps read s.lines j k))
+    simp (no, yes) (ap (λ row. option_flatten (slice_get row k)) (step ∙ row_before fresh tail j (omega arith)) ∙ none_in_rows steps read s.lines j k))
     (λ (m : s.at + length s.lines ≤ line).
     let no' : nat_lt line (s.at + length s.lines) ≡ false = le-ltb line (s.at + length s.lines) m in
     let q = j - length s.lines in
     let following : length fresh + q ≡ j = omega arith in
     let was : s.at + s.removed + q ≡ line - length s.lines + s.removed = omega arith in
-    simp (no, no') (ap (λ row. flat_option (slice_get row k))
+    simp (no, no') (ap (λ row. option_flatten (slice_get row k))
     (step ∙ (ap (row_at (fresh ++ tail)) (sym following) ∙ (row_after fresh tail q ∙ (row_drop (s.at + s.removed) rows q ∙ ap (row_at rows) was))))))
     (cases_lt line (s.at + length s.lines)))
     (cases_lt line s.at)

@@ -1,7 +1,7 @@
 -- The rows along which code walks: for each line, for each of its cells, what it was in the old text. Not in ABC 2.1.
 use Rattle.std.specs.Prelude.{ℕ, zero, suc, ◌+◌, ◌-◌, cond, List, [], ◌∷◌, ◌++◌, take, drop, map, length, slice_get, Option, Some}
 use Rattle.std.specs.Prelude.{None}
-use Rattle.std.specs.Option.{option_map}
+use Rattle.std.specs.Option.{option_flatten, option_map}
 use Rattle.abc_lines.specs.Text.{Splice, Text}
 use Rattle.abc_tune_compiler.specs.Tune.{lines_in}
 use Rattle.abc_live_cost.specs.Spot.{state_after}
@@ -62,10 +62,6 @@ abbrev pub pasts : {State Cell Items : Type 0} → Steps State Cell Items → (L
 pasts steps read old s = take s.at (rows_of steps read old)
     ++ (map (no_pasts steps read) s.lines ++ drop (s.at + s.removed) (rows_of steps read old))
 
-abbrev pub flat_option : {A : Type 0} → Option (Option A) → Option A
-flat_option None = None
-flat_option (Some a) = a
-
 -- The row of a line, empty if there is none.
 abbrev pub row_at : {A : Type 0} → List (List A) → ℕ → List A
 row_at [] line = []
@@ -74,7 +70,7 @@ row_at (row ∷ rows) (suc line) = row_at rows line
 
 -- The nth past of a line.
 abbrev pub past_at : {State : Type 0} → List (List (Option (Past State))) → ℕ → ℕ → Option (Past State)
-past_at rows line nth = flat_option (slice_get (row_at rows line) nth)
+past_at rows line nth = option_flatten (slice_get (row_at rows line) nth)
 
 abbrev pub entry_of_past : {State : Type 0} → Option (Past State) → Option State
 entry_of_past past = option_map (λ was. was.entered) past

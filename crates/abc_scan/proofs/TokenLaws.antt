@@ -3,7 +3,7 @@ use Rattle.std.proofs.Common.{◌≡◌, ℕ, zero, suc, ◌<◌, ◌≤◌, Boo
 use Rattle.std.proofs.Common.{length-take-le}
 use Rattle.std.specs.Prelude.{IfSome, false}
 use Rattle.std.specs.List.{AllPass}
-use Rattle.std.specs.Option.{option_map}
+use Rattle.std.specs.Option.{option_map, option_or}
 use Rattle.std.proofs.Math.Seq.{drop-append_seam}
 use Rattle.std.proofs.lemmas.List.{take-append-le}
 use Rattle.std.proofs.lemmas.Bool.{cases_lt, false≢true}
@@ -28,7 +28,7 @@ use Rattle.abc_scan.specs.Line.{CutsEachText, CutsOnce}
 use Rattle.abc_scan.specs.NoEffect.{IsExtraSpace, extra_space_at}
 use Rattle.abc_scan.specs.Note.{IsNote, IsRest, note_at, rest_at}
 use Rattle.abc_scan.specs.Start.{start_of}
-use Rattle.abc_scan.specs.Token.{Spells, line_kinds, or_else, dynamic_or_ignored, enclosed_token, reading_by, reading_at}
+use Rattle.abc_scan.specs.Token.{Spells, line_kinds, dynamic_or_ignored, enclosed_token, reading_by, reading_at}
 use Rattle.abc_scan.specs.Tuplet.{IsTuplet, tuplet_at}
 use Rattle.abc_scan.proofs.Bars.{bar_longest, bar_sound}
 use Rattle.abc_scan.proofs.Brokens.{broken_longest, broken_sound}
@@ -46,8 +46,8 @@ use Rattle.abc_scan.proofs.Starts.{delimited_starts, silent_by, Known, start_kno
 use Rattle.abc_scan.proofs.Tuplets.{tuplet_longest, tuplet_sound}
 
 -- the first of two readings
-finds-first : (o other : Option (TokenKind × ℕ)) (front : List ℕ) (kind : TokenKind) → Finds o front kind → Finds (or_else o other) front kind
-finds-first o other front kind f = record { found = f.found; size = f.size; is_read = ap (λ x. or_else x other) f.is_read; long = f.long; same = f.same }
+finds-first : (o other : Option (TokenKind × ℕ)) (front : List ℕ) (kind : TokenKind) → Finds o front kind → Finds (option_or o other) front kind
+finds-first o other front kind f = record { found = f.found; size = f.size; is_read = ap (λ x. option_or x other) f.is_read; long = f.long; same = f.same }
 
 -- a chord that begins as an ending is longer
 following_first : (size : ℕ) (written : List ℕ) → AllPass is_range_byte written → AllPass is_range_byte (drop 1 (take size (91 ∷ written)))
@@ -74,7 +74,7 @@ chord_longer front rest written chord size spelled bytes is = ⊎_elim
 -- an ending that begins with `[` is read if no chord is there
 bracket_finds : (after_bar : Bool) (front rest written : List ℕ) (passes : Option ℕ) (o : Option (Chord × ℕ)) → IfSome o (IsSpelled IsChord (front ++ rest)) → front ≡ 91 ∷ written
     → AllPass is_range_byte written → Finds (ending_at after_bar (front ++ rest)) front passes
-    → Finds (or_else (as_kind kinds.Chord o) (as_kind kinds.Ending (ending_at after_bar (front ++ rest)))) front (kinds.Ending passes)
+    → Finds (option_or (as_kind kinds.Chord o) (as_kind kinds.Ending (ending_at after_bar (front ++ rest)))) front (kinds.Ending passes)
 bracket_finds after_bar front rest written passes None chord spelled bytes f = finds-wrapped kinds.Ending (ending_at after_bar (front ++ rest)) front passes f
 bracket_finds after_bar front rest written passes (Some r) chord spelled bytes f =
     let longer = chord_longer front rest written r.0 r.1 spelled bytes chord.1 in
@@ -82,7 +82,7 @@ bracket_finds after_bar front rest written passes (Some r) chord spelled bytes f
 
 -- a tuplet is longer than its `(`
 parenthesis_finds : (text front : List ℕ) (o : Option (Tuplet × ℕ)) → IfSome o (IsSpelled IsTuplet text) → length front ≡ 1
-    → Finds (or_else (as_kind kinds.Tuplet o) (Some (kinds.NoEffect, 1))) front kinds.NoEffect
+    → Finds (option_or (as_kind kinds.Tuplet o) (Some (kinds.NoEffect, 1))) front kinds.NoEffect
 parenthesis_finds text front None is one = finds-one kinds.NoEffect front one
 parenthesis_finds text front (Some r) is one =
     let p = is.1.p_is.some in
@@ -175,11 +175,11 @@ module _ (after_bar : Bool) (b : ℕ) (rest : List ℕ) where
       → AreTokens (as_kind wrap o)
   is_kind Is wrap o spelled h = wrapped-sound Is (Spells after_bar) wrap here o spelled h
 
-  bracket_sound : (o : Option (Chord × ℕ)) → IfSome o (IsSpelled IsChord here) → AreTokens (or_else (as_kind kinds.Chord o) (as_kind kinds.Ending (ending_at after_bar here)))
+  bracket_sound : (o : Option (Chord × ℕ)) → IfSome o (IsSpelled IsChord here) → AreTokens (option_or (as_kind kinds.Chord o) (as_kind kinds.Ending (ending_at after_bar here)))
   bracket_sound None is = is_kind (IsEnding after_bar) kinds.Ending (ending_at after_bar here) (λ own x h. h) (ending_sound after_bar here)
   bracket_sound (Some chord) is = is
 
-  parenthesis_sound : (o : Option (Tuplet × ℕ)) → b ≡ 40 → IfSome o (IsSpelled IsTuplet here) → AreTokens (or_else (as_kind kinds.Tuplet o) (Some (kinds.NoEffect, 1)))
+  parenthesis_sound : (o : Option (Tuplet × ℕ)) → b ≡ 40 → IfSome o (IsSpelled IsTuplet here) → AreTokens (option_or (as_kind kinds.Tuplet o) (Some (kinds.NoEffect, 1)))
   parenthesis_sound None known is = (one_front b rest, (inr (inr (record { byte = 40; spelling = ap (λ x. x ∷ []) known; silent = refl })), byte-no_dynamic (b ∷ []) refl))
   parenthesis_sound (Some tuplet) known is = is
 

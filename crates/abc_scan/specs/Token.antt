@@ -1,6 +1,6 @@
 -- The tokens of a music line. ABC 2.1 section 4.
 use Rattle.std.specs.Prelude.{◌≡◌, ℕ, Bool, true, false, Option, Some, None, List, take, if◌then◌else◌, ◌||◌, ◌==◌}
-use Rattle.std.specs.Option.{option_map}
+use Rattle.std.specs.Option.{option_map, option_or}
 use Rattle.abc_scan.specs.declared.dynamic.Dynamic.{Dynamic}
 use Rattle.abc_scan.specs.declared.start.Start.{Start}
 use Rattle.abc_scan.specs.declared.start.Start.TheVariants as starts
@@ -61,11 +61,6 @@ line_kinds = record { unmatched = unmatched_byte; is_bar = is_bar }
 abbrev pub line_grammar : Grammar TokenKind
 line_grammar = record { kinds = line_kinds; spells = Spells }
 
--- The first reading, or else the second.
-abbrev pub or_else : Option (TokenKind × ℕ) → Option (TokenKind × ℕ) → Option (TokenKind × ℕ)
-or_else (Some token) other = Some token
-or_else None other = other
-
 -- The kind of a text between delimiters: a dynamic, or a token without effect.
 abbrev pub dynamic_or_ignored : Option Dynamic → TokenKind
 dynamic_or_ignored None = kinds.NoEffect
@@ -83,7 +78,7 @@ mark_by starts.Rest after_bar text = as_kind kinds.Rest (rest_at text)
 mark_by starts.BarRest after_bar text = as_kind kinds.BarRest (bar_rest_at text)
 mark_by starts.BarLine after_bar text = as_kind kinds.Bar (bar_at text)
 mark_by starts.Digit after_bar text = as_kind kinds.Ending (ending_at after_bar text)
-mark_by starts.Parenthesis after_bar text = or_else (as_kind kinds.Tuplet (tuplet_at text)) (Some (kinds.NoEffect, 1))
+mark_by starts.Parenthesis after_bar text = option_or (as_kind kinds.Tuplet (tuplet_at text)) (Some (kinds.NoEffect, 1))
 mark_by starts.Broken after_bar text = as_kind kinds.Broken (broken_at text)
 mark_by starts.Tie after_bar text = Some (kinds.Tie, 1)
 mark_by starts.Blank after_bar text = Some (kinds.Blank, 1)
@@ -96,7 +91,7 @@ mark_by _ after_bar text = None
 abbrev pub reading_by : Start → Bool → List ℕ → Option (TokenKind × ℕ)
 reading_by starts.InlineField after_bar text = as_kind kinds.InlineField (inline_field_at text)
 reading_by starts.Bracket after_bar text =
-    or_else (as_kind kinds.Chord (chord_at text)) (as_kind kinds.Ending (ending_at after_bar text))
+    option_or (as_kind kinds.Chord (chord_at text)) (as_kind kinds.Ending (ending_at after_bar text))
 reading_by starts.Delimited after_bar text = option_map (enclosed_token text) (delimited_at text)
 reading_by start after_bar text = mark_by start after_bar text
 
