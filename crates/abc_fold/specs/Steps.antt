@@ -22,6 +22,11 @@ pub record IsResumable {State Cell Items : Type 0} (steps : Steps State Cell Ite
   pub equal_items : (a b : State) (cell : Cell) → IsAlike steps a b → steps.gives a cell ≡ steps.gives b cell
   pub alike_states : (a b : State) (cell : Cell) → IsAlike steps a b → IsAlike steps (steps.next a cell) (steps.next b cell)
 
+-- The state after cells, by the steps of a fold. Not in ABC 2.1.
+abbrev pub state_after : {State Cell : Type 0} → (State → Cell → State) → State → List Cell → State
+state_after next state [] = state
+state_after next state (cell ∷ cells) = state_after next (next state cell) cells
+
 -- The states of a fold over cells, from the one in which the first is entered to the one in which the last is left. Not
 -- in ABC 2.1.
 abbrev pub states_from : {State Cell Items : Type 0} → Steps State Cell Items → State → List Cell → List State

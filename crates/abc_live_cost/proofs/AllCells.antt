@@ -6,9 +6,9 @@ use Rattle.std.proofs.lemmas.List.{map-append}
 use Rattle.std.specs.Option.{option_flatten}
 use Rattle.abc_lines.specs.Text.{Text}
 use Rattle.abc_tune_compiler.specs.Tune.{lines_in}
-use Rattle.abc_fold.specs.Steps.{Steps}
+use Rattle.abc_fold.specs.Steps.{Steps, state_after}
 use Rattle.abc_live_cost.specs.Layout.{FoldedBlock}
-use Rattle.abc_live_cost.specs.Spot.{Spot, spot_at, state_after, spots_in_line, spots_along, spots_of}
+use Rattle.abc_live_cost.specs.Spot.{Spot, spot_at, spots_in_line, spots_along, spots_of}
 use Rattle.abc_live_cost.specs.Past.{Past, past_of, pasts_in_line, pasts_along, past_at}
 use Rattle.abc_live_cost.proofs.Lists.{find_after, find_before}
 

@@ -4,8 +4,8 @@ use Rattle.std.proofs.Common.{Option, Some, refl, sym, ap, ◌∙◌, subst, ⊎
 use Rattle.std.proofs.lemmas.Bool.{cases_Bool, cases_lt, lt-ltb, le-ltb, eq-eqb}
 use Rattle.abc_lines.specs.Text.{Text, Splice}
 use Rattle.abc_tune_compiler.specs.Tune.{lines_in}
-use Rattle.abc_fold.specs.Steps.{Steps}
-use Rattle.abc_live_cost.specs.Spot.{Spot, state_after, spots_in_line, spots_along, spots_of}
+use Rattle.abc_fold.specs.Steps.{Steps, state_after}
+use Rattle.abc_live_cost.specs.Spot.{Spot, spots_in_line, spots_along, spots_of}
 use Rattle.abc_live_cost.specs.FreshCells.{old_line, is_line, are_carried_from}
 use Rattle.abc_live_cost.specs.Pieces.{have_lines_of}
 use Rattle.abc_live_cost.specs.Laws.{LinesSuffice}

@@ -5,9 +5,8 @@ use Rattle.std.proofs.lemmas.Bool.{cases_Bool, eq-eqb, ne_eqb, and_from, and_lef
 use Rattle.std.proofs.lemmas.List.{length-take}
 use Rattle.abc_lines.specs.Text.{Text}
 use Rattle.abc_tune_compiler.specs.Tune.{lines_in}
-use Rattle.abc_fold.specs.Steps.{Steps}
+use Rattle.abc_fold.specs.Steps.{Steps, state_after}
 use Rattle.abc_live_cost.specs.Layout.{FoldedBlock, ChainsRise}
-use Rattle.abc_live_cost.specs.Spot.{state_after}
 use Rattle.abc_live_cost.proofs.AllCells.{Full, full_at, full_line, full_along, full_of, is_at}
 
 -- each of a list

@@ -5,9 +5,9 @@ use Rattle.std.proofs.lemmas.List.Sums.{sum_by-append, sum_by-cons}
 use Rattle.std.specs.Option.{option_flatten}
 use Rattle.abc_lines.specs.Text.{Text, Splice, spliced}
 use Rattle.abc_tune_compiler.specs.Tune.{lines_in}
-use Rattle.abc_fold.specs.Steps.{Steps}
+use Rattle.abc_fold.specs.Steps.{Steps, state_after}
 use Rattle.abc_live_cost.specs.Layout.{Layout, layout_of, FoldedBlock, chains_of, LiesInOrder}
-use Rattle.abc_live_cost.specs.Spot.{Spot, spot_at, state_after, spots_in_line, spots_along, spots_of}
+use Rattle.abc_live_cost.specs.Spot.{Spot, spot_at, spots_in_line, spots_along, spots_of}
 use Rattle.abc_live_cost.specs.FreshCells.{is_fresh_after, is_fresh}
 use Rattle.abc_live_cost.specs.Past.{Past, pasts, row_at, past_at, entry_of_past, first_past, first_row, rest}
 use Rattle.abc_live_cost.specs.Past.{fresh_cells_in_line, fresh_cells_along, fresh_cells_of}

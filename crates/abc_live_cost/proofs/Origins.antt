@@ -6,9 +6,9 @@ use Rattle.std.proofs.lemmas.List.{map-append, length-map, length-take, length-a
 use Rattle.std.proofs.lemmas.Option.{slice_get-map}
 use Rattle.abc_lines.specs.Text.{Text, spliced}
 use Rattle.abc_tune_compiler.specs.Tune.{lines_in}
-use Rattle.abc_fold.specs.Steps.{Steps, states_from}
+use Rattle.abc_fold.specs.Steps.{Steps, states_from, state_after}
 use Rattle.abc_live_cost.specs.Layout.{FoldedBlock, chains_of, ChainsRise}
-use Rattle.abc_live_cost.specs.Spot.{Spot, state_after, spots_in_line, spots_along, spots_of}
+use Rattle.abc_live_cost.specs.Spot.{Spot, spots_in_line, spots_along, spots_of}
 use Rattle.abc_live_cost.specs.FreshCells.{old_line}
 use Rattle.abc_live_cost.specs.Past.{Past, past_of, pasts_in_line, no_pasts, pasts_along, lines_between, rows_from, rows_of}
 use Rattle.abc_live_cost.specs.Past.{row_at, past_at}

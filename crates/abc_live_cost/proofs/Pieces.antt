@@ -9,9 +9,9 @@ use Rattle.std.specs.Option.{option_flatten}
 use Rattle.abc_lines.specs.Text.{Text, Splice}
 use Rattle.abc_tune_compiler.specs.Tune.{lines_in}
 use Rattle.abc_book.specs.declared.block.Block.{Block}
-use Rattle.abc_fold.specs.Steps.{Steps}
+use Rattle.abc_fold.specs.Steps.{Steps, state_after}
 use Rattle.abc_live_cost.specs.Layout.{Layout, FoldedBlock, header_chain, tune_chains, chains_of, LiesInOrder}
-use Rattle.abc_live_cost.specs.Spot.{Spot, state_after, spots_in_line, spots_along, spots_of}
+use Rattle.abc_live_cost.specs.Spot.{Spot, spots_in_line, spots_along, spots_of}
 use Rattle.abc_live_cost.specs.FreshCells.{old_line, is_line, is_carried_from, are_carried_from}
 use Rattle.abc_live_cost.specs.Past.{Past, rows_of, pasts, past_at, first_past, first_row, rest}
 use Rattle.abc_live_cost.specs.Pieces.{pasts_beside, pasts_over, pasts_of_chain, is_place, are_places}

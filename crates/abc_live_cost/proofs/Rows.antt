@@ -7,9 +7,9 @@ use Rattle.std.proofs.lemmas.List.{length-take, length-drop, length-map}
 use Rattle.std.specs.Option.{option_flatten}
 use Rattle.abc_lines.specs.Text.{Text, Splice}
 use Rattle.abc_tune_compiler.specs.Tune.{lines_in}
-use Rattle.abc_fold.specs.Steps.{Steps}
+use Rattle.abc_fold.specs.Steps.{Steps, state_after}
 use Rattle.abc_live_cost.specs.Layout.{Layout, FoldedBlock, chains_of, ChainsRise, LiesInOrder}
-use Rattle.abc_live_cost.specs.Spot.{Spot, state_after, is_spot_at, entry_at}
+use Rattle.abc_live_cost.specs.Spot.{Spot, is_spot_at, entry_at}
 use Rattle.abc_live_cost.specs.FreshCells.{old_line}
 use Rattle.abc_live_cost.specs.Past.{Past, past_of, no_pasts, pasts_along, lines_between, rows_from, rows_of, pasts}
 use Rattle.abc_live_cost.specs.Past.{row_at, past_at, entry_of_past}

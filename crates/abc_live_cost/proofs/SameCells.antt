@@ -7,9 +7,9 @@ use Rattle.std.proofs.lemmas.List.{length-take, map-append}
 use Rattle.abc_lines.specs.Text.{Text, Splice, spliced}
 use Rattle.abc_tune_compiler.specs.Placed.{Placed, placed_at, placed_values, cells_from, items_along}
 use Rattle.abc_tune_compiler.specs.Tune.{lines_in}
-use Rattle.abc_fold.specs.Steps.{Steps, IsResumable}
+use Rattle.abc_fold.specs.Steps.{Steps, IsResumable, state_after}
 use Rattle.abc_live_cost.specs.Layout.{FoldedBlock}
-use Rattle.abc_live_cost.specs.Spot.{Spot, state_after, spots_in_line, spots_along, spots_of}
+use Rattle.abc_live_cost.specs.Spot.{Spot, spots_in_line, spots_along, spots_of}
 use Rattle.abc_live_cost.specs.FreshCells.{old_line, is_line, is_carried_from, are_carried_from}
 use Rattle.abc_live_cost.specs.Past.{row_at}
 use Rattle.abc_live_cost.specs.KeptState.{items_of, cells_of}

@@ -10,9 +10,9 @@ use Rattle.std.proofs.lemmas.List.Sums.{sum_by-cons}
 use Rattle.std.proofs.lemmas.Option.{slice_get-map}
 use Rattle.abc_lines.specs.Text.{Text, Splice, spliced}
 use Rattle.abc_tune_compiler.specs.Tune.{lines_in}
-use Rattle.abc_fold.specs.Steps.{Steps, IsResumable}
+use Rattle.abc_fold.specs.Steps.{Steps, IsResumable, state_after}
 use Rattle.abc_live_cost.specs.Layout.{Layout, FoldedBlock, header_chain, tune_chains, chains_of, LiesInOrder}
-use Rattle.abc_live_cost.specs.Spot.{Spot, spot_at, state_after, spots_in_line, spots_along, spots_of, entry_at}
+use Rattle.abc_live_cost.specs.Spot.{Spot, spot_at, spots_in_line, spots_along, spots_of, entry_at}
 use Rattle.abc_live_cost.specs.FreshCells.{old_line, cell_at, entry_before, is_fresh_after, is_fresh, is_line, is_carried_from}
 use Rattle.abc_live_cost.specs.FreshCells.{are_carried_from}
 use Rattle.abc_live_cost.specs.Past.{Past, rows_of, past_at, entry_of_past, first_past, first_row, rest, fresh_cells_in_line}

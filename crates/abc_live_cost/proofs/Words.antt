@@ -15,9 +15,9 @@ use Rattle.abc_book.specs.declared.block.BlockKind.{BlockKind}
 use Rattle.abc_book.specs.declared.block.BlockKind.TheVariants.{FileHeader, Tune, Free}
 use Rattle.abc_tune_compiler.specs.Book.{blocks_in, header_in, is_file_header, is_tune, opening_of, tunes_in}
 use Rattle.abc_tune_compiler.specs.Placed.{Placed, placed_at, cells_from, items_along}
-use Rattle.abc_fold.specs.Steps.{Steps}
+use Rattle.abc_fold.specs.Steps.{Steps, state_after}
 use Rattle.abc_live_cost.specs.Layout.{header_chain, FoldedBlock, tune_chains, chains_of, ChainsRise}
-use Rattle.abc_live_cost.specs.Spot.{Spot, state_after, spots_in_line, spots_along, spots_of, is_spot_at}
+use Rattle.abc_live_cost.specs.Spot.{Spot, spots_in_line, spots_along, spots_of, is_spot_at}
 use Rattle.abc_live_cost.specs.Laws.{ChainsLieInOrder, EnteredAreItems, NthOfLine}
 use Rattle.abc_live_cost.proofs.Lists.{find_after, find_before}
 

@@ -4,10 +4,9 @@ use Rattle.std.specs.Prelude.{None}
 use Rattle.std.specs.Option.{option_flatten, option_map}
 use Rattle.abc_lines.specs.Text.{Splice, Text}
 use Rattle.abc_tune_compiler.specs.Tune.{lines_in}
-use Rattle.abc_live_cost.specs.Spot.{state_after}
 use Rattle.abc_live_cost.specs.FreshCells.{is_fresh_after}
 use Rattle.abc_live_cost.specs.Layout.{FoldedBlock, Layout, chains_of}
-use Rattle.abc_fold.specs.Steps.{Steps}
+use Rattle.abc_fold.specs.Steps.{Steps, state_after}
 
 -- A cell of the old text: which cell of which chain it is, and the state in which it was entered.
 pub record Past (State : Type 0) : Type 0 where

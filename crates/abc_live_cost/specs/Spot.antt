@@ -5,7 +5,7 @@ use Rattle.std.specs.Option.{option_map}
 use Rattle.abc_lines.specs.Text.{Text}
 use Rattle.abc_tune_compiler.specs.Tune.{lines_in}
 use Rattle.abc_live_cost.specs.Layout.{FoldedBlock, Layout, chains_of}
-use Rattle.abc_fold.specs.Steps.{Steps}
+use Rattle.abc_fold.specs.Steps.{Steps, state_after}
 
 -- A cell: its line and its place in the line, both counted from 0, and the state in which it is entered.
 pub record Spot (State : Type 0) : Type 0 where
@@ -15,11 +15,6 @@ pub record Spot (State : Type 0) : Type 0 where
 
 abbrev pub spot_at : {State : Type 0} → ℕ → ℕ → State → Spot State
 spot_at line nth entered = record { line = line; nth = nth; entered = entered }
-
--- The state after the cells of a line, of which the first is entered in this state.
-abbrev pub state_after : {State Cell : Type 0} → (State → Cell → State) → State → List Cell → State
-state_after next state [] = state
-state_after next state (cell ∷ cells) = state_after next (next state cell) cells
 
 -- The cells of a line from the nth on, the first of which is entered in this state.
 abbrev pub spots_in_line : {State Cell : Type 0} → (State → Cell → State) → ℕ → ℕ → State → List Cell → List (Spot State)

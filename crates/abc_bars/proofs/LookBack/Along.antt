@@ -1,5 +1,6 @@
 -- The steps along cells are the look back.
 use Rattle.std.proofs.Common.{◌≡◌, List, [], ◌∷◌, Option, Some, None, refl, sym, subst, ap, ◌∙◌}
+use Rattle.abc_fold.specs.Steps.{state_after}
 use Rattle.abc_bars_body.specs.declared.entry.Entry.{Entry}
 use Rattle.abc_bars_body.specs.declared.entry.Entry.TheVariants as entries
 use Rattle.abc_bars_header.specs.Defaults.{no_defaults}
@@ -7,7 +8,7 @@ use Rattle.abc_bars_body.specs.Entry.{opening_after}
 use Rattle.abc_bars_header.specs.HeaderLine.{HeaderLine}
 use Rattle.abc_bars_body.specs.SameEntry.{bar_steps}
 use Rattle.abc_bars_body.specs.Step.{line_in, entry_step}
-use Rattle.abc_bars.specs.LookBack.Along.{CellTokens, IsLookBack, file_header_beginning, results_along, items_along, lines_after, place_after, state_after, states_along, tune_beginning, views_along}
+use Rattle.abc_bars.specs.LookBack.Along.{CellTokens, IsLookBack, file_header_beginning, results_along, items_along, lines_after, place_after, states_along, tune_beginning, views_along}
 use Rattle.abc_bars.specs.LookBack.Along.{with_line}
 use Rattle.abc_bars.specs.LookBack.Place.{Place, InFileHeader, after_file_header, place_following, view}
 use Rattle.abc_bars.proofs.LookBack.Places.{stepped_back}

@@ -13,7 +13,7 @@ use Rattle.abc_bars_header.specs.HeaderLine.{HeaderLine}
 use Rattle.abc_bars_body.specs.Step.{line_in}
 use Rattle.abc_bars.specs.LookBack.Defaults.{defaults_at}
 use Rattle.abc_bars.specs.LookBack.Place.{Place, InFileHeader, InHeader, result_at, place_following, view}
-use Rattle.abc_fold.specs.Steps.{Steps}
+use Rattle.abc_fold.specs.Steps.{Steps, state_after}
 use Rattle.abc_bars_items.specs.Item.{Items}
 
 -- The tokens of a cell.
@@ -61,11 +61,6 @@ views_along place cells = map view (places_along place cells)
 abbrev pub results_along : Place → List CellTokens → List Items
 results_along place [] = []
 results_along place (cell ∷ cells) = result_at place cell ∷ results_along (place_following place cell) cells
-
--- The state after cells, by the steps of a fold.
-abbrev pub state_after : {State Cell : Type 0} → (State → Cell → State) → State → List Cell → State
-state_after next state [] = state
-state_after next state (cell ∷ cells) = state_after next (next state cell) cells
 
 -- The state in which each cell is entered.
 abbrev pub states_along : {State Cell : Type 0} → (State → Cell → State) → State → List Cell → List State
