@@ -6,7 +6,7 @@ use Rattle.std.proofs.lemmas.Grind.{common_steps}
 use Rattle.std.proofs.lemmas.Option.{gets}
 use Rattle.std.proofs.lemmas.List.{append-nil, take_at, drop_at, length-take-le}
 use Rattle.abc_lines.specs.GapList.{GapListView, gapped_list, distance, add_to_tally, replaced_run}
-use Rattle.abc_lines.specs.ListSplice.{SplicePatchView, after_splice, count_after, places, places_for, splice_view}
+use Rattle.abc_lines.specs.ListSplice.{SplicePatchView, after_splice, capacity, capacity_for, count_after, splice_view}
 
 pub gapped_alike : {X : Type 0} (xs ys : List X) (gap moved m n : ℕ) → xs ≡ ys → m ≡ n → gapped_list xs gap m moved ≡ gapped_list ys gap n moved
 gapped_alike xs ys gap moved m n same alike = rw same (rw alike refl)
@@ -64,21 +64,21 @@ run_put xs at removed new inside =
     rw (take_at (take at xs) (drop (at + removed) xs) at front)
     (ap (λ ys. take at xs ++ new ++ ys) (drop_at (take at xs) (drop (at + removed) xs) at front))))
 
-pub put_in_room : {X : Type 0} (list : GapListView X) (at removed : ℕ) (new : List X) → at + removed ≤ length list.items → count_after list removed new ≤ places list
+pub put_in_room : {X : Type 0} (list : GapListView X) (at removed : ℕ) (new : List X) → at + removed ≤ length list.items → count_after list removed new ≤ capacity list
     → put_in new (left_out at removed list) ≡ after_splice list at removed new
 unfolding after_splice
 put_in_room list at removed new inside fits =
     let count : ℕ = count_after list removed new in
-    let test : nat_le count (places list) ≡ true = grind (arith, nat_tests) in
-    let all : places_for count list ≡ places list = ap (λ b. if b then places list else 2 * count) test in
+    let test : nat_le count (capacity list) ≡ true = grind (arith, nat_tests) in
+    let all : capacity_for count list ≡ capacity list = ap (λ b. if b then capacity list else 2 * count) test in
     gapped_alike _ _ _ _ _ _ (run_put list.items at removed new inside) (omega (arith, all))
 
-pub put_in_roomier : {X : Type 0} (list : GapListView X) (at removed : ℕ) (new : List X) → at + removed ≤ length list.items → places list < count_after list removed new
+pub put_in_roomier : {X : Type 0} (list : GapListView X) (at removed : ℕ) (new : List X) → at + removed ≤ length list.items → capacity list < count_after list removed new
     → put_in new (move_items (gapped_list [] 0 (2 * count_after list removed new) 0) (left_out at removed list)) ≡ after_splice list at removed new
 unfolding after_splice
 put_in_roomier list at removed new inside narrow =
     let count : ℕ = count_after list removed new in
-    let test : nat_le count (places list) ≡ false = grind (arith, nat_tests) in
-    let all : places_for count list ≡ 2 * count = ap (λ b. if b then places list else 2 * count) test in
+    let test : nat_le count (capacity list) ≡ false = grind (arith, nat_tests) in
+    let all : capacity_for count list ≡ 2 * count = ap (λ b. if b then capacity list else 2 * count) test in
     let left = length-replaced_run list.items at removed [] inside in
     gapped_alike _ _ _ _ _ _ (run_put list.items at removed new inside) (omega (arith, all, left))

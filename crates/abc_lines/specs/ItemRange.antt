@@ -3,5 +3,5 @@ use Rattle.std.specs.Prelude.{ℕ, ◌-◌}
 use Rattle.abc_lines.specs.declared.item_range.Replacement.{Replacement}
 
 -- How many items a replacement removes.
-abbrev pub gone : Replacement → ℕ
-gone items = items.to - items.from
+abbrev pub removed_count : Replacement → ℕ
+removed_count items = items.to - items.from

@@ -7,19 +7,19 @@ abbrev pub count_after : {T : Type 0} → GapListView T → ℕ → List T → �
 count_after list removed new = length list.items - removed + length new
 
 -- How many items a list can have.
-abbrev pub places : {T : Type 0} → GapListView T → ℕ
-places list = length list.items + list.room
+abbrev pub capacity : {T : Type 0} → GapListView T → ℕ
+capacity list = length list.items + list.room
 
 -- How many it can have once it has to have `count`: as before if that is enough, and otherwise twice `count`.
-abbrev pub places_for : {T : Type 0} → ℕ → GapListView T → ℕ
-places_for count list = if nat_le count (places list) then places list else 2 * count
+abbrev pub capacity_for : {T : Type 0} → ℕ → GapListView T → ℕ
+capacity_for count list = if nat_le count (capacity list) then capacity list else 2 * count
 
 -- A list after a splice: its items, with others instead of `removed` of them from index `at` on, and the gap after
 -- those that have come.
 unfoldable pub after_splice : {T : Type 0} → GapListView T → ℕ → ℕ → List T → GapListView T
 after_splice list at removed new =
     let count = count_after list removed new in
-    gapped_list (replaced_run list.items at removed new) (at + length new) (places_for count list - count)
+    gapped_list (replaced_run list.items at removed new) (at + length new) (capacity_for count list - count)
     (add_to_tally list.moved (distance list.gap at))
 
 -- A list before a splice, and the same list after it.
@@ -32,8 +32,8 @@ splice_view on at removed new = record { on = on; after = after_splice on at rem
 
 -- `count` items fit: in the list's own places, or in those of an empty list that replaces it.
 abbrev pub Fits : {T : Type 0} → ℕ → GapListView T → Option (GapListView T) → Type 0
-Fits count on None = count ≤ places on
-Fits count on (Some roomier) = (places on < count) × (roomier ≡ gapped_list [] 0 (2 * count) 0)
+Fits count on None = count ≤ capacity on
+Fits count on (Some roomier) = (capacity on < count) × (roomier ≡ gapped_list [] 0 (2 * count) 0)
 
 -- What a prepared splice keeps: the removed items are in the list, and the new ones fit.
 pub record IsSplice {T : Type 0} (on : GapListView T) (at removed : ℕ) (new : List T)

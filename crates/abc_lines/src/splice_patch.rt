@@ -1,7 +1,7 @@
 //! A splice of a list with a gap that has been prepared.
 
 ghost use Rattle.std.specs.Prelude.{◌≡◌, ◌+◌, ◌≤◌, length, IfOk, IsOk, option_copied, slice_get};
-ghost use Rattle.abc_lines.specs.ListSplice.{IsSplice, after_splice, count_after, places, splice_view};
+ghost use Rattle.abc_lines.specs.ListSplice.{IsSplice, after_splice, capacity, count_after, splice_view};
 
 use crate::gap_list::GapList;
 use abc_text::Snapshot;
@@ -42,7 +42,7 @@ impl<T: Drop> GapList<T> {
         requires { at + removed ≤ length self.now.items }
         ensures on { IfOk result (λ patch. patch.on ≡ self.now) }
         ensures after { IfOk result (λ patch. patch.after ≡ after_splice self.now at removed new.items) }
-        ensures succeeds { count_after self.now removed new.items ≤ places self.now → IsOk result }
+        ensures succeeds { count_after self.now removed new.items ≤ capacity self.now → IsOk result }
     {
         let count = self.len() - removed + new.len();
         let roomier = if count <= self.len() + self.room() {

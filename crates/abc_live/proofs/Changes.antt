@@ -9,7 +9,7 @@ use Rattle.std.proofs.lemmas.List.{drop-drop, map-append, take-append-drop}
 use Rattle.std.proofs.lemmas.List.Elements.{All-append, All-contains, All-contains_itself, All-drop, All-nil, All-take}
 use Rattle.abc_book.specs.declared.block.Block.{Block}
 use Rattle.abc_live_text.specs.Chains.{AreChains, IsHeaderChainOf}
-use Rattle.abc_lines.specs.ItemRange.{gone}
+use Rattle.abc_lines.specs.ItemRange.{removed_count}
 use Rattle.abc_live_text.specs.KeptText.{KeptPatchView, HoldsHeader, KeepsHeader, block_after}
 use Rattle.abc_fold.specs.Chain.{ChainView}
 use Rattle.abc_fold.specs.Steps.{Steps, IsAlike, IsResumable}
@@ -182,13 +182,13 @@ module _ {State Cell Items Defaults : Type 0} (steps : Steps State Cell Items) (
     after_lie : All (LiesIn (length patch.on.lines.text)) (drop patch.stretch.tunes.to patch.on.tunes)
     after_lie = All-drop (LiesIn (length patch.on.lines.text)) patch.stretch.tunes.to patch.on.tunes (old_lie steps rules s patch is)
 
-    end_is : patch.stretch.lines.to ≡ patch.stretch.lines.from + gone patch.stretch.lines
+    end_is : patch.stretch.lines.to ≡ patch.stretch.lines.from + removed_count patch.stretch.lines
     end_is = let order = old_stretch steps rules s patch is in omega (arith, order)
 
-    amid_stand : All (FaultAmong patch.stretch.lines.from (gone patch.stretch.lines))
+    amid_stand : All (FaultAmong patch.stretch.lines.from (removed_count patch.stretch.lines))
         (old_faults (take (patch.stretch.tunes.to - patch.stretch.tunes.from) (drop patch.stretch.tunes.from patch.on.tunes)))
     amid_stand =
-        tunes_stand steps rules start patch.on.lines.text (FaultAmong patch.stretch.lines.from (gone patch.stretch.lines))
+        tunes_stand steps rules start patch.on.lines.text (FaultAmong patch.stretch.lines.from (removed_count patch.stretch.lines))
         (take (patch.stretch.tunes.to - patch.stretch.tunes.from) (drop patch.stretch.tunes.from patch.on.tunes)) amid_lie
         (λ k d inside. λ fault stands.
         let own = is.in_stretch.amid k d inside in
@@ -199,9 +199,9 @@ module _ {State Cell Items Defaults : Type 0} (steps : Steps State Cell Items) (
         let end = end_is in
         (omega (arith, following, least), omega (arith, before, most, end)))
 
-    after_stand : All (FaultAfter (patch.stretch.lines.from + gone patch.stretch.lines)) (old_faults (drop patch.stretch.tunes.to patch.on.tunes))
+    after_stand : All (FaultAfter (patch.stretch.lines.from + removed_count patch.stretch.lines)) (old_faults (drop patch.stretch.tunes.to patch.on.tunes))
     after_stand =
-        tunes_stand steps rules start patch.on.lines.text (FaultAfter (patch.stretch.lines.from + gone patch.stretch.lines)) (drop patch.stretch.tunes.to patch.on.tunes) after_lie
+        tunes_stand steps rules start patch.on.lines.text (FaultAfter (patch.stretch.lines.from + removed_count patch.stretch.lines)) (drop patch.stretch.tunes.to patch.on.tunes) after_lie
         (λ k d inside. λ fault stands.
         let following = is.in_stretch.beyond k d inside in
         let least = stands.0 in
@@ -219,12 +219,13 @@ module _ {State Cell Items Defaults : Type 0} (steps : Steps State Cell Items) (
         (λ (alike : IsAlike steps start now). ap faults_of_tunes (sym (tunes_alike steps laws rules start now patch.text (map (block_after patch.stretch) after_tunes) alike)))
         (still_alike steps rules s patch is laws)
 
-    after_shifted : tune_faults start patch.text (map (block_after patch.stretch) after_tunes) ≡ map (shifted_fault (gone patch.stretch.lines) patch.stretch.lines.came) (old_faults after_tunes)
+    after_shifted : tune_faults start patch.text (map (block_after patch.stretch) after_tunes)
+        ≡ map (shifted_fault (removed_count patch.stretch.lines) patch.stretch.lines.came) (old_faults after_tunes)
     after_shifted =
         let same = is.in_stretch.lines_after ∙ ap (λ n. drop n patch.on.lines.text) end_is in
-        let beyond : All (λ (block : Block). patch.stretch.lines.from + gone patch.stretch.lines ≤ block.from) after_tunes =
+        let beyond : All (λ (block : Block). patch.stretch.lines.from + removed_count patch.stretch.lines ≤ block.from) after_tunes =
         λ k d inside. let following = is.in_stretch.beyond k d inside in let end = end_is in omega (arith, following, end) in
-        shifted_tunes steps rules start patch.on.lines.text patch.text patch.stretch.lines.from (gone patch.stretch.lines) patch.stretch.lines.came after_tunes same beyond after_lie
+        shifted_tunes steps rules start patch.on.lines.text patch.text patch.stretch.lines.from (removed_count patch.stretch.lines) patch.stretch.lines.came after_tunes same beyond after_lie
 
     -- if the stretch begins with the text and has the file header
     module _ (holds : HoldsHeader patch) where
@@ -240,12 +241,13 @@ module _ {State Cell Items Defaults : Type 0} (steps : Steps State Cell Items) (
           (counts_among rules.cells patch.text patch.stretch.lines.from patch.stretch.lines.came) first patch.header ≡ header_faults steps.next steps.gives rules patch.text patch.header
       holds_header = header_there patch.text patch.stretch.lines.from patch.stretch.lines.came first patch.header (first_is steps rules s patch is first there) new_header holds.from holds.comes
 
-      holds_new : IsResumable steps → faults_found patch.text patch.header patch.tunes ≡ new_faults ++ map (shifted_fault (gone patch.stretch.lines) patch.stretch.lines.came) (old_faults after_tunes)
+      holds_new : IsResumable steps → faults_found patch.text patch.header patch.tunes
+          ≡ new_faults ++ map (shifted_fault (removed_count patch.stretch.lines) patch.stretch.lines.came) (old_faults after_tunes)
       holds_new laws =
           let own = opening_of steps.next rules patch.text (blocks_in rules patch.text) in
           let head = header_faults steps.next steps.gives rules patch.text patch.header in
           let moved = map (block_after patch.stretch) after_tunes in
-          let shifted = map (shifted_fault (gone patch.stretch.lines) patch.stretch.lines.came) (old_faults after_tunes) in
+          let shifted = map (shifted_fault (removed_count patch.stretch.lines) patch.stretch.lines.came) (old_faults after_tunes) in
           ap (λ tunes. head ++ tune_faults own patch.text tunes) holds_places
           ∙ ap (λ l. head ++ l) (faults_append own patch.text patch.places moved)
           ∙ ap (λ l. head ++ (tune_faults own patch.text patch.places ++ l)) (from_start laws ∙ after_shifted)
@@ -269,9 +271,10 @@ module _ {State Cell Items Defaults : Type 0} (steps : Steps State Cell Items) (
           (omega (arith, least, none), omega (arith, most, ends, none)))))
           (subst (All P) (sym own_faults) own_stand)
 
-      holds_old : All (FaultAmong patch.stretch.lines.from (gone patch.stretch.lines)) (header_faults steps.next steps.gives rules patch.on.lines.text patch.on.header ++ old_faults amid_tunes)
+      holds_old : All (FaultAmong patch.stretch.lines.from (removed_count patch.stretch.lines))
+          (header_faults steps.next steps.gives rules patch.on.lines.text patch.on.header ++ old_faults amid_tunes)
       holds_old =
-          let P = FaultAmong patch.stretch.lines.from (gone patch.stretch.lines) in
+          let P = FaultAmong patch.stretch.lines.from (removed_count patch.stretch.lines) in
           All-append P (header_faults steps.next steps.gives rules patch.on.lines.text patch.on.header) (old_faults amid_tunes)
           (header_stands steps rules patch.on.lines.text P patch.on.header old_header
           (λ block is_some fault stands.
@@ -355,12 +358,12 @@ module _ {State Cell Items Defaults : Type 0} (steps : Steps State Cell Items) (
           ∙ same_tunes steps rules start patch.on.lines.text patch.text patch.stretch.lines.from front_tunes is.in_stretch.lines_before is.in_stretch.before front_lie
 
       new_after : tune_faults (opening_of steps.next rules patch.text (blocks_in rules patch.text)) patch.text
-          (map (block_after patch.stretch) after_tunes) ≡ map (shifted_fault (gone patch.stretch.lines) patch.stretch.lines.came) (old_faults after_tunes)
+          (map (block_after patch.stretch) after_tunes) ≡ map (shifted_fault (removed_count patch.stretch.lines) patch.stretch.lines.came) (old_faults after_tunes)
       new_after = ap (λ own. tune_faults own patch.text (map (block_after patch.stretch) after_tunes)) start_same ∙ after_shifted
 
       new_is : faults_found patch.text patch.header patch.tunes
           ≡ (header_faults steps.next steps.gives rules patch.on.lines.text patch.on.header ++ old_faults front_tunes)
-          ++ (new_faults ++ map (shifted_fault (gone patch.stretch.lines) patch.stretch.lines.came) (old_faults after_tunes))
+          ++ (new_faults ++ map (shifted_fault (removed_count patch.stretch.lines) patch.stretch.lines.came) (old_faults after_tunes))
       new_is =
           let own = opening_of steps.next rules patch.text (blocks_in rules patch.text) in
           let head = header_faults steps.next steps.gives rules patch.on.lines.text patch.on.header in
@@ -370,8 +373,8 @@ module _ {State Cell Items Defaults : Type 0} (steps : Steps State Cell Items) (
           ∙ ap (λ l. head ++ l) (faults_three own patch.text front_tunes patch.places moved)
           ∙ ap (λ l. head ++ (l ++ (tune_faults own patch.text patch.places ++ tune_faults own patch.text moved))) new_front
           ∙ ap (λ l. head ++ (old_faults front_tunes ++ (tune_faults own patch.text patch.places ++ l))) new_after
-          ∙ ap (λ l. head ++ (old_faults front_tunes ++ (l ++ map (shifted_fault (gone patch.stretch.lines) patch.stretch.lines.came) (old_faults after_tunes)))) (sym kept_new)
-          ∙ sym (append_assoc head (old_faults front_tunes) (new_faults ++ map (shifted_fault (gone patch.stretch.lines) patch.stretch.lines.came) (old_faults after_tunes)))
+          ∙ ap (λ l. head ++ (old_faults front_tunes ++ (l ++ map (shifted_fault (removed_count patch.stretch.lines) patch.stretch.lines.came) (old_faults after_tunes)))) (sym kept_new)
+          ∙ sym (append_assoc head (old_faults front_tunes) (new_faults ++ map (shifted_fault (removed_count patch.stretch.lines) patch.stretch.lines.came) (old_faults after_tunes)))
 
       kept_meets : faults_after patch.stretch.lines (book_of steps rules patch.on.lines.text).faults new_faults ≡ (book_of steps rules patch.text).faults
       kept_meets =

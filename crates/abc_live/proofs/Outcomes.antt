@@ -5,7 +5,7 @@ use Rattle.std.specs.List.{AllZip, list_all}
 use Rattle.std.specs.Prelude.{All, IfOk}
 use Rattle.std.proofs.lemmas.List.{length-map}
 use Rattle.abc_book.specs.declared.block.Block.{Block}
-use Rattle.abc_lines.specs.ItemRange.{gone}
+use Rattle.abc_lines.specs.ItemRange.{removed_count}
 use Rattle.abc_live_text.specs.KeptText.{KeptPatchView, KeptTextView, old_tunes}
 use Rattle.abc_live_text.specs.declared.stretch.Stretch.{Stretch}
 use Rattle.abc_fold.specs.Chain.{ChainView}
@@ -90,7 +90,7 @@ module _ {C State Cell Items Defaults : Type 0} (steps : Steps State Cell Items)
       omega (arith, many, count, following)
 
   pub few_faults : (found : List Fault) → IsText text.lines.text → found ≡ (book_of steps rules text.lines.text).faults
-      → All (λ (fault : Fault). stretch.lines.from + gone stretch.lines < fault.line → fault.line - gone stretch.lines + stretch.lines.came ≤ 2097152) found
+      → All (λ (fault : Fault). stretch.lines.from + removed_count stretch.lines < fault.line → fault.line - removed_count stretch.lines + stretch.lines.came ≤ 2097152) found
   few_faults found limits are =
       let own : found ≡ (book_of steps rules patch.on.lines.text).faults = are ∙ ap (λ (k : KeptTextView C State Cell Items). (book_of steps rules k.lines.text).faults) (sym on) in
       let within = faults_within steps rules patch.on.lines.text patch.on.header patch.on.tunes is.stood.header_is is.stood.tunes_are

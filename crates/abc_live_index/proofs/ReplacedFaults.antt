@@ -15,7 +15,7 @@ use Rattle.std.proofs.lemmas.List.Elements.{recursion_from_All}
 use Rattle.std.proofs.lemmas.List.Kept.{IsStrictlySortedBy-filter}
 use Rattle.abc_fields.specs.Fault.{number_of}
 use Rattle.abc_live_index.proofs.Orders.{one_order}
-use Rattle.abc_lines.specs.ItemRange.{gone}
+use Rattle.abc_lines.specs.ItemRange.{removed_count}
 use Rattle.abc_live_index.specs.Faults.{shifted_fault, faults_after, is_before, is_after}
 use Rattle.abc_live_index.specs.Laws.{FaultsMeet, FaultAmong, FaultBefore, FaultAfter}
 use Rattle.abc_tune_compiler.proofs.Members.{contains_cons, contains_head, contains_none, contains_tail, from_filter, to_filter}
@@ -232,4 +232,4 @@ module _ (from gone came : ℕ) (before old following new : List Fault)
 
 pub faults_meet : FaultsMeet
 unfolding faults_after
-faults_meet lines before old following new front stretch back stand = meets lines.from (gone lines) lines.came before old following new front stretch back stand
+faults_meet lines before old following new front stretch back stand = meets lines.from (removed_count lines) lines.came before old following new front stretch back stand

@@ -2,7 +2,7 @@
 use Rattle.std.proofs.Common.{◌≡◌, ℕ, ◌+◌, ◌-◌, ◌<◌, ◌≤◌, List, ◌++◌, All, filter, map, ap, ◌∙◌, append_assoc}
 use Rattle.std.proofs.lemmas.Bool.{ltb-true}
 use Rattle.std.proofs.lemmas.List.Elements.{All-filter, All-same, filter_passes}
-use Rattle.abc_lines.specs.ItemRange.{gone}
+use Rattle.abc_lines.specs.ItemRange.{removed_count}
 use Rattle.abc_lines.specs.declared.item_range.Replacement.{Replacement}
 use Rattle.abc_live_index.specs.Faults.{shifted_fault, faults_after, is_before, is_after}
 use Rattle.abc_tune_compiler.specs.Fault.{fault_cmp}
@@ -20,10 +20,10 @@ fits_after from gone came most old following are few =
 
 -- the three parts, as code puts them one after another
 pub put_together : (lines : Replacement) (old new first sorted more following all : List Fault) → first ≡ filter (is_before lines.from) old → sorted ≡ sort_dedup fault_cmp new → more ≡ first ++ sorted
-    → following ≡ filter (is_after (lines.from + gone lines)) old → all ≡ more ++ map (shifted_fault (gone lines) lines.came) following → all ≡ faults_after lines old new
+    → following ≡ filter (is_after (lines.from + removed_count lines)) old → all ≡ more ++ map (shifted_fault (removed_count lines) lines.came) following → all ≡ faults_after lines old new
 unfolding faults_after
 put_together lines old new first sorted more following all one two three four five =
-    five ∙ ap (λ l. l ++ map (shifted_fault (gone lines) lines.came) following) three ∙ ap (λ l. (l ++ sorted) ++ map (shifted_fault (gone lines) lines.came) following) one
-    ∙ ap (λ l. (filter (is_before lines.from) old ++ l) ++ map (shifted_fault (gone lines) lines.came) following) two
-    ∙ ap (λ l. (filter (is_before lines.from) old ++ sort_dedup fault_cmp new) ++ map (shifted_fault (gone lines) lines.came) l) four
-    ∙ append_assoc (filter (is_before lines.from) old) (sort_dedup fault_cmp new) (map (shifted_fault (gone lines) lines.came) (filter (is_after (lines.from + gone lines)) old))
+    five ∙ ap (λ l. l ++ map (shifted_fault (removed_count lines) lines.came) following) three ∙ ap (λ l. (l ++ sorted) ++ map (shifted_fault (removed_count lines) lines.came) following) one
+    ∙ ap (λ l. (filter (is_before lines.from) old ++ l) ++ map (shifted_fault (removed_count lines) lines.came) following) two
+    ∙ ap (λ l. (filter (is_before lines.from) old ++ sort_dedup fault_cmp new) ++ map (shifted_fault (removed_count lines) lines.came) l) four
+    ∙ append_assoc (filter (is_before lines.from) old) (sort_dedup fault_cmp new) (map (shifted_fault (removed_count lines) lines.came) (filter (is_after (lines.from + removed_count lines)) old))

@@ -1,6 +1,6 @@
 -- The faults of a text once a stretch of its lines has been replaced. Not in ABC 2.1.
 use Rattle.std.specs.Prelude.{ℕ, ◌+◌, ◌-◌, Bool, List, ◌++◌, filter, map, nat_le, nat_lt}
-use Rattle.abc_lines.specs.ItemRange.{gone}
+use Rattle.abc_lines.specs.ItemRange.{removed_count}
 use Rattle.abc_lines.specs.declared.item_range.Replacement.{Replacement}
 use Rattle.abc_tune_compiler.specs.Fault.{fault_cmp}
 use Rattle.abc_tune_compiler.specs.Sort.{sort_dedup}
@@ -23,4 +23,4 @@ shifted_fault gone came fault = record { line = fault.line - gone + came; column
 unfoldable pub faults_after : Replacement → List Fault → List Fault → List Fault
 faults_after lines old new =
     filter (is_before lines.from) old ++ (sort_dedup fault_cmp new
-    ++ map (shifted_fault (gone lines) lines.came) (filter (is_after (lines.from + gone lines)) old))
+    ++ map (shifted_fault (removed_count lines) lines.came) (filter (is_after (lines.from + removed_count lines)) old))

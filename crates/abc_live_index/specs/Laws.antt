@@ -1,7 +1,7 @@
 -- What is kept by differences is what the whole text gives. Not in ABC 2.1.
 use Rattle.std.specs.Prelude.{◌≡◌, ℕ, ◌+◌, ◌<◌, ◌≤◌, List, [], ◌++◌, map, All}
 use Rattle.std.specs.List.{AllZip}
-use Rattle.abc_lines.specs.ItemRange.{gone}
+use Rattle.abc_lines.specs.ItemRange.{removed_count}
 use Rattle.abc_lines.specs.declared.item_range.Replacement.{Replacement}
 use Rattle.abc_live_index.specs.Faults.{shifted_fault, faults_after}
 use Rattle.abc_live_index.specs.Outputs.{files_of, titles_of}
@@ -40,7 +40,7 @@ FaultAfter to fault = to < fault.line
 abbrev pub FaultsMeet : Type 0
 FaultsMeet =
     (lines : Replacement) (before old following new : List Fault)
-    → All (FaultBefore lines.from) before → All (FaultAmong lines.from (gone lines)) old
-    → All (FaultAfter (lines.from + gone lines)) following → All (FaultAmong lines.from lines.came) new
+    → All (FaultBefore lines.from) before → All (FaultAmong lines.from (removed_count lines)) old
+    → All (FaultAfter (lines.from + removed_count lines)) following → All (FaultAmong lines.from lines.came) new
     → faults_after lines (sort_dedup fault_cmp (before ++ (old ++ following))) new
-    ≡ sort_dedup fault_cmp (before ++ (new ++ map (shifted_fault (gone lines) lines.came) following))
+    ≡ sort_dedup fault_cmp (before ++ (new ++ map (shifted_fault (removed_count lines) lines.came) following))

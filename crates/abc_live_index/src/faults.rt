@@ -1,7 +1,7 @@
 //! The faults of a text once a stretch of its lines has been replaced.
 
 ghost use Rattle.std.specs.Prelude.{◌≡◌, ◌+◌, ◌-◌, ◌<◌, ◌≤◌, ◌++◌, All, IfOk, OnOk, filter, map};
-ghost use Rattle.abc_lines.specs.ItemRange.{gone};
+ghost use Rattle.abc_lines.specs.ItemRange.{removed_count};
 ghost use Rattle.abc_live_index.specs.Faults.{shifted_fault, faults_after, is_before, is_after};
 
 use abc_lines::Replacement;
@@ -58,7 +58,8 @@ pub(crate) fn faults_after(
     old: &[Fault],
     new: &[Fault],
 ) -> Result<Vec<Fault>, AllocError>
-    requires { All (λ fault. lines.from + gone lines < fault.line → fault.line - gone lines + lines.came ≤ u32.MAX) old.now }
+    requires { All (λ fault. lines.from + removed_count lines < fault.line
+        → fault.line - removed_count lines + lines.came ≤ u32.MAX) old.now }
     ensures { IfOk result (λ faults. faults.items ≡ faults_after lines old.now new.now) }
 {
     let mut faults = faults_before(alloc, old, lines.from)?;

@@ -4,7 +4,7 @@ ghost use Rattle.std.specs.Prelude.{◌≡◌, ◌+◌, ◌-◌, ◌<◌, ◌≤
 ghost use Rattle.std.specs.Prelude.{unwrap_or};
 ghost use Rattle.std.specs.List.Sorted.{IsStrictlyIncreasing};
 ghost use Rattle.std.specs.Map.{keys_of};
-ghost use Rattle.abc_lines.specs.ItemRange.{gone};
+ghost use Rattle.abc_lines.specs.ItemRange.{removed_count};
 ghost use Rattle.abc_live_index.specs.TuneChange.{IsChange, new_outputs, old_outputs};
 ghost use Rattle.abc_live_index.specs.Faults.{faults_after};
 ghost use Rattle.abc_live_index.specs.Outputs.{files_of, titles_of};
@@ -136,8 +136,8 @@ impl KeptBook {
     pub fn prepare(&self, alloc: Global, tunes: NewTunes) -> Result<BookPatch, AllocError>
         requires order { tunes.range.from ≤ tunes.range.to }
         requires inside { tunes.range.to ≤ length self.now.outputs.items }
-        requires few { All (λ fault. tunes.lines.from + gone tunes.lines < fault.line
-            → fault.line - gone tunes.lines + tunes.lines.came ≤ u32.MAX) self.now.faults }
+        requires few { All (λ fault. tunes.lines.from + removed_count tunes.lines < fault.line
+            → fault.line - removed_count tunes.lines + tunes.lines.came ≤ u32.MAX) self.now.faults }
         ensures on { IfOk result (λ patch. patch.on ≡ self.now) }
         ensures outputs { IfOk result (λ patch. patch.outputs ≡ take tunes.range.from self.now.outputs.items
             ++ (tunes.outputs.items ++ drop tunes.range.to self.now.outputs.items)) }

@@ -4,7 +4,7 @@ use Rattle.std.proofs.Common.{get_or, refl, sym, ◌∙◌, ap, subst, arith, ad
 use Rattle.std.proofs.Math.Seq.{drop-append_seam, drop-cons, take-append_seam}
 use Rattle.std.proofs.lemmas.List.{drop-set-lt, length-take-le, take_more_set, take-append-drop}
 use Rattle.abc_book.specs.declared.block.Block.{Block}
-use Rattle.abc_lines.specs.ItemRange.{gone}
+use Rattle.abc_lines.specs.ItemRange.{removed_count}
 use Rattle.abc_live_text.specs.Pieces.{LiesWithin}
 use Rattle.abc_live_text.specs.KeptText.{LiesAfter, block_after}
 use Rattle.abc_live_text.specs.declared.stretch.Stretch.{Stretch}
@@ -25,13 +25,13 @@ move_more f xs next i x put inside is =
     ∙ ap (λ l. take i xs ++ map f l) (sym (cut_at xs i x inside is))
 
 -- A tune after a stretch stays if as many lines came as went.
-stays : (stretch : Stretch) (block : Block) → gone stretch.lines ≡ stretch.lines.came → LiesAfter stretch block → block.from ≤ block.to → block ≡ block_after stretch block
+stays : (stretch : Stretch) (block : Block) → removed_count stretch.lines ≡ stretch.lines.came → LiesAfter stretch block → block.from ≤ block.to → block ≡ block_after stretch block
 stays stretch block same beyond order =
-    let from : block.from ≡ block.from - gone stretch.lines + stretch.lines.came = omega (arith, same, beyond) in
-    let to : block.to ≡ block.to - gone stretch.lines + stretch.lines.came = omega (arith, same, beyond, order) in
+    let from : block.from ≡ block.from - removed_count stretch.lines + stretch.lines.came = omega (arith, same, beyond) in
+    let to : block.to ≡ block.to - removed_count stretch.lines + stretch.lines.came = omega (arith, same, beyond, order) in
     (λ j. record { kind = block.kind; from = from j; to = to j })
 
-all_stay : (stretch : Stretch) (blocks : List Block) → gone stretch.lines ≡ stretch.lines.came → All (LiesAfter stretch) blocks
+all_stay : (stretch : Stretch) (blocks : List Block) → removed_count stretch.lines ≡ stretch.lines.came → All (LiesAfter stretch) blocks
     → All (λ block. block.from ≤ block.to) blocks → blocks ≡ map (block_after stretch) blocks
 all_stay stretch [] same beyond order = refl
 all_stay stretch (block ∷ blocks) same beyond order =
@@ -40,7 +40,7 @@ all_stay stretch (block ∷ blocks) same beyond order =
     (λ j. one j ∷ rest j)
 
 -- Tunes stay if as many lines came as went.
-pub none_moves : (stretch : Stretch) (tunes : List Block) (most : ℕ) → gone stretch.lines ≡ stretch.lines.came
+pub none_moves : (stretch : Stretch) (tunes : List Block) (most : ℕ) → removed_count stretch.lines ≡ stretch.lines.came
     → All (LiesAfter stretch) (drop stretch.tunes.to tunes) → All (LiesWithin most) (drop stretch.tunes.to tunes)
     → tunes ≡ take stretch.tunes.to tunes ++ map (block_after stretch) (drop stretch.tunes.to tunes)
 none_moves stretch tunes most same beyond within =

@@ -9,7 +9,7 @@ use Rattle.abc_fold.specs.Work.{Counters, raised}
 use Rattle.abc_lines.specs.GapList.{GapListView}
 use Rattle.abc_lines.specs.Lines.{Lines, LinePatchView}
 use Rattle.abc_lines.specs.ListSplice.{SplicePatchView}
-use Rattle.abc_lines.specs.ItemRange.{gone}
+use Rattle.abc_lines.specs.ItemRange.{removed_count}
 use Rattle.abc_lines.specs.Text.{Splice, Text}
 use Rattle.abc_live_cost.specs.FreshCells.{fresh_cells_after}
 use Rattle.abc_tune_compiler.specs.Book.{blocks_in, header_in, tunes_in}
@@ -125,7 +125,7 @@ old_tunes patch = drop 1 patch.on.chains.items
 
 -- The place after the edit of a block that is after the stretch.
 abbrev pub block_after : Stretch → Block → Block
-block_after stretch block = shift_block (gone stretch.lines) stretch.lines.came block
+block_after stretch block = shift_block (removed_count stretch.lines) stretch.lines.came block
 
 -- Blocks before a stretch, and after it.
 abbrev pub LiesBefore : Stretch → Block → Type 0
@@ -169,7 +169,7 @@ pub record IsStretch {C State Cell Items : Type 0} (s : Splice) (patch : KeptPat
   pub begins : patch.stretch.lines.from ≤ s.at
   pub ends : s.at + s.removed ≤ patch.stretch.lines.to
   pub inside : patch.stretch.lines.to ≤ length patch.on.lines.text
-  pub came : patch.stretch.lines.came ≡ gone patch.stretch.lines - s.removed + length s.lines
+  pub came : patch.stretch.lines.came ≡ removed_count patch.stretch.lines - s.removed + length s.lines
   pub chains_are : drop 1 patch.chains ≡ take patch.stretch.tunes.from (old_tunes patch)
       ++ (patch.new_chains ++ drop patch.stretch.tunes.to (old_tunes patch))
   pub tunes_are : patch.tunes ≡ take patch.stretch.tunes.from patch.on.tunes

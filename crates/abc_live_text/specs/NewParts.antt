@@ -6,7 +6,7 @@ use Rattle.abc_book.specs.Laws.{move_block}
 use Rattle.abc_book.specs.declared.block.Block.{Block}
 use Rattle.abc_fold.specs.Chain.{ChainView}
 use Rattle.abc_fold.specs.Steps.{Steps}
-use Rattle.abc_lines.specs.ItemRange.{gone}
+use Rattle.abc_lines.specs.ItemRange.{removed_count}
 use Rattle.abc_lines.specs.Text.{Splice, Text, spliced}
 use Rattle.abc_tune_compiler.specs.Book.{blocks_in, header_in, tunes_in}
 use Rattle.abc_tune_compiler.specs.Rules.{Rules}
@@ -137,7 +137,7 @@ pub record AreNewParts {C State Cell Items Defaults : Type 0} (steps : Steps Sta
   pub begins : new.stretch.lines.from ≤ s.at
   pub ends : s.at + s.removed ≤ new.stretch.lines.to
   pub inside : new.stretch.lines.to ≤ length on.lines.text
-  pub came : new.stretch.lines.came ≡ gone new.stretch.lines - s.removed + length s.lines
+  pub came : new.stretch.lines.came ≡ removed_count new.stretch.lines - s.removed + length s.lines
   pub header_is : new.header ≡ header_in (blocks_in rules (spliced on.lines.text s))
   pub tunes_are : tunes_in (blocks_in rules (spliced on.lines.text s)) ≡ tunes_after new.stretch on.tunes new.tunes
   pub chains_are : AreChains steps rules (spliced on.lines.text s)
