@@ -9,24 +9,13 @@ use Rattle.std.proofs.lemmas.List.{take_min}
 use Rattle.std.proofs.Math.Seq.{take-append-add}
 use Rattle.std.proofs.lemmas.Bool.Decides.{nat_tests}
 use Rattle.abc_lines.specs.declared.limits.TheConstants.{LONGEST_LINE}
-use Rattle.abc2midi_live.specs.Transcript.{whole_lines, input_lines, most_kept}
+use Rattle.abc_lines.specs.TextLines.{whole_lines}
+use Rattle.abc_lines.proofs.TextLines.{split_some, whole_lines-more}
+use Rattle.abc2midi_live.specs.Transcript.{input_lines, most_kept}
 use Rattle.abc2midi_live.specs.Machine.{IsClean}
 
 abbrev is_feed : ℕ → Bool
 is_feed b = b == 10
-
-some_parts : (b : Bool) (x : ℕ) (parts : List (List ℕ)) → cond b ([] ∷ parts) (onto_first x parts) ≢ []
-some_parts true x parts e = cc
-some_parts false x [] e = cc
-some_parts false x (part ∷ parts) e = cc
-
-split_some : (bytes : List ℕ) → slice_split is_feed bytes ≢ []
-split_some [] e = cc
-split_some (b ∷ bytes) e = some_parts (is_feed b) b (slice_split is_feed bytes) e
-
-whole_lines-more : (ended : Bool) (line : List ℕ) (parts : List (List ℕ)) → parts ≢ [] → whole_lines ended (line ∷ parts) ≡ line ∷ whole_lines ended parts
-whole_lines-more ended line [] some = absurd (some refl)
-whole_lines-more ended line (next ∷ more) some = refl
 
 -- a line that has ended, before what comes after its line feed
 pub input_lines-line : (ended : Bool) (line rest : List ℕ) → IsClean line → input_lines ended (line ++ 10 ∷ rest) ≡ take most_kept line ∷ input_lines ended rest
@@ -120,16 +109,3 @@ kept_front n begun piece h =
 pub on_ok_branch : {T E X : Type 0} (r : Result T E) (x y z : X) → x ≡ (if is_ok r then y else z) → OnOk r (x ≡ y)
 on_ok_branch (Ok v) x y z e = e
 on_ok_branch (Err v) x y z e = tt
-
--- the lines of a whole text
-abbrev pub lines_in : List ℕ → List (List ℕ)
-lines_in bytes = whole_lines true (slice_split is_feed bytes)
-
--- a line that ends, and those after it
-pub lines_in-more : (bytes line rest : List ℕ) → IsClean line → bytes ≡ line ++ 10 ∷ rest → lines_in bytes ≡ line ∷ lines_in rest
-lines_in-more bytes line rest clean e =
-    ap lines_in e ∙ ap (whole_lines true) (slice_split_at is_feed line 10 rest clean refl) ∙ whole_lines-more true line (slice_split is_feed rest) (split_some rest)
-
--- the last line
-pub lines_in-last : (bytes line : List ℕ) → IsClean line → bytes ≡ line → lines_in bytes ≡ whole_lines true (line ∷ [])
-lines_in-last bytes line clean e = ap lines_in e ∙ ap (whole_lines true) (slice_split_none is_feed line clean)

@@ -10,7 +10,6 @@ pub mod Listener
 pub mod Machine
 pub mod Outcome
 pub mod Piped
-pub mod Refusal
 pub mod Storing
 pub mod Streams
 pub mod RunOutput

@@ -1,5 +1,5 @@
 -- What the program writes for an input: the answers to its commands, in order. Not in ABC 2.1.
-use Rattle.std.specs.Prelude.{ℕ, zero, suc, ◌+◌, ◌&&◌, ◌==◌, nat_le, Bool, true, false, if◌then◌else◌, List, [], ◌∷◌, ◌++◌}
+use Rattle.std.specs.Prelude.{ℕ, zero, suc, ◌+◌, ◌==◌, nat_le, Bool, true, false, if◌then◌else◌, List, [], ◌∷◌, ◌++◌}
 use Rattle.std.specs.Prelude.{length, take, drop, map, Option, Some, None, option_and_then, Result, Ok, Err}
 use Rattle.std.specs.List.{slice_split}
 use Rattle.std.specs.Result.{result_unwrap_or}
@@ -8,6 +8,7 @@ use Rattle.abc_lines.specs.declared.limits.TheConstants.{LONGEST_LINE}
 use Rattle.abc_text.specs.Byte.{line_feed}
 use Rattle.abc_lines.specs.Text.{Text, Splice}
 use Rattle.abc_lines.specs.Edits.{insertion, replacement, deletion, edited}
+use Rattle.abc_lines.specs.TextLines.{lines_in, whole_lines}
 use Rattle.abc_publish.specs.Publisher.{Directory}
 use Rattle.abc_tune_compiler.specs.Files.{file_at}
 use Rattle.abc2midi_live.specs.Book.{files_of, faults_of, titles_of}
@@ -21,13 +22,6 @@ use Rattle.abc_lines.specs.declared.edit_error.EditError.{EditError}
 use Rattle.abc2midi_live.specs.declared.command.Command.{Command}
 use Rattle.abc2midi_live.specs.declared.command.Command.TheVariants.{Insert, Replace, Delete, Faults, Titles, Hex, Build, Quit}
 use Rattle.abc2midi_live.specs.declared.command.Command.TheVariants.{Unknown}
-
--- The parts of an input between line feeds are its lines. The part after the last line feed is a line only if it is not
--- empty and the input has ended; before that, more of it may come.
-abbrev pub whole_lines : Bool → List (List ℕ) → List (List ℕ)
-whole_lines ended [] = []
-whole_lines ended (line ∷ []) = if ended && nat_le 1 (length line) then line ∷ [] else []
-whole_lines ended (line ∷ next ∷ more) = line ∷ whole_lines ended (next ∷ more)
 
 -- the stored bytes of a line of an input are at most one more than a line of a text may have
 abbrev pub most_kept : ℕ
@@ -47,7 +41,7 @@ without_mark bytes = if bytes_eq (take 3 bytes) byte_order_mark then drop 3 byte
 
 -- The lines of a tune book. A carriage return stays in its line.
 unfoldable pub book_lines : List ℕ → Text
-book_lines bytes = whole_lines true (slice_split (λ b. b == line_feed) (without_mark bytes))
+book_lines bytes = lines_in (without_mark bytes)
 
 -- a command with the lines that belong to it
 pub data Request : Type 0 where

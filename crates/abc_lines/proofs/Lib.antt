@@ -6,4 +6,5 @@ pub mod PlacesLent
 pub mod PlacesSteps
 pub mod Runs
 pub mod Splices
+pub mod TextLines
 pub mod Iterations

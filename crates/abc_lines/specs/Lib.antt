@@ -7,8 +7,10 @@ pub mod GapListLends
 pub mod GapRow
 pub mod GapRowLends
 pub mod ItemRange
+pub mod Limits
 pub mod Lines
 pub mod ListSplice
 pub mod Places
 pub mod PlacesLends
 pub mod Text
+pub mod TextLines

@@ -13,11 +13,13 @@ mod line;
 mod lines;
 mod places;
 mod splice_patch;
+mod text_lines;
 
 pub use edit_error::EditError;
 pub use gap_list::GapList;
 pub use item_range::{ItemRange, Replacement};
 pub use iter::Iter;
-pub use limits::{LONGEST_LINE, MOST_LINES};
+pub use limits::{LONGEST_LINE, MOST_LINES, limit_error};
 pub use lines::{LineBuffer, LinePatch};
 pub use splice_patch::SplicePatch;
+pub use text_lines::lines_of_text;

@@ -1,5 +1,4 @@
 pub mod FaultNames
-pub mod LinesIn
 pub mod Owned
 pub mod Puts
 pub mod Refusals

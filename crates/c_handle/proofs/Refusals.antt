@@ -1,67 +1,16 @@
 -- Laws of lines that cannot be in a text.
-use Rattle.std.proofs.Common.{◌≡◌, ◌≢◌, ℕ, ◌+◌, ◌-◌, ◌<◌, ◌≤◌, ◌&&◌, ◌==◌, Bool, true, false, not, cond, nat_le, List, [], ◌∷◌, ◌++◌}
-use Rattle.std.proofs.Common.{Option, Some, None, Ok, Err, inl, inr, length, take, drop, refl, sym, ap, ap₂, ◌∙◌, subst, arith, length-append, length-take}
+use Rattle.std.proofs.Common.{◌≡◌, ◌≢◌, ℕ, ◌+◌, ◌-◌, ◌<◌, ◌≤◌, ◌&&◌, ◌==◌, Bool, true, false, not, cond, nat_le, ◌++◌}
+use Rattle.std.proofs.Common.{Some, None, Ok, Err, inl, inr, length, take, drop, refl, sym, ap, ◌∙◌, subst, arith, length-append, length-take}
 use Rattle.std.specs.Option.{unwrap_or}
 use Rattle.std.specs.Prelude.{◌⊎◌}
 use Rattle.std.proofs.lemmas.List.{length-drop}
-use Rattle.std.specs.List.{list_all, list_any}
-use Rattle.std.proofs.lemmas.List.Folds.{list_any_none}
+use Rattle.std.specs.List.{list_all}
 use Rattle.std.proofs.lemmas.Bool.Decides.{nat_tests}
-use Rattle.abc_lines.specs.declared.limits.TheConstants.{LONGEST_LINE, MOST_LINES}
+use Rattle.abc_lines.specs.declared.limits.TheConstants.{MOST_LINES}
 use Rattle.abc_lines.specs.Edits.{Refuses, edited, insertion, replaced, replacement}
 use Rattle.abc_lines.specs.Text.{Splice, Text, is_line, spliced}
-use Rattle.abc_lines.specs.declared.edit_error.EditError.{EditError}
 use Rattle.abc_lines.specs.declared.edit_error.EditError.TheVariants.{BadLine, BadRange, OutOfMemory, TooLarge}
-use Rattle.abc_text.specs.Cut.{HasNoByte}
-use Rattle.c_handle.specs.Lines.{whole_lines}
-use Rattle.c_handle.specs.Refusal.{limit_fault}
-use Rattle.c_handle.proofs.LinesIn.{has_no_feed}
-
-short_line : (line : List ℕ) → HasNoByte 10 line → length line ≤ LONGEST_LINE → is_line line ≡ true
-short_line line without short =
-    let fits : nat_le (length line) LONGEST_LINE ≡ true = grind (arith, nat_tests) in
-    ap₂ (λ a b. a && not b) fits (list_any_none (λ b. b == 10) line (has_no_feed line without))
-
-long_line : (line : List ℕ) → LONGEST_LINE < length line → is_line line ≡ false
-long_line line long =
-    let fails : nat_le (length line) LONGEST_LINE ≡ false = grind (arith, nat_tests) in
-    ap (λ a. a && not (list_any (λ b. b == 10) line)) fails
-
-last_line : (line : List ℕ) → 0 < length line → whole_lines (line ∷ []) ≡ line ∷ []
-last_line line some =
-    let there : nat_le 1 (length line) ≡ true = grind (arith, nat_tests) in
-    ap (λ b. cond b (line ∷ []) []) there
-
-limit_fault_of : ℕ → Text → Option EditError
-limit_fault_of count lines = limit_fault (list_all is_line lines) (count + length lines)
-
--- a last line
-pub refused_long : (count : ℕ) (line : List ℕ) → LONGEST_LINE < length line → limit_fault (list_all is_line (whole_lines (line ∷ []))) (count + length (whole_lines (line ∷ []))) ≡ Some BadLine
-unfolding limit_fault limit_fault_of
-refused_long count line long =
-    let some : 0 < length line = omega arith in
-    ap (limit_fault_of count) (last_line line some) ∙ ap (λ b. limit_fault (b && true) (count + 1)) (long_line line long)
-
-pub refused_short : (count : ℕ) (line : List ℕ) → HasNoByte 10 line → 0 < length line → length line ≤ LONGEST_LINE
-    → limit_fault (list_all is_line (whole_lines (line ∷ []))) (count + length (whole_lines (line ∷ []))) ≡ limit_fault true (count + 1)
-unfolding limit_fault_of
-refused_short count line without some short =
-    ap (limit_fault_of count) (last_line line some) ∙ ap (λ b. limit_fault (b && true) (count + 1)) (short_line line without short)
-
--- the first of some lines
-pub refused_first_long : (count : ℕ) (line : List ℕ) (more lines : Text) → lines ≡ line ∷ more → LONGEST_LINE < length line → limit_fault (list_all is_line lines) (count + length lines) ≡ Some BadLine
-unfolding limit_fault limit_fault_of
-refused_first_long count line more lines e long =
-    ap (limit_fault_of count) e ∙ ap (λ b. limit_fault (b && list_all is_line more) (count + length (line ∷ more))) (long_line line long)
-
-pub refused_first_short : (count : ℕ) (line : List ℕ) (more lines : Text) → lines ≡ line ∷ more → HasNoByte 10 line → length line ≤ LONGEST_LINE
-    → limit_fault (list_all is_line lines) (count + length lines) ≡ limit_fault (list_all is_line more) (count + 1 + length more)
-unfolding limit_fault_of
-refused_first_short count line more lines e without short =
-    let counts : count + length (line ∷ more) ≡ count + 1 + length more = omega arith in
-    ap (limit_fault_of count) e
-    ∙ ap (λ b. limit_fault (b && list_all is_line more) (count + length (line ∷ more))) (short_line line without short)
-    ∙ ap (limit_fault (list_all is_line more)) counts
+use Rattle.abc_lines.specs.Limits.{limit_error}
 
 -- lines that are not in the text
 pub outside : (text : Text) (s : Splice) → length text < s.at + s.removed → replaced text s ≡ Err BadRange
@@ -89,8 +38,8 @@ length_spliced text s inside =
 
 -- the reason of lines that are in the text
 pub refuses_lines : (text : Text) (s : Splice) → s.at + s.removed ≤ length text
-    → Refuses (unwrap_or (limit_fault (list_all is_line s.lines) (length text - s.removed + length s.lines)) OutOfMemory) (replaced text s)
-unfolding limit_fault replaced
+    → Refuses (unwrap_or (limit_error (list_all is_line s.lines) (length text - s.removed + length s.lines)) OutOfMemory) (replaced text s)
+unfolding limit_error replaced
 refuses_lines text s inside =
     let holds : nat_le (s.at + s.removed) (length text) ≡ true = grind (arith, nat_tests) in
     let proper = list_all is_line s.lines in

@@ -4,9 +4,8 @@ pub mod Copies
 pub mod FaultNames
 pub mod Faults
 pub mod Handle
-pub mod Lines
-pub mod Refusal
 pub mod Sessions
 pub mod Slot
 -- The definitions of the crates below that public clauses cite: a caller needs only this crate.
 pub use Rattle.abc_lines.specs.Edits
+pub use Rattle.abc_lines.specs.TextLines

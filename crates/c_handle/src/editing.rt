@@ -6,15 +6,15 @@ ghost use Rattle.abc_live.specs.Counting.{MayCost, cost_of};
 ghost use Rattle.abc_live.specs.Edit.{splice_of};
 ghost use Rattle.abc_tune.specs.Abc.{rules_of_abc, steps_of_abc};
 ghost use Rattle.c_handle.specs.Slot.{session_in};
-ghost use Rattle.c_handle.specs.Lines.{lines_in};
+ghost use Rattle.abc_lines.specs.TextLines.{lines_in};
 ghost use Rattle.c_handle.specs.Sessions.{CostsSlot, CountsNoRefusal, Edits, EditsSlot};
 
 use crate::codes::{CODE_MISUSED, CODE_OK, code_of};
-use crate::lines::lines_of;
 use crate::open_session::OpenSession;
 use crate::refusal::{refuse_insertion, refuse_replacement};
 use crate::slot::SessionSlot;
 use abc_fold::Work;
+use abc_lines::lines_of_text;
 use abc_live::Edit;
 use std::alloc::Global;
 
@@ -62,7 +62,7 @@ pub fn insert_lines(
     ensures counted { CostsSlot (insertion at (lines_in text.now)) (session_in slot.old) work.old work.new }
     ensures uncounted { CountsNoRefusal result work.old work.new }
 {
-    match lines_of(alloc, text) {
+    match lines_of_text(alloc, text) {
         Ok(lines) => edit_slot(alloc, slot, &Edit::Insert { at, lines }, work),
         Err(_) => refuse_insertion(alloc, slot, at, text),
     }
@@ -82,7 +82,7 @@ pub fn replace_lines(
     ensures counted { CostsSlot (replacement from to (lines_in text.now)) (session_in slot.old) work.old work.new }
     ensures uncounted { CountsNoRefusal result work.old work.new }
 {
-    match lines_of(alloc, text) {
+    match lines_of_text(alloc, text) {
         Ok(lines) => edit_slot(alloc, slot, &Edit::Replace { from, to, lines }, work),
         Err(_) => refuse_replacement(alloc, slot, from, to, text),
     }

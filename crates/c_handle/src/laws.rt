@@ -4,16 +4,16 @@
 ghost use Rattle.std.specs.Prelude.{◌≡◌, ◌≢◌, ℕ, [], ◌∷◌, codes, Ok, None, Some, Option};
 ghost use Rattle.abc_lines.specs.Edits.{edited};
 ghost use Rattle.abc_lines.specs.Text.{Splice};
+ghost use Rattle.abc_lines.specs.TextLines.{lines_in};
 ghost use Rattle.abc_lines.specs.declared.edit_error.EditError.TheVariants.{BadLine, BadRange, OutOfMemory, TooLarge};
 ghost use Rattle.c_handle.specs.Answers.{count_answer};
 ghost use Rattle.c_handle.specs.Codes.{code_of};
 ghost use Rattle.c_handle.specs.Copies.{copy_answer, lookup_answer, slot_answer};
-ghost use Rattle.c_handle.specs.Lines.{lines_in};
 ghost use Rattle.c_handle.specs.Sessions.{EditsSlot};
 ghost use Rattle.c_handle.specs.declared.open_session.OpenSession.{OpenSession};
 
 /// The lines of texts. A last line without a line feed counts if it is not empty.
-#[tactic(auto, unfolding(crate::specs::Lines::lines_in, crate::specs::Lines::whole_lines))]
+#[tactic(auto, unfolding(abc_lines::specs::TextLines::lines_in, abc_lines::specs::TextLines::whole_lines))]
 pub fn lines_of_texts()
     ensures ended { lines_in (codes "a\nb\n") ≡ codes "a" ∷ codes "b" ∷ [] }
     ensures unended { lines_in (codes "a\nb") ≡ codes "a" ∷ codes "b" ∷ [] }

@@ -12,7 +12,6 @@ mod faults;
 mod files;
 mod handle;
 pub mod laws;
-mod lines;
 mod open_session;
 mod opening;
 mod refusal;

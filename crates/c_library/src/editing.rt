@@ -1,7 +1,7 @@
 //! Calls that edit the text of a session.
 
 ghost use Rattle.c_handle.specs.Edits.{deletion, insertion, replacement};
-ghost use Rattle.c_handle.specs.Lines.{lines_in};
+ghost use Rattle.c_handle.specs.TextLines.{lines_in};
 ghost use Rattle.c_handle.specs.Sessions.{CostsSlot, CountsNoRefusal, EditsSlot};
 ghost use Rattle.c_handle.specs.Slot.{session_in};
 

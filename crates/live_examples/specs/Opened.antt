@@ -4,15 +4,22 @@ use Rattle.abc2midi_live.specs.Answer.{end_line, failed_line, fault_line, fault_
 use Rattle.abc2midi_live.specs.Answer.{stored_line, title_line, title_list, truncated_line, unknown_line}
 use Rattle.abc2midi_live.specs.Command.{command_named, command_of, command_of_words, deletion, hex_dump, insertion, numbers_of}
 use Rattle.abc2midi_live.specs.Command.{replacement, with_numbers, within_line_limit, without_numbers, words_of}
-use Rattle.abc2midi_live.specs.Transcript.{answers, edit_answer, input_lines, outcome_of, request_of, requests, transcript}
+use Rattle.abc2midi_live.specs.Transcript.{answers, book_lines, edit_answer, input_lines, outcome_of, request_of, requests, transcript}
+use Rattle.abc2midi_live.specs.Transcript.{without_mark}
 use Rattle.abc_book.specs.Block.{blocks_of}
 use Rattle.abc_lines.specs.Edits.{edited, replaced}
 use Rattle.abc_lines.specs.Text.{spliced}
+use Rattle.abc_lines.specs.TextLines.{lines_in}
 use Rattle.abc_text.specs.Number.{number_of}
 use Rattle.abc_tune_compiler.specs.Book.{book_of}
 use Rattle.abc_tune_compiler.specs.Files.{removed_numbers, written_numbers}
 use Rattle.abc_tune_compiler.specs.Tune.{tune_of}
 use Rattle.hex.specs.Hex.{encode_with}
+
+-- The lines of a tune book.
+unfoldable pub lines_of_a_book : Unit {0}
+unfolding lines_in book_lines without_mark
+lines_of_a_book = tt
 
 -- The lists of faults and of titles.
 unfoldable pub lists : Unit {0}

@@ -8,7 +8,7 @@ ghost use Rattle.abc_fields.specs.declared.fault_code.FaultCode.TheVariants.{Bad
 
 /// The lines of a tune book. One mark of UTF-8 at its start is dropped; a last line without a line feed counts if it is
 /// not empty.
-#[tactic(auto, unfolding(abc2midi_live::specs::Transcript::book_lines, abc2midi_live::specs::Transcript::without_mark))]
+#[tactic(auto, unfolding(crate::specs::Opened::lines_of_a_book))]
 pub fn lines_of_books()
     ensures marked { book_lines (239 ∷ 187 ∷ 191 ∷ codes "a\nb\n") ≡ codes "a" ∷ codes "b" ∷ [] }
     ensures twice_marked { book_lines (239 ∷ 187 ∷ 191 ∷ 239 ∷ 187 ∷ 191 ∷ codes "a\n") ≡ (239 ∷ 187 ∷ 191 ∷ codes "a") ∷ [] }

@@ -1,5 +1,5 @@
 use Rattle.std.proofs.Common.{inl}
-use Rattle.c_handle.specs.Lines.{lines_in}
+use Rattle.abc_lines.specs.TextLines.{lines_in}
 use Rattle.c_handle.proofs.Refusals.{insertion_at, insertion_none}
 use Rattle.c_handle.proofs.refusal.insertion_reason.Goals as goal
 

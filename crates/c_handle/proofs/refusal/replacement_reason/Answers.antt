@@ -2,7 +2,7 @@ use Rattle.std.proofs.Common.{◌≡◌, ◌+◌, ◌-◌, ◌&&◌, nat_le, tru
 use Rattle.std.proofs.lemmas.Bool.Decides.{nat_tests}
 use Rattle.abc_lines.specs.Edits.{Refuses, replaced}
 use Rattle.abc_lines.specs.Text.{Splice}
-use Rattle.c_handle.specs.Lines.{lines_in}
+use Rattle.abc_lines.specs.TextLines.{lines_in}
 use Rattle.c_handle.proofs.Refusals.{no_range, replacement_at, replacement_none}
 use Rattle.c_handle.proofs.refusal.replacement_reason.Goals as goal
 

@@ -1,7 +1,7 @@
 use Rattle.std.proofs.Common.{◌≡◌, ◌++◌, length}
 use Rattle.abc_lines.specs.Text.{text_of}
-use Rattle.c_handle.specs.Lines.{lines_in}
-use Rattle.c_handle.proofs.lines.lines_of.Given as goal
+use Rattle.abc_lines.specs.TextLines.{lines_in}
+use Rattle.abc_lines.proofs.text_lines.lines_of_text.Given as goal
 
 -- the lines so far, and those of the rest
 abbrev pub invariant-lines : goal.invariant-lines

@@ -1,9 +1,9 @@
 use Rattle.std.proofs.Common.{[], ◌∷◌, ◌++◌, sym, ap, ◌∙◌, append_assoc}
 use Rattle.std.proofs.lemmas.Result.{IfOk-weaker}
 use Rattle.abc_lines.specs.Text.{text_of}
-use Rattle.c_handle.specs.Lines.{lines_in}
-use Rattle.c_handle.proofs.LinesIn.{lines_in-last, lines_in-more, text_of-push}
-use Rattle.c_handle.proofs.lines.lines_of.Goals as goal
+use Rattle.abc_lines.specs.TextLines.{lines_in}
+use Rattle.abc_lines.proofs.TextLines.{lines_in-last, lines_in-more, text_of-push}
+use Rattle.abc_lines.proofs.text_lines.lines_of_text.Goals as goal
 
 pub lines-preserved : goal.lines-preserved
 lines-preserved c =

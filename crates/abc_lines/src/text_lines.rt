@@ -1,8 +1,8 @@
 //! A text that the caller passes as a whole, cut into lines.
 
-ghost use Rattle.std.specs.Prelude.{◌≡◌, [], ◌∷◌, ◌++◌, IfOk};
+ghost use Rattle.std.specs.Prelude.{◌≡◌, true, [], ◌∷◌, ◌++◌, IfOk};
 ghost use Rattle.abc_lines.specs.Text.{text_of};
-ghost use Rattle.c_handle.specs.Lines.{lines_in, whole_lines};
+ghost use Rattle.abc_lines.specs.TextLines.{lines_in, whole_lines};
 
 use abc_text::cut_at;
 use std::alloc::{AllocError, Global};
@@ -13,7 +13,7 @@ fn with_last(
     mut lines: Vec<Vec<u8>>,
     last: &[u8],
 ) -> Result<Vec<Vec<u8>>, AllocError>
-    ensures value { IfOk result (λ all. text_of all ≡ text_of lines ++ whole_lines (last.now ∷ [])) }
+    ensures value { IfOk result (λ all. text_of all ≡ text_of lines ++ whole_lines true (last.now ∷ [])) }
 {
     if !last.is_empty() {
         lines.push(Vec::from_slice(alloc, last)?)?;
@@ -22,7 +22,7 @@ fn with_last(
 }
 
 /// Returns the lines of a text.
-pub fn lines_of(alloc: Global, text: &[u8]) -> Result<Vec<Vec<u8>>, AllocError>
+pub fn lines_of_text(alloc: Global, text: &[u8]) -> Result<Vec<Vec<u8>>, AllocError>
     ensures value { IfOk result (λ lines. text_of lines ≡ lines_in text.now) }
 {
     let mut lines = Vec::new(alloc);

@@ -1,11 +1,11 @@
 use Rattle.std.proofs.Common.{◌+◌, ◌≤◌, length, sym, ap, ◌∙◌, arith, ◌∷◌, length-append}
 use Rattle.std.specs.List.{list_all}
 use Rattle.abc_lines.specs.Text.{is_line}
-use Rattle.c_handle.specs.Lines.{lines_in}
-use Rattle.c_handle.specs.Refusal.{limit_fault}
-use Rattle.c_handle.proofs.LinesIn.{lines_in-last, lines_in-more}
-use Rattle.c_handle.proofs.Refusals.{refused_first_long, refused_first_short}
-use Rattle.c_handle.proofs.refusal.fault_of_lines.Goals as goal
+use Rattle.abc_lines.specs.TextLines.{lines_in}
+use Rattle.abc_lines.specs.Limits.{limit_error}
+use Rattle.abc_lines.proofs.TextLines.{lines_in-last, lines_in-more}
+use Rattle.abc_lines.proofs.TextLines.{refused_first_long, refused_first_short}
+use Rattle.abc_lines.proofs.limits.limit_error.Goals as goal
 
 pub returns-then-line-gt-LONGEST_LINE : goal.returns-then-line-gt-LONGEST_LINE
 returns-then-line-gt-LONGEST_LINE c =
@@ -26,8 +26,8 @@ lines-preserved c =
     let shorter : c.lines.count + 1 + length after ≤ c.args.others + length c.args.text.now = omega arith in
     (shorter, sym step ∙ c.lines.invariant.1)
 
-pub fault_of_last-requires-clause-room : goal.fault_of_last-requires-clause-room
-fault_of_last-requires-clause-room c =
+pub error_of_last-requires-clause-room : goal.error_of_last-requires-clause-room
+error_of_last-requires-clause-room c =
     let bound = c.lines.invariant.0 in
     let few = c.requires.few in
     omega arith
@@ -35,4 +35,4 @@ fault_of_last-requires-clause-room c =
 pub returns-in-None : goal.returns-in-None
 returns-in-None c =
     let last = lines_in-last c.lines.rest.now c.in-None.ensures.cut in
-    record { value = c.fault_of_last.ensures.value ∙ sym (ap (λ ls. limit_fault (list_all is_line ls) (c.lines.count + length ls)) last) ∙ c.lines.invariant.1 }
+    record { value = c.error_of_last.ensures.value ∙ sym (ap (λ ls. limit_error (list_all is_line ls) (c.lines.count + length ls)) last) ∙ c.lines.invariant.1 }
