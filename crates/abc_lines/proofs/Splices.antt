@@ -13,7 +13,7 @@ use Rattle.std.proofs.lemmas.List.Sums.{AllPass-from_list_all, list_all-from_All
 use Rattle.abc_lines.specs.declared.limits.TheConstants.{MOST_LINES}
 use Rattle.abc_lines.specs.declared.edit_error.EditError.TheVariants.{BadRange, BadLine, TooLarge}
 use Rattle.abc_lines.specs.GapList.{GapListView, replaced_run}
-use Rattle.abc_lines.specs.Lines.{Lines, held_by}
+use Rattle.abc_lines.specs.LineBuffer.{LineBufferView, line_buffer_view}
 use Rattle.abc_lines.specs.ListSplice.{after_splice}
 use Rattle.abc_lines.specs.Text.{Text, IsText, Splice, lines_of, seen_lines, is_line, splice_from, spliced}
 use Rattle.abc_lines.specs.Edits.{replaced}
@@ -70,11 +70,11 @@ IsText-spliced text s is good few = record {
 }
 
 -- a splice of a text is one of its list
-pub spliced-list : (list after : GapListView (List ℕ)) (held : Lines) (at removed : ℕ) (lines : List (Vec ℕ)) (copies : Text) → held_by list ≡ held → copies ≡ lines_of lines
+pub spliced-list : (list after : GapListView (List ℕ)) (held : LineBufferView) (at removed : ℕ) (lines : List (Vec ℕ)) (copies : Text) → line_buffer_view list ≡ held → copies ≡ lines_of lines
     → after ≡ after_splice list at removed copies → spliced held.text (splice_from at removed lines) ≡ after.items
 unfolding spliced after_splice
 spliced-list list after held at removed lines copies holds copied made =
-    ap (λ text. replaced_run text at removed (lines_of lines)) (sym (ap (λ (h : Lines). h.text) holds))
+    ap (λ text. replaced_run text at removed (lines_of lines)) (sym (ap (λ (h : LineBufferView). h.text) holds))
     ∙ ap (replaced_run list.items at removed) (sym copied)
     ∙ ap (λ (g : GapListView (List ℕ)). g.items) (sym made)
 

@@ -8,7 +8,7 @@ pub mod GapRow
 pub mod GapRowLends
 pub mod ItemRange
 pub mod Limits
-pub mod Lines
+pub mod LineBuffer
 pub mod ListSplice
 pub mod Places
 pub mod PlacesLends

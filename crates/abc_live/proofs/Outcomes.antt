@@ -11,7 +11,7 @@ use Rattle.abc_live_text.specs.declared.stretch.Stretch.{Stretch}
 use Rattle.abc_fold.specs.Chain.{ChainView}
 use Rattle.abc_fold.specs.Steps.{Steps, IsResumable}
 use Rattle.abc_live_index.specs.Faults.{faults_after}
-use Rattle.abc_lines.specs.Lines.{Lines}
+use Rattle.abc_lines.specs.LineBuffer.{LineBufferView}
 use Rattle.abc_lines.specs.Text.{IsText, Splice, Text, is_line, spliced}
 use Rattle.abc_lines.specs.declared.limits.TheConstants.{MOST_LINES}
 use Rattle.abc_live.specs.Prepared.{HeaderCells, IsBook, IsPrepared, count_in, header_faults_there}
@@ -34,20 +34,20 @@ ok_both (Err e) P Q R follows one other = one
 module _ {C State Cell Items Defaults : Type 0} (steps : Steps State Cell Items) (rules : Rules State Cell Items Defaults)
     (s : Splice) (patch : KeptPatchView C State Cell Items) (is : IsPrepared steps rules s patch)
     (text : KeptTextView C State Cell Items) (on : patch.on ≡ text) (stretch : Stretch) (there : stretch ≡ patch.stretch) where
-  makes : (held : Lines) → held ≡ text.lines → patch.text ≡ spliced held.text s
-  makes held same = is.makes ∙ ap (λ (k : KeptTextView C State Cell Items). spliced k.lines.text s) on ∙ ap (λ (l : Lines). spliced l.text s) (sym same)
+  makes : (held : LineBufferView) → held ≡ text.lines → patch.text ≡ spliced held.text s
+  makes held same = is.makes ∙ ap (λ (k : KeptTextView C State Cell Items). spliced k.lines.text s) on ∙ ap (λ (l : LineBufferView). spliced l.text s) (sym same)
 
-  pub lines_inside : (held : Lines) → held ≡ text.lines → stretch.lines.from + stretch.lines.came ≤ length (spliced held.text s)
+  pub lines_inside : (held : LineBufferView) → held ≡ text.lines → stretch.lines.from + stretch.lines.came ≤ length (spliced held.text s)
   lines_inside held same =
       subst (λ (t : Text). stretch.lines.from + stretch.lines.came ≤ length t) (makes held same)
       (subst (λ (x : Stretch). x.lines.from + x.lines.came ≤ length patch.text) (sym there) (stretch_inside steps rules s patch is))
 
-  pub own_lines : (held : Lines) (seen : Text) → held ≡ text.lines
+  pub own_lines : (held : LineBufferView) (seen : Text) → held ≡ text.lines
       → seen ≡ take stretch.lines.came (drop stretch.lines.from (spliced held.text s)) → seen ≡ take patch.stretch.lines.came (drop patch.stretch.lines.from patch.text)
   own_lines held seen same are =
       are ∙ ap (λ (t : Text). take stretch.lines.came (drop stretch.lines.from t)) (sym (makes held same)) ∙ ap (λ (x : Stretch). take x.lines.came (drop x.lines.from patch.text)) there
 
-  pub good_lines : (held : Lines) (seen : Text) → held ≡ text.lines → seen ≡ take stretch.lines.came (drop stretch.lines.from (spliced held.text s)) → list_all is_line seen ≡ true
+  pub good_lines : (held : LineBufferView) (seen : Text) → held ≡ text.lines → seen ≡ take stretch.lines.came (drop stretch.lines.from (spliced held.text s)) → list_all is_line seen ≡ true
   good_lines held seen same are = ap (list_all is_line) (own_lines held seen same are) ∙ lines_good steps rules s patch is
 
   pub own_counts : (counts : List ℕ) → counts ≡ map count_in (take patch.stretch.lines.came (drop patch.stretch.lines.from patch.rows))

@@ -7,7 +7,7 @@ use Rattle.abc_fold.specs.Chain.{ChainView}
 use Rattle.abc_fold.specs.Steps.{Steps}
 use Rattle.abc_fold.specs.Work.{Counters, raised}
 use Rattle.abc_lines.specs.GapList.{GapListView}
-use Rattle.abc_lines.specs.Lines.{Lines, LinePatchView}
+use Rattle.abc_lines.specs.LineBuffer.{LineBufferView, LinePatchView}
 use Rattle.abc_lines.specs.ListSplice.{SplicePatchView}
 use Rattle.abc_lines.specs.ItemRange.{removed_count}
 use Rattle.abc_lines.specs.Text.{Splice, Text}
@@ -49,7 +49,7 @@ pub record ArePartsOf {State Cell Items Defaults : Type 0} (steps : Steps State 
 -- and their chains.
 pub record KeptTextView (C State Cell Items : Type 0) : Type 0 where
   pub compiler : C
-  pub lines : Lines
+  pub lines : LineBufferView
   pub rows : GapListView (Row Cell)
   pub header : Option Block
   pub tunes : List Block

@@ -1,6 +1,6 @@
 use Rattle.std.proofs.Common.{◌≡◌, ◌++◌, ap, ◌∙◌, drop, map, subst, arith}
 use Rattle.abc_lines.specs.GapList.{GapListView}
-use Rattle.abc_lines.specs.Lines.{Lines}
+use Rattle.abc_lines.specs.LineBuffer.{LineBufferView}
 use Rattle.abc_lines.specs.Text.{IsText, seen_lines}
 use Rattle.abc_live.specs.Prepared.{IsBook, header_faults_there}
 use Rattle.abc_live.proofs.Outcomes.{after_inside, book_now, cells_there, faults_now, few_faults, few_lines}
@@ -69,7 +69,7 @@ prepare-requires-clause-inside g c =
 pub prepare-requires-clause-few : goal.prepare-requires-clause-few
 prepare-requires-clause-few g c =
     let few = few_faults _ _ _ _ c.requires.prepared _ c.requires.on _ c.stretch-stretch.ensures c.args.book.now.faults
-    (subst (λ (l : Lines). IsText l.text) c.lines.ensures.lines c.len.ensures.limits) c.requires.faults in
+    (subst (λ (l : LineBufferView). IsText l.text) c.lines.ensures.lines c.len.ensures.limits) c.requires.faults in
     λ k d inside following. let small = few k d inside following in omega (arith, small)
 
 pub returns-clause-outputs : goal.returns-clause-outputs

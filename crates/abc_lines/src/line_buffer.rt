@@ -20,11 +20,11 @@ pub struct LineBuffer {
 
 impl Model for LineBuffer {
     ghost use Rattle.abc_lines.specs.Text.{IsText};
-    ghost use Rattle.abc_lines.specs.Lines.{Lines, held_by};
+    ghost use Rattle.abc_lines.specs.LineBuffer.{LineBufferView, line_buffer_view};
 
-    ghost Value = { Lines };
+    ghost Value = { LineBufferView };
 
-    ghost view = { λ b. held_by b.lines };
+    ghost view = { λ b. line_buffer_view b.lines };
 
     ghost invariant = { λ b. IsText b.lines.items };
 }
@@ -38,7 +38,7 @@ pub struct LinePatch {
 
 impl Model for LinePatch {
     ghost use Rattle.abc_lines.specs.Text.{IsText};
-    ghost use Rattle.abc_lines.specs.Lines.{LinePatchView, line_patch_view};
+    ghost use Rattle.abc_lines.specs.LineBuffer.{LinePatchView, line_patch_view};
 
     ghost Value = { LinePatchView };
 

@@ -3,7 +3,7 @@ use Rattle.std.specs.List.{list_all}
 use Rattle.abc_lines.specs.Text.{splice_from, is_line, lines_of, spliced}
 use Rattle.abc_lines.specs.declared.limits.TheConstants.{MOST_LINES}
 use Rattle.abc_lines.proofs.Splices.{IsText-spliced, length-spliced, length-lines_of, replaced-outside, replaced-bad, replaced-large, replaced-inside}
-use Rattle.abc_lines.proofs.lines.LineBuffer.validate.Goals as goal
+use Rattle.abc_lines.proofs.line_buffer.LineBuffer.validate.Goals as goal
 
 pub returns-then-at-count-clause-refused : goal.returns-then-at-count-clause-refused
 returns-then-at-count-clause-refused c = replaced-outside c.args.self.now.text (splice_from c.args.at c.args.removed c.args.lines.now) (omega arith)

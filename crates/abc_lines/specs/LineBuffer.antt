@@ -6,21 +6,21 @@ use Rattle.abc_lines.specs.Text.{Text}
 
 -- A text, how many of its lines precede the gap, for how many more there is room, and how many places the gap has
 -- moved.
-pub record Lines : Type 0 where
+pub record LineBufferView : Type 0 where
   pub text : Text
   pub gap : ℕ
   pub room : ℕ
   pub moved : ℕ
 
 -- What a list of lines holds.
-abbrev pub held_by : GapListView (List ℕ) → Lines
-held_by list = record { text = list.items; gap = list.gap; room = list.room; moved = list.moved }
+abbrev pub line_buffer_view : GapListView (List ℕ) → LineBufferView
+line_buffer_view list = record { text = list.items; gap = list.gap; room = list.room; moved = list.moved }
 
 -- A text before a splice, with its gap and room, and the text after it.
 pub record LinePatchView : Type 0 where
-  pub on : Lines
+  pub on : LineBufferView
   pub after : Text
 
 -- The splice of a text that a splice of its list is.
 abbrev pub line_patch_view : SplicePatchView (List ℕ) → LinePatchView
-line_patch_view splice = record { on = held_by splice.on; after = splice.after.items }
+line_patch_view splice = record { on = line_buffer_view splice.on; after = splice.after.items }
