@@ -227,13 +227,13 @@ fn fold_pieces<F: Fold>(
     let mut states = GapList::with_room(alloc, places)?;
     let mut cells = GapList::with_room(alloc, count)?;
     let mut items = GapList::with_room(alloc, count)?;
-    let mut taken = false;
+    let mut is_reused = false;
     for i in 0..count {
         let piece = &pieces[i];
         let cell = cell_in(alloc, piece)?;
-        let known = is_known(taken, marks, i);
-        taken = is_taken(fold, &state, piece, known);
-        let (left, given) = pass_piece(alloc, fold, &state, piece, taken, work)?;
+        let known = is_known(is_reused, marks, i);
+        is_reused = is_taken(fold, &state, piece, known);
+        let (left, given) = pass_piece(alloc, fold, &state, piece, is_reused, work)?;
         states.push(state);
         cells.push(cell);
         items.push(given);
@@ -248,11 +248,11 @@ fn fold_pieces<F: Fold>(
 }
 
 /// Whether a piece surely holds as it was kept: the piece before it does, and this one is marked as following it.
-fn is_known(taken: bool, marks: &[bool], i: usize) -> bool
-    ensures before { result ≡ true → taken ≡ true }
+fn is_known(is_reused: bool, marks: &[bool], i: usize) -> bool
+    ensures before { result ≡ true → is_reused ≡ true }
     ensures marked { result ≡ true → slice_get marks.now i ≡ Some true }
 {
-    if !taken {
+    if !is_reused {
         return false;
     }
     match marks.get(i) {

@@ -24,12 +24,12 @@ use abc_tune_memo::TuneMemo;
 use std::alloc::{AllocError, Global};
 
 /// The chain of the file header after the edit. The edit belongs to the text as it is now.
-fn first_chain<'a, C: Compiler>(text: &'a KeptText<C>, kept: &'a KeptPatch<C>) -> &'a Chain<C>
-    requires on { kept.now.on ≡ text.now }
-    requires some { 1 ≤ length kept.now.chains }
-    ensures { slice_get kept.now.chains 0 ≡ Some result.now }
+fn first_chain<'a, C: Compiler>(text: &'a KeptText<C>, text_patch: &'a KeptPatch<C>) -> &'a Chain<C>
+    requires on { text_patch.now.on ≡ text.now }
+    requires some { 1 ≤ length text_patch.now.chains }
+    ensures { slice_get text_patch.now.chains 0 ≡ Some result.now }
 {
-    kept.chain(text, 0).unwrap().get()
+    text_patch.chain(text, 0).unwrap().get()
 }
 
 /// The faults of a stretch: those of the file header, if it lies there, and those of the tunes, which give these.
@@ -64,50 +64,58 @@ fn faults_of<C: Compiler>(
 pub(crate) fn book_after<C: Compiler>(
     text: &KeptText<C>,
     book: &KeptBook,
-    kept: &KeptPatch<C>,
+    text_patch: &KeptPatch<C>,
     change: &Change,
     memo: &mut TuneMemo<C>,
     work: &mut C::Work,
 ) -> Result<BookPatch, AllocError>
-    requires on { kept.now.on ≡ text.now }
+    requires on { text_patch.now.on ≡ text.now }
     requires prepared { let c = text.now.compiler in
-        IsPrepared (C.steps c) (C.rules c) (splice_in change.now) kept.now }
+        IsPrepared (C.steps c) (C.rules c) (splice_in change.now) text_patch.now }
     requires outputs { book.now.outputs.items ≡ map (output_in (C.rules text.now.compiler)) (drop 1 text.now.chains.items) }
     requires faults { let c = text.now.compiler in
         book.now.faults ≡ (book_of (C.steps c) (C.rules c) text.now.lines.text).faults }
     requires remembers { let c = text.now.compiler in
         Remembers (C.steps c) (C.rules c) memo.old }
     ensures on { IfOk result (λ patch. patch.on ≡ book.now) }
-    ensures outputs { IfOk result (λ patch. patch.outputs ≡ map (output_in (C.rules text.now.compiler)) (drop 1 kept.now.chains)) }
+    ensures outputs { IfOk result (λ patch. patch.outputs
+        ≡ map (output_in (C.rules text.now.compiler)) (drop 1 text_patch.now.chains)) }
     ensures book { let c = text.now.compiler in
-        IfOk result (λ patch. IsBook patch.outputs patch.faults (book_of (C.steps c) (C.rules c) kept.now.text)) }
+        IfOk result (λ patch. IsBook patch.outputs patch.faults (book_of (C.steps c) (C.rules c) text_patch.now.text)) }
     ensures report { IfOk result (λ patch. Reports (files_of book.now.outputs.items) (files_of patch.outputs) patch.report) }
     ensures remembers { let c = text.now.compiler in
         Remembers (C.steps c) (C.rules c) memo.new }
-    ensures counted { IsBuiltUpTo (built_count kept.now.reused_tunes) (C.Work.counts work.old) (C.Work.counts work.new) }
+    ensures counted { IsBuiltUpTo (built_count text_patch.now.reused_tunes) (C.Work.counts work.old) (C.Work.counts work.new) }
 {
     // For the prover: the text has at most `MOST_LINES` lines.
     let _ = text.lines().len();
     let alloc = text.lines().allocator();
     let compiler = text.compiler();
-    let stretch = kept.stretch();
-    let first = first_chain(text, kept);
+    let stretch = text_patch.stretch();
+    let first = first_chain(text, text_patch);
     let lines = lines_of(text.lines(), change, stretch)?;
-    let counts = counts_of(alloc, text, kept)?;
+    let counts = counts_of(alloc, text, text_patch)?;
     let folded = StretchView {
         lines: &lines,
         before: stretch.lines.from,
-        header_state: header_state(kept.header(), first),
-        places: kept.places(),
-        chains: kept.new_chains(),
+        header_state: header_state(text_patch.header(), first),
+        places: text_patch.places(),
+        chains: text_patch.new_chains(),
         counts: &counts,
     };
     let old = ReusedOutputs {
-        reused_tunes: kept.reused_tunes(),
+        reused_tunes: text_patch.reused_tunes(),
         outputs: book.outputs(),
     };
     let outputs = outputs_of(compiler, alloc, &folded, &old, memo, work)?;
-    let faults = faults_of(compiler, alloc, kept.header(), first, &folded, &outputs)?;
+    let faults = faults_of(
+        compiler,
+        alloc,
+        text_patch.header(),
+        first,
+        &folded,
+        &outputs,
+    )?;
     let tunes = NewTunes {
         range: stretch.tunes,
         outputs,

@@ -77,17 +77,17 @@ pub fn outputs_of<C: Compiler>(
     requires reused_tunes { AllZip (ReusesOutput
         (C.rules compiler.now) old.now.outputs.now.items) stretch.now.chains.now old.now.reused_tunes.now }
     requires remembers { Remembers (C.steps compiler.now) (C.rules compiler.now) memo.old }
-    ensures value { IfOk result (λ made. made.items ≡ map (output_in (C.rules compiler.now)) stretch.now.chains.now) }
+    ensures value { IfOk result (λ outputs. outputs.items ≡ map (output_in (C.rules compiler.now)) stretch.now.chains.now) }
     ensures remembers { Remembers (C.steps compiler.now) (C.rules compiler.now) memo.new }
     ensures counted { IsBuiltUpTo (built_count old.now.reused_tunes.now) (C.Work.counts work.old) (C.Work.counts work.new) }
 {
-    let mut made = Vec::with_capacity(alloc, stretch.chains.len())?;
+    let mut outputs = Vec::with_capacity(alloc, stretch.chains.len())?;
     for (place, reused_tunes) in old.reused_tunes.iter().enumerate() {
         let output = match reused_tunes {
             Some(other) => shared_at(old.outputs, *other)?,
             None => output_at(compiler, alloc, stretch, place, memo, work)?,
         };
-        made.push(output)?;
+        outputs.push(output)?;
     }
-    Ok(made)
+    Ok(outputs)
 }

@@ -54,17 +54,17 @@ fn begun_before(tunes: &[Block], first: usize, line: usize) -> usize
     ensures next { line ≤ start_of (drop result tunes.now) line }
     ensures last { first < result → start_of (drop (result - 1) tunes.now) 0 < line }
 {
-    let mut begun = first;
+    let mut count = first;
     let mut end = tunes.len();
-    while begun < end {
-        let middle = begun + (end - begun) / 2;
+    while count < end {
+        let middle = count + (end - count) / 2;
         if tunes[middle].from < line {
-            begun = middle + 1;
+            count = middle + 1;
         } else {
             end = middle;
         }
     }
-    begun
+    count
 }
 
 /// Where the tune at index `i` begins; without one, at the end.

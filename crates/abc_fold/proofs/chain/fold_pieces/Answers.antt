@@ -5,8 +5,8 @@ use Rattle.abc_fold.proofs.Folding.{ahead_start, ahead_next, ahead_done, cells_d
 use Rattle.abc_fold.proofs.Following.{known_taken, left_following, none_left}
 use Rattle.abc_fold.proofs.chain.fold_pieces.Goals as goal
 
-pub is_taken-taken-requires : goal.is_taken-taken-requires
-is_taken-taken-requires g c = λ known.
+pub is_taken-is_reused-requires : goal.is_taken-is_reused-requires
+is_taken-is_reused-requires g c = λ known.
     let steps = g.F.Fold.steps c.args.fold.now in
     known_taken steps (g.met.F.Fold.resumable c.args.fold.now) c.args.pieces.now c.args.marks.now c.loop-i.i c.loop-i.state
     c.index-pieces-i.result c.requires.marked c.index-pieces-i.is c.loop-i-test.true (c.is_known-known.ensures.marked known) (c.loop-i.invariant.left (c.is_known-known.ensures.before known))

@@ -13,6 +13,6 @@ invariant-loop-i g l = record {
   ahead : IsAhead (g.F.Fold.steps l.fold) l.opening l.pieces l.state (drop l.i l.pieces) l.states.items l.cells.items l.items.items;
   within : IsWithin (g.F.Work.Counts.counts l.initial.work) (g.F.Work.Counts.counts l.work)
       (steps_needed (g.F.Fold.steps l.fold) l.state (drop l.i l.pieces)) (steps_needed (g.F.Fold.steps l.fold) l.opening l.pieces);
-  left : l.taken ≡ true → IsLeftAfter l.pieces l.i l.state;
+  left : l.is_reused ≡ true → IsLeftAfter l.pieces l.i l.state;
   rooms : HasRooms (length l.pieces) l.i l.states.room l.cells.room l.items.room;
 }

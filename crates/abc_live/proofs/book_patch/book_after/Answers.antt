@@ -77,7 +77,7 @@ returns-clause-outputs g c =
     let made = c.in_ok-outputs.ensures.value ∙ (λ i. map (output_in (g.C.Compiler.rules (c.compiler-compiler.ensures i))) (c.new_chains.ensures i)) in
     let after = outputs_after _ _ _ _ c.requires.prepared _ c.requires.on _ c.stretch-stretch.ensures c.args.book.now.outputs.items c.in_ok-outputs.outputs.items c.requires.outputs made in
     ok_more c.prepare.result _ (λ patch. patch.outputs ≡ map (output_in (g.C.Compiler.rules c.args.text.now.compiler))
-    (drop 1 c.args.kept.now.chains)) (λ patch are. are ∙ after) c.prepare.ensures.outputs
+    (drop 1 c.args.text_patch.now.chains)) (λ patch are. are ∙ after) c.prepare.ensures.outputs
 
 pub returns-clause-book : goal.returns-clause-book
 returns-clause-book g c =
@@ -89,6 +89,7 @@ returns-clause-book g c =
     let faults = faults_now _ _ _ _ c.requires.prepared _ c.requires.on _ c.stretch-stretch.ensures c.first_chain-first.result.now c.first_chain-first.ensures
     (g.met.C.Fold.resumable c.args.text.now.compiler) c.deref-2.result.now c.header-2.result c.args.book.now.faults c.in_ok-faults.faults.items
     (c.deref-2.ensures.value ∙ c.in_ok-counts.ensures) c.header-2.ensures c.requires.faults found in
-    ok_both c.prepare.result _ _ (λ patch. IsBook patch.outputs patch.faults (book_of (g.C.Fold.steps c.args.text.now.compiler) (g.C.Compiler.rules c.args.text.now.compiler) c.args.kept.now.text))
+    ok_both c.prepare.result _ _ (λ patch. IsBook patch.outputs patch.faults (book_of (g.C.Fold.steps c.args.text.now.compiler)
+    (g.C.Compiler.rules c.args.text.now.compiler) c.args.text_patch.now.text))
     (λ patch outputs_are faults_are. book_now _ _ _ _ c.requires.prepared _ c.requires.on _ c.stretch-stretch.ensures _ _ (outputs_are ∙ after) (faults_are ∙ faults))
     c.prepare.ensures.outputs c.prepare.ensures.faults

@@ -8,8 +8,8 @@ use Rattle.abc_live_index.proofs.OutputReuse.{mapped_at}
 use Rattle.abc_live_index.proofs.outputs.outputs_of.Goals.{in-Some+in_ok-output-in-Some, in-None+in_ok-output-in-None}
 use Rattle.abc_live_index.proofs.outputs.outputs_of.Goals as goal
 
-pub returns-in_err-made-clause-counted : goal.returns-in_err-made-clause-counted
-returns-in_err-made-clause-counted g c = built_none _ _
+pub returns-in_err-outputs-clause-counted : goal.returns-in_err-outputs-clause-counted
+returns-in_err-outputs-clause-counted g c = built_none _ _
 
 pub shared_at-requires : goal.shared_at-requires
 shared_at-requires g c =
@@ -53,7 +53,7 @@ loop-place-preserved g c =
     let f = output_in (g.C.Compiler.rules c.args.compiler.now) in
     let chains = c.args.stretch.now.chains.now in
     record {
-      values = made_more f chains c.loop-place.place c.match-reused_tunes.output c.loop-place.made.items c.push.new.self.items
+      values = made_more f chains c.loop-place.place c.match-reused_tunes.output c.loop-place.outputs.items c.push.new.self.items
           (elim c.match-reused_tunes.branch [
             | in-Some+in_ok-output-in-Some w ↦
                 let there = taken_there
@@ -81,7 +81,7 @@ returns-clause-value g c =
     let count = zipped_count (ReusesOutput
     (g.C.Compiler.rules c.args.compiler.now) c.args.old.now.outputs.now.items) c.args.stretch.now.chains.now c.args.old.now.reused_tunes.now c.requires.reused_tunes in
     made_all (output_in
-    (g.C.Compiler.rules c.args.compiler.now)) c.args.stretch.now.chains.now c.loop-place.place c.loop-place.made.items (omega (arith, count, c.loop-place-test.false)) c.loop-place.invariant.values
+    (g.C.Compiler.rules c.args.compiler.now)) c.args.stretch.now.chains.now c.loop-place.place c.loop-place.outputs.items (omega (arith, count, c.loop-place-test.false)) c.loop-place.invariant.values
 
 pub returns-clause-counted : goal.returns-clause-counted
 returns-clause-counted g c = c.loop-place.invariant.built _ (built_none _ _)
