@@ -7,18 +7,18 @@ use Rattle.abc_tune_compiler.specs.Files.{Files}
 use Rattle.abc_tune_compiler.specs.declared.fault.Fault.{Fault}
 use Rattle.abc_tune_compiler.specs.declared.title.Title.{Title}
 
--- the book of a text
+-- The book of a text.
 abbrev pub abc_book : Text → Book
 abc_book text = book_of steps_of_abc rules_of_abc text
 
--- the reference numbers that have a file, rising, each with the file's bytes
+-- The reference numbers that have a file, rising, each with the file's bytes.
 unfoldable pub files_of : Text → Files
 files_of text = (abc_book text).files
 
--- the titles, tune by tune
+-- The titles, tune by tune.
 unfoldable pub titles_of : Text → List Title
 titles_of text = (abc_book text).titles
 
--- the faults, in order, each once
+-- The faults, in order, each once.
 unfoldable pub faults_of : Text → List Fault
 faults_of text = (abc_book text).faults

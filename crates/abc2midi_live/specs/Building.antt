@@ -12,7 +12,7 @@ use Rattle.abc2midi_live.specs.Storing.{StoreAnswer, StoreView, Follows, Done, F
 use Rattle.abc2midi_live.specs.RunOutput.{RequestOutcome, Extent, Stopped, request_outcome, dialogue_view, line_before}
 use Rattle.abc2midi_live.specs.RunOutput.{outcome_if_stopped}
 
--- `count` rising numbers from `first`
+-- `count` rising numbers from `first`.
 unfoldable pub numbers_from : ℕ → ℕ → List ℕ
 numbers_from first zero = []
 numbers_from first (suc count) = first ∷ numbers_from (first + 1) count
@@ -42,12 +42,12 @@ abbrev pub answer_of : Bool → StoreAnswer
 answer_of true = Done
 answer_of false = Fault
 
--- the answer line of a file after the answer of the store
+-- The answer line of a file after the answer of the store.
 abbrev pub answer_line : StoreAnswer → ℕ → Option (List ℕ) → List ℕ
 answer_line Done number bytes = stored_line number bytes
 answer_line Fault number bytes = failed_line number
 
--- the known file after that answer
+-- The known file after that answer.
 abbrev pub entry_after : StoreAnswer → Option (List ℕ) → Option Stored
 entry_after Done bytes = stored_as bytes
 entry_after Fault bytes = Some Unknown
@@ -61,7 +61,7 @@ StoresOne old new answer number bytes =
 abbrev pub StoresOneAtMost : StoreView → StoreView → ℕ → Option (List ℕ) → Type 0
 StoresOneAtMost old new number bytes = (new ≡ old) ⊎ ((answer : StoreAnswer) × StoresOne old new answer number bytes)
 
--- no job is under way
+-- No job is under way.
 abbrev pub IsIdle : PublisherView → Type 0
 IsIdle p = (n : ℕ) → p.jobs n ≡ None
 
@@ -80,7 +80,7 @@ stage_of publisher from = stage (maps_of publisher).directory from
 abbrev pub Extends : List ℕ → List ℕ → List ℕ → Type 0
 Extends old new answer = new ≡ old ++ answer
 
--- what is written of the numbers that are pending at a stage, for what the store answers
+-- What is written of the numbers that are pending at a stage, for what the store answers.
 abbrev pub build_outcome_at : Extent → Text → Stage → List StoreAnswer → Option RequestOutcome
 build_outcome_at extent text at answers =
     build_outcome extent text at.directory (pending_from at.directory (files_of text) at.from) answers

@@ -12,18 +12,18 @@ use Rattle.abc2midi_live.specs.declared.command.Command.{Command}
 use Rattle.abc2midi_live.specs.declared.command.Command.TheVariants.{Insert, Replace, Delete, Faults, Titles, Hex, Build, Quit}
 use Rattle.abc2midi_live.specs.declared.command.Command.TheVariants.{Unknown}
 
--- a number and those after it, if both exist
+-- A number and those after it, if both exist.
 abbrev pub number_and_rest : Option ℕ → Option (List ℕ) → Option (List ℕ)
 number_and_rest None numbers = None
 number_and_rest (Some n) None = None
 number_and_rest (Some n) (Some numbers) = Some (n ∷ numbers)
 
--- the numbers that words spell, if each of them spells one
+-- The numbers that words spell, if each of them spells one.
 unfoldable pub numbers_of : List (List ℕ) → Option (List ℕ)
 numbers_of [] = Some []
 numbers_of (word ∷ words) = number_and_rest (number_of word) (numbers_of words)
 
--- no command takes what words spell: a word is no number, or there are more than three
+-- No command takes what words spell: a word is no number, or there are more than three.
 abbrev pub IsUseless : Option (List ℕ) → Type 0
 IsUseless None = Unit {0}
 IsUseless (Some numbers) = 3 < length numbers
@@ -32,36 +32,36 @@ IsUseless (Some numbers) = 3 < length numbers
 unfoldable pub within_line_limit : ℕ → Command → Command
 within_line_limit count command = if nat_le count MOST_LINES then command else Unknown
 
--- insert L K
+-- The command `insert L K`.
 unfoldable pub insertion : List ℕ → Command
 insertion (at ∷ count ∷ []) = within_line_limit count (Insert at count)
 insertion _ = Unknown
 
--- replace L M K
+-- The command `replace L M K`.
 unfoldable pub replacement : List ℕ → Command
 replacement (from ∷ to ∷ count ∷ []) = within_line_limit count (Replace from to count)
 replacement _ = Unknown
 
--- delete L M
+-- The command `delete L M`.
 unfoldable pub deletion : List ℕ → Command
 deletion (from ∷ to ∷ []) = Delete from to
 deletion _ = Unknown
 
--- hex N
+-- The command `hex N`.
 unfoldable pub hex_dump : List ℕ → Command
 hex_dump (number ∷ []) = Hex number
 hex_dump _ = Unknown
 
--- faults, titles, build or quit: a command that takes no numbers
+-- `faults`, `titles`, `build` or `quit`: a command that takes no numbers.
 unfoldable pub without_numbers : Command → List ℕ → Command
 without_numbers command [] = command
 without_numbers command _ = Unknown
 
--- the command of the numbers that words spell
+-- The command of the numbers that words spell.
 unfoldable pub with_numbers : List (List ℕ) → (List ℕ → Command) → Command
 with_numbers words made = option_map_or made (numbers_of words) Unknown
 
--- the command of a name and the numbers after it
+-- The command of a name and the numbers after it.
 unfoldable pub command_named : List ℕ → List ℕ → Command
 command_named name =
     if bytes_eq name (codes "insert") then insertion else
@@ -74,7 +74,7 @@ command_named name =
     if bytes_eq name (codes "quit") then without_numbers Quit else
     (λ numbers. Unknown)
 
--- the command that words spell: a name, and then numbers
+-- The command that words spell: a name, and then numbers.
 unfoldable pub command_of_words : List (List ℕ) → Command
 command_of_words [] = Unknown
 command_of_words (name ∷ words) = with_numbers words (command_named name)
@@ -83,7 +83,7 @@ command_of_words (name ∷ words) = with_numbers words (command_named name)
 unfoldable pub words_of : List ℕ → List (List ℕ)
 words_of line = slice_split (λ b. b == space) line
 
--- the words after a space, if there is one
+-- The words after a space, if there is one.
 unfoldable pub words_after : Option (Bor (List ℕ)) → List (List ℕ)
 words_after None = []
 words_after (Some rest) = words_of rest.now
@@ -93,7 +93,7 @@ words_after (Some rest) = words_of rest.now
 unfoldable pub command_of : List ℕ → Command
 command_of line = if nat_le (length line) LONGEST_LINE then command_of_words (words_of (without_return line)) else Unknown
 
--- how many of the lines after it belong to a command
+-- How many of the lines after it belong to a command.
 abbrev pub line_count : Command → ℕ
 line_count (Insert at count) = count
 line_count (Replace from to count) = count

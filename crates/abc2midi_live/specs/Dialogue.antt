@@ -14,7 +14,7 @@ use Rattle.abc2midi_live.specs.declared.command.Command.{Command}
 use Rattle.abc2midi_live.specs.declared.machine.Reply.{Reply}
 use Rattle.abc2midi_live.specs.declared.machine.Reply.TheVariants.{Nothing, Answer, End}
 
--- a command with the first of the lines that belong to it
+-- A command with the first of the lines that belong to it.
 pub record BegunCommand : Type 0 where
   pub command : Command
   pub lines : Text
@@ -22,14 +22,14 @@ pub record BegunCommand : Type 0 where
 abbrev pub with_first_lines : Command → Text → BegunCommand
 with_first_lines command lines = record { command = command; lines = lines }
 
--- the answers to the lines that come, from a state and a command that has begun
+-- The answers to the lines that come, from a state and a command that has begun.
 unfoldable pub dialogue_future : DialogueView → Option BegunCommand → Future (List ℕ)
 dialogue_future h None extent lines stored = answers extent h (requests 0 lines) stored
 dialogue_future h (Some begun) extent lines stored =
     answers extent h (request_of begun.command (begun.lines ++ lines)
     ∷ requests (line_count begun.command - length begun.lines) lines) stored
 
--- a reply, and the store's answers, from what is to be written before it to what is to be written after it
+-- A reply, and the store's answers, from what is to be written before it to what is to be written after it.
 abbrev pub Says : FutureChange (List ℕ) → List StoreAnswer → Reply → Type 0
 Says t now Nothing = (extent : Extent) (lines : List (List ℕ)) (later : List StoreAnswer)
     → t.before extent lines (now ++ later) ≡ t.after extent lines later
@@ -38,19 +38,19 @@ Says t now (Answer text) = (extent : Extent) (lines : List (List ℕ)) (later : 
 Says t now End = (extent : Extent) (lines : List (List ℕ)) (later : List StoreAnswer)
     → t.before extent lines (now ++ later) ≡ nothing_more t.directory later
 
--- whatever the store answers after these answers, the answer to a request and the state after it
+-- Whatever the store answers after these answers, the answer to a request and the state after it.
 abbrev pub AnswersWith : DialogueView → Request → List StoreAnswer → List ℕ → DialogueView → Type 0
 AnswersWith old request now text new =
     (extent : Extent) (later : List StoreAnswer) → outcome_of extent old request (now ++ later)
     ≡ Some (request_outcome text new later)
 
--- a reply to a whole request, the store's answers, and the state after it
+-- A reply to a whole request, the store's answers, and the state after it.
 abbrev pub Responds : DialogueView → DialogueView → Request → List StoreAnswer → Reply → Type 0
 Responds old new request now Nothing = ⊥
 Responds old new request now (Answer text) = AnswersWith old request now text.items new × (goes_on request ≡ true)
 Responds old new request now End = AnswersWith old request now [] new × (goes_on request ≡ false)
 
--- whether the text takes the edit: nothing else costs any work that is counted
+-- Whether the text takes the edit: nothing else costs any work that is counted.
 abbrev pub is_taken : Text → Request → Bool
 is_taken text (Edits splice) = is_ok (edited text splice)
 is_taken text ListsFaults = false
@@ -61,7 +61,7 @@ is_taken text Misspelled = false
 is_taken text CutOff = false
 is_taken text Ends = false
 
--- the request of a command that has begun and one more line
+-- The request of a command that has begun and one more line.
 abbrev pub request_with : Option BegunCommand → List ℕ → Request
 request_with None line = request_of (command_of line) []
 request_with (Some begun) line = request_of begun.command (begun.lines ++ line ∷ [])

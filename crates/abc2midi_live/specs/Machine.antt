@@ -16,7 +16,7 @@ Future X = Extent → List X → List StoreAnswer → Option RunOutput
 pub record FutureChange (X : Type 0) : Type 0 where
   pub before : Future X
   pub after : Future X
-  -- the known directory after the piece
+  -- The known directory after the piece.
   pub directory : Directory
 
 abbrev pub future_change : {X : Type 0} → Future X → Future X → Directory → FutureChange X
@@ -30,7 +30,7 @@ pub record MachineState (X : Type 0) : Type 0 where
 abbrev pub machine_state : {X : Type 0} → Future X → Directory → MachineState X
 machine_state future directory = record { future = future; directory = directory }
 
--- the text to be written from a machine's state before a piece to its state after it
+-- The text to be written from a machine's state before a piece to its state after it.
 abbrev pub change_between : {X : Type 0} → MachineState X → MachineState X → FutureChange X
 change_between before after = future_change before.future after.future after.directory
 
@@ -42,7 +42,7 @@ Answers {X} t piece now text goes_on =
     → t.before extent (piece ++ rest) (now ++ later) ≡ with_text_before text
     (if goes_on then t.after extent rest later else nothing_more t.directory later)
 
--- the same of the reply to a line
+-- The same of the reply to a line.
 abbrev pub Replies : FutureChange (List ℕ) → List ℕ → List StoreAnswer → Reply → Type 0
 Replies t line now Nothing = Answers t (line ∷ []) now [] true
 Replies t line now (Answer text) = Answers t (line ∷ []) now text.items true
@@ -64,18 +64,18 @@ CarriesOut before answered old new =
 abbrev pub AsksNothing : Directory → (List StoreAnswer → Option RunOutput) → Type 0
 AsksNothing before answered = (run_output : RunOutput) × (answered [] ≡ Some run_output) × (run_output.directory ≡ before)
 
--- no line ends within these bytes
+-- No line ends within these bytes.
 abbrev pub IsClean : List ℕ → Type 0
 IsClean bytes = All (λ b. (b == line_feed) ≡ false) bytes
 
--- one line ends with these bytes at most, and none within them
+-- One line ends with these bytes at most, and none within them.
 abbrev pub EndsOneAtMost : List ℕ → Type 0
 EndsOneAtMost bytes = (line : List ℕ) × IsClean line × ((bytes ≡ line) ⊎ (bytes ≡ line ++ line_feed ∷ []))
 
--- the answers to bytes, if the beginning of a line has come before them
+-- The answers to bytes, if the beginning of a line has come before them.
 unfoldable pub future_of_bytes : Future (List ℕ) → List ℕ → Future ℕ
 future_of_bytes future begun extent bytes answers = future extent (input_lines (is_whole extent) (begun ++ bytes)) answers
 
--- the state of a machine that reads bytes, after the beginning of a line
+-- The state of a machine that reads bytes, after the beginning of a line.
 abbrev pub state_before_bytes : Future (List ℕ) → List ℕ → Directory → MachineState ℕ
 state_before_bytes future begun directory = machine_state (future_of_bytes future begun) directory

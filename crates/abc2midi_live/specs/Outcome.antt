@@ -13,7 +13,7 @@ use Rattle.abc2midi_live.specs.declared.run_loop.TheConstants.{MOST_READS}
 use Rattle.abc2midi_live.specs.declared.run_fault.RunFault.{RunFault}
 use Rattle.abc2midi_live.specs.declared.run_fault.RunFault.TheVariants.{Read, Write, Memory}
 
--- how many faults of the writer a result reports
+-- How many faults of the writer a result reports.
 abbrev pub write_faults : {T : Type 0} → Result T RunFault → ℕ
 write_faults (Err Write) = 1
 write_faults _ = 0
@@ -122,11 +122,11 @@ run_ends_of remaining contents seen reader writer store = run_ends (remaining re
 -- called for these and for nothing else. The definition leaves open what was written.
 pub data WriteFailure (before : Directory) (answered : List ℕ → List StoreAnswer → Option RunOutput)
     (old new : RunEnds) : Type 0 where
-  -- those that are wholly within a front of what was read
+  -- Those that are wholly within a front of what was read.
   Within :
       (front : List ℕ) → (back : List ℕ) → Consumes old.input new.input (front ++ back)
       → CarriesOut before (answered front) old.out.store new.out.store → WriteFailure before answered old new
-  -- those of the whole input, whose end ends its last line as a line feed does
+  -- Those of the whole input, whose end ends its last line as a line feed does.
   AtTheEnd :
       (taken : List ℕ) → Consumes old.input new.input taken → IsAtEnd new.input
       → CarriesOut before (answered (taken ++ line_feed ∷ [])) old.out.store new.out.store → WriteFailure before answered old new
@@ -134,12 +134,12 @@ pub data WriteFailure (before : Directory) (answered : List ℕ → List StoreAn
 -- The commands that were answered before the one in hand, for which an allocation failed. The store was called for
 -- these and for the first requests of the one in hand, if it has any, and for nothing else.
 pub data MemoryFailure (before : Directory) (answered : Future ℕ) (old new : RunEnds) : Type 0 where
-  -- those before one that ends within what was read, or that had not ended yet
+  -- Those before one that ends within what was read, or that had not ended yet.
   InHand :
       (front next back : List ℕ) → Consumes old.input new.input (front ++ (next ++ back)) → EndsOneAtMost next
       → TellsFirst before (answered SoFar front) (answered Stopped (front ++ next)) old.out new.out
       → MemoryFailure before answered old new
-  -- those before the last, which the end of the input ends as a line feed does
+  -- Those before the last, which the end of the input ends as a line feed does.
   LastInHand :
       (taken : List ℕ) → Consumes old.input new.input taken → IsAtEnd new.input
       → TellsFirst before (answered SoFar taken) (answered Stopped (taken ++ line_feed ∷ [])) old.out new.out
@@ -148,12 +148,12 @@ pub data MemoryFailure (before : Directory) (answered : Future ℕ) (old new : R
 -- The result of a fault in a run, from its ends at first to those at last. `answered` is the text to be written for an
 -- extent of an input and answers of the store, and `before` the known directory at first.
 abbrev pub Leaves : Directory → Future ℕ → RunEnds → RunEnds → RunFault → Type 0
--- the answers to the commands wholly read
+-- The answers to the commands wholly read.
 Leaves before answered old new Read = (taken : List ℕ) × Consumes old.input new.input taken
     × Tells before (answered SoFar taken) old.out new.out
--- the store as the commands up to the one in hand leave it
+-- The store as the commands up to the one in hand leave it.
 Leaves before answered old new Write = WriteFailure before (answered SoFar) old new
--- the answers to the commands before the one in hand, and the store as it was asked for some of what this asks for
+-- The answers to the commands before the one in hand, and the store as it was asked for some of what this asks for.
 Leaves before answered old new Memory = MemoryFailure before answered old new
 
 -- The result of a fault in a run that begins with a tune book. The book counts as a command, the first one. If an allocation
@@ -209,30 +209,30 @@ abbrev pub Transcribes : {T : Type 0} → Option (List ℕ) → RunEnds → RunE
 Transcribes book old new result =
     MatchResult result (λ _. Completes (transcript book) old new) (LeavesRun book (transcript_of book) old new)
 
--- how many faults of the reader a read reports
+-- How many faults of the reader a read reports.
 abbrev pub read_faults : {T : Type 0} → Result T RunFault → ℕ
 read_faults (Err Read) = 1
 read_faults _ = 0
 
--- the counts of a reader
+-- The counts of a reader.
 pub record ReadCounts : Type 0 where
   pub failures : ℕ
   pub calls : ℕ
 
--- how often a reader failed, of how many calls
+-- How often a reader failed, of how many calls.
 abbrev pub read_counts : ℕ → ℕ → ReadCounts
 read_counts failures calls = record { failures = failures; calls = calls }
 
--- why a run reports that it cannot read, from the bytes left in the reader
+-- Why a run reports that it cannot read, from the bytes left in the reader.
 pub data ReadCause (input : Option (List ℕ)) (old new : ReadCounts) : Type 0 where
-  -- a read failed
+  -- A read failed.
   Failed : new.failures ≡ raised old.failures 1 → ReadCause input old new
-  -- none failed, but a run's limit of reads was reached, and each took a byte or more
+  -- None failed, but a run's limit of reads was reached, and each took a byte or more.
   Exhausted :
       new.failures ≡ old.failures → new.calls ≡ raised old.calls MOST_READS → IfSome input (λ bytes. MOST_READS ≤ length bytes)
       → ReadCause input old new
 
--- the reader's counts by a result
+-- The reader's counts by a result.
 abbrev pub Reads : {T : Type 0} → Option (List ℕ) → ReadCounts → ReadCounts → Result T RunFault → Type 0
 Reads input old new (Ok x) = new.failures ≡ old.failures
 Reads input old new (Err Read) = ReadCause input old new
@@ -258,7 +258,7 @@ pub record Runs {T : Type 0} (book : Option (List ℕ)) (old new : RunView) (res
   -- The text written is the transcript of the book, of the whole input and of the store's answers, and the store has
   -- the files that the transcript names. Or a fault leaves a part of these.
   pub transcript : Transcribes book old.ends new.ends result
-  -- the counts of the reader and the writer
+  -- The counts of the reader and the writer.
   pub calls : (made : ℕ) × (made ≤ MOST_READS) × (new.reads.calls ≡ raised old.reads.calls made)
   pub reads : Reads old.ends.input old.reads new.reads result
   pub writes : new.writes ≡ raised old.writes (write_faults result)

@@ -4,6 +4,6 @@ use Rattle.abc_lines.specs.Text.{text_of}
 use Rattle.abc2midi_live.specs.Dialogue.{BegunCommand}
 use Rattle.abc2midi_live.specs.declared.dialogue.PendingCommand.{PendingCommand}
 
--- a command that is gathering its lines, without their place in memory
+-- A command that is gathering its lines, without their place in memory.
 abbrev pub begun_command : Option PendingCommand → Option BegunCommand
 begun_command pending = option_map (λ g. record { command = g.command; lines = text_of g.lines }) pending

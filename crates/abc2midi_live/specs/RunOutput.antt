@@ -6,9 +6,9 @@ use Rattle.abc2midi_live.specs.Storing.{StoreAnswer}
 
 -- How much of the input of a run has come.
 pub data Extent : Type 0 where
-  Whole : Extent  -- all of it
-  SoFar : Extent  -- more may come
-  Stopped : Extent  -- more may come, but the run stops within its last request, so the store need not answer all of that
+  Whole : Extent  -- All of it.
+  SoFar : Extent  -- More may come.
+  Stopped : Extent  -- More may come, but the run stops within its last request, so the store need not answer all of that.
 
 abbrev pub is_whole : Extent → Bool
 is_whole Whole = true
@@ -31,7 +31,7 @@ pub record RunOutput : Type 0 where
 abbrev pub run_output : List ℕ → Directory → RunOutput
 run_output text directory = record { text = text; directory = directory }
 
--- a text before what is written
+-- A text before what is written.
 abbrev pub with_text_before : List ℕ → Option RunOutput → Option RunOutput
 with_text_before text rest = option_map (λ t. run_output (text ++ t.text) t.directory) rest
 
@@ -55,6 +55,6 @@ outcome_if_stopped Whole h = None
 outcome_if_stopped SoFar h = None
 outcome_if_stopped Stopped h = Some (request_outcome [] h [])
 
--- a line before the answer
+-- A line before the answer.
 abbrev pub line_before : List ℕ → Option RequestOutcome → Option RequestOutcome
 line_before line rest = option_map (λ a. request_outcome (line ++ a.text) a.after a.left) rest

@@ -12,7 +12,7 @@ pub data StoreAnswer : Type 0 where
   Done : StoreAnswer
   Fault : StoreAnswer
 
--- how many of the answers are faults
+-- How many of the answers are faults.
 abbrev pub faults_among : List StoreAnswer → ℕ
 faults_among [] = 0
 faults_among (Done ∷ answers) = faults_among answers
@@ -34,7 +34,7 @@ pub record Mirrors (first now : Contents) (directory : Directory) : Type 0 where
   pub files : (n : ℕ) → n < 2 ^ 32 → IsStored (get now (file_name n)) (directory n)
   pub others : (name : List ℕ) → ((n : ℕ) → n < 2 ^ 32 → name ≢ file_name n) → get now name ≡ get first name
 
--- the same of a store whose contents may be known
+-- The same of a store whose contents may be known.
 abbrev pub MirrorsWhereTold : Option Contents → Option Contents → Directory → Type 0
 MirrorsWhereTold None now directory = ⊤
 MirrorsWhereTold (Some first) None directory = ⊥

@@ -23,15 +23,15 @@ use Rattle.abc2midi_live.specs.declared.command.Command.{Command}
 use Rattle.abc2midi_live.specs.declared.command.Command.TheVariants.{Insert, Replace, Delete, Faults, Titles, Hex, Build, Quit}
 use Rattle.abc2midi_live.specs.declared.command.Command.TheVariants.{Unknown}
 
--- the stored bytes of a line of an input are at most one more than a line of a text may have
+-- The stored bytes of a line of an input are at most one more than a line of a text may have.
 abbrev pub most_kept : ℕ
 most_kept = LONGEST_LINE + 1
 
--- the lines of an input, of a long one its front
+-- The lines of an input, of a long one its front.
 unfoldable pub input_lines : Bool → List ℕ → List (List ℕ)
 input_lines ended bytes = map (take most_kept) (whole_lines ended (slice_split (λ b. b == line_feed) bytes))
 
--- the bytes EF BB BF, by which a text says that it is UTF-8
+-- The bytes EF BB BF, by which a text says that it is UTF-8.
 abbrev pub byte_order_mark : List ℕ
 byte_order_mark = 239 ∷ 187 ∷ 191 ∷ []
 
@@ -43,7 +43,7 @@ without_mark bytes = if bytes_eq (take 3 bytes) byte_order_mark then drop 3 byte
 unfoldable pub book_lines : List ℕ → Text
 book_lines bytes = lines_in (without_mark bytes)
 
--- a command with the lines that belong to it
+-- A command with the lines that belong to it.
 pub data Request : Type 0 where
   Edits : (splice : Option Splice) → Request
   ListsFaults : Request
@@ -51,7 +51,7 @@ pub data Request : Type 0 where
   Shows : (number : ℕ) → Request
   Misspelled : Request
   Builds : Request
-  CutOff : Request  -- there are not as many lines as it asks for
+  CutOff : Request  -- There are not as many lines as it asks for.
   Ends : Request
 
 -- A command takes its lines from those that follow it.
@@ -67,13 +67,13 @@ request_of Build lines = Builds
 request_of Quit lines = Ends
 request_of Unknown lines = Misspelled
 
--- the requests of lines, of which the first `taken` belong to the command before
+-- The requests of lines, of which the first `taken` belong to the command before.
 unfoldable pub requests : ℕ → List (List ℕ) → List Request
 requests taken [] = []
 requests zero (line ∷ lines) = request_of (command_of line) lines ∷ requests (line_count (command_of line)) lines
 requests (suc taken) (line ∷ lines) = requests taken lines
 
--- the answer to an edit of a text
+-- The answer to an edit of a text.
 unfoldable pub edit_answer : Text → Result Text EditError → List ℕ
 edit_answer before (Ok after) = report (files_of before) (files_of after)
 edit_answer before (Err error) = refusal error
@@ -92,7 +92,7 @@ outcome_of extent h Misspelled answers = Some (request_outcome unknown_line h an
 outcome_of extent h CutOff answers = Some (request_outcome (if is_whole extent then truncated_line else []) h answers)
 outcome_of extent h Ends answers = Some (request_outcome [] h answers)
 
--- whether the run goes on after a request
+-- Whether the run goes on after a request.
 abbrev pub goes_on : Request → Bool
 goes_on (Edits splice) = true
 goes_on ListsFaults = true
@@ -116,11 +116,11 @@ abbrev pub book_requests : Option (List ℕ) → List Request
 book_requests None = []
 book_requests (Some bytes) = Edits (insertion 1 (book_lines bytes)) ∷ []
 
--- no number has a file
+-- No number has a file.
 abbrev pub no_directory : Directory
 no_directory n = None
 
--- the first state: no lines, and no file
+-- The first state: no lines, and no file.
 abbrev pub empty_dialogue : DialogueView
 empty_dialogue = dialogue_view [] no_directory
 

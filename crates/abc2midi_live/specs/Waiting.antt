@@ -28,7 +28,7 @@ use Rattle.abc2midi_live.specs.declared.command.Command.{Command}
 use Rattle.abc2midi_live.specs.declared.command.Command.TheVariants.{Insert, Replace, Delete, Faults, Titles, Hex, Build, Quit}
 use Rattle.abc2midi_live.specs.declared.command.Command.TheVariants.{Unknown}
 
--- a command without all its lines is cut off
+-- A command without all its lines is cut off.
 pub request_of-cut : (command : Command) (lines : Text) → nat_le (line_count command) (length lines) ≡ false
     → request_of command lines ≡ CutOff
 unfolding request_of
@@ -42,14 +42,14 @@ request_of-cut Build lines e = absurd (false≢true (sym e ∙ leb-zero (length 
 request_of-cut Quit lines e = absurd (false≢true (sym e ∙ leb-zero (length lines)))
 request_of-cut Unknown lines e = absurd (false≢true (sym e ∙ leb-zero (length lines)))
 
--- the same of one that is gathering its lines
+-- The same of one that is gathering its lines.
 pub pending_few : (g : PendingCommand) → nat_le (line_count g.command) (length (text_of g.lines)) ≡ false
 pending_few g = ap (nat_le (line_count g.command)) (length-map g.lines.items (λ line. line.items)) ∙ g.incomplete
 
 pub request_of-pending : (g : PendingCommand) → request_of g.command (text_of g.lines) ≡ CutOff
 request_of-pending g = request_of-cut g.command (text_of g.lines) (pending_few g)
 
--- nothing is written before a line comes
+-- Nothing is written before a line comes.
 pub dialogue_waits : (h : DialogueView) (pending : Option PendingCommand)
     → dialogue_future h (begun_command pending) SoFar [] [] ≡ Some (run_output [] h.directory)
 unfolding dialogue_future answers outcome_of requests
@@ -85,13 +85,13 @@ request_unasked h Misspelled = (request_outcome unknown_line h [], refl, refl, r
 request_unasked h CutOff = (request_outcome [] h [], refl, refl, refl)
 request_unasked h Ends = (request_outcome [] h [], refl, refl, refl)
 
--- what is written after an answer, if nothing is asked for after it
+-- What is written after an answer, if nothing is asked for after it.
 unasked_after : (text : List ℕ) (d : Directory) (b : Bool) (rest : List StoreAnswer → Option RunOutput) → AsksNothing d rest
     → (t : RunOutput) × (with_text_before text (cond b (rest []) (nothing_more d [])) ≡ Some t) × (t.directory ≡ d)
 unasked_after text d true rest (t, is, same) = (run_output (text ++ t.text) t.directory, ap (with_text_before text) is, same)
 unasked_after text d false rest h = (run_output (text ++ []) d, refl, refl)
 
--- the same of all the requests that come
+-- The same of all the requests that come.
 pub answers_unasked : (h : DialogueView) (requests : List Request) → AsksNothing h.directory (answers Stopped h requests)
 unfolding answers
 answers_unasked h [] = (run_output [] h.directory, refl, refl)
