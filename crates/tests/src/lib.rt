@@ -1,11 +1,8 @@
 //! The tests: each shows that public functions succeed with ample memory, which no clause promises. They are in one crate,
-//! since each crate with tests reads and compiles all that these call. `gap_lists` has lists with a gap,
-//! `counted_chains` and `bar_chains` chains of a fold, `plays` a play that is written out, `sessions` a session, and
-//! one over a compiler of its own, `publishing` and `orders` a publisher on a session that is edited, `runs` streams
-//! and stores that fail, `readers` a reader that fails once, `memos` a memo of tunes in the toy language,
-//! `costs` the counted work of edits. The modules
-//! `refused_..` print for `scripts/refused_calls` which calls to refuse memory; calls below edits, runs and jobs are in
-//! the crates `out_of_memory_layers` and `out_of_memory_session`. What commands can show is in
+//! since each crate with tests reads and compiles all that these call. The first line of a module says what it tests.
+//!
+//! The modules `refused_..` print for `scripts/refused_calls` which calls to refuse memory. Calls below edits, runs and
+//! jobs are in the crates `out_of_memory_layers` and `out_of_memory_session`. What commands can show is in
 //! `tests/transcripts`. Expected values are worked by hand from the rules in `docs/protocol.md`.
 #![tactic(auto)]
 

@@ -1,4 +1,4 @@
-//! The memo of built tunes: which tunes are built once, and which again.
+//! The memo of built tunes, in the toy language: which tunes are built once, and which again.
 
 ghost use Rattle.std.specs.Prelude.{◌≡◌, true};
 ghost use Rattle.abc_lines.specs.Text.{is_line};

@@ -1,4 +1,4 @@
-//! The session by its public calls.
+//! The session by its public calls, and one over a compiler of its own.
 
 use crate::jobs::FILE_OF_C;
 use crate::texts::{empty_session, insertion, replacement};
