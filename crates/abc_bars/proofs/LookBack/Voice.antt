@@ -47,7 +47,7 @@ use Rattle.abc_bars.specs.LookBack.Voice.{
   voice_state_at,
   shift_at,
   shift_in_voice,
-  merge_shift,
+  shift_said,
   signature_at,
   signature_said,
   tied_at,
@@ -154,9 +154,9 @@ field_last opening before kind value = record {
   unit = unwrap_or (unit_said kind value) (unit_at opening.unit before);
   signature = unwrap_or (signature_said kind value) (signature_at opening.signature before);
   shift = record {
-    clef = unwrap_or (merge_shift kind value).clef (shift_at opening.shift before).clef;
-    octave = unwrap_or (merge_shift kind value).octave (shift_at opening.shift before).octave;
-    transpose = unwrap_or (merge_shift kind value).transpose (shift_at opening.shift before).transpose;
+    clef = unwrap_or (shift_said kind value).clef (shift_at opening.shift before).clef;
+    octave = unwrap_or (shift_said kind value).octave (shift_at opening.shift before).octave;
+    transpose = unwrap_or (shift_said kind value).transpose (shift_at opening.shift before).transpose;
   };
   accidentals = accidentals_of (reach_of opening.accidentals) (unless_ended (ends_accidentals kind value) (notes_of_bar before));
   tuplet = tuplet_at opening.meter before;

@@ -82,17 +82,17 @@ shift_in_voice (Some voice) = voice.shift
 shift_in_voice None = no_shift
 
 -- The parts of the shift that a K: or a V: says. ABC 2.1 sections 4.6 and 7.1.
-abbrev pub merge_shift : FieldKind → List ℕ → Shift
-merge_shift fields.Key value = (key_or_empty (key_of value)).shift
-merge_shift fields.Voice value = shift_in_voice (result_ok (voice_of value))
-merge_shift _ value = no_shift
+abbrev pub shift_said : FieldKind → List ℕ → Shift
+shift_said fields.Key value = (key_or_empty (key_of value)).shift
+shift_said fields.Voice value = shift_in_voice (result_ok (voice_of value))
+shift_said _ value = no_shift
 
 -- The shift at a place, each part by the last field that says it.
 unfoldable pub shift_at : VoiceShift → List Element → VoiceShift
 shift_at opening before = record {
-  clef = last_said (said_by_field (λ kind value. (merge_shift kind value).clef)) opening.clef before;
-  octave = last_said (said_by_field (λ kind value. (merge_shift kind value).octave)) opening.octave before;
-  transpose = last_said (said_by_field (λ kind value. (merge_shift kind value).transpose)) opening.transpose before;
+  clef = last_said (said_by_field (λ kind value. (shift_said kind value).clef)) opening.clef before;
+  octave = last_said (said_by_field (λ kind value. (shift_said kind value).octave)) opening.octave before;
+  transpose = last_said (said_by_field (λ kind value. (shift_said kind value).transpose)) opening.transpose before;
 }
 
 -- A note of a chord put before those after it, with whether it is tied.
