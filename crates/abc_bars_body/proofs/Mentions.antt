@@ -78,7 +78,7 @@ use Rattle.abc_bars_items.specs.declared.item.TheConstants.{MOST_VOICES}
 use Rattle.abc_bars_voice.specs.declared.voice_state.VoiceState.{VoiceState}
 use Rattle.abc_text.proofs.Words.{first_word_is}
 use Rattle.abc_text.specs.Word.{bytes_before_blank, first_word, leading_blanks, words_of}
-use Rattle.abc_bars_body.specs.Mentioned.{AreNamed, IsNamed, MentionedVoices, MentionsFew, NamesVoices, after_item, after_items, after_name, preceding_time, items_of_cells}
+use Rattle.abc_bars_body.specs.Mentioned.{AreNamed, IsNamed, MentionedVoices, MentionsFew, NamesVoices, after_item, after_items, after_name, after_time, items_of_cells}
 
 -- what is mentioned by more items
 past_append : (known : MentionedVoices) (tune more : List Item) → after_items known (tune ++ more) ≡ after_items (after_items known tune) more
@@ -139,25 +139,25 @@ here_known : (body : Body) (state : VoiceState) → known_of (with_here body sta
 here_known body state = here_in_known body body.current state refl
 
 mentioned_by : (voices : List (List ℕ × VoiceState)) (current : Current) (another : VoiceState)
-    → known_of (after_mention_in (record { voices = voices; current = current; another = another }) current) ≡ preceding_time (keys_of voices, is_placed current)
+    → known_of (after_mention_in (record { voices = voices; current = current; another = another }) current) ≡ after_time (keys_of voices, is_placed current)
 mentioned_by voices (Unnamed state) another = refl
 mentioned_by voices (At at) another = refl
 
-mentioned_known : (body : Body) → known_of (after_mention body) ≡ preceding_time (known_of body)
+mentioned_known : (body : Body) → known_of (after_mention body) ≡ after_time (known_of body)
 mentioned_known body = mentioned_by body.voices body.current body.another
 
-note_few : (known : MentionedVoices) → length known.0 ≤ MOST_VOICES → length (preceding_time known).0 ≤ MOST_VOICES
+note_few : (known : MentionedVoices) → length known.0 ≤ MOST_VOICES → length (after_time known).0 ≤ MOST_VOICES
 note_few (names, true) few = few
 note_few (names, false) few = lit≤ tt
 
 -- a note or rest, after which this holds for its voice
-note_told : (body : Body) (state : VoiceState) (item : Item) → after_item (known_of body) item ≡ preceding_time (known_of body) → IsNamed item
+note_told : (body : Body) (state : VoiceState) (item : Item) → after_item (known_of body) item ≡ after_time (known_of body) → IsNamed item
     → Tells (known_of body) (known_of (with_here (after_mention body) state)) (item ∷ [])
 note_told body state item heard named =
     let same = here_known (after_mention body) state ∙ mentioned_known body in
     one_told (known_of body) _ item (same ∙ sym heard) named (λ few. subst (λ (k : MentionedVoices). length k.0 ≤ MOST_VOICES) (sym same) (note_few (known_of body) few))
 
-rest_told : (body : Body) (item : Item) → after_item (known_of body) item ≡ preceding_time (known_of body) → IsNamed item
+rest_told : (body : Body) (item : Item) → after_item (known_of body) item ≡ after_time (known_of body) → IsNamed item
     → Tells (known_of body) (known_of (after_mention body)) (item ∷ [])
 rest_told body item heard named =
     let same = mentioned_known body in

@@ -20,14 +20,14 @@ abbrev pub after_name : List (List ℕ) → List ℕ → List (List ℕ)
 after_name names name = if list_any (bytes_eq name) names then names else names ++ name ∷ []
 
 -- After a note, chord or rest: it mentions the voice without a name if none is mentioned. Not in ABC 2.1.
-abbrev pub preceding_time : MentionedVoices → MentionedVoices
-preceding_time (names, true) = (names, true)
-preceding_time (names, false) = ([] ∷ [], true)
+abbrev pub after_time : MentionedVoices → MentionedVoices
+after_time (names, true) = (names, true)
+after_time (names, false) = ([] ∷ [], true)
 
 -- After an item.
 abbrev pub after_item : MentionedVoices → Item → MentionedVoices
-after_item known (items.Tone tones length) = preceding_time known
-after_item known (items.Rest length bar) = preceding_time known
+after_item known (items.Tone tones length) = after_time known
+after_item known (items.Rest length bar) = after_time known
 after_item known (items.Voice opening name) = (after_name known.0 name, true)
 after_item known _ = known
 
