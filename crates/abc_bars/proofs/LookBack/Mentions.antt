@@ -18,7 +18,7 @@ use Rattle.abc_bars_body.specs.BodyFields.{part_of}
 use Rattle.abc_bars.specs.LookBack.AfterBody.{mentions}
 use Rattle.abc_bars.specs.LookBack.ByName.{Current, NamedVoices, names_following, naming_at, owner_of, owner_of_field, owner_of_part, owner_of_voice}
 use Rattle.abc_bars.specs.LookBack.Header.{with_name}
-use Rattle.abc_bars.specs.LookBack.Mentions.{IsHeard, Mentions, TokensMention, mentioned_at}
+use Rattle.abc_bars.specs.LookBack.Mentions.{Mentions, MentionsVoice, TokensMention, mentioned_at}
 use Rattle.abc_bars.specs.LookBack.Fields.{IsVoiceField, NamesVoice}
 use Rattle.abc_bars.proofs.LookBack.Fields.{names-voice, voice-owner}
 use Rattle.abc_bars.specs.LookBack.Place.{opening_at}
@@ -39,7 +39,7 @@ heard-again naming (of_none is) some = absurd (some (ap (λ (n : NamedVoices). n
 heard-again naming (of_place at is) some = known_name naming.names naming.current (among_at naming.current naming.names at is)
 
 -- What is heard is of the current voice, and mentions it.
-heard-chord : (inside : List (Spanned ChordPartKind)) → ¬ (filter (λ part. is_note_part part.kind) inside ≡ []) → has_note inside ≡ true
+pub heard-chord : (inside : List (Spanned ChordPartKind)) → ¬ (filter (λ part. is_note_part part.kind) inside ≡ []) → has_note inside ≡ true
 heard-chord [] some = absurd (some refl)
 heard-chord (part ∷ inside) some =
     elim (is_note_part part.kind) as (λ b. ¬ (cond b (part ∷ filter (λ p. is_note_part p.kind) inside) (filter (λ p. is_note_part p.kind) inside) ≡ []) → (b || has_note inside) ≡ true) [
@@ -47,7 +47,7 @@ heard-chord (part ∷ inside) some =
       | false ↦ λ h. heard-chord inside h
     ] some
 
-silent-chord : (inside : List (Spanned ChordPartKind)) → ¬ (¬ (filter (λ part. is_note_part part.kind) inside ≡ [])) → has_note inside ≡ false
+pub silent-chord : (inside : List (Spanned ChordPartKind)) → ¬ (¬ (filter (λ part. is_note_part part.kind) inside ≡ [])) → has_note inside ≡ false
 silent-chord [] none = refl
 silent-chord (part ∷ inside) none =
     elim (is_note_part part.kind) as (λ b. ¬ (¬ (cond b (part ∷ filter (λ p. is_note_part p.kind) inside) (filter (λ p. is_note_part p.kind) inside) ≡ [])) → (b || has_note inside) ≡ false) [
@@ -55,7 +55,7 @@ silent-chord (part ∷ inside) none =
       | false ↦ λ h. silent-chord inside h
     ] none
 
-heard-current : (kind : TokenKind) → IsHeard kind → (owner_of kind ≡ Current) × (mentions kind ≡ true)
+heard-current : (kind : TokenKind) → MentionsVoice kind → (owner_of kind ≡ Current) × (mentions kind ≡ true)
 heard-current (kinds.Note note) h = (refl, refl)
 heard-current (kinds.Rest length) h = (refl, refl)
 heard-current (kinds.BarRest bars) h = (refl, refl)
@@ -81,7 +81,7 @@ no-voice : (field : Field) → ((name : List ℕ) → ¬ NamesVoice name field)
     → (voice : Voice) → kind_of field.letter ≡ fields.Voice → voice_of field.value ≡ Ok voice → ⊥
 no-voice field none voice letter read = none (slice_range field.value voice.from voice.to) (names-voice field voice letter read)
 
-others-keep : (naming : NamedVoices) (kind : TokenKind) → ((name : List ℕ) → ¬ IsVoiceField name kind) → ¬ IsHeard kind → names_following naming (owner_of kind) (mentions kind) ≡ naming.names
+others-keep : (naming : NamedVoices) (kind : TokenKind) → ((name : List ℕ) → ¬ IsVoiceField name kind) → ¬ MentionsVoice kind → names_following naming (owner_of kind) (mentions kind) ≡ naming.names
 others-keep naming (kinds.Note note) none silent = absurd (silent tt)
 others-keep naming (kinds.Rest length) none silent = absurd (silent tt)
 others-keep naming (kinds.BarRest bars) none silent = absurd (silent tt)
@@ -97,7 +97,7 @@ steps naming kind is = record {
       ∙ new_name naming.names name (is_missing name naming.names gone) room;
   named_again = λ name h again. ap (λ o. names_following naming o (mentions kind)) (voice-owner kind name h) ∙ more-again naming.names name again;
   unnamed = λ heard none. let of = heard-current kind heard in (λ i. names_following naming (of.0 i) (of.1 i)) ∙ heard-first naming is none;
-  heard = λ heard some. let of = heard-current kind heard in (λ i. names_following naming (of.0 i) (of.1 i)) ∙ heard-again naming is some;
+  known = λ heard some. let of = heard-current kind heard in (λ i. names_following naming (of.0 i) (of.1 i)) ∙ heard-again naming is some;
   other = others-keep naming kind;
 }
 

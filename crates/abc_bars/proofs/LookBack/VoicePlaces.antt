@@ -32,12 +32,14 @@ use Rattle.abc_bars.specs.LookBack.ByName.{tokens_of}
 use Rattle.abc_bars.specs.LookBack.Element.{Element}
 use Rattle.abc_bars.specs.LookBack.Fields.{BeginsPart, IsField, IsVoiceField, NamesVoice}
 use Rattle.abc_bars.specs.LookBack.Header.{declared_names, header_at, named_in, voice_on, voice_said, with_name, with_named}
+use Rattle.abc_bars.specs.LookBack.Mentions.{MentionsVoice}
 use Rattle.abc_bars.specs.LookBack.Place.{opening_at}
-use Rattle.abc_bars.specs.LookBack.VoicePlaces.{AreDeclared, AreMentioned, AreTokensOf, DeclaresNone, DeclaresVoice, HasNoVoice, IsAfterLine, IsFirstDeclared, IsNoVoiceField, IsPlayed, IsTooMany}
+use Rattle.abc_bars.specs.LookBack.VoicePlaces.{AreDeclared, AreMentioned, AreTokensOf, DeclaresNone, DeclaresVoice, HasNoVoice, IsAfterLine, IsFirstDeclared, IsNoVoiceField, IsTooMany}
 use Rattle.abc_bars.specs.LookBack.VoicePlaces.{IsVoiceAt, IsWithMention, PlacesHoldOfVoices, VoicesAreMentioned, VoicesHoldOfTokens, of_field, of_first, of_last, of_none, of_part, of_place}
 use Rattle.abc_bars.proofs.DeclaredVoices.{declared_keys}
 use Rattle.abc_bars.proofs.LookBack.Fields.{begins-part, names-voice, part-of, voice-accepted, voice-owner}
 use Rattle.abc_bars.proofs.LookBack.BodyState.{here_found, names_found, voices_found}
+use Rattle.abc_bars.proofs.LookBack.Mentions.{heard-chord, silent-chord}
 use Rattle.abc_bars.proofs.Names.{by_name, finds_name, full_names, is_among, is_apart, is_missing, known_name, mentioned_name, new_name, refused_name, still_apart}
 
 -- A V: as it is read and as it is said.
@@ -172,21 +174,21 @@ tells (kinds.InlineField field) = tells-field field (kind_of field.letter) refl
 tells _ = record { named = λ name e. absurd (cc); each = λ e. absurd (cc) }
 
 -- A token that mentions its voice is no field.
-played-mentions : (kind : TokenKind) → IsPlayed kind → mentions kind ≡ true
+played-mentions : (kind : TokenKind) → MentionsVoice kind → mentions kind ≡ true
 played-mentions (kinds.Note note) is = refl
 played-mentions (kinds.Rest length) is = refl
 played-mentions (kinds.BarRest bars) is = refl
-played-mentions (kinds.Chord chord) is = is
+played-mentions (kinds.Chord chord) is = heard-chord chord.parts is
 played-mentions _ is = absurd is
 
-mentions-played : (kind : TokenKind) → mentions kind ≡ true → IsPlayed kind
+mentions-played : (kind : TokenKind) → mentions kind ≡ true → MentionsVoice kind
 mentions-played (kinds.Note note) is = tt
 mentions-played (kinds.Rest length) is = tt
 mentions-played (kinds.BarRest bars) is = tt
-mentions-played (kinds.Chord chord) is = is
+mentions-played (kinds.Chord chord) is = λ none. let no : false ≡ true = sym (silent-chord chord.parts (λ some. some none)) ∙ is in absurd (cc)
 mentions-played _ is = absurd (cc)
 
-played-current : (kind : TokenKind) → IsPlayed kind → owner_of kind ≡ Current
+played-current : (kind : TokenKind) → MentionsVoice kind → owner_of kind ≡ Current
 played-current (kinds.Note note) is = refl
 played-current (kinds.Rest length) is = refl
 played-current (kinds.BarRest bars) is = refl
@@ -317,7 +319,7 @@ module _ (fields : List HeaderLine) (token : Element) (before : List Element) (n
     same-known (not_yet silent current short) = not_yet (more-unvoiced silent) current short
     same-known (since_then some there) = since_then (λ silent. some (less-voiced fields token before silent)) there
 
-    said-quiet : ¬ IsPlayed token.kind → IsSaid fields (token ∷ before) naming
+    said-quiet : ¬ MentionsVoice token.kind → IsSaid fields (token ∷ before) naming
     said-quiet quiet = record {
       names = (
         naming.names,
@@ -329,7 +331,7 @@ module _ (fields : List HeaderLine) (token : Element) (before : List Element) (n
     }
 
     -- The names after a token that mentions its voice.
-    said-played : IsPlayed token.kind → Known fields before naming.names naming.current
+    said-played : MentionsVoice token.kind → Known fields before naming.names naming.current
         → IsSaid fields (token ∷ before) (record { names = with_name naming.names naming.current; current = naming.current })
     said-played played (not_yet silent current short) = record {
       names = (

@@ -13,23 +13,25 @@ use Rattle.abc_bars.specs.LookBack.Fields.{IsVoiceField}
 use Rattle.abc_bars.specs.LookBack.BodyState.{body_at, voice_list_of}
 use Rattle.abc_bars.specs.LookBack.Place.{opening_at}
 
--- A token is a note, a rest, a rest of bars, or a chord that has a note.
-abbrev pub IsHeard : TokenKind → Type 0
-IsHeard (kinds.Note note) = ⊤
-IsHeard (kinds.Rest length) = ⊤
-IsHeard (kinds.BarRest bars) = ⊤
-IsHeard (kinds.Chord chord) = ¬ (notes_of chord ≡ [])
-IsHeard _ = ⊥
+-- A token mentions the voice that it belongs to: a note, a rest, a rest of bars, or a chord that has a note.
+-- `mentions` computes this. Not in ABC 2.1.
+abbrev pub MentionsVoice : TokenKind → Type 0
+MentionsVoice (kinds.Note note) = ⊤
+MentionsVoice (kinds.Rest length) = ⊤
+MentionsVoice (kinds.BarRest bars) = ⊤
+MentionsVoice (kinds.Chord chord) = ¬ (notes_of chord ≡ [])
+MentionsVoice _ = ⊥
 
--- The names of the voices that are mentioned before and after one token. An accepted V: adds the name of its voice at the end, if
--- it is a new one and there is room. What is heard before any voice is mentioned adds the voice without a name, so that this one
--- comes first. Nothing else adds one.
+-- The names of the voices that are mentioned before and after one token.
+-- An accepted V: adds the name of its voice at the end, if it is a new one and there is room.
+-- A token that mentions its voice before any voice is mentioned adds the voice without a name, which then comes first.
+-- No other token adds a name.
 pub record Mentions (old : List (List ℕ)) (kind : TokenKind) (new : List (List ℕ)) : Type 0 where
   pub named_new : (name : List ℕ) → IsVoiceField name kind → ¬ Contains old name → length old < 15 → new ≡ old ++ name ∷ []
   pub named_again : (name : List ℕ) → IsVoiceField name kind → Contains old name ⊎ (15 ≤ length old) → new ≡ old
-  pub unnamed : IsHeard kind → old ≡ [] → new ≡ [] ∷ []
-  pub heard : IsHeard kind → ¬ (old ≡ []) → new ≡ old
-  pub other : ((name : List ℕ) → ¬ IsVoiceField name kind) → ¬ IsHeard kind → new ≡ old
+  pub unnamed : MentionsVoice kind → old ≡ [] → new ≡ [] ∷ []
+  pub known : MentionsVoice kind → ¬ (old ≡ []) → new ≡ old
+  pub other : ((name : List ℕ) → ¬ IsVoiceField name kind) → ¬ MentionsVoice kind → new ≡ old
 
 -- The names of the voices that are mentioned at a place of a body.
 abbrev pub mentioned_at : Defaults → List HeaderLine → Key → List Element → List (List ℕ)

@@ -1,21 +1,20 @@
 -- The voice of a place of a tune's body and the tokens of each voice, by the lines of the header and by what precedes the
 -- place. ABC 2.1 section 7.1; the unnamed voice, the limit, and that a P: is every voice's are not in ABC 2.1.
-use Rattle.std.specs.Prelude.{◌≡◌, ◌≢◌, ◌<◌, ◌≤◌, ◌⊎◌, ℕ, true, List, [], ◌∷◌, ◌++◌, length, All, Some, slice_get}
+use Rattle.std.specs.Prelude.{◌≡◌, ◌≢◌, ◌<◌, ◌≤◌, ◌⊎◌, ℕ, List, [], ◌∷◌, ◌++◌, length, All, Some, slice_get}
 use Rattle.std.specs.List.{Contains}
 use Rattle.abc_fields.specs.declared.key.Key.{Key}
 use Rattle.abc_scan.specs.declared.token.TokenKind.{TokenKind}
-use Rattle.abc_scan.specs.declared.token.TokenKind.TheVariants as kinds
 use Rattle.abc_bars_items.specs.declared.item.TheConstants.{MOST_VOICES}
 use Rattle.abc_bars_header.specs.declared.defaults.Defaults.{Defaults}
 use Rattle.abc_bars_header.specs.HeaderLine.{HeaderLine, FieldLine, DirectiveLine}
 use Rattle.abc_bars_header.specs.Voices.{voice_at}
-use Rattle.abc_bars_notes.specs.TokenRole.{has_note}
 use Rattle.abc_bars_body.specs.Body.{here}
 use Rattle.abc_bars.specs.LookBack.ByName.{opening_of}
 use Rattle.abc_bars.specs.LookBack.CellPlace.{voice_place_of}
 use Rattle.abc_bars.specs.LookBack.Element.{Element}
 use Rattle.abc_bars.specs.LookBack.Fields.{BeginsPart, IsField, IsVoiceField, NamesVoice}
 use Rattle.abc_bars.specs.LookBack.BodyState.{body_at, voice_list_of}
+use Rattle.abc_bars.specs.LookBack.Mentions.{MentionsVoice}
 use Rattle.abc_bars.specs.LookBack.Place.{opening_at}
 use Rattle.abc_bars.specs.LookBack.Voice.{voice_state_at}
 
@@ -31,14 +30,6 @@ DeclaresNone line = (name : List ℕ) → ¬ DeclaresVoice name line
 -- A token of a body is no accepted V:.
 abbrev pub IsNoVoiceField : TokenKind → Type 0
 IsNoVoiceField kind = (name : List ℕ) → ¬ IsVoiceField name kind
-
--- A token is a note, a rest, a bar rest or a chord with a note.
-abbrev pub IsPlayed : TokenKind → Type 0
-IsPlayed (kinds.Note note) = Unit {0}
-IsPlayed (kinds.Rest length) = Unit {0}
-IsPlayed (kinds.BarRest bars) = Unit {0}
-IsPlayed (kinds.Chord chord) = has_note chord.parts ≡ true
-IsPlayed _ = ⊥
 
 -- Neither the lines of a header nor the tokens before a place of its body have an accepted V:.
 pub record HasNoVoice (fields : List HeaderLine) (before : List Element) : Type 0 where
@@ -61,13 +52,13 @@ abbrev pub AreDeclared : List HeaderLine → List (List ℕ) → Type 0
 AreDeclared [] names = names ≡ []
 AreDeclared (line ∷ before) names = (earlier : List (List ℕ)) × AreDeclared before earlier × IsAfterLine line earlier names
 
--- The names of the mentioned voices before a token of a body, and those after it. An accepted V: mentions its voice. A token that
--- is played before any accepted V: mentions the unnamed one.
+-- The names of the mentioned voices before a token of a body, and those after it. An accepted V: mentions its voice.
+-- A note, chord or rest before any accepted V: mentions the unnamed one.
 pub record IsAfterToken (fields : List HeaderLine) (before : List Element) (kind : TokenKind)
     (names more : List (List ℕ)) : Type 0 where
   pub voice : (name : List ℕ) → IsVoiceField name kind → IsWithMention names name more
-  pub unnamed : IsPlayed kind → HasNoVoice fields before → IsWithMention names [] more
-  pub other : IsNoVoiceField kind → ¬ (IsPlayed kind × HasNoVoice fields before) → more ≡ names
+  pub unnamed : MentionsVoice kind → HasNoVoice fields before → IsWithMention names [] more
+  pub other : IsNoVoiceField kind → ¬ (MentionsVoice kind × HasNoVoice fields before) → more ≡ names
 
 -- The names of the voices that are mentioned before a place of a body, in the order of their first mention.
 abbrev pub AreMentioned : List HeaderLine → List Element → List (List ℕ) → Type 0
