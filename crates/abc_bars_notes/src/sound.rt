@@ -127,9 +127,9 @@ fn push_tied_if(
     Ok(())
 }
 
-/// A note as it sounds.
+/// A note as its voice plays it.
 #[derive(Clone, Copy)]
-pub(crate) struct Sounding {
+pub(crate) struct PlayedNote {
     pub(crate) tone: Tone,
     /// The note as a tie goes on from it.
     pub(crate) tied_note: TiedNote,
@@ -137,15 +137,15 @@ pub(crate) struct Sounding {
     pub(crate) refused: bool,
 }
 
-/// A note as it sounds after these accidentals, in its context (ABC 2.1 sections 4.1 to 4.3).
+/// Returns a note as it is played after these accidentals, in its context (ABC 2.1 sections 4.1 to 4.3).
 #[inline(always)]
-pub(crate) fn sounding_of(
+pub(crate) fn played_note_of(
     state: &VoiceState,
     accidentals: &Accidentals,
     broken: &BrokenFactors,
     context: NoteContext,
     note: Note,
-) -> Sounding
+) -> PlayedNote
     ensures tone { result.tone ≡ tone_in state.now accidentals.now broken.now context.outer note context.tied }
     ensures range { IsTone result.tone }
     ensures tied_note { result.tied_note ≡ tied_note_in state.now accidentals.now note }
@@ -154,7 +154,7 @@ pub(crate) fn sounding_of(
     let alteration = alteration_of(state, accidentals, note);
     let key = key_of(state.shift, note, alteration);
     let (length, refused) = length_in(state, broken, note.length, context.outer);
-    Sounding {
+    PlayedNote {
         tone: Tone {
             length,
             key,
@@ -182,11 +182,11 @@ pub(crate) fn add_note(
     ensures value { OnOk result (builder.new ≡ with_note state.now broken.now context note builder.old) }
     ensures range { OnOk result (All IsTone builder.new.tones) }
 {
-    let Sounding {
+    let PlayedNote {
         tone,
         tied_note,
         refused,
-    } = sounding_of(state, &builder.accidentals, broken, context, note);
+    } = played_note_of(state, &builder.accidentals, broken, context, note);
     let silent = tone.key.is_none();
     push_note_faults(&mut builder.faults, refused, silent, context.column)?;
     push_tone(&mut builder.tones, tone)?;

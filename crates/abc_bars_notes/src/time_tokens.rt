@@ -15,7 +15,7 @@ use crate::broken::BrokenFactors;
 use crate::chords::{ChordContext, chord_builder_of};
 use crate::role::has_note;
 use crate::sound::{
-    ChordBuilder, NoteContext, Sounding, accidentals_after, length_in, sounding_of,
+    ChordBuilder, NoteContext, PlayedNote, accidentals_after, length_in, played_note_of,
     tied_notes_after,
 };
 use abc_bars_items::{Item, ItemsBuilder, LocalFault, Tone, Tones, column_of};
@@ -170,19 +170,19 @@ fn push_changing_note(
     state: &mut VoiceState,
     items: &mut ItemsBuilder,
     note: Note,
-    sounding: Sounding,
+    played_note: PlayedNote,
     column: u32,
 ) -> Result<(), AllocError>
-    requires { IsTone sounding.tone }
-    ensures state { OnOk result (state.new ≡ voice_after state.old note sounding.tone.tied sounding.tied_note) }
-    ensures items { OnOk result (items.new ≡ with_tone items.old sounding.tone sounding.refused column) }
+    requires { IsTone played_note.tone }
+    ensures state { OnOk result (state.new ≡ voice_after state.old note played_note.tone.tied played_note.tied_note) }
+    ensures items { OnOk result (items.new ≡ with_tone items.old played_note.tone played_note.refused column) }
     ensures unchanged { OnErr result ((state.new ≡ state.old) × (items.new ≡ items.old)) }
 {
-    let Sounding {
+    let PlayedNote {
         tone,
         tied_note,
         refused,
-    } = sounding;
+    } = played_note;
     let accidentals = accidentals_after(state, note)?;
     let tied = tied_notes_after(alloc, state, tone.tied, tied_note)?;
     push_note(items, tone, refused, column)?;
@@ -190,9 +190,14 @@ fn push_changing_note(
     Ok(())
 }
 
-/// A single note as it sounds at a place of its line.
+/// Returns a single note as it is played at a place of its line.
 #[inline(always)]
-fn sounding_at(state: &VoiceState, broken: &BrokenFactors, note: Note, place: NotePlace) -> Sounding
+fn played_note_at(
+    state: &VoiceState,
+    broken: &BrokenFactors,
+    note: Note,
+    place: NotePlace,
+) -> PlayedNote
     ensures tone { result.tone ≡ tone_in state.now state.now.accidentals broken.now None note place.tied }
     ensures range { IsTone result.tone }
     ensures tied_note { result.tied_note ≡ tied_note_in state.now state.now.accidentals note }
@@ -203,7 +208,7 @@ fn sounding_at(state: &VoiceState, broken: &BrokenFactors, note: Note, place: No
         column: column_of(place.from),
         tied: place.tied,
     };
-    sounding_of(state, &state.accidentals, broken, context, note)
+    played_note_of(state, &state.accidentals, broken, context, note)
 }
 
 /// Adds a note if it surely leaves the state of its voice as it is, and returns whether it did. Most notes do. The test
@@ -227,7 +232,7 @@ pub fn play_steady_note(
     if !leaves_voice(state, note, place.tied) {
         return Ok(false);
     }
-    let Sounding { tone, refused, .. } = sounding_at(state, broken, note, place);
+    let PlayedNote { tone, refused, .. } = played_note_at(state, broken, note, place);
     push_note(items, tone, refused, column_of(place.from))?;
     Ok(true)
 }
@@ -246,8 +251,15 @@ pub fn play_note(
     ensures items { OnOk result (items.new ≡ with_result items.old (play_note state.old broken.now place.tied place.from note)) }
     ensures unchanged { OnErr result ((state.new ≡ state.old) × (items.new ≡ items.old)) }
 {
-    let sounding = sounding_at(state, broken, note, place);
-    push_changing_note(alloc, state, items, note, sounding, column_of(place.from))
+    let played_note = played_note_at(state, broken, note, place);
+    push_changing_note(
+        alloc,
+        state,
+        items,
+        note,
+        played_note,
+        column_of(place.from),
+    )
 }
 
 /// The faults of a chord without a note; its own comes first.
