@@ -78,7 +78,7 @@ pub struct CellResult {
 }
 
 impl CellResult {
-    /// The result before the first token of a cell, with room for `room` items.
+    /// Returns the result before the first token of a cell, with room for `room` items.
     fn new(alloc: Global, body: BodyCopy, room: usize) -> Result<CellResult, AllocError>
         ensures { IfOk result (λ given. given ≡ empty_cell_result body) }
     {
@@ -91,8 +91,8 @@ impl CellResult {
         })
     }
 
-    /// Adds the item of a token.
-    fn item(&mut self, item: Item) -> Result<(), AllocError>
+    /// Pushes the item of a token.
+    fn push_item(&mut self, item: Item) -> Result<(), AllocError>
         requires { IsItem item }
         ensures { OnOk result (self.new ≡ with_item self.old item) }
     {
@@ -100,18 +100,18 @@ impl CellResult {
         Ok(())
     }
 
-    /// Adds the item of a token, if there is one.
+    /// Pushes the item of a token, if there is one.
     fn push_item_if_any(&mut self, item: Option<Item>) -> Result<(), AllocError>
         requires { IfSome item IsItem }
         ensures { OnOk result (self.new ≡ with_items self.old (option_to_list item)) }
     {
         if let Some(item) = item {
-            self.item(item)?;
+            self.push_item(item)?;
         }
         Ok(())
     }
 
-    /// Adds the fault of a token with its column, if there is one.
+    /// Pushes the fault of a token with its column, if there is one.
     fn push_local_fault_if_any(&mut self, fault: Option<LocalFault>) -> Result<(), AllocError>
         ensures { OnOk result (self.new ≡ with_faults self.old (option_to_list fault)) }
     {
@@ -121,25 +121,30 @@ impl CellResult {
         Ok(())
     }
 
-    /// Adds the fault of a token.
-    fn fault(&mut self, place: usize, code: FaultCode) -> Result<(), AllocError>
+    /// Pushes the fault of a token.
+    fn push_fault(&mut self, place: usize, code: FaultCode) -> Result<(), AllocError>
         ensures { OnOk result (self.new ≡ with_fault self.old place code) }
     {
         self.items.push_fault((column_of(place), code))?;
         Ok(())
     }
 
-    /// Adds the fault of a token, if it has one.
-    fn fault_if(&mut self, is_fault: bool, place: usize, code: FaultCode) -> Result<(), AllocError>
+    /// Pushes the fault of a token if `is_fault`.
+    fn push_fault_if(
+        &mut self,
+        is_fault: bool,
+        place: usize,
+        code: FaultCode,
+    ) -> Result<(), AllocError>
         ensures { OnOk result (self.new ≡ with_fault_if self.old is_fault place code) }
     {
         if is_fault {
-            self.fault(place, code)?;
+            self.push_fault(place, code)?;
         }
         Ok(())
     }
 
-    /// Adds the fault of a token, if there is one.
+    /// Pushes the fault of a token, if there is one.
     fn push_fault_if_any(
         &mut self,
         place: usize,
@@ -148,14 +153,14 @@ impl CellResult {
         ensures { OnOk result (self.new ≡ with_some_fault self.old place fault) }
     {
         if let Some(code) = fault {
-            self.fault(place, code)?;
+            self.push_fault(place, code)?;
         }
         Ok(())
     }
 
-    /// A note that may change the state of the current voice.
+    /// Adds a note that may change the state of the current voice.
     #[inline(never)]
-    fn changing_note(
+    fn add_changing_note(
         &mut self,
         alloc: Global,
         note: &Note,
@@ -172,10 +177,10 @@ impl CellResult {
         Ok(())
     }
 
-    /// A note, which mentions its voice.
+    /// Adds a note, which mentions its voice.
     #[inline(always)]
     #[tactic(auto, using(crate::proofs::HereLaws::same_here))]
-    fn note(
+    fn add_note(
         &mut self,
         alloc: Global,
         place: usize,
@@ -193,11 +198,11 @@ impl CellResult {
         if play_steady_note(self.body.here(), &mut self.items, *note, &factors, place)? {
             return Ok(());
         }
-        self.changing_note(alloc, note, place, ahead)
+        self.add_changing_note(alloc, note, place, ahead)
     }
 
-    /// A rest, which mentions its voice.
-    fn rest(
+    /// Adds a rest, which mentions its voice.
+    fn add_rest(
         &mut self,
         alloc: Global,
         place: usize,
@@ -214,8 +219,8 @@ impl CellResult {
         Ok(())
     }
 
-    /// A chord, which mentions its voice if it has a note.
-    fn chord(
+    /// Adds a chord, which mentions its voice if it has a note.
+    fn add_chord(
         &mut self,
         alloc: Global,
         place: usize,
@@ -238,19 +243,24 @@ impl CellResult {
         Ok(())
     }
 
-    /// A rest of bars, which mentions its voice.
-    fn bar_rest(&mut self, alloc: Global, place: usize, bars: Option<u32>) -> Result<(), AllocError>
+    /// Adds a rest of bars, which mentions its voice.
+    fn add_bar_rest(
+        &mut self,
+        alloc: Global,
+        place: usize,
+        bars: Option<u32>,
+    ) -> Result<(), AllocError>
         ensures { OnOk result (self.new ≡ with_bar_rest self.old place bars) }
     {
         self.body.mention(alloc)?;
         let (item, fault) = bar_rest_of(self.body.here().meter, bars);
-        self.item(item)?;
+        self.push_item(item)?;
         self.push_fault_if_any(place, fault)?;
         Ok(())
     }
 
-    /// A field line or an inline field.
-    fn field(&mut self, alloc: Global, place: usize, field: &Field) -> Result<(), AllocError>
+    /// Adds a field line or an inline field.
+    fn add_field(&mut self, alloc: Global, place: usize, field: &Field) -> Result<(), AllocError>
         ensures { OnOk result (self.new ≡ with_field self.old place field.now) }
     {
         let FieldItem { item, fault } = self.body.field(alloc, field, place)?;
@@ -259,28 +269,28 @@ impl CellResult {
         Ok(())
     }
 
-    /// A bar line, which ends the accidentals of its voice (ABC 2.1 section 4.2).
-    fn bar(&mut self, alloc: Global, bar: BarLine) -> Result<(), AllocError>
+    /// Adds a bar line, which ends the accidentals of its voice (ABC 2.1 section 4.2).
+    fn add_bar(&mut self, alloc: Global, bar: BarLine) -> Result<(), AllocError>
         ensures { OnOk result (self.new ≡ with_bar self.old bar) }
     {
         self.body.end_bar(alloc)?;
-        self.item(Item::Bar(bar))?;
+        self.push_item(Item::Bar(bar))?;
         Ok(())
     }
 
-    /// The mark of an ending.
-    fn ending(&mut self, place: usize, passes: Option<u32>) -> Result<(), AllocError>
+    /// Adds the mark of an ending.
+    fn add_ending(&mut self, place: usize, passes: Option<u32>) -> Result<(), AllocError>
         ensures { OnOk result (self.new ≡ with_ending self.old place passes) }
     {
         match passes {
-            Some(passes) => self.item(Item::Ending(passes))?,
-            None => self.fault(place, FaultCode::BadEnding)?,
+            Some(passes) => self.push_item(Item::Ending(passes))?,
+            None => self.push_fault(place, FaultCode::BadEnding)?,
         }
         Ok(())
     }
 
-    /// A tuplet mark.
-    fn tuplet(&mut self, place: usize, mark: Tuplet) -> Result<(), AllocError>
+    /// Adds a tuplet mark.
+    fn add_tuplet(&mut self, place: usize, mark: Tuplet) -> Result<(), AllocError>
         ensures { OnOk result (self.new ≡ with_tuplet self.old place mark) }
     {
         let mut here = self.body.take_here()?;
@@ -291,8 +301,8 @@ impl CellResult {
         Ok(())
     }
 
-    /// A dynamic (ABC 2.1 section 4.14).
-    fn dynamic(&mut self, dynamic: Dynamic) -> Result<(), AllocError>
+    /// Adds a dynamic (ABC 2.1 section 4.14).
+    fn add_dynamic(&mut self, dynamic: Dynamic) -> Result<(), AllocError>
         ensures { OnOk result (self.new ≡ with_dynamic self.old dynamic) }
     {
         let mut here = self.body.take_here()?;
@@ -301,41 +311,41 @@ impl CellResult {
         Ok(())
     }
 
-    /// A directive of a program, with the number that is written.
-    fn program(&mut self, place: usize, written: u32) -> Result<(), AllocError>
+    /// Adds a directive of a program, with the number that is written.
+    fn add_program(&mut self, place: usize, written: u32) -> Result<(), AllocError>
         ensures { OnOk result (self.new ≡ with_program self.old place (program_of written)) }
     {
         let number = program_of(written);
-        self.item(Item::Program {
+        self.push_item(Item::Program {
             opening: false,
             number,
         })?;
-        self.fault_if(number.is_none(), place, FaultCode::BadProgram)
+        self.push_fault_if(number.is_none(), place, FaultCode::BadProgram)
     }
 
-    /// A directive: the body cannot change the reach of accidentals.
-    fn directive(&mut self, place: usize, directive: Directive) -> Result<(), AllocError>
+    /// Adds a directive. In a body none changes the reach of accidentals.
+    fn add_directive(&mut self, place: usize, directive: Directive) -> Result<(), AllocError>
         ensures { OnOk result (self.new ≡ with_directive self.old place directive) }
     {
         match directive {
-            Directive::Program(written) => self.program(place, written),
+            Directive::Program(written) => self.add_program(place, written),
             Directive::Reach(_) => Ok(()),
         }
     }
 
-    /// A tie.
-    fn tie(&mut self, place: usize) -> Result<(), AllocError>
+    /// Adds a tie.
+    fn add_tie(&mut self, place: usize) -> Result<(), AllocError>
         ensures { OnOk result (self.new ≡ with_tie self.old place) }
     {
         if !self.after_note {
-            self.fault(place, FaultCode::LooseTie)?;
+            self.push_fault(place, FaultCode::LooseTie)?;
         }
         Ok(())
     }
 
-    /// A token at a place of its line, with the tokens after it in its cell.
+    /// Adds a token of this kind at a place of its line; `ahead` are the tokens after it in its cell.
     #[inline(always)]
-    fn kind(
+    fn add_token_at(
         &mut self,
         alloc: Global,
         place: usize,
@@ -345,59 +355,59 @@ impl CellResult {
         ensures { OnOk result (self.new ≡ with_kind self.old place kind.now ahead.now) }
     {
         match kind {
-            TokenKind::Note(note) => self.note(alloc, place, note, ahead),
-            TokenKind::Rest(written) => self.rest(alloc, place, *written, ahead),
-            TokenKind::BarRest(bars) => self.bar_rest(alloc, place, *bars),
-            TokenKind::Chord(chord) => self.chord(alloc, place, chord.get(), ahead),
+            TokenKind::Note(note) => self.add_note(alloc, place, note, ahead),
+            TokenKind::Rest(written) => self.add_rest(alloc, place, *written, ahead),
+            TokenKind::BarRest(bars) => self.add_bar_rest(alloc, place, *bars),
+            TokenKind::Chord(chord) => self.add_chord(alloc, place, chord.get(), ahead),
             TokenKind::InlineField(field) | TokenKind::Field(field) => {
-                self.field(alloc, place, field.get())
+                self.add_field(alloc, place, field.get())
             }
-            TokenKind::Bar(bar) => self.bar(alloc, *bar),
-            TokenKind::Ending(passes) => self.ending(place, *passes),
-            TokenKind::Tuplet(mark) => self.tuplet(place, *mark),
+            TokenKind::Bar(bar) => self.add_bar(alloc, *bar),
+            TokenKind::Ending(passes) => self.add_ending(place, *passes),
+            TokenKind::Tuplet(mark) => self.add_tuplet(place, *mark),
             TokenKind::Broken(_) => {
-                self.fault_if(
+                self.push_fault_if(
                     is_bad_mark(self.preceding, ahead),
                     place,
                     FaultCode::BadBroken,
                 )
             }
-            TokenKind::Tie => self.tie(place),
+            TokenKind::Tie => self.add_tie(place),
             TokenKind::Blank | TokenKind::NoEffect => Ok(()),
-            TokenKind::Dynamic(dynamic) => self.dynamic(*dynamic),
-            TokenKind::Directive(directive) => self.directive(place, *directive),
-            TokenKind::Unclosed => self.fault(place, FaultCode::Unclosed),
-            TokenKind::BadByte => self.fault(place, FaultCode::BadByte),
+            TokenKind::Dynamic(dynamic) => self.add_dynamic(*dynamic),
+            TokenKind::Directive(directive) => self.add_directive(place, *directive),
+            TokenKind::Unclosed => self.push_fault(place, FaultCode::Unclosed),
+            TokenKind::BadByte => self.push_fault(place, FaultCode::BadByte),
         }
     }
 
-    /// One more token of the cell, with those after it. Most tokens are notes, so they are tried first.
+    /// Adds a token; `ahead` are those after it in its cell. Most tokens are notes, so they are tried first.
     #[inline(always)]
-    fn token(&mut self, alloc: Global, token: &Token, ahead: &[Token]) -> Result<(), AllocError>
+    fn add_token(&mut self, alloc: Global, token: &Token, ahead: &[Token]) -> Result<(), AllocError>
         ensures { OnOk result (self.new ≡ with_token self.old token.now ahead.now) }
     {
         let place = token.from as usize;
         if let TokenKind::Note(note) = &token.kind {
-            self.note(alloc, place, note, ahead)?;
+            self.add_note(alloc, place, note, ahead)?;
             self.preceding = Preceding::TimeToken;
             self.after_note = true;
             return Ok(());
         }
         let preceding = preceding_after(self.preceding, &token.kind);
-        self.kind(alloc, place, &token.kind, ahead)?;
+        self.add_token_at(alloc, place, &token.kind, ahead)?;
         self.preceding = preceding;
         self.after_note = may_be_tied(&token.kind);
         Ok(())
     }
 
-    /// The tokens of the cell, or those that are left of it.
+    /// Adds the tokens of the cell.
     #[inline(always)]
-    fn tokens(&mut self, alloc: Global, cell: &[Token]) -> Result<(), AllocError>
+    fn add_tokens(&mut self, alloc: Global, cell: &[Token]) -> Result<(), AllocError>
         ensures { OnOk result (self.new ≡ cell_result_from self.old cell.now) }
     {
         let mut left = cell;
         while let [token, ahead @ ..] = left {
-            self.token(alloc, token, ahead)?;
+            self.add_token(alloc, token, ahead)?;
             left = ahead;
         }
         Ok(())
@@ -408,7 +418,7 @@ impl CellResult {
 pub fn cell_result(alloc: Global, body: BodyCopy, cell: &[Token]) -> Result<CellResult, AllocError>
     ensures { IfOk result (λ given. given ≡ cell_result body cell.now) }
 {
-    let mut given = CellResult::new(alloc, body, room_for(cell))?;
-    given.tokens(alloc, cell)?;
-    Ok(given)
+    let mut result = CellResult::new(alloc, body, room_for(cell))?;
+    result.add_tokens(alloc, cell)?;
+    Ok(result)
 }

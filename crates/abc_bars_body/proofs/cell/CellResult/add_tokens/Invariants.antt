@@ -1,6 +1,6 @@
 use Rattle.std.proofs.Common.{◌≡◌, length}
 use Rattle.abc_bars_body.specs.Cell.{cell_result_from}
-use Rattle.abc_bars_body.proofs.cell.CellResult.tokens.Given as goal
+use Rattle.abc_bars_body.proofs.cell.CellResult.add_tokens.Given as goal
 
 -- the tokens that are left
 abbrev pub invariant-loop-left : goal.invariant-loop-left
