@@ -469,7 +469,7 @@ places_hold_of_voices values fields key before =
       voice = (said-at values fields key before).voice;
       tokens_are = tokens-are values fields key name before;
       held = here_found values fields key before;
-      stands = refl;
+      place_is = refl;
     }
 
 pub voices_hold_of_tokens : VoicesHoldOfTokens

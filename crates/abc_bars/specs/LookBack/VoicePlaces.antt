@@ -134,8 +134,8 @@ VoicesAreMentioned =
     (values : Defaults) (fields : List HeaderLine) (key : Key) (before : List Element)
     → AreMentioned fields before (voice_list_of (body_at (opening_at values fields key) before)).names
 
--- The state of the voice of a place is what the tokens of its voice leave of what that voice opened with. The laws of tokens speak
--- of these tokens (`stands`).
+-- The state of the voice of a place is what the tokens of that voice leave of its opening state.
+-- `place_is`: the laws of tokens use this opening and these tokens.
 pub record HoldsOfVoice (values : Defaults) (fields : List HeaderLine) (key : Key) (before : List Element) : Type 0 where
   pub name : List ℕ
   pub tokens : List Element
@@ -143,7 +143,7 @@ pub record HoldsOfVoice (values : Defaults) (fields : List HeaderLine) (key : Ke
   pub tokens_are : AreTokensOf fields name before tokens
   pub held : here (body_at (opening_at values fields key) before)
       ≡ voice_state_at (opening_of (opening_at values fields key) name) tokens
-  pub stands : voice_place_of values fields key before
+  pub place_is : voice_place_of values fields key before
       ≡ record { opening = opening_of (opening_at values fields key) name; before = tokens }
 
 -- So it is at each place of a body.
