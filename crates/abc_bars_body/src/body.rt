@@ -126,20 +126,20 @@ impl Body {
         &mut self,
         alloc: Global,
         name: &[u8],
-        said: Shift,
+        shift: Shift,
     ) -> Result<bool, AllocError>
-        ensures value { IfOk result (λ made. with_current self.old name.now said ≡ (if made then Some self.new else None)) }
+        ensures value { IfOk result (λ made. with_current self.old name.now shift ≡ (if made then Some self.new else None)) }
         ensures too_many { IfOk result (λ made. made ≡ false → self.new ≡ self.old) }
         ensures unchanged { OnErr result (self.new ≡ self.old) }
     {
         let name = VoiceName::new(alloc, name)?;
         match self.voices.place_of(&name) {
             Some(at) => {
-                self.move_to(at, said);
+                self.move_to(at, shift);
                 Ok(true)
             }
             None if self.voices.len() < MOST_VOICES => {
-                self.join(name, said)?;
+                self.join(name, shift)?;
                 Ok(true)
             }
             None => Ok(false),
@@ -147,22 +147,22 @@ impl Body {
     }
 
     /// Makes the voice at an index the current one, with these properties.
-    fn move_to(&mut self, at: usize, said: Shift)
-        ensures { self.new ≡ after_move self.old at said }
+    fn move_to(&mut self, at: usize, shift: Shift)
+        ensures { self.new ≡ after_move self.old at shift }
     {
         self.current = Current::At(at);
         let state = self.here_mut();
-        state.shift = state.shift.with_properties(said);
+        state.shift = state.shift.with_properties(shift);
     }
 
     /// Mentions another voice, which becomes the current one, with these properties.
-    fn join(&mut self, name: VoiceName, said: Shift) -> Result<(), AllocError>
+    fn join(&mut self, name: VoiceName, shift: Shift) -> Result<(), AllocError>
         requires { place_of name self.old.voices ≡ None }
-        ensures ok { OnOk result (self.new ≡ after_join self.old name said) }
+        ensures ok { OnOk result (self.new ≡ after_join self.old name shift) }
         ensures unchanged { OnErr result (self.new ≡ self.old) }
     {
         let mut state = self.another.clone()?;
-        state.shift = state.shift.with_properties(said);
+        state.shift = state.shift.with_properties(shift);
         let at = self.voices.len();
         self.voices.push(name, state)?;
         self.current = Current::At(at);
