@@ -43,7 +43,7 @@ use Rattle.abc_bars_header.specs.declared.field_kind.FieldKind.TheVariants as fi
 use Rattle.abc_bars_header.specs.declared.header.Header.{Header}
 use Rattle.abc_bars_body.specs.Body.{all_without_accidentals, after_part, current_without_accidentals, here, after_join, with_current_at, after_mention, after_mention_in, after_move, with_here}
 use Rattle.abc_bars_body.specs.Body.{with_here_in}
-use Rattle.abc_bars_body.specs.BodyFields.{accept, accept_with_fault, field_result, in_key, key_item, kind_result, key_by, meter_by, part_by, part_of, tempo_by, unit_by, voice_by, voice_made}
+use Rattle.abc_bars_body.specs.BodyFields.{accept, accept_with_fault, field_result, in_key, key_item, kind_result, key_by, meter_by, part_by, part_of, tempo_by, unit_by, voice_by, named_voice_by}
 use Rattle.abc_bars_body.specs.BodyOpening.{body_from, current_in, opening_another}
 use Rattle.abc_bars_body.specs.Cell.{cell_result, cell_result_from, after_chord_mention, empty_cell_result, tie_ahead, with_directive, with_dynamic, with_ending, with_fault, with_fault_if, with_field}
 use Rattle.abc_bars_body.specs.Cell.{with_item, with_kind, with_result_in, with_program, with_some_fault, with_token}
@@ -231,7 +231,7 @@ name_new name names none = ap (λ b. cond b names (names ++ name ∷ [])) (apart
 
 -- a V: of the body
 made_told : (body : Body) (place : ℕ) (name : List ℕ) (said : Shift) → bytes_eq name [] ≡ false → (found : Option ℕ) → place_of name body.voices ≡ found
-    → Tells (known_of body) (known_of (voice_made body place name (with_current_at body name said found)).body) (voice_made body place name (with_current_at body name said found)).items
+    → Tells (known_of body) (known_of (named_voice_by body place name (with_current_at body name said found)).body) (named_voice_by body place name (with_current_at body name said found)).items
 made_told body place name said named (Some at) found =
     let moved : Body = record body { current = At at } in
     let same : known_of (after_move body at said) ≡ (keys_of body.voices, true) = here_known moved (record (here moved) { shift = with_properties (here moved).shift said }) in
@@ -241,7 +241,7 @@ made_told body place name said named (Some at) found =
 made_told body place name said named None found = by (nat_lt (length body.voices) MOST_VOICES) refl
   where
     by : (b : Bool) → nat_lt (length body.voices) MOST_VOICES ≡ b
-        → Tells (known_of body) (known_of (voice_made body place name (cond b (Some (after_join body name said)) None)).body) (voice_made body place name
+        → Tells (known_of body) (known_of (named_voice_by body place name (cond b (Some (after_join body name said)) None)).body) (named_voice_by body place name
         (cond b (Some (after_join body name said)) None)).items
     by true room =
         let new = record body.another { shift = with_properties body.another.shift said } in

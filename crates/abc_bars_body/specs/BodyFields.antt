@@ -106,16 +106,16 @@ key_by body place (Err fault) =
     let key = key_or_empty (Err fault) in
     accept_with_fault (with_here body (in_key (here body) key)) place (key_item key) fault
 
--- After a V: of this name, which makes its voice the current one, or is one too many.
-abbrev pub voice_made : Body → ℕ → List ℕ → Option Body → FieldResult
-voice_made body place name (Some made) = accept made (items.Voice false name)
-voice_made body place name None = refuse body place TooManyVoices
+-- After a V: of this name: with the body in which its voice is the current one, or with none if it is one voice too many.
+abbrev pub named_voice_by : Body → ℕ → List ℕ → Option Body → FieldResult
+named_voice_by body place name (Some after) = accept after (items.Voice false name)
+named_voice_by body place name None = refuse body place TooManyVoices
 
 -- After a V: whose value names a voice, or is refused.
 abbrev pub voice_by : Body → ℕ → List ℕ → Result Voice FaultCode → FieldResult
 voice_by body place value (Ok voice) =
     let name = slice_range value voice.from voice.to in
-    voice_made body place name (with_current body name voice.shift)
+    named_voice_by body place name (with_current body name voice.shift)
 voice_by body place value (Err fault) = refuse body place fault
 
 -- After a field of this kind with this value, at this place of its line.

@@ -26,7 +26,7 @@ use Rattle.abc_bars_notes.specs.TokenRole.{has_note}
 use Rattle.abc_bars_body.specs.declared.body.Body.{Body}
 use Rattle.abc_bars_body.specs.declared.cell.CellResult.{CellResult}
 use Rattle.abc_bars_body.specs.Body.{here, with_current}
-use Rattle.abc_bars_body.specs.BodyFields.{FieldResult, accept, accept_with_fault, kind_result, meter_by, key_by, part_by, part_of, tempo_by, unit_by, voice_by, voice_made}
+use Rattle.abc_bars_body.specs.BodyFields.{FieldResult, accept, accept_with_fault, kind_result, meter_by, key_by, part_by, part_of, tempo_by, unit_by, voice_by, named_voice_by}
 use Rattle.abc_bars_body.specs.Cell.{with_kind}
 use Rattle.abc_bars.specs.LookBack.Flags.{is_of_header}
 use Rattle.abc_bars.specs.Titles.{title_said, titles_said}
@@ -64,7 +64,7 @@ of-part : (body : Body) (place : ℕ) (part : Option ℕ) → AreOfBody (part_by
 of-part body place None = tt
 of-part body place (Some letter) = ((refl, refl), tt)
 
-of-made : (body : Body) (place : ℕ) (name : List ℕ) (made : Option Body) → AreOfBody (voice_made body place name made).items
+of-made : (body : Body) (place : ℕ) (name : List ℕ) (made : Option Body) → AreOfBody (named_voice_by body place name made).items
 of-made body place name (Some made) = ((refl, refl), tt)
 of-made body place name None = tt
 

@@ -40,7 +40,7 @@ use Rattle.abc_bars_voice.specs.VoiceState.{without_accidentals}
 use Rattle.abc_bars_body.specs.declared.body.Body.{Body}
 use Rattle.abc_bars_body.specs.declared.body.Current.TheVariants.{Unnamed, At}
 use Rattle.abc_bars_body.specs.Body.{after_join, after_mention, all_without_accidentals, current_without_accidentals, here, with_current_at, with_here}
-use Rattle.abc_bars_body.specs.BodyFields.{accept, accept_with_fault, in_key, key_by, kind_result, meter_by, part_by, part_of, tempo_by, unit_by, voice_by, voice_made}
+use Rattle.abc_bars_body.specs.BodyFields.{accept, accept_with_fault, in_key, key_by, kind_result, meter_by, part_by, part_of, tempo_by, unit_by, voice_by, named_voice_by}
 use Rattle.abc_bars_body.specs.BodyOpening.{current_in, opening_voice_state}
 use Rattle.abc_bars_body.proofs.BodyOpenings.{opening_names}
 use Rattle.abc_bars.specs.LookBack.After.{after, after_field, after_kind, in_meter, in_part, in_unit, in_voice}
@@ -231,7 +231,7 @@ module _ (naming : NamedVoices) (by : List ℕ → VoiceState) (another : VoiceS
 
     -- After a V: of a voice that is not mentioned.
     to-other : list_any (bytes_eq name) naming.names ≡ false → (room : Bool) → nat_lt (length naming.names) MOST_VOICES ≡ room
-        → Next (Named name) false shifted ≡ (voice_made body 0 name (cond room (Some (after_join body name said)) None)).body
+        → Next (Named name) false shifted ≡ (named_voice_by body 0 name (cond room (Some (after_join body name said)) None)).body
     to-other gone true is_room =
         let room : length naming.names < MOST_VOICES = ltb-true (length naming.names) MOST_VOICES is_room in
         let last : position (bytes_eq name) (naming.names ++ name ∷ []) ≡ Some (length naming.names) = last_place name naming.names gone in
@@ -256,7 +256,7 @@ module _ (naming : NamedVoices) (by : List ℕ → VoiceState) (another : VoiceS
         })
 
     to-named : (place : Option ℕ) → position (bytes_eq name) naming.names ≡ place
-        → Next (Named name) false shifted ≡ (voice_made body 0 name (with_current_at body name said place)).body
+        → Next (Named name) false shifted ≡ (named_voice_by body 0 name (with_current_at body name said place)).body
     to-named (Some at) found =
         let there : list_any (bytes_eq name) naming.names ≡ true = among_at name naming.names at found in
         ap (λ (n : NamedVoices). body_by n (changed name shifted by) another) (becomes-current naming.names (known_name naming.names name there) there)
@@ -264,14 +264,14 @@ module _ (naming : NamedVoices) (by : List ℕ → VoiceState) (another : VoiceS
         ∙ to-place naming by another is.distinct shifted at name (name_there name naming.names at found)
     to-named None none =
         to-other (unplaced name naming.names none) (nat_lt (length naming.names) MOST_VOICES) refl
-        ∙ ap (λ (n : ℕ). (voice_made body 0 name (cond (nat_lt n MOST_VOICES) (Some (after_join body name said)) None)).body) (sym (length_each by naming.names))
+        ∙ ap (λ (n : ℕ). (named_voice_by body 0 name (cond (nat_lt n MOST_VOICES) (Some (after_join body name said)) None)).body) (sym (length_each by naming.names))
 
   by-voice : (value : List ℕ) (r : Result Voice FaultCode) → voice_of value ≡ r
       → Next (owner_of_voice value r) false (λ state. in_voice state r) ≡ (voice_by body 0 value r).body
   by-voice value (Ok voice) read =
       let name : List ℕ = slice_range value voice.from voice.to in
       to-named voice.shift name (name_filled value voice read) (position (bytes_eq name) naming.names) refl
-      ∙ ap (λ (keys : List (List ℕ)). (voice_made body 0 name (with_current_at body name voice.shift (position (bytes_eq name) keys))).body) (sym (keys_each by naming.names))
+      ∙ ap (λ (keys : List (List ℕ)). (named_voice_by body 0 name (with_current_at body name voice.shift (position (bytes_eq name) keys))).body) (sym (keys_each by naming.names))
   by-voice value (Err fault) read = to-none naming by another
 
   by-field : (kind : FieldKind) (value : List ℕ) → Next (owner_of_field kind value) false (λ state. after_field state kind value) ≡ (kind_result body kind value 0).body

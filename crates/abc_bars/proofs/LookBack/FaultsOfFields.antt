@@ -42,7 +42,7 @@ use Rattle.abc_bars_voice.specs.declared.voice_state.VoiceState.{VoiceState}
 use Rattle.abc_bars_voice.specs.TempoItem.{is_out_of_range, tempo_item}
 use Rattle.abc_bars_body.specs.declared.body.Body.{Body}
 use Rattle.abc_bars_body.specs.Body.{here, after_join, with_current_at}
-use Rattle.abc_bars_body.specs.BodyFields.{accept, accept_with_fault, key_by, kind_result, meter_by, part_by, part_of, tempo_by, unit_by, voice_by, voice_made, FieldResult}
+use Rattle.abc_bars_body.specs.BodyFields.{accept, accept_with_fault, key_by, kind_result, meter_by, part_by, part_of, tempo_by, unit_by, voice_by, named_voice_by, FieldResult}
 use Rattle.abc_bars.specs.LookBack.CellFaults.{AreFaultsOfCells, Faults, HasFieldFaults, IsFaultOfField, IsOneTooMany, IsOnlyFault, IsOutOfRange, NamesPart, is_of_field, names_there, unit_there}
 use Rattle.abc_bars.specs.LookBack.CellPlace.{CellPlace, before_place}
 use Rattle.abc_bars.specs.LookBack.Element.{Element}
@@ -183,7 +183,7 @@ of_part body from (byte ∷ rest) = ⊎_elim
 
 -- Of a V: with this name, by the place of its voice.
 one_too_many : (body : Body) (from : ℕ) (name : List ℕ) (said : Shift) (at : Option ℕ) → position (bytes_eq name) (keys_of body.voices) ≡ at
-    → (let faults = Ours (voice_made body from name (with_current_at body name said at)).faults in
+    → (let faults = Ours (named_voice_by body from name (with_current_at body name said at)).faults in
     (IsOneTooMany (keys_of body.voices) name × (faults ≡ (column_of from, TooManyVoices) ∷ [])) ⊎ ((¬ IsOneTooMany (keys_of body.voices) name) × (faults ≡ [])))
 one_too_many body from name said (Some at) e = inr (λ many. many.1 (is_among name (keys_of body.voices) (among_at name (keys_of body.voices) at e)), refl)
 one_too_many body from name said None e =
@@ -191,11 +191,11 @@ one_too_many body from name said None e =
     ⊎_elim
     (λ room. inr (
       λ many. let full : 15 ≤ length (keys_of body.voices) = many.0 in absurd (omega arith),
-      ap (λ b. Ours (voice_made body from name (cond b (Some (after_join body name said)) None)).faults) (lt-ltb (length body.voices) MOST_VOICES room),
+      ap (λ b. Ours (named_voice_by body from name (cond b (Some (after_join body name said)) None)).faults) (lt-ltb (length body.voices) MOST_VOICES room),
     ))
     (λ full. inl (
       (omega arith, is_apart name (keys_of body.voices) (unplaced name (keys_of body.voices) e)),
-      ap (λ b. Ours (voice_made body from name (cond b (Some (after_join body name said)) None)).faults) (le-ltb (length body.voices) MOST_VOICES full),
+      ap (λ b. Ours (named_voice_by body from name (cond b (Some (after_join body name said)) None)).faults) (le-ltb (length body.voices) MOST_VOICES full),
     ))
     (cases_lt (length body.voices) MOST_VOICES)
 

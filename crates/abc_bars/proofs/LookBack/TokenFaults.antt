@@ -48,7 +48,7 @@ use Rattle.abc_bars_notes.specs.TimeTokens.{chord_by, play_chord}
 use Rattle.abc_bars_notes.specs.TokenRole.{has_note}
 use Rattle.abc_bars_body.specs.declared.body.Body.{Body}
 use Rattle.abc_bars_body.specs.Body.{here, with_current, after_mention}
-use Rattle.abc_bars_body.specs.BodyFields.{accept, accept_with_fault, key_by, kind_result, meter_by, part_by, part_of, tempo_by, unit_by, voice_by, voice_made}
+use Rattle.abc_bars_body.specs.BodyFields.{accept, accept_with_fault, key_by, kind_result, meter_by, part_by, part_of, tempo_by, unit_by, voice_by, named_voice_by}
 use Rattle.abc_bars_body.specs.Cell.{after_chord_mention, tie_ahead}
 use Rattle.abc_bars.specs.LookBack.CellFaults.{Faults, byte_fault, byte_faults, ending_faults}
 use Rattle.abc_bars.proofs.LookBack.TokenResults.{directive_faults, some_fault, token_faults}
@@ -153,7 +153,7 @@ module _ (told : FaultCode → Bool) where
   none-range not body from item true = no_fault (column_of from) TempoRange not
   none-range not body from item false = refl
 
-  none-made : told TooManyVoices ≡ false → (body : Body) (from : ℕ) (name : List ℕ) (made : Option Body) → Told told (voice_made body from name made).faults ≡ []
+  none-made : told TooManyVoices ≡ false → (body : Body) (from : ℕ) (name : List ℕ) (made : Option Body) → Told told (named_voice_by body from name made).faults ≡ []
   none-made not body from name (Some made) = refl
   none-made not body from name None = no_fault (column_of from) TooManyVoices not
 

@@ -38,7 +38,7 @@ use Rattle.abc_bars_notes.specs.declared.sound.ChordBuilder.{ChordBuilder}
 use Rattle.abc_bars_voice.specs.Alteration.{with_own}
 use Rattle.abc_bars_notes.specs.BarRest.{bar_rest_of}
 use Rattle.abc_bars_body.specs.Body.{here, with_current, after_mention, with_here}
-use Rattle.abc_bars_body.specs.BodyFields.{accept, accept_with_fault, key_by, kind_result, meter_by, part_by, part_of, tempo_by, unit_by, voice_by, voice_made}
+use Rattle.abc_bars_body.specs.BodyFields.{accept, accept_with_fault, key_by, kind_result, meter_by, part_by, part_of, tempo_by, unit_by, voice_by, named_voice_by}
 use Rattle.abc_bars_notes.specs.Broken.{factors_of, is_bad_mark}
 use Rattle.abc_bars_body.specs.Cell.{after_chord_mention, tie_ahead, with_directive, with_ending, with_fault, with_fault_if, with_item, with_kind, with_some_fault}
 use Rattle.abc_bars_notes.specs.Chords.{part_context, chord_builder_from, tie_follows, with_kind as with_part_kind}
@@ -144,7 +144,7 @@ of-tempo : (body : Body) (line place : ℕ) (r : Result Tempo FaultCode) → (te
 of-tempo body line place (Ok tempo) = of-out body line place (is_out_of_range (here body).unit tempo) _ _
 of-tempo body line place (Err fault) = refl
 
-of-made : (body : Body) (line place : ℕ) (name : List ℕ) (made : Option Body) → (voice_made body line name made).body ≡ (voice_made body place name made).body
+of-made : (body : Body) (line place : ℕ) (name : List ℕ) (made : Option Body) → (named_voice_by body line name made).body ≡ (named_voice_by body place name made).body
 of-made body line place name (Some made) = refl
 of-made body line place name None = refl
 
