@@ -26,7 +26,7 @@ pub use Rattle.abc_bars_notes.specs.Broken
 pub use Rattle.abc_bars_notes.specs.LooseTies
 pub use Rattle.abc_bars_voice.specs.VoiceState
 pub use Rattle.abc_bars_voice.specs.Tempo as TuneTempo
-pub use Rattle.abc_bars_voice.specs.Unit as UnitLength
+pub use Rattle.abc_bars_voice.specs.UnitLength
 pub use Rattle.abc_time.specs.Grains
 pub use Rattle.abc_time.specs.Length
 pub use Rattle.abc_time.specs.Ratio

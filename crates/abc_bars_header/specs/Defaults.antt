@@ -11,7 +11,7 @@ use Rattle.abc_fields.specs.Tempo.{tempo_of}
 use Rattle.abc_fields.specs.Unit.{unit_of}
 use Rattle.abc_time.specs.declared.ratio.Ratio.{Ratio}
 use Rattle.abc_bars_items.specs.Program.{program_of}
-use Rattle.abc_bars_voice.specs.Unit.{unit_by}
+use Rattle.abc_bars_voice.specs.UnitLength.{unit_by}
 use Rattle.abc_scan.specs.declared.directive.Directive.{Directive}
 use Rattle.abc_scan.specs.declared.directive.Directive.TheVariants as directives
 use Rattle.abc_scan.specs.declared.directive.Reach.TheVariants.{Pitch}

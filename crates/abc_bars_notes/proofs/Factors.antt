@@ -16,7 +16,7 @@ use Rattle.abc_time.specs.Ratio.{IsRatio}
 use Rattle.abc_time.proofs.LengthLaws.{length_of-Ok}
 use Rattle.abc_text.proofs.Powers.{power_least}
 use Rattle.abc_bars_voice.specs.Tuplet.{OpenTuplet, tuplet_factors}
-use Rattle.abc_bars_voice.specs.Unit.{IsUnitPart}
+use Rattle.abc_bars_voice.specs.UnitLength.{IsUnitPart}
 
 -- the factor that changes nothing
 abbrev pub once : Ratio

@@ -36,7 +36,7 @@ use Rattle.abc_bars_items.specs.declared.item.Item.TheVariants as items
 use Rattle.abc_bars_items.specs.Column.{column_of}
 use Rattle.abc_bars_notes.specs.Sound.{length_in, tone_in, key_in, fault_if}
 use Rattle.abc_bars_voice.specs.Tuplet.{tuplet_ratio, tuplet_factors, IsOpen, OpenTuplet}
-use Rattle.abc_bars_voice.specs.Unit.{IsUnitPart}
+use Rattle.abc_bars_voice.specs.UnitLength.{IsUnitPart}
 use Rattle.abc_bars_notes.proofs.Acting.{before_from, before_to, after_of, after_to}
 use Rattle.abc_bars_notes.proofs.WholeBars.{bar_exact, bar_short}
 use Rattle.abc_bars_voice.proofs.WholeParts.{unit_exact}

@@ -30,7 +30,7 @@ use Rattle.abc_bars_notes.specs.Broken.{factors_of}
 use Rattle.abc_bars_items.specs.Column.{column_of}
 use Rattle.abc_bars_notes.specs.TimeTokens.{play_note, play_rest, first_length}
 use Rattle.abc_bars_voice.specs.Tuplet.{IsOpen, OpenTuplet}
-use Rattle.abc_bars_voice.specs.Unit.{IsUnitPart}
+use Rattle.abc_bars_voice.specs.UnitLength.{IsUnitPart}
 
 -- The factor that changes nothing.
 abbrev pub once : Ratio

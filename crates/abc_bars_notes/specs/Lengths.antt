@@ -9,7 +9,7 @@ use Rattle.abc_time.specs.declared.grains.Grains.{Grains}
 use Rattle.abc_time.specs.declared.ratio.Ratio.{Ratio}
 use Rattle.abc_time.specs.Grains.{grains_of_the_longest_length}
 use Rattle.abc_time.specs.Length.{IsLength, length_of}
-use Rattle.abc_bars_voice.specs.Unit.{unit_grains}
+use Rattle.abc_bars_voice.specs.UnitLength.{unit_grains}
 
 -- Whether a part of a ratio is in range.
 abbrev pub is_ratio_part : ℕ → Bool

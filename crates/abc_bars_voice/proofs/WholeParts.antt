@@ -10,7 +10,7 @@ use Rattle.abc_time.specs.Grains.{grains_of_a_whole_note, grains_of_the_longest_
 use Rattle.abc_time.specs.Length.{IsLength}
 use Rattle.abc_fields.specs.Spelling.Unit.{IsUnit}
 use Rattle.abc_fields.specs.Unit.{part_as_unit}
-use Rattle.abc_bars_voice.specs.Unit.{IsUnitPart, unit_grains}
+use Rattle.abc_bars_voice.specs.UnitLength.{IsUnitPart, unit_grains}
 
 -- a whole note is cut into 512 parts, and into as many parts as a lower power of two
 pub cut_exactly : (den : ℕ) → IsPowerUpTo 9 den → grains_of_a_whole_note / den * den ≡ grains_of_a_whole_note

@@ -7,5 +7,5 @@ pub mod VoiceState
 pub mod Tempo
 pub mod TempoItem
 pub mod Tuplet
-pub mod Unit
+pub mod UnitLength
 pub mod VoiceShift

@@ -5,7 +5,7 @@ ghost use Rattle.abc_fields.specs.Unit.{unit_of};
 ghost use Rattle.abc_time.specs.Grains.{grains_of_the_longest_length};
 ghost use Rattle.abc_time.specs.Length.{IsLength};
 ghost use Rattle.abc_time.specs.Ratio.{IsRatio};
-ghost use Rattle.abc_bars_voice.specs.Unit.{unit_by, unit_grains, IsUnitPart};
+ghost use Rattle.abc_bars_voice.specs.UnitLength.{unit_by, unit_grains, IsUnitPart};
 
 use crate::tune_meter::TuneMeter;
 use abc_fields::{FaultCode, Meter, read_unit};
@@ -28,7 +28,7 @@ pub struct UnitLength {
 impl Model for UnitLength {
     ghost use Rattle.abc_fields.specs.Unit.{part_as_unit};
     ghost use Rattle.abc_time.specs.declared.ratio.Ratio.{Ratio};
-    ghost use Rattle.abc_bars_voice.specs.Unit.{IsUnitPart};
+    ghost use Rattle.abc_bars_voice.specs.UnitLength.{IsUnitPart};
 
     ghost Value = { Ratio };
 

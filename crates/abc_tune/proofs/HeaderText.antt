@@ -51,7 +51,7 @@ use Rattle.abc_bars_items.specs.declared.item.Item.TheVariants as items
 use Rattle.abc_scan.specs.declared.directive.Directive.{Directive}
 use Rattle.abc_scan.specs.declared.directive.Directive.TheVariants as directives
 use Rattle.abc_scan.specs.declared.field.Field.{Field}
-use Rattle.abc_bars_voice.specs.Unit.{unit_by}
+use Rattle.abc_bars_voice.specs.UnitLength.{unit_by}
 use Rattle.abc_text.specs.Number.{number_of as number_spelled}
 use Rattle.abc_text.proofs.Numbers.{number_of-spelled, number_of-spells, one_number}
 use Rattle.abc_time.specs.declared.ratio.Ratio.{Ratio}

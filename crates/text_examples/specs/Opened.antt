@@ -42,7 +42,7 @@ use Rattle.abc_fields.specs.Voice.{voice_in, voice_of}
 use Rattle.abc_fields.specs.Letters.{play_on}
 use Rattle.abc_fields.specs.Parts.{next}
 use Rattle.abc_bars_voice.specs.Accidentals.{letters_in, with_octave}
-use Rattle.abc_bars_voice.specs.Unit.{unit_grains}
+use Rattle.abc_bars_voice.specs.UnitLength.{unit_grains}
 use Rattle.abc_bars_notes.specs.BarRest.{bar_grains}
 use Rattle.abc_bars_body.specs.Step.{entry_step}
 use Rattle.abc_repeat.specs.Order.{has_unknown, sections_of}

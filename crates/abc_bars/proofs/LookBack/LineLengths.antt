@@ -42,7 +42,7 @@ use Rattle.abc_bars_notes.specs.Acting.{IsMarkAt, IsTimeAt}
 use Rattle.abc_bars_notes.specs.Broken.{is_time_token}
 use Rattle.abc_bars_notes.specs.Lasting.{IsPlace}
 use Rattle.abc_bars_voice.specs.declared.voice_state.VoiceState.{VoiceState}
-use Rattle.abc_bars_voice.specs.Unit.{IsUnitPart, unit_by}
+use Rattle.abc_bars_voice.specs.UnitLength.{IsUnitPart, unit_by}
 use Rattle.abc_bars_voice.proofs.WholeParts.{eighth, read_part, sixteenth}
 use Rattle.abc_bars.specs.LookBack.Along.{CellTokens, lines_after, values_of_header}
 use Rattle.abc_bars.specs.LookBack.ByName.{naming_at, opening_of}

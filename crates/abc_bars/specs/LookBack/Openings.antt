@@ -11,7 +11,7 @@ use Rattle.abc_bars_header.specs.declared.defaults.Defaults.{Defaults}
 use Rattle.abc_bars_header.specs.HeaderLine.{HeaderLine}
 use Rattle.abc_bars_voice.specs.declared.voice_state.VoiceState.{VoiceState}
 use Rattle.abc_bars_voice.specs.Accidentals.{reach_of}
-use Rattle.abc_bars_voice.specs.Unit.{unit_by}
+use Rattle.abc_bars_voice.specs.UnitLength.{unit_by}
 use Rattle.abc_bars.specs.LookBack.ByName.{opening_of}
 use Rattle.abc_bars.specs.LookBack.Defaults.{defaults_at}
 use Rattle.abc_bars.specs.LookBack.Header.{declared_names, declared_shift}

@@ -27,7 +27,7 @@ ghost use Rattle.abc_scan.specs.declared.dynamic.Dynamic.TheVariants.{Ppp, Pp, P
 ghost use Rattle.abc_bars_voice.specs.TempoItem.{tempo_item};
 ghost use Rattle.abc_bars_voice.specs.Tempo.{micros_by};
 ghost use Rattle.abc_bars_voice.specs.Tuplet.{count_down, default_q, tuplet_by, begin_tuplet};
-ghost use Rattle.abc_bars_voice.specs.Unit.{unit_by};
+ghost use Rattle.abc_bars_voice.specs.UnitLength.{unit_by};
 ghost use Rattle.abc_bars_voice.specs.VoiceShift.{with_properties};
 ghost use Rattle.abc_bars_voice.specs.declared.voice_state.VoiceState.{VoiceState};
 ghost use Rattle.text_examples.specs.Bars.{bar_rest, voice_shift};

@@ -1,7 +1,7 @@
 use Rattle.std.proofs.Common.{◌∷◌, [], ◌*◌, ◌≤◌, subst, sym, arith}
 use Rattle.abc_time.specs.Grains.{grains_of_the_longest_length}
 use Rattle.abc_time.specs.Length.{IsLength}
-use Rattle.abc_bars_voice.specs.Unit.{IsUnitPart}
+use Rattle.abc_bars_voice.specs.UnitLength.{IsUnitPart}
 use Rattle.abc_bars_notes.proofs.Factors.{units_exact, units_fit, units_short}
 use Rattle.abc_bars_notes.proofs.lengths.units_of.Goals as goal
 

@@ -1,6 +1,6 @@
 use Rattle.std.proofs.Common.{subst, sym}
 use Rattle.abc_fields.specs.Unit.{part_as_unit}
-use Rattle.abc_bars_voice.specs.Unit.{IsUnitPart}
+use Rattle.abc_bars_voice.specs.UnitLength.{IsUnitPart}
 use Rattle.abc_bars_voice.proofs.WholeParts.{eighth, sixteenth}
 use Rattle.abc_bars_voice.proofs.unit_length.UnitLength.by.Goals as goal
 use Rattle.abc_bars_voice.proofs.unit_length.UnitLength.by.Goals.{in-Of, in-Of-2-2, in-Of-2}
