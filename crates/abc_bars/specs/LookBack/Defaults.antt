@@ -62,7 +62,7 @@ abbrev pub said_by_directive : {A : Type 0} → (Directive → Option A) → Hea
 said_by_directive says (FieldLine field) = None
 said_by_directive says (DirectiveLine directive) = says directive
 
--- What the newest line says that says anything of a matter, else that with which the lines open.
+-- The answer of the newest line that has one, else `opening`.
 abbrev pub last_set : {A : Type 0} → (HeaderLine → Option A) → Option A → List HeaderLine → Option A
 last_set says opening [] = opening
 last_set says opening (line ∷ before) = option_or (says line) (last_set says opening before)

@@ -44,7 +44,7 @@ use Rattle.abc_bars_voice.specs.Tuplet.{OpenTuplet, tuplet_by}
 use Rattle.abc_bars.specs.LookBack.Defaults.{meter_said, unit_said}
 use Rattle.abc_bars.specs.LookBack.Element.{Element, field_of}
 
--- What the newest element says that says anything of a matter, else what held when the body began.
+-- The answer of the newest element that has one, else `opening`.
 abbrev pub last_said : {A : Type 0} → (TokenKind → Option A) → A → List Element → A
 last_said says opening [] = opening
 last_said says opening (element ∷ before) = unwrap_or (says element.kind) (last_said says opening before)
