@@ -4,21 +4,30 @@ ghost use Rattle.abc_bars.specs.LookBack.CellFaults.{AreFaultsOfCells, HasBigCho
 ghost use Rattle.abc_bars.specs.LookBack.CellFaults.{HasSpellingFaults, is_bad_length_code, is_big_chord, is_of_field};
 ghost use Rattle.abc_bars.specs.LookBack.CellFaults.{is_of_spelling};
 
-/// The faults of the fields of a body are at those whose value is not as its grammar says, whose tempo is out of range, or whose
-/// voice would be the sixteenth; in order, and nowhere else.
+/// The faults of fields in a body are at exactly these fields, in order:
+///
+/// - those whose value does not fit its grammar;
+/// - those whose tempo is out of range;
+/// - those whose voice would be the sixteenth.
 pub fn field_faults_of_cells()
     ensures { AreFaultsOfCells is_of_field HasFieldFaults }
 {}
 
-/// `BadByte` is at the bytes that begin no token, in a chord at those that begin no part of one; `Unclosed` at the tokens without
-/// their end; `BadEnding` at the endings with a number out of range; `BadProgram` at the programs above 127: in order, and nowhere
-/// else.
+/// Each of these faults is at exactly these places, in order:
+///
+/// - `BadByte`: the bytes that begin no token, and in a chord those that begin no part of one;
+/// - `Unclosed`: the tokens without their end;
+/// - `BadEnding`: the endings with a number out of range;
+/// - `BadProgram`: the programs above 127.
 pub fn spelling_faults_of_cells()
     ensures { AreFaultsOfCells is_of_spelling HasSpellingFaults }
 {}
 
-/// `BadLength` is at the notes and rests for which the rules say no length, of a chord at those of its first sixteen notes, and at
-/// the rests of no or too many bars: in order, and nowhere else. `BigChord` is at the seventeenth note of each chord that has one.
+/// Each of these faults is at exactly these places, in order:
+///
+/// - `BadLength`: the notes and rests for which the rules have no length, of a chord those among its first sixteen notes, and
+///   the rests of no bars or too many;
+/// - `BigChord`: the seventeenth note of each chord that has one.
 pub fn length_faults_of_cells()
     ensures lengths { AreFaultsOfCells is_bad_length_code HasLengthFaults }
     ensures chords { AreFaultsOfCells is_big_chord HasBigChord }

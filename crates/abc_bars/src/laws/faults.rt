@@ -2,10 +2,13 @@
 
 ghost use Rattle.abc_bars.specs.LookBack.Faults.{BadMarksDoNotAct, EmptyChordsGiveNone, EmptyChordsLeaveAll, FaultsLookedBack};
 
-/// Whatever is before a cell of music, its faults KeyRange are at those of its notes, and of the first sixteen notes
-/// of its chords, for whose pitch MIDI has no key; EmptyChord at its chords without a note; FreeBarRest at its rests of
-/// bars in free meter; BadTuplet at its tuplet marks that are not accepted; and NestedTuplet at the accepted ones before
-/// which a tuplet is still open: in order, and nowhere else.
+/// In a cell of music, whatever is before it, each of these faults is at exactly these tokens, in order:
+///
+/// - `KeyRange`: its notes, and the first sixteen notes of its chords, whose pitch has no key in MIDI;
+/// - `EmptyChord`: its chords without a note;
+/// - `FreeBarRest`: its rests of bars in free meter;
+/// - `BadTuplet`: its tuplet marks that are not accepted;
+/// - `NestedTuplet`: its accepted tuplet marks at which another tuplet is still open.
 pub fn faults_at_places()
     ensures { FaultsLookedBack }
 {}
@@ -16,8 +19,7 @@ pub fn empty_chords()
     ensures all { EmptyChordsLeaveAll }
 {}
 
-/// The faults BadBroken of a cell of music are at those of its marks of broken rhythm that do not act, in order, and
-/// nowhere else.
+/// In a cell of music `BadBroken` is at exactly the marks of broken rhythm that do not act, in order.
 pub fn bad_marks_of_cells()
     ensures { BadMarksDoNotAct }
 {}
