@@ -48,10 +48,13 @@ IsNoneAmong reach note notes = All (λ other. written_by reach note other ≡ No
 abbrev pub AreWrittenAlike : Note → Note → Type 0
 AreWrittenAlike note other = (capital other.letter ≡ capital note.letter) × (other.octave ≡ note.octave)
 
--- What alters a note: its own accidental; else the last one that reaches it, among the notes of its chord before it and
--- those of its voice since the voice's last bar line, K: or accepted P:; else what altered the last tied note of its
--- letter and octave in the voice's preceding time token, at its own place; else the signature. That of a tied note is
--- not in ABC 2.1.
+-- A note is altered by the first of these that there is:
+-- - `own`: its own accidental;
+-- - `written`: the last one that reaches it, among the notes of its chord before it and those of its voice since the
+--   voice's last bar line, K: or accepted P:;
+-- - `tied`: what altered the last tied note of its letter and octave in the voice's preceding time token, at that note's
+--   place. Not in ABC 2.1;
+-- - `signature`: the signature.
 pub record IsAlteredAt (at : VoicePlace) (earlier : List Note) (note : Note) : Type 0 where
   pub since : List Element
   pub since_is : IsSince at.before since

@@ -5,17 +5,23 @@ ghost use Rattle.std.specs.Prelude.{List};
 ghost use Rattle.abc_bars.specs.LookBack.CellPlace.{VoicePlace};
 ghost use Rattle.abc_bars.specs.LookBack.Keys.{ChordsHaveKeys, IsAlteredAt, NotesHaveKeys};
 
-/// What alters a note at a place of its voice: its own accidental; else the last one that reaches it among the notes of
-/// its chord before it; else the last one that reaches it since the voice's last bar line, K: or accepted P:; else what
-/// altered the last tied note of its letter and octave in the voice's preceding note, chord or rest, at its own place;
-/// else the signature. The header sets how far an accidental reaches.
+/// A note at a place of its voice is altered by the first of these that there is:
+///
+/// - its own accidental;
+/// - the last one before it in its chord that reaches it;
+/// - the last one that reaches it since the voice's last bar line, K: or accepted P:;
+/// - what altered the last tied note of its letter and octave in the voice's preceding note, chord or rest;
+/// - the signature.
+///
+/// The header sets how far an accidental reaches.
 pub fn alterations_of_notes()
     ensures { (at : VoicePlace) (earlier : List Note) (note : Note) → IsAlteredAt at earlier note }
 {}
 
-/// Each note, and each chord with a note, gives one item, after those of the tokens before it in its cell. The note, or each of the
-/// first sixteen notes of the chord, sounds the key of its pitch, if MIDI has it. `alterations_of_notes` says how the pitch is
-/// altered, and the shift of its voice moves it. Its tone is tied if a tie directly follows the note or its chord.
+/// Each note, and each chord with a note, gives one item, after those of the tokens before it in its cell.
+/// The note, or each of the first sixteen notes of the chord, sounds the key of its pitch, if MIDI has it.
+/// The pitch is altered as in `alterations_of_notes`, and moved by the shift of its voice.
+/// A tone is tied if a tie directly follows the note or its chord.
 pub fn keys_at_places()
     ensures notes { NotesHaveKeys }
     ensures chords { ChordsHaveKeys }
