@@ -1,5 +1,5 @@
--- With what the voices of a tune's body begin, by the lines of its header and the key that ended it. ABC 2.1 sections
--- 3.1, 4.6, 7.1 and 11.3.
+-- The states with which the voices of a tune's body begin, by the lines of its header and the key that ended it.
+-- ABC 2.1 sections 3.1, 4.6, 7.1 and 11.3.
 use Rattle.std.specs.Prelude.{◌≡◌, ℕ, pos, List, unwrap_or}
 use Rattle.std.specs.List.{Contains}
 use Rattle.abc_fields.specs.declared.key.Key.{Key}
@@ -17,10 +17,13 @@ use Rattle.abc_bars.specs.LookBack.Defaults.{defaults_at}
 use Rattle.abc_bars.specs.LookBack.Header.{declared_names, declared_shift}
 use Rattle.abc_bars.specs.LookBack.Place.{opening_at}
 
--- What a voice begins with, by the values of the header, the key that ended it, and what was said of the voice's shift:
--- the header's meter, or free meter; its unit note length, or that of the meter; the signature of the key, if it has one;
--- as far as the header says an accidental reaches; and each part of the shift as the voice's own V: says, else as the
--- key says, else 0. That the V: goes before the key, and no signature without a tonic, is not in ABC 2.1.
+-- The state with which a voice begins in a body, by the values `set` of the header, the key that ended it, and the shift
+-- `said` in the V: of the voice:
+-- - `meter`: the header's, else free meter;
+-- - `unit`: the header's unit note length, else that of the meter;
+-- - `signature`: the key's, else no accidentals. Without a tonic there is none: not in ABC 2.1;
+-- - `reach`: accidentals reach as far as the header sets;
+-- - `clef`, `octave`, `transpose`: each part of the shift by the V:, else by the key, else 0. This order is not in ABC 2.1.
 pub record OpensWith (set : Defaults) (key : Key) (said : Shift) (state : VoiceState) : Type 0 where
   pub meter : state.meter ≡ unwrap_or set.meter Free
   pub unit : state.unit ≡ unwrap_or set.unit (unit_by state.meter)
