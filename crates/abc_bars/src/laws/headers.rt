@@ -17,10 +17,9 @@ ghost use Rattle.abc_bars.specs.LookBack.Defaults.{defaults_at};
 ghost use Rattle.abc_bars.specs.LookBack.Header.{declared_names, file_header_view, header_at, header_view};
 ghost use Rattle.abc_bars.specs.LookBack.Place.{KindsApart};
 
-/// The state at a place of a file header or of a tune's header is what looking back over the lines before
-/// it finds: before the first line the values with which it opens, and after one more line, a field or a
-/// directive, what it gives from the state before it. The view there is that and no more; a tune begins with the
-/// file header's values alone, which are a header's without voices, and is in its header after its first line.
+/// Looking back finds the state at a place of a header. Before the first line it is the opening values; each line then changes
+/// it as `file_header_result` or `header_result` says. The view there is this state and no more. A tune begins with the file
+/// header's values and no voices. After its first line it is in its header.
 #[tactic(auto, using(crate::proofs::HeaderViews::defaults_after, crate::proofs::HeaderLaws::header_following))]
 pub fn header_views()
     ensures values_open { (opening : Defaults) → defaults_at opening [] ≡ opening }
@@ -36,8 +35,8 @@ pub fn header_views()
         header_view opening (line ∷ before) ≡ entries.Header (header_at opening (line ∷ before)) }
 {}
 
-/// The state at two places of different kinds is never the same: in a file header, at a tune's first line, in its
-/// header after that line, and in its body.
+/// The state at two places of different kinds is never the same. The kinds are: in a file header, at a tune's first line,
+/// in its header after that line, and in its body.
 pub fn places_apart()
     ensures { KindsApart }
 {}
