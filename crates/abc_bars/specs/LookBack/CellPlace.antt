@@ -12,7 +12,7 @@ use Rattle.abc_bars.specs.LookBack.Cells.{after_tokens}
 use Rattle.abc_bars.specs.LookBack.Element.{Element}
 use Rattle.abc_bars.specs.LookBack.Place.{result_in_body, opening_at}
 
--- The place of a token of a voice: what held for the voice when the body began, and the tokens of the voice before it,
+-- The place of a token of a voice: the state of the voice when the body began, and the tokens of the voice before it,
 -- newest first.
 pub record VoicePlace : Type 0 where
   pub opening : VoiceState
@@ -25,17 +25,20 @@ voice_place_of values fields key before =
     let name = (naming_at opening before).current in
     record { opening = opening_of opening name; before = tokens_of opening name before }
 
--- A place in a cell of a tune's body: the values, the lines and the key with which the body begins; what is before the
--- cell, newest first; the tokens of the cell in front of the place and those ahead of it; and from where to where on its
--- line the token reaches that is there.
+-- A place in a cell of a tune's body.
 pub record CellPlace : Type 0 where
+  -- The values of the file header, the lines of the header, and the key that ended it.
   pub values : Defaults
   pub fields : List HeaderLine
   pub key : Key
+  -- The elements before the cell, newest first.
   pub before : List Element
+  -- The tokens of the cell before the place.
   pub front : List (Spanned TokenKind)
+  -- The span on its line of the token at the place.
   pub from : ℕ
   pub to : ℕ
+  -- The tokens of the cell after the place.
   pub ahead : List (Spanned TokenKind)
 
 -- All that is before a place in the body, newest first.
