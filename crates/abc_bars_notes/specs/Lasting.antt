@@ -84,9 +84,9 @@ IsFactorAfter cell place factor =
     (((mark : BrokenRhythm) → ¬ ActsAfter cell mark place) × (factor ≡ once))
     ⊎ ((mark : BrokenRhythm) × ActsAfter cell mark place × IsFirstFactor mark.direction mark.marks factor)
 
--- What is written so, and so after its chord, at a place of a cell is g grains long: the unit times what is written,
--- what is written after the chord, and what the tuplet and the marks of broken rhythm say that act there, exactly,
--- and not above 1,024 whole notes. The bound is not in ABC 2.1.
+-- A note or rest with the length text `own` lasts g grains at a place of a cell; `outer` is the length text after its chord.
+-- This is the exact product of the unit, both texts, the tuplet and the marks of broken rhythm that act there, and at
+-- most 1,024 whole notes. The bound is not in ABC 2.1.
 pub record Lasts (state : VoiceState) (cell : List (Spanned
     TokenKind)) (place : ℕ) (own : WrittenLength) (outer : Option WrittenLength) (g : ℕ) : Type 0 where
   pub own_factor : Ratio
@@ -111,8 +111,8 @@ pub record IsGiven (Lasting : ℕ → Type 0) (unit : Ratio) (length : Grains) :
 abbrev pub HasLengthFault : (ℕ → Type 0) → ℕ → List (ℕ × FaultCode) → Type 0
 HasLengthFault Lasting column faults = Contains faults (column, BadLength) ↔ ((g : ℕ) → ¬ Lasting g)
 
--- A place of a cell with a note, chord or rest, in a cell whose marks are as a text has them, of which there
--- are three together at most; and what holds there is what a voice can hold.
+-- A place of a cell with a note, chord or rest, and the state of its voice there. Each mark of broken rhythm in the cell
+-- has at most three signs, as in each text. The state is one that a voice can have.
 pub record IsPlace (state : VoiceState) (cell : List (Spanned TokenKind)) (place : ℕ) : Type 0 where
   pub time : IsTimeAt cell place
   pub marks : (mark : BrokenRhythm) (at : ℕ) → IsMarkAt cell at mark → mark.marks ≤ MOST_MARKS
@@ -149,8 +149,8 @@ RestsLast =
     × HasLengthFault (Lasts state cell place written None) (column_of from) (play_rest state (factors_at cell place) from
     written).faults
 
--- The item of a rest of bars in a meter: one bar if no number is written, else that number of bars, which
--- take that many times as long; if that is no length, one bar and BadLength. What is refused is not in ABC 2.1.
+-- The item of a rest of bars in a meter: one bar if no number is written, else that number of bars. If so many bars have
+-- no length, the item is one bar, with the fault BadLength. What is refused is not in ABC 2.1.
 pub record RestsForBars (num den : ℕ) : Type 0 where
   pub bar : ℕ
   pub bar_is : AreBars num den 1 bar
