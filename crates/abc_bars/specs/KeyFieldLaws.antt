@@ -32,8 +32,7 @@ HasNoneOf letter changes = All (λ change. change.1 ≢ letter) changes
 abbrev pub IsSilentOf : Letter → List ℕ → Type 0
 IsSilentOf letter word = (changes : List Change) → Lists word changes → HasNoneOf letter changes
 
--- The last accidental that words list for a letter: it is in one of them, and no other one of the letter comes after it, neither
--- in this word nor in one after it.
+-- The last accidental that words list for a letter. No other one of the letter comes after it, in this word or a later one.
 pub record IsLastListed (words : List (List ℕ)) (letter : Letter) (accidental : Accidental) : Type 0 where
   pub before : List (List ℕ)
   pub word : List ℕ

@@ -1,5 +1,5 @@
-//! The music inside bars: the fold over the cells of a file header and of a tune, and laws that say what it gives by
-//! looking back over all that is before a cell.
+//! The music inside bars: the fold over the cells of a file header and of a tune. Laws define its results by looking back over
+//! all that is before a cell.
 #![tactic(auto)]
 
 mod bar_fold;

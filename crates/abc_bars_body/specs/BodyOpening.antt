@@ -19,9 +19,9 @@ use Rattle.abc_bars_voice.specs.declared.voice_shift.VoiceShift.{VoiceShift}
 abbrev pub zero_shift : VoiceShift
 zero_shift = record { clef = pos 0; octave = pos 0; transpose = pos 0 }
 
--- The state of a voice at the beginning of a body, by the header's values, the key that ended the header, and
--- what was said of the voice's shift: its own parts go before those of the key. A key without a signature
--- has an empty one there. Not in ABC 2.1.
+-- The state of a voice at the beginning of a body, by the header's values, the key that ended the header, and the shift `said`
+-- by the V: lines of the voice. That overrides the shift of the key. A key without a signature has an empty one there. Not in
+-- ABC 2.1.
 abbrev pub opening_voice_state : Defaults → Key → Shift → VoiceState
 opening_voice_state defaults key said = record {
   meter = meter_in defaults;

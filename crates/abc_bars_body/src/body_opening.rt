@@ -24,8 +24,8 @@ const NOTHING_SAID: Shift = Shift {
     transpose: None,
 };
 
-/// The state of a voice at the beginning of a body, by the header's values, the key that ended the header, and the voice's
-/// shift, which overrides that of the key.
+/// Returns the state of a voice at the beginning of a body. The shift `said` by the V: lines of the voice overrides that of the
+/// key.
 fn opening_voice_state(alloc: Global, defaults: &Defaults, key: &Key, said: Shift) -> VoiceState
     ensures { result ≡ opening_voice_state defaults.now key.now said }
 {

@@ -160,7 +160,7 @@ header_line_result own program = record {
   faults = faults_of own.fault;
 }
 
--- What a line gives: its own item, and then the tempo and meter with which the tune begins if its header
--- ends after it; an X: also the program of the file header. Not in ABC 2.1.
+-- The result of a line. Its own item comes first, then the tempo and meter with which the tune begins if its header ends
+-- after it. An X: also adds the program of the file header. Not in ABC 2.1.
 abbrev pub header_result : Header → HeaderLine → HeaderResult
 header_result header line = header_line_result (own_line_result header line) (line_program line header.defaults)

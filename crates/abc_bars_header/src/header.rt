@@ -28,8 +28,8 @@ use abc_scan::{Directive, Field};
 use abc_text::Sequence;
 use std::alloc::{AllocError, Global};
 
-/// The state at a place of a tune's header: the values so far, else the file header's, and the declared voices, each with
-/// the parts of its shift that are set.
+/// The state at a place of a tune's header: the values so far, and the declared voices, each with the parts of its shift that
+/// are set. The first values are the file header's.
 #[derive(Drop)]
 pub struct Header {
     pub defaults: Defaults,
@@ -359,8 +359,8 @@ fn header_line_result(
     })
 }
 
-/// Reads a field of a header: its own item, and then the tempo and meter with which the tune begins if its header ends
-/// after it; an X: also adds the program of the file header.
+/// Reads a field of a header. Its own item comes first, then the tempo and meter with which the tune begins if its header ends
+/// after it. An X: also adds the program of the file header.
 pub fn header_result(
     alloc: Global,
     header: Header,
@@ -375,8 +375,8 @@ pub fn header_result(
     header_line_result(alloc, own, program)
 }
 
-/// Reads a directive of a header: its own item, and then the tempo and meter with which the tune begins if its header ends
-/// after it.
+/// Reads a directive of a header. Its own item comes first, then the tempo and meter with which the tune begins if its header
+/// ends after it.
 pub fn header_directive_result(
     alloc: Global,
     header: Header,

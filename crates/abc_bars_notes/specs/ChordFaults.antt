@@ -20,8 +20,8 @@ use Rattle.abc_bars_notes.specs.TimeTokens.{play_chord}
 abbrev pub is_bad_length : ℕ × FaultCode → Bool
 is_bad_length fault = number_of fault.1 == number_of BadLength
 
--- What a note gives to the faults of these notes, the rest of which give the others: nothing if the rule says a length
--- for it, BadLength at its column if it says none.
+-- The faults of a note and of the notes after it, which have `others`. The note adds BadLength at its column if the rule has no
+-- length for it, and nothing if it has one.
 pub record IsFaultOf (Lasting : Note → ℕ → Type 0) (column : ℕ) (kind : ChordPartKind) (faults
     others : List (ℕ × FaultCode)) : Type 0 where
   pub accepted : (note : Note) (g : ℕ) → kind ≡ parts.Note note → Lasting note g → faults ≡ others
@@ -34,8 +34,8 @@ AreFaultsOf Lasting from (part ∷ rest) faults =
     (others : List (ℕ × FaultCode)) × AreFaultsOf Lasting from rest others
     × IsFaultOf Lasting (column_of (from + part.from)) part.kind faults others
 
--- BadLength is at those of the first sixteen notes of a chord that have no length, and nowhere else, whether or not
--- what is written after the chord is what is refused. Not in ABC 2.1.
+-- BadLength is at exactly those of the first sixteen notes of a chord that have no length, also if the text that is refused is
+-- the one after the chord. Not in ABC 2.1.
 abbrev pub BadLengthsAtNotes : Type 0
 BadLengthsAtNotes =
     (state : VoiceState) (cell : List (Spanned TokenKind)) (place from : ℕ) (chord : Chord) (tied : Bool) → IsPlace state cell place

@@ -35,13 +35,13 @@ all_ratios [] = Some []
 all_ratios (None ∷ rest) = None
 all_ratios (Some ratio ∷ rest) = option_map (λ ratios. ratio ∷ ratios) (all_ratios rest)
 
--- The unit times the factors of texts and those of its place, if no text is refused and the product is
--- a whole number of grains and not above 1,024 whole notes. Not in ABC 2.1.
+-- The unit times the factors of texts and those of the note's place. There is none if a text is refused, or if the product is no
+-- whole number of grains or above 1,024 whole notes. Not in ABC 2.1.
 abbrev pub length_by : Ratio → List (Option Ratio) → List Ratio → Option Grains
 length_by unit texts factors = option_and_then (λ written. result_ok (length_of unit (written ++ factors))) (all_ratios texts)
 
--- So many grains are the length: no text is refused, and the unit times the factors of texts and those of
--- the note's place is exactly as long, and not above 1,024 whole notes.
+-- The length is g grains: no text is refused, and g is exactly the unit times the factors of texts and those of the note's place,
+-- and at most 1,024 whole notes.
 abbrev pub HasLength : Ratio → List (Option Ratio) → List Ratio → ℕ → Type 0
 HasLength unit texts factors g =
     IsSomeAnd (all_ratios texts) (λ written. IsLength unit (written ++ factors) g × (g ≤ grains_of_the_longest_length))

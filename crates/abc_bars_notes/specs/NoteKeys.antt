@@ -19,9 +19,11 @@ use Rattle.abc_bars_notes.specs.TimeTokens.{play_note}
 abbrev pub IsSame : Note → TiedNote → Type 0
 IsSame note tied = (capital tied.letter ≡ capital note.letter) × (tied.octave ≡ note.octave)
 
--- What alters a note: its own accidental; else the last one that reaches it, if these hold in its voice; else what altered
--- the last tied note of its letter and octave in the time token before; else the signature. That of a tied note is
--- not in ABC 2.1.
+-- A note is altered by the first of these that there is, with these accidentals in its voice:
+-- - `own`: its own accidental;
+-- - `written`: the last one that reaches it;
+-- - `tied`: that of the last tied note of its letter and octave in the time token before. Not in ABC 2.1;
+-- - `signature`: the signature.
 pub record IsAltered (state : VoiceState) (accidentals : Accidentals) (note : Note) (by : ℤ) : Type 0 where
   pub own : (accidental : Accidental) → note.accidental ≡ Some accidental → by ≡ accidental_alteration accidental
   pub written : (last : ℤ) → note.accidental ≡ None → written_on accidentals note ≡ Some last → by ≡ last

@@ -21,8 +21,8 @@ pub fn lengths_of_bar_rests()
     ensures free { FreeBarRests }
 {}
 
-/// Of a chord its first sixteen notes sound, each for its own length, and it lasts as long as its first note; a
-/// seventeenth is a fault, and no other note is.
+/// The first sixteen notes of a chord sound, each for its own length. The chord lasts as long as its first note. `BigChord` is at
+/// its seventeenth note, and nowhere else.
 pub fn notes_of_chords()
     ensures sound { ChordsSound }
     ensures big { BigAtTheSeventeenth }
@@ -33,9 +33,12 @@ pub fn loose_ties_of_chords()
     ensures { TiesAfterNotes }
 {}
 
-/// A note sounds the key of its pitch, altered by its own accidental, else by the last one that reaches it, else as
-/// the last tied note of its letter and octave before it, else by the signature. The notes of a chord hear the
-/// accidentals of those before them in the chord as they hear others.
+/// A note sounds the key of its pitch. It is altered by the first of these that there is:
+///
+/// - its own accidental;
+/// - the last one that reaches it, those of the notes before it in its chord among them;
+/// - that of the last tied note of its letter and octave before it;
+/// - the signature.
 pub fn keys_of_notes()
     ensures alone { NotesSoundTheirKeys }
     ensures chords { ChordsSoundTheirKeys }
@@ -52,8 +55,8 @@ pub fn bad_lengths_of_chords()
     ensures { BadLengthsAtNotes }
 {}
 
-/// The broken rhythm that is read token by token is the one that acts: a mark is bad if it acts on nothing, and a note,
-/// chord or rest has the factors of the marks that act on it.
+/// Reading token by token finds the marks of broken rhythm that act. A mark is bad exactly if it acts on nothing. A note, chord
+/// or rest has exactly the factors of the marks that act on it.
 pub fn acting_marks()
     ensures marks { ActsAsRead }
     ensures factors { GivesFactorsAsRead }

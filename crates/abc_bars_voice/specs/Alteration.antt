@@ -23,8 +23,8 @@ goes_on_in note tied = (capital tied.letter == capital note.letter) && int_eq ti
 abbrev pub tied_alteration : List TiedNote → Note → Option ℤ
 tied_alteration tied note = option_map (λ t. t.alteration) (find (goes_on_in note) (reverse tied))
 
--- A note is altered by its own accidental, else by the last one in the bar that reaches it,
--- else as the note of the same letter and octave from which a tie leads here, else by the signature.
+-- The semitones by which a note is altered. The first of these counts: its own accidental; the last one in the bar that
+-- reaches it; that of the tied note with its letter and octave; the signature.
 abbrev pub alteration_of : VoiceState → Accidentals → Note → ℤ
 alteration_of state accidentals note =
     unwrap_or (own_alteration note)

@@ -32,8 +32,8 @@ fn tied_alteration(tied: &[TiedNote], note: Note) -> Option<i8>
     Some(last.alteration)
 }
 
-/// By how many semitones a note is altered (ABC 2.1 sections 4.2 and 4.11): by its own accidental, else by
-/// the last one in the bar that reaches it, else as the note that is tied to it, else by the signature.
+/// Returns the semitones by which a note is altered (ABC 2.1 sections 4.2 and 4.11). The first of these counts: its own
+/// accidental; the last one in the bar that reaches it; that of the note tied to it; the signature.
 #[inline(always)]
 pub fn alteration_of(state: &VoiceState, accidentals: &Accidentals, note: Note) -> i8
     ensures { result ≡ alteration_of state.now accidentals.now note }

@@ -1,5 +1,5 @@
--- The places that cells lead to, one after another from the beginning of a file header or a tune, and what the
--- cells give there; and what the steps of a fold make of the same cells.
+-- The places that cells lead to, from the beginning of a file header or a tune, and the items and faults of the cells there.
+-- The steps of a fold on the same cells are compared with them.
 use Rattle.std.specs.Prelude.{◌≡◌, List, [], ◌∷◌, map, Option, Some, None}
 use Rattle.abc_scan.specs.declared.spanned.Spanned.{Spanned}
 use Rattle.abc_scan.specs.declared.token.TokenKind.{TokenKind}

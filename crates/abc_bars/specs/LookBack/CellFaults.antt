@@ -211,7 +211,7 @@ NamesPart value = (letter : ℕ) × (rest : List ℕ) × (value ≡ letter ∷ r
 abbrev pub IsOneTooMany : List (List ℕ) → List ℕ → Type 0
 IsOneTooMany names name = (15 ≤ length names) × (¬ Contains names name)
 
--- A field of this kind and value has a fault: its value is not as its grammar says, its tempo is out of range, or its voice is one
+-- A field of this kind and value has a fault: its value does not fit its grammar, its tempo is out of range, or its voice is one
 -- too many.
 abbrev pub IsFaultOfField : CellPlace → FieldKind → List ℕ → FaultCode → Type 0
 IsFaultOfField place fields.Meter value code = (code ≡ BadMeter) × ((meter : Meter) → ¬ IsMeter value meter)

@@ -44,8 +44,8 @@ is_reported_code code =
 abbrev pub is_reported : ℕ × FaultCode → Bool
 is_reported fault = is_reported_code fault.1
 
--- KeyRange of a part of a chord at a place of its line, after these notes of the chord, newest first: it is at a note
--- that MIDI has no key for.
+-- The fault KeyRange of a part of a chord at a place of its line, after these notes of the chord, newest first. A note has it if
+-- MIDI has no key for it.
 abbrev pub silent_part : VoicePlace → List Note → ℕ → ChordPartKind → List (ℕ × FaultCode)
 silent_part at earlier from (parts.Note note) = fault_if (is_none (key_at at earlier note)) (column_of from) KeyRange
 silent_part at earlier from _ = []

@@ -1,5 +1,5 @@
--- Which items say that a header gives them, and which that a body does: a V: of a header declares a voice, one of a body
--- makes it current, and what a header sets holds from the tune's beginning on. ABC 2.1 sections 3.1 and 7.1.
+-- Which items have the mark of a header, and which that of a body. A V: of a header declares a voice; one of a body makes it
+-- current. A value that a header sets holds from the tune's beginning on. ABC 2.1 sections 3.1 and 7.1.
 use Rattle.std.specs.Prelude.{◌≡◌, Bool, false, not, List, [], filter, Some}
 use Rattle.abc_fields.specs.declared.key.Key.{Key}
 use Rattle.abc_bars_header.specs.HeaderLine.{HeaderLine}

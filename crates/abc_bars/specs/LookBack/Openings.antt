@@ -18,12 +18,12 @@ use Rattle.abc_bars.specs.LookBack.Header.{declared_names, declared_shift}
 use Rattle.abc_bars.specs.LookBack.Place.{opening_at}
 
 -- The state with which a voice begins in a body, by the values `set` of the header, the key that ended it, and the shift
--- `said` in the V: of the voice:
+-- `said` by the V: lines of the voice:
 -- - `meter`: the header's, else free meter;
 -- - `unit`: the header's unit note length, else that of the meter;
 -- - `signature`: the key's, else no accidentals. Without a tonic there is none: not in ABC 2.1;
 -- - `reach`: accidentals reach as far as the header sets;
--- - `clef`, `octave`, `transpose`: each part of the shift by the V:, else by the key, else 0. This order is not in ABC 2.1.
+-- - `clef`, `octave`, `transpose`: each part of the shift by `said`, else by the key, else 0. This order is not in ABC 2.1.
 pub record OpensWith (set : Defaults) (key : Key) (said : Shift) (state : VoiceState) : Type 0 where
   pub meter : state.meter ≡ unwrap_or set.meter Free
   pub unit : state.unit ≡ unwrap_or set.unit (unit_by state.meter)

@@ -26,9 +26,8 @@ is_after_note (Some kind) = may_be_tied kind
 abbrev pub loose_inside : ℕ → Chord → List (ℕ × FaultCode)
 loose_inside from chord = map (λ pair. (column_of (from + pair.1.from), LooseTie)) (filter is_loose (with_before chord.parts))
 
--- The loose ties of a token at a place of its line, by what is directly before it: a tie is loose if no note
--- or chord is there, one without notes among them; a chord has those inside it. That nothing may be between
--- is not in ABC 2.1.
+-- The loose ties of a token at a place of its line, by the token directly before it. A tie is loose if no note or chord is
+-- there; a chord without notes counts. A chord has the loose ties inside it. That nothing may be between is not in ABC 2.1.
 abbrev pub loose_in : Option TokenKind → ℕ → TokenKind → List (ℕ × FaultCode)
 loose_in before from kinds.Tie = if is_after_note before then [] else (column_of from, LooseTie) ∷ []
 loose_in before from (kinds.Chord chord) = loose_inside from chord
@@ -50,16 +49,16 @@ pub record IsTimeBefore (before : List Element) (token : Element) (earlier : Lis
   pub time : is_time_token token.kind ≡ true
   pub none : All (λ other. is_time_token other.kind ≡ false) nearer
 
--- The notes of a chord from which a tie leads on, each with those of its notes that are before it, newest first:
--- a tie directly follows the note, or the chord.
+-- The notes of a chord that a tie directly follows, or all if a tie follows the chord. Each comes with the notes before it in
+-- the chord, newest first.
 abbrev pub tied_in_chord : Bool → List Note → List (Note × Bool) → List (List Note × Note)
 tied_in_chord follows earlier [] = []
 tied_in_chord follows earlier (note ∷ later) =
     if follows || note.1 then (earlier, note.0) ∷ tied_in_chord follows (note.0 ∷ earlier) later
     else tied_in_chord follows (note.0 ∷ earlier) later
 
--- The notes of a token from which a tie leads on, whether one directly follows the token or not: of a chord those among
--- its first sixteen, of a rest none.
+-- The notes of a token from which a tie leads on; `follows` says whether a tie directly follows the token. Of a chord they are
+-- among its first sixteen notes, of a rest there are none.
 abbrev pub tied_notes : TokenKind → Bool → List (List Note × Note)
 tied_notes (kinds.Note note) follows = if follows then ([], note) ∷ [] else []
 tied_notes (kinds.Chord chord) follows = tied_in_chord follows [] (counted_notes chord)

@@ -20,9 +20,8 @@ abbrev pub key_among : List HeaderLine → Option Key
 key_among [] = None
 key_among (line ∷ before) = option_or (said_by_line key_said line) (key_among before)
 
--- A place of a tune that began with these values: it keeps them; no field of its header is a K: while it is in
--- the header; and the key that it keeps in the body is what the header's K: says, or an empty signature if
--- music ended the header.
+-- A place of a tune that began with these values, which it keeps. In the header no line before it is a K:.
+-- In the body its key is that of the header's K:, or an empty signature if music ended the header.
 abbrev pub IsOfTune : Defaults → Place → Type 0
 IsOfTune values (InFileHeader before) = ⊥
 IsOfTune values (InHeader opening before) = (opening ≡ values) × (key_among before ≡ None)

@@ -109,9 +109,8 @@ notes_among (part ∷ rest) = note_before part.kind (tie_follows rest) (notes_am
 unfoldable pub counted_notes : Chord → List (Note × Bool)
 counted_notes chord = take MOST_CHORD_NOTES (notes_among chord.parts)
 
--- Whether the accidental of a note reaches another one: with `pitch` those of its letter in every octave, with `octave`
--- those in its own octave, as they are written, and with `not` none. ABC 2.1 sections 4.2 and 11.3; what these words
--- mean is not in ABC 2.1.
+-- Whether the accidental of a note reaches another one, as both are written: with `pitch` each of its letter, with `octave`
+-- each of its letter and octave, with `not` none. ABC 2.1 sections 4.2 and 11.3; the meaning of these words is not in ABC 2.1.
 abbrev pub reaches : Reach → Note → Note → Bool
 reaches Not from to = false
 reaches Octave from to = (capital from.letter == capital to.letter) && int_eq to.octave from.octave
@@ -207,9 +206,9 @@ tuplet_from opening passed (element ∷ before) =
 unfoldable pub tuplet_at : Meter → List Element → Option OpenTuplet
 tuplet_at opening before = tuplet_from opening 0 before
 
--- By how many semitones a note is altered, with these notes of its chord before it, newest first: by
--- its own accidental, else by the last one that reaches it, else as the note that is tied to it, else by the
--- signature. The body cannot change the reach of accidentals. ABC 2.1 section 4.2; the tied note's is not in ABC 2.1.
+-- The semitones by which a note is altered, with these notes of its chord before it, newest first. The first of these
+-- counts: its own accidental; the last one that reaches it; that of the note tied to it; the signature. The body cannot
+-- change the reach of accidentals. ABC 2.1 section 4.2; the tied note's is not in ABC 2.1.
 abbrev pub alteration_at : VoiceState → List TiedNote → List Element → List Note → Note → ℤ
 alteration_at opening tied before earlier note =
     unwrap_or (own_alteration note)

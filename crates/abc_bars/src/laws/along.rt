@@ -13,8 +13,9 @@ ghost use Rattle.abc_bars_body.specs.declared.entry.Entry.TheVariants as entries
 use crate::bar_fold::BarFold;
 use abc_fold::Fold;
 
-/// The fold is the look back. Along the cells of a file header, of a tune, or after any place, each cell is entered in the view of
-/// its place, and gives the items and faults of the look back there. A tune begins with the values of the file header, if any.
+/// The fold is the look back. Along the cells of a file header, of a tune, or after any place, the state before each cell is the
+/// view of its place. The cell gives the items and faults of the look back there. A tune begins with the values of the file
+/// header, if any.
 pub fn views_along()
     ensures file_header { (fold : BarFold) → IsLookBack (⟦<BarFold as Fold>⟧.steps fold) (entries.FileHeader no_defaults)
         file_header_beginning }
@@ -33,8 +34,8 @@ pub fn views_decide()
         view (place_after here cells) ≡ view (place_after there cells) }
 {}
 
-/// The fold compares exactly: it takes two places as equivalent exactly if the states there are equal,
-/// part by part and voice by voice, in the order in which the voices were mentioned.
+/// The fold compares exactly: two places are alike exactly if the states there are equal, with the voices in the order of their
+/// first mention.
 #[tactic(auto, using(crate::proofs::EntryLaws::alike_where_equal))]
 pub fn alike_views()
     ensures { (fold : BarFold) (here there : Entry) → IsTrue ((⟦<BarFold as Fold>⟧.steps fold).alike here there) ↔ (here ≡ there) }

@@ -9,8 +9,8 @@ ghost use Rattle.abc_bars.specs.LookBack.Place.{AtEachPlace, opening_at};
 ghost use Rattle.abc_bars_header.specs.declared.defaults.Defaults.{Defaults};
 ghost use Rattle.abc_fields.specs.declared.key.Key.{Key};
 
-/// The state at a place of a body, for all voices, is what looking back finds: at the beginning of the body what it
-/// begins with, and after one element more what that element leaves of what was found before.
+/// Looking back finds the state of all voices at a place of a body. At the beginning it is the opening state; each element then
+/// changes it as `body_after` says.
 #[tactic(auto, using(crate::proofs::LookBack::BodyState::begins, crate::proofs::LookBack::BodyState::body_after_element))]
 pub fn body_views()
     ensures begins { (opening : Defaults) (fields : List HeaderLine) (key : Key) →

@@ -2,15 +2,15 @@
 
 ghost use Rattle.abc_bars.specs.KeyFieldLaws.{LastListedCounts, NamedModesAdd, OthersAreMajor, OtherRunsAreRefused};
 
-/// An accepted K: with a signature alters each letter as the last accidental says that is listed for it, and as its tonic and
-/// mode do if none is (ABC 2.1 section 3.1.14).
+/// An accepted K: with a signature alters each letter by the last accidental that it lists for the letter, and if there is none, by
+/// its tonic and mode (ABC 2.1 section 3.1.14).
 pub fn listed_accidentals()
     ensures { LastListedCounts }
 {}
 
-/// The mode of a K: is known by the first three letters of the run after its tonic, capitals or not, or it is `m` (ABC 2.1
-/// section 3.1.14): it adds its sharps to those of the major key. Without such a run the key is major, or the value is refused
-/// if a run of letters directly follows the tonic.
+/// The first three letters of the run after the tonic of a K: decide its mode, capitals or not, or `m` does (ABC 2.1 section
+/// 3.1.14). A mode adds its sharps to those of the major key. Without such a run the key is major, or the value is refused if
+/// another run of letters directly follows the tonic.
 pub fn modes_of_keys()
     ensures named { NamedModesAdd }
     ensures major { OthersAreMajor }

@@ -2,8 +2,8 @@
 
 ghost use Rattle.abc_bars.specs.LookBack.LineLengths.{ChordsOfLinesLast, NotesOfLinesLast, RestsOfLinesLast};
 
-/// Each note, rest and chord in a cell of a line, wherever the cell is in a tune, after any file header or none, lasts as
-/// `lengths_at_places` says: what that asks of a place holds at each of them.
+/// Each note, rest and chord in a cell of a line meets the conditions of `lengths_at_places`, and so lasts as that law says. The
+/// cell may be at any place of a tune, after any file header or none.
 pub fn lengths_in_lines()
     ensures notes { NotesOfLinesLast }
     ensures rests { RestsOfLinesLast }

@@ -13,15 +13,17 @@ ghost use Rattle.abc_bars.specs.LookBack.Ties.{IsTimeBefore, loose_ties, tied_af
 ghost use Rattle.abc_bars.specs.LookBack.Voice.{voice_state_at};
 ghost use Rattle.abc_bars_header.specs.declared.defaults.Defaults.{Defaults};
 
-/// The faults `LooseTie` of a cell of music, wherever it is, are at those of its ties that have no note or chord
-/// directly before them, and at those inside a chord that have no note directly before them.
+/// In a cell of music, wherever it is, `LooseTie` is at exactly these ties:
+///
+/// - outside chords, those without a note or chord directly before them;
+/// - inside a chord, those without a note directly before them.
 pub fn loose_ties_of_cells()
     ensures { (opening : Defaults) (fields : List HeaderLine) (key : Key) (before : List Element) (cell : CellTokens) →
         filter is_loose_tie (result_in_body opening fields key before cell).faults ≡ loose_ties cell }
 {}
 
-/// What the next note or chord of a voice takes up are the notes of the voice's last note, chord or rest from which
-/// a tie leads on, as each was altered at its own place; before the first one there are none.
+/// The tied notes of a voice are those of its last note, chord or rest from which a tie leads on, each as it was altered at its
+/// own place. Before the first note, chord or rest there are none.
 #[tactic(auto, using(crate::proofs::LookBack::Ties::ties_lead, crate::proofs::LookBack::Ties::no_ties_lead))]
 pub fn ties_of_voices()
     ensures last { (opening : VoiceState) (before earlier : List Element) (token : Element) → IsTimeBefore before token earlier →

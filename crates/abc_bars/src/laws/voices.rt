@@ -6,8 +6,7 @@ ghost use Rattle.abc_bars.specs.LookBack.After.{after};
 ghost use Rattle.abc_bars.specs.LookBack.Element.{Element};
 ghost use Rattle.abc_bars.specs.LookBack.Voice.{voice_state_at};
 
-/// The state of a voice at a place is what looking back over its music and its fields finds: after one
-/// element more it is what that element leaves of what was found before.
+/// Looking back over the music and the fields of a voice finds its state at a place. Each element changes it as `after` says.
 #[tactic(auto, using(crate::proofs::LookBack::Voice::voice_state_after))]
 pub fn voice_views()
     ensures state { (opening : VoiceState) (before : List Element) (element : Element) →
