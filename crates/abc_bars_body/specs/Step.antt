@@ -77,8 +77,8 @@ following_line header (DirectiveLine directive) = entries.Header header
 abbrev pub line_step : HeaderResult → HeaderLine → Entry × Items
 line_step given line = (following_line given.header line, record { items = given.items; faults = given.faults })
 
--- A cell of a header, which is this line or music: a line of music ends the header as an empty K: would, and
--- is a cell of the body. The latter is not in ABC 2.1.
+-- After a cell of a header, which is this line or music. A line of music ends the header as an empty K: would, and is a cell
+-- of the body. The latter is not in ABC 2.1.
 abbrev pub header_step : Header → List (Spanned TokenKind) → Option HeaderLine → Entry × Items
 header_step header cell (Some line) = line_step (header_result header line) line
 header_step header cell None = body_step (body_from header empty_key) cell

@@ -61,8 +61,8 @@ pub record ActsAfter (cell : List (Spanned TokenKind)) (mark : BrokenRhythm) (fi
   pub second : ℕ
   pub acting : IsActing cell mark first place second
 
--- The factors of the time token at a place: that of the mark between it and the time token before it, and that of the mark
--- between it and the next one, if these marks act.
+-- The factors of the time token at a place. The first is that of the mark that acts on it and the time token before it; the
+-- second that of the mark that acts on it and the next one. Each may be missing.
 pub record AreFactors (cell : List (Spanned TokenKind)) (place : ℕ) (factors : List Ratio) : Type 0 where
   pub before : Option BrokenRhythm
   pub following : Option BrokenRhythm

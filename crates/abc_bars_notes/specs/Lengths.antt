@@ -40,8 +40,8 @@ all_ratios (Some ratio ∷ rest) = option_map (λ ratios. ratio ∷ ratios) (all
 abbrev pub length_by : Ratio → List (Option Ratio) → List Ratio → Option Grains
 length_by unit texts factors = option_and_then (λ written. result_ok (length_of unit (written ++ factors))) (all_ratios texts)
 
--- The length is g grains: no text is refused, and g is exactly the unit times the factors of texts and those of the note's place,
--- and at most 1,024 whole notes.
+-- The length is g grains. No text is refused, and g is exactly the unit times the factors of texts and those of the note's
+-- place. It is at most 1,024 whole notes.
 abbrev pub HasLength : Ratio → List (Option Ratio) → List Ratio → ℕ → Type 0
 HasLength unit texts factors g =
     IsSomeAnd (all_ratios texts) (λ written. IsLength unit (written ++ factors) g × (g ≤ grains_of_the_longest_length))

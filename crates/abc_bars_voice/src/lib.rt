@@ -1,5 +1,5 @@
-//! The state of a voice at a place of a tune: its meter, unit note length, signature and shift, the accidentals of its
-//! bar, its open tuplet, its tied notes, its dynamic.
+//! The state of a voice at a place of a tune: its meter, unit note length, signature, shift, accidentals, open tuplet, tied
+//! notes and dynamic.
 #![tactic(auto)]
 
 mod accidentals;

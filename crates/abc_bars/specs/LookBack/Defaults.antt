@@ -72,8 +72,8 @@ abbrev pub last_reach : Reach → List HeaderLine → Reach
 last_reach opening [] = opening
 last_reach opening (line ∷ before) = unwrap_or (said_by_directive reach_said line) (last_reach opening before)
 
--- The values at a place, by the lines before it and the values with which they open: the last accepted meter, unit
--- note length, tempo and program, and the last reach.
+-- The values at a place, by the lines before it and their opening values. They are the last accepted meter, unit note
+-- length, tempo and program, and the last reach.
 abbrev pub defaults_at : Defaults → List HeaderLine → Defaults
 defaults_at opening before = record {
   meter = last_set (said_by_line meter_said) opening.meter before;

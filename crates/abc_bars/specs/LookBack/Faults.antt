@@ -72,8 +72,8 @@ abbrev pub bar_rest_faults : Meter → ℕ → List (ℕ × FaultCode)
 bar_rest_faults Free from = (column_of from, FreeBarRest) ∷ []
 bar_rest_faults (Of num den) from = []
 
--- The fault of a tuplet mark at a place of its line, with this tuplet open or none, which begins this one or none:
--- BadTuplet if it begins none, NestedTuplet if it replaces another one.
+-- The fault of a tuplet mark at a place of its line, from the tuplet that is open before it and the one that it begins.
+-- It is BadTuplet if the mark begins none, and NestedTuplet if it replaces an open one.
 abbrev pub mark_faults : Option OpenTuplet → Option OpenTuplet → ℕ → List (ℕ × FaultCode)
 mark_faults old None from = (column_of from, BadTuplet) ∷ []
 mark_faults None (Some new) from = []
@@ -122,8 +122,8 @@ is_bad_broken_code code = number_of code == number_of BadBroken
 abbrev pub is_bad_broken : ℕ × FaultCode → Bool
 is_bad_broken fault = is_bad_broken_code fault.1
 
--- What a token at a place of its cell gives to the faults of the tokens from it on, of which those after it give the others:
--- BadBroken if it is a mark of broken rhythm that does not act, else nothing.
+-- The faults of a token at a place of its cell and of the tokens after it, which have `others`. The token adds BadBroken if it
+-- is a mark of broken rhythm that does not act, else nothing.
 pub record IsFaultOfMark (cell : List (Spanned TokenKind)) (place : ℕ) (token : Spanned TokenKind)
     (faults others : List (ℕ × FaultCode)) : Type 0 where
   pub acting : (mark : BrokenRhythm) → token.kind ≡ kinds.Broken mark → Acts cell mark place → faults ≡ others

@@ -39,8 +39,8 @@ SoundsAsChord state cell place chord item =
     (tones : List Tone) × (lasting : Grains) × (item ≡ items.Tone tones lasting)
     × SoundsTogether state cell place chord tones lasting
 
--- A note at any place of a tune lasts as `LastsAsNote` says, by the unit and the tuplet of its voice there and the marks of
--- broken rhythm that act on it in its cell.
+-- A note at any place of a tune lasts as `LastsAsNote` says. The unit and the tuplet of its voice there count, and the marks
+-- of broken rhythm that act on it in its cell.
 abbrev pub NotesLastThere : Type 0
 NotesLastThere =
     (place : CellPlace) (note : Note)

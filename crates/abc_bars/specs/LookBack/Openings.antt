@@ -17,8 +17,8 @@ use Rattle.abc_bars.specs.LookBack.Defaults.{defaults_at}
 use Rattle.abc_bars.specs.LookBack.Header.{declared_names, declared_shift}
 use Rattle.abc_bars.specs.LookBack.Place.{opening_at}
 
--- The state with which a voice begins in a body, by the values `set` of the header, the key that ended it, and the shift
--- `said` by the V: lines of the voice:
+-- The state with which a voice begins in a body. `set` are the values of the header, `key` is the key that ended it, and
+-- `said` is the shift by the V: lines of the voice:
 -- - `meter`: the header's, else free meter;
 -- - `unit`: the header's unit note length, else that of the meter;
 -- - `signature`: the key's, else no accidentals. Without a tonic there is none: not in ABC 2.1;

@@ -108,14 +108,14 @@ pub data IsVoiceAt (fields : List HeaderLine) (before : List Element) (name : Li
   of_first : NoneCounts fields before [] → IsFirstDeclared fields name → IsVoiceAt fields before name
   of_none : NoneCounts fields before [] → All DeclaresNone fields → name ≡ [] → IsVoiceAt fields before name
 
--- A token of this kind at a place is a voice's: an accepted V: the one's that it names, an accepted P: each one's, any other the
--- one's of its place.
+-- A token of this kind at a place belongs to a voice of this name. An accepted V: belongs to the voice that it names, an accepted
+-- P: to each voice, and any other token to the voice of its place.
 pub data IsTokenOf (fields : List HeaderLine) (before : List Element) (kind : TokenKind) (name : List ℕ) : Type 0 where
   of_field : IsVoiceField name kind → IsTokenOf fields before kind name
   of_part : IsField BeginsPart kind → IsTokenOf fields before kind name
   of_place : IsNoVoiceField kind → ¬ IsField BeginsPart kind → IsVoiceAt fields before name → IsTokenOf fields before kind name
 
--- A token of this kind at a place is another voice's alone.
+-- A token of this kind at a place belongs to another voice alone.
 abbrev pub IsTokenOfAnother : List HeaderLine → List Element → TokenKind → List ℕ → Type 0
 IsTokenOfAnother fields before kind name =
     (other : List ℕ) × IsTokenOf fields before kind other × (other ≢ name) × (¬ IsField BeginsPart kind)

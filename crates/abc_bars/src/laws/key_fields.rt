@@ -2,8 +2,8 @@
 
 ghost use Rattle.abc_bars.specs.KeyFieldLaws.{LastListedCounts, NamedModesAdd, OthersAreMajor, OtherRunsAreRefused};
 
-/// An accepted K: with a signature alters each letter by the last accidental that it lists for the letter, and if there is none, by
-/// its tonic and mode (ABC 2.1 section 3.1.14).
+/// An accepted K: with a signature alters each letter by the last accidental that it lists for the letter. If it lists none, its
+/// tonic and mode decide (ABC 2.1 section 3.1.14).
 pub fn listed_accidentals()
     ensures { LastListedCounts }
 {}
