@@ -3,11 +3,11 @@ pub mod Conductor
 pub mod Endings
 pub mod Ends
 pub mod Fitting
-pub mod Given
 pub mod InOne
 pub mod Layouts
 pub mod Lengths
 pub mod Names
+pub mod OfFields
 pub mod OnTicks
 pub mod Orders
 pub mod Placed

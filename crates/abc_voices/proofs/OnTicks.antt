@@ -55,20 +55,20 @@ has_last tick (set ∷ later) =
 abbrev pub is_on : {V : Type 0} → ℕ → Grains × V → Bool
 is_on tick set = tick_at set.0.0 == tick
 
-one_stands : {V : Type 0} (tick : ℕ) (standing : List (Grains × V)) (set : Grains × V) (last : Option (Grains × V)) (later here : Bool) → is_on tick set ≡ here
-    → filter (is_on tick) standing ≡ option_to_list last → (here ≡ true → later ≡ is_some last)
-    → filter (is_on tick) (cond later standing (standing ++ set ∷ [])) ≡ option_to_list (or_said last (cond here (Some set) None))
-one_stands tick standing set None true true e those same = let h : true ≡ false = same refl in cc
-one_stands tick standing set None true false e those same = those
-one_stands tick standing set None false true e those same =
-    filter-append (is_on tick) standing (set ∷ []) ∙ (λ i. those i ++ cond (e i) (set ∷ []) [])
-one_stands tick standing set None false false e those same =
-    filter-append (is_on tick) standing (set ∷ []) ∙ (λ i. those i ++ cond (e i) (set ∷ []) [])
-one_stands tick standing set (Some value) true true e those same = those
-one_stands tick standing set (Some value) true false e those same = those
-one_stands tick standing set (Some value) false true e those same = let h : false ≡ true = same refl in cc
-one_stands tick standing set (Some value) false false e those same =
-    filter-append (is_on tick) standing (set ∷ []) ∙ (λ i. those i ++ cond (e i) (set ∷ []) [])
+one_stands : {V : Type 0} (tick : ℕ) (changes : List (Grains × V)) (set : Grains × V) (last : Option (Grains × V)) (later here : Bool) → is_on tick set ≡ here
+    → filter (is_on tick) changes ≡ option_to_list last → (here ≡ true → later ≡ is_some last)
+    → filter (is_on tick) (cond later changes (changes ++ set ∷ [])) ≡ option_to_list (or_said last (cond here (Some set) None))
+one_stands tick changes set None true true e those same = let h : true ≡ false = same refl in cc
+one_stands tick changes set None true false e those same = those
+one_stands tick changes set None false true e those same =
+    filter-append (is_on tick) changes (set ∷ []) ∙ (λ i. those i ++ cond (e i) (set ∷ []) [])
+one_stands tick changes set None false false e those same =
+    filter-append (is_on tick) changes (set ∷ []) ∙ (λ i. those i ++ cond (e i) (set ∷ []) [])
+one_stands tick changes set (Some value) true true e those same = those
+one_stands tick changes set (Some value) true false e those same = those
+one_stands tick changes set (Some value) false true e those same = let h : false ≡ true = same refl in cc
+one_stands tick changes set (Some value) false false e those same =
+    filter-append (is_on tick) changes (set ∷ []) ∙ (λ i. those i ++ cond (e i) (set ∷ []) [])
 
 -- the last change on a tick is in force
 pub last_stands : {V : Type 0} (tick : ℕ) (sets : List (Grains × V)) → filter (is_on tick) (last_of_each_tick sets) ≡ option_to_list (last_said (set_if_on tick) sets)

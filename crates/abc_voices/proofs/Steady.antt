@@ -21,7 +21,7 @@ use Rattle.abc_voices_sections.specs.Stage.{part_of, stage_of}
 use Rattle.abc_voices_sections.specs.Step.{is_field, length_of}
 use Rattle.abc_voices.specs.Track.{voice_names}
 use Rattle.abc_voices.proofs.Fitting.Kept.{got, part_played, played_kept}
-use Rattle.abc_voices.proofs.Given.{of_music}
+use Rattle.abc_voices.proofs.OfFields.{of_music}
 
 -- such a step sets nothing
 sets_no_change : (item : Item) → is_field item ≡ false → (tempo_of item ≡ None) × (meter_of item ≡ None) × (key_of item ≡ None)
@@ -125,10 +125,10 @@ module _ (kind : Item → Bool) (music_not : (item : Item) → is_music item ≡
       All-cons (PlaysNone kind) (stage_of voices section) (map (stage_of voices) played) (plain_parts section voices (All-head P section played none))
       (steady_stages voices played (All-tail P section played none))
 
-  pub none_along : (tune given : List Item) (stages : List Stage) → given ≡ without_music tune
+  pub none_along : (tune fields : List Item) (stages : List Stage) → fields ≡ without_music tune
       → stages ≡ map (stage_of (voice_names tune)) (played_sections tune)
-      → none_of given ≡ true → All (PlaysNone kind) stages
-  none_along tune given stages is are steady =
+      → none_of fields ≡ true → All (PlaysNone kind) stages
+  none_along tune fields stages is are steady =
       subst (All (PlaysNone kind)) (sym are)
       (steady_stages (voice_names tune) (played_sections tune)
       (played_kept ChangesNothing tune (steady_steps tune (sym (ap none_of is) ∙ steady))))
@@ -140,14 +140,14 @@ music_plain item music = of_music is_change false (λ _ _. refl) (λ _ _. refl) 
 music_keeps : (item : Item) → is_music item ≡ true → (sets_program item && is_step item) ≡ false
 music_keeps item music = of_music (λ one. sets_program one && is_step one) false (λ _ _. refl) (λ _ _. refl) (λ _. refl) (λ _. refl) item music
 
-pub steady_along : (tune given : List Item) (stages : List Stage) → given ≡ without_music tune
+pub steady_along : (tune fields : List Item) (stages : List Stage) → fields ≡ without_music tune
     → stages ≡ map (stage_of (voice_names tune)) (played_sections tune)
-    → is_steady given ≡ true → All IsSteady stages
+    → is_steady fields ≡ true → All IsSteady stages
 steady_along = none_along is_field music_plain
 
-pub kept_along : (tune given : List Item) (stages : List Stage) → given ≡ without_music tune
+pub kept_along : (tune fields : List Item) (stages : List Stage) → fields ≡ without_music tune
     → stages ≡ map (stage_of (voice_names tune)) (played_sections tune)
-    → keeps_programs given ≡ true → All (PlaysNone sets_program) stages
+    → keeps_programs fields ≡ true → All (PlaysNone sets_program) stages
 kept_along = none_along sets_program music_keeps
 
 -- the changes of steady stages are those with which their tune opens
@@ -155,11 +155,11 @@ pub opening_is : {V : Type 0} (found last : Option V) (usual value : V) → valu
 opening_is None last usual value is same = is ∙ ap (or_else usual) same
 opening_is (Some other) last usual value is same = is ∙ ap (or_else usual) same
 
-pub steady_changes : (given : List Item) (first : ℕ) (stages : List Stage) (tempo : ℕ) (meter : Meter) (key : ℤ × Bool) → All IsSteady stages
-    → tempo ≡ or_else usual_tempo (after_all tempo_after None given) → meter ≡ or_else meters.Free (after_all meter_after None given)
-    → key ≡ or_else (pos 0, false) (after_all key_after None given)
-    → changes_in_force ((record { 0 = 0 }, tempo) ∷ []) ((record { 0 = 0 }, meter) ∷ []) ((record { 0 = 0 }, key) ∷ []) ≡ changes_along given first stages
-steady_changes given first stages tempo meter key steady p q r =
+pub steady_changes : (fields : List Item) (first : ℕ) (stages : List Stage) (tempo : ℕ) (meter : Meter) (key : ℤ × Bool) → All IsSteady stages
+    → tempo ≡ or_else usual_tempo (after_all tempo_after None fields) → meter ≡ or_else meters.Free (after_all meter_after None fields)
+    → key ≡ or_else (pos 0, false) (after_all key_after None fields)
+    → changes_in_force ((record { 0 = 0 }, tempo) ∷ []) ((record { 0 = 0 }, meter) ∷ []) ((record { 0 = 0 }, key) ∷ []) ≡ changes_along fields first stages
+steady_changes fields first stages tempo meter key steady p q r =
     let tempos = sym (all_set_nothing tempo_of is_field (λ item h. (sets_no_change item h).0) 0 stages steady) in
     let meter_sets = sym (one_sets_nothing meter_of is_field (λ item h. (sets_no_change item h).1) first 0 stages steady) in
     let keys = sym (one_sets_nothing key_of is_field (λ item h. (sets_no_change item h).2) first 0 stages steady) in

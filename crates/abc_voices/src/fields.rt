@@ -27,10 +27,10 @@ fn is_change(item: &Item) -> bool
 }
 
 /// Whether no item of a tune changes its tempo, its meter, its key or a program while it is played.
-pub(crate) fn is_steady(given: &[&Item]) -> bool
-    ensures { result ≡ is_steady (items_of given.now) }
+pub(crate) fn is_steady(fields: &[&Item]) -> bool
+    ensures { result ≡ is_steady (items_of fields.now) }
 {
-    for item in given {
+    for item in fields {
         if is_change(item) {
             return false;
         }
@@ -46,10 +46,10 @@ fn sets_program(item: &Item) -> bool
 }
 
 /// Whether no item of a tune sets a program while it is played.
-pub(crate) fn keeps_programs(given: &[&Item]) -> bool
-    ensures { result ≡ keeps_programs (items_of given.now) }
+pub(crate) fn keeps_programs(fields: &[&Item]) -> bool
+    ensures { result ≡ keeps_programs (items_of fields.now) }
 {
-    for item in given {
+    for item in fields {
         if sets_program(item) && is_step(item) {
             return false;
         }

@@ -73,20 +73,20 @@ fn tune_of<'a>(alloc: Global, items: &'a [Items]) -> Result<Vec<&'a Item>, Alloc
 }
 
 /// Returns the sections of a tune in order of play, from what its fields give.
-fn order_of_sections(alloc: Global, given: &[&Item]) -> Result<Played, BuildFault>
-    requires { All IsItem (items_of given.now) }
+fn order_of_sections(alloc: Global, fields: &[&Item]) -> Result<Played, BuildFault>
+    requires { All IsItem (items_of fields.now) }
     ensures sections { IfOk result (λ played. played.sections.items
-        ≡ sections_of (after_all order_after None (items_of given.now)) (letters (items_of given.now))) }
-    ensures few { IfOk result (λ _. sections_played (items_of given.now) ≤ MOST_SECTIONS) }
+        ≡ sections_of (after_all order_after None (items_of fields.now)) (letters (items_of fields.now))) }
+    ensures few { IfOk result (λ _. sections_played (items_of fields.now) ≤ MOST_SECTIONS) }
     ensures unknown { IfOk result (λ played. played.unknown
-        ≡ has_unknown (after_all order_after None (items_of given.now)) (letters (items_of given.now))) }
+        ≡ has_unknown (after_all order_after None (items_of fields.now)) (letters (items_of fields.now))) }
     ensures too_long { (unknown : Bool) → result ≡ Err (BuildFault.TooLong unknown)
-        → MOST_SECTIONS < sections_played (items_of given.now) }
+        → MOST_SECTIONS < sections_played (items_of fields.now) }
     ensures too_long_unknown { (unknown : Bool) → result ≡ Err (BuildFault.TooLong unknown)
-        → unknown ≡ has_unknown (after_all order_after None (items_of given.now)) (letters (items_of given.now)) }
+        → unknown ≡ has_unknown (after_all order_after None (items_of fields.now)) (letters (items_of fields.now)) }
 {
-    let found = letters(alloc, given)?;
-    match play_order(alloc, order_of(given), &found) {
+    let found = letters(alloc, fields)?;
+    match play_order(alloc, order_of(fields), &found) {
         Ok(played) => Ok(played),
         Err(OrderFault::TooLong { unknown }) => Err(BuildFault::TooLong { unknown }),
         Err(OrderFault::OutOfMemory) => Err(BuildFault::OutOfMemory),
@@ -94,11 +94,11 @@ fn order_of_sections(alloc: Global, given: &[&Item]) -> Result<Played, BuildFaul
 }
 
 /// Returns the place of the first voice that has a track.
-fn first_track(tune: &[&Item], given: &[&Item]) -> usize
-    requires { items_of given.now ≡ without_music (items_of tune.now) }
+fn first_track(tune: &[&Item], fields: &[&Item]) -> usize
+    requires { items_of fields.now ≡ without_music (items_of tune.now) }
     ensures { result ≡ first_place (items_of tune.now) }
 {
-    if has_unnamed_track(tune, opening_voice(given)) {
+    if has_unnamed_track(tune, opening_voice(fields)) {
         0
     } else {
         1
@@ -109,13 +109,13 @@ fn first_track(tune: &[&Item], given: &[&Item]) -> usize
 fn sections_of<'s, 't>(
     alloc: Global,
     tune: &'s [&'t Item],
-    given: &[&'t Item],
+    fields: &[&'t Item],
 ) -> Result<Vec<Section<'s, 't>>, AllocError>
-    requires { items_of given.now ≡ without_music (items_of tune.now) }
+    requires { items_of fields.now ≡ without_music (items_of tune.now) }
     ensures { IfOk result (λ found. map content found.items ≡ sections (items_of tune.entry.now)) }
 {
-    let first = opening_voice(given);
-    if has_one_section(given) {
+    let first = opening_voice(fields);
+    if has_one_section(fields) {
         return only_section(alloc, tune, first);
     }
     sections(alloc, tune, first)
@@ -125,11 +125,11 @@ fn sections_of<'s, 't>(
 fn stages_of<'t>(
     alloc: Global,
     tune: &[&'t Item],
-    given: &[&'t Item],
+    fields: &[&'t Item],
     voices: &[&[u8]],
     played: &[usize],
 ) -> Result<Vec<Option<Stage<'t>>>, StageError>
-    requires given { items_of given.now ≡ without_music (items_of tune.now) }
+    requires fields { items_of fields.now ≡ without_music (items_of tune.now) }
     requires voices { map (λ voice. voice.now) voices.now ≡ voice_names (items_of tune.now) }
     requires played { played.now ≡ sections_of (after_all order_after None (items_of tune.now)) (letters (items_of tune.now)) }
     ensures value { IfOk result (λ table. at_places table.items played.now
@@ -138,7 +138,7 @@ fn stages_of<'t>(
     ensures too_many { result ≡ Err TooMany → MOST_PLACES < places_played (items_of tune.now) }
     ensures too_late { result ≡ Err TooLate → grains_of_the_latest_end < end_of (items_of tune.now) }
 {
-    let found = sections_of(alloc, tune, given)?;
+    let found = sections_of(alloc, tune, fields)?;
     stages(alloc, &found, voices, played)
 }
 
@@ -146,12 +146,12 @@ fn stages_of<'t>(
 fn lay_out_turns(
     alloc: Global,
     tune: &[&Item],
-    given: &[&Item],
+    fields: &[&Item],
     turns: &[Turn],
     count: usize,
 ) -> Result<(Score, bool), StageError>
     requires tune { All IsItem (items_of tune.now) }
-    requires given { items_of given.now ≡ without_music (items_of tune.now) }
+    requires fields { items_of fields.now ≡ without_music (items_of tune.now) }
     requires stages { stages_in turns.now
         ≡ map (stage_of (voice_names (items_of tune.now))) (played_sections (items_of tune.now)) }
     requires count { count ≡ length (voice_names (items_of tune.now)) }
@@ -165,8 +165,8 @@ fn lay_out_turns(
     let Some(total) = length_along(turns) else {
         return Err(StageError::TooLate);
     };
-    let first = first_track(tune, given);
-    match score_along(alloc, given, turns, total, first, count) {
+    let first = first_track(tune, fields);
+    match score_along(alloc, fields, turns, total, first, count) {
         Ok(score) => {
             let uneven = is_uneven(turns);
             Ok((score, uneven))
@@ -179,11 +179,11 @@ fn lay_out_turns(
 fn lay_out_sections(
     alloc: Global,
     tune: &[&Item],
-    given: &[&Item],
+    fields: &[&Item],
     played: &[usize],
 ) -> Result<(Score, bool), StageError>
     requires tune { All IsItem (items_of tune.now) }
-    requires given { items_of given.now ≡ without_music (items_of tune.now) }
+    requires fields { items_of fields.now ≡ without_music (items_of tune.now) }
     requires played { played.now ≡ sections_of (after_all order_after None (items_of tune.now)) (letters (items_of tune.now)) }
     ensures score { IfOk result (λ laid. laid.0 ≡ score_of (items_of tune.now)) }
     ensures uneven { IfOk result (λ laid. laid.1
@@ -193,11 +193,11 @@ fn lay_out_sections(
     ensures too_many { result ≡ Err TooMany → MOST_PLACES < places_played (items_of tune.now) }
     ensures too_late { result ≡ Err TooLate → grains_of_the_latest_end < end_of (items_of tune.now) }
 {
-    let voices = voice_names(alloc, given)?;
-    match stages_of(alloc, tune, given, voices.as_slice(), played) {
+    let voices = voice_names(alloc, fields)?;
+    match stages_of(alloc, tune, fields, voices.as_slice(), played) {
         Ok(table) => {
             let turns = turns_in_order(alloc, &table, played)?;
-            lay_out_turns(alloc, tune, given, &turns, voices.len())
+            lay_out_turns(alloc, tune, fields, &turns, voices.len())
         }
         Err(why) => Err(why),
     }
@@ -214,12 +214,12 @@ fn are_voices_and_title_within(score: &Score) -> bool
 fn arrange_within_limits(
     alloc: Global,
     tune: &[&Item],
-    given: &[&Item],
+    fields: &[&Item],
     played: &[usize],
     unknown: bool,
 ) -> Result<Arranged, BuildFault>
     requires tune { All IsItem (items_of tune.now) }
-    requires given { items_of given.now ≡ without_music (items_of tune.now) }
+    requires fields { items_of fields.now ≡ without_music (items_of tune.now) }
     requires played { played.now ≡ sections_of (after_all order_after None (items_of tune.now)) (letters (items_of tune.now)) }
     requires few { sections_played (items_of tune.now) ≤ MOST_SECTIONS }
     requires unknown { unknown ≡ has_unknown (after_all order_after None (items_of tune.now)) (letters (items_of tune.now)) }
@@ -230,7 +230,7 @@ fn arrange_within_limits(
         → is_too_long (items_of tune.now) ≡ true }
     ensures unknown { (other : Bool) → result ≡ Err (BuildFault.TooLong other) → other ≡ unknown }
 {
-    match lay_out_sections(alloc, tune, given, played) {
+    match lay_out_sections(alloc, tune, fields, played) {
         Ok((score, uneven)) => {
             if are_voices_and_title_within(&score) {
                 Ok(Arranged {
@@ -249,9 +249,9 @@ fn arrange_within_limits(
 }
 
 /// Lays out a tune, from its items and those of them that its fields give.
-fn arrange_items(alloc: Global, tune: &[&Item], given: &[&Item]) -> Result<Arranged, BuildFault>
+fn arrange_items(alloc: Global, tune: &[&Item], fields: &[&Item]) -> Result<Arranged, BuildFault>
     requires tune { All IsItem (items_of tune.now) }
-    requires given { items_of given.now ≡ without_music (items_of tune.now) }
+    requires fields { items_of fields.now ≡ without_music (items_of tune.now) }
     ensures value { IfOk result (λ laid. laid ≡ arranged_of (items_of tune.now)) }
     ensures short { IfOk result (λ _. is_too_long (items_of tune.now) ≡ false) }
     ensures limits { IfOk result (λ laid. IsWithinLimits laid.score) }
@@ -260,8 +260,8 @@ fn arrange_items(alloc: Global, tune: &[&Item], given: &[&Item]) -> Result<Arran
     ensures unknown { (unknown : Bool) → result ≡ Err (BuildFault.TooLong unknown)
         → unknown ≡ (arranged_of (items_of tune.now)).unknown }
 {
-    match order_of_sections(alloc, given) {
-        Ok(played) => arrange_within_limits(alloc, tune, given, &played.sections, played.unknown),
+    match order_of_sections(alloc, fields) {
+        Ok(played) => arrange_within_limits(alloc, tune, fields, &played.sections, played.unknown),
         Err(why) => Err(why),
     }
 }
@@ -277,6 +277,6 @@ pub fn arrange(alloc: Global, items: &[Items]) -> Result<Arranged, BuildFault>
         → unknown ≡ (arranged_of (items_in items.now)).unknown }
 {
     let tune = tune_of(alloc, items)?;
-    let given = without_music(alloc, &tune)?;
-    arrange_items(alloc, &tune, &given)
+    let fields = without_music(alloc, &tune)?;
+    arrange_items(alloc, &tune, &fields)
 }

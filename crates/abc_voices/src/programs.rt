@@ -30,8 +30,8 @@ fn voice_programs(
     ensures { IfOk result (λ programs. programs ≡ programs_by opening (stages_in turns.now) voice) }
 {
     let sets = one_along::<Programs>(alloc, turns, voice, opening)?;
-    let standing = programs_in_force(alloc, &sets)?;
-    Ok(Sequence::from(standing))
+    let changes = programs_in_force(alloc, &sets)?;
+    Ok(Sequence::from(changes))
 }
 
 /// Returns the programs of the voices from `first` on, up to `count`.
@@ -58,21 +58,21 @@ fn each_programs(
 /// Returns the programs of the voices from `first` on, up to `count`, from the items of their tune's fields.
 pub(crate) fn voices_programs(
     alloc: Global,
-    given: &[&Item],
+    fields: &[&Item],
     turns: &[Turn],
     first: usize,
     count: usize,
 ) -> Result<Sequence<Sequence<ProgramChange>>, AllocError>
     requires stages { All (λ turn. IsStage turn.stage.now) turns.now }
     requires in_time { length_along (stages_in turns.now) ≤ grains_of_the_latest_end }
-    requires kept { keeps_programs (items_of given.now) ≡ true → All (PlaysNone sets_program) (stages_in turns.now) }
+    requires kept { keeps_programs (items_of fields.now) ≡ true → All (PlaysNone sets_program) (stages_in turns.now) }
     requires voices { first ≤ count }
     ensures { IfOk result (λ voices. voices
-        ≡ programs_along (after_all program_after None (items_of given.now)) (stages_in turns.now) first (count - first)) }
+        ≡ programs_along (after_all program_after None (items_of fields.now)) (stages_in turns.now) first (count - first)) }
 {
-    let opening = opening_program(given);
+    let opening = opening_program(fields);
     // Most tunes keep the programs with which they open: then no stage is searched.
-    if keeps_programs(given) {
+    if keeps_programs(fields) {
         return each_programs(alloc, &[], opening, first, count);
     }
     each_programs(alloc, turns, opening, first, count)

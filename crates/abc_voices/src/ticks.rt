@@ -14,19 +14,19 @@ fn last_of_many<T: Copy>(
     changes: &[(Grains, T)],
 ) -> Result<Vec<(Grains, T)>, AllocError>
     requires { All (λ change. change.0.0 ≤ grains_of_the_latest_end) changes.now }
-    ensures { IfOk result (λ standing. standing.items ≡ last_of_each_tick changes.now) }
+    ensures { IfOk result (λ last_changes. last_changes.items ≡ last_of_each_tick changes.now) }
 {
     let mut ticks = HashSet::new(alloc);
-    let mut standing = Vec::new(alloc);
+    let mut last_changes = Vec::new(alloc);
     let mut left = changes.len();
     while left > 0 {
         left -= 1;
         let change = changes[left];
         if ticks.insert(tick_of(change.0))? {
-            standing.push(change)?;
+            last_changes.push(change)?;
         }
     }
-    Ok(standing)
+    Ok(last_changes)
 }
 
 /// Returns the last change of each tick, of changes of one sort in order of play; the last of all first. Most tunes set each
@@ -36,7 +36,7 @@ pub(crate) fn last_of_each_tick<T: Copy>(
     changes: &[(Grains, T)],
 ) -> Result<Vec<(Grains, T)>, AllocError>
     requires { All (λ change. change.0.0 ≤ grains_of_the_latest_end) changes.now }
-    ensures { IfOk result (λ standing. standing.items ≡ last_of_each_tick changes.now) }
+    ensures { IfOk result (λ last_changes. last_changes.items ≡ last_of_each_tick changes.now) }
 {
     if changes.len() <= 1 {
         Vec::from_slice(alloc, changes)

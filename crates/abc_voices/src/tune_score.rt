@@ -33,20 +33,20 @@ const USUAL_TEMPO: u32 = 500_000;
 /// Returns the changes of stages, from the items of their tune's fields. The voice at place `first` has the first track.
 fn changes_along(
     alloc: Global,
-    given: &[&Item],
+    fields: &[&Item],
     turns: &[Turn],
     first: usize,
 ) -> Result<Vec<Change>, AllocError>
     requires stages { All (λ turn. IsStage turn.stage.now) turns.now }
     requires in_time { length_along (stages_in turns.now) ≤ grains_of_the_latest_end }
-    requires steady { is_steady (items_of given.now) ≡ true → All IsSteady (stages_in turns.now) }
-    ensures { IfOk result (λ changes. changes.items ≡ changes_along (items_of given.now) first (stages_in turns.now)) }
+    requires steady { is_steady (items_of fields.now) ≡ true → All IsSteady (stages_in turns.now) }
+    ensures { IfOk result (λ changes. changes.items ≡ changes_along (items_of fields.now) first (stages_in turns.now)) }
 {
-    let tempo = opening_tempo(given).unwrap_or(USUAL_TEMPO);
-    let meter = opening_meter(given).unwrap_or(Meter::Free);
-    let key = opening_key(given).unwrap_or((0, false));
+    let tempo = opening_tempo(fields).unwrap_or(USUAL_TEMPO);
+    let meter = opening_meter(fields).unwrap_or(Meter::Free);
+    let key = opening_key(fields).unwrap_or((0, false));
     // Most tunes keep the tempo, meter and key with which they open: then no stage is searched.
-    if is_steady(given) {
+    if is_steady(fields) {
         let start = Grains(0);
         return changes_in_force(alloc, &[(start, tempo)], &[(start, meter)], &[(start, key)]);
     }
@@ -72,7 +72,7 @@ fn latest_end(at: Grains, voices: &[Sequence<Sounding>]) -> Grains
 #[tactic(auto, unfolding(abc_time::specs::Grains::grains_of_a_whole_note, abc_time::specs::Grains::grains_of_the_latest_end))]
 pub(crate) fn score_along(
     alloc: Global,
-    given: &[&Item],
+    fields: &[&Item],
     turns: &[Turn],
     total: Grains,
     first: usize,
@@ -81,10 +81,10 @@ pub(crate) fn score_along(
     requires stages { All (λ turn. IsStage turn.stage.now) turns.now }
     requires total { total.0 ≡ length_along (stages_in turns.now) }
     requires in_time { total.0 ≤ grains_of_the_latest_end }
-    requires steady { is_steady (items_of given.now) ≡ true → All IsSteady (stages_in turns.now) }
-    requires kept { keeps_programs (items_of given.now) ≡ true → All (PlaysNone sets_program) (stages_in turns.now) }
+    requires steady { is_steady (items_of fields.now) ≡ true → All IsSteady (stages_in turns.now) }
+    requires kept { keeps_programs (items_of fields.now) ≡ true → All (PlaysNone sets_program) (stages_in turns.now) }
     requires voices { first ≤ count }
-    ensures value { IfOk result (λ score. score ≡ score_along (items_of given.now) first count (stages_in turns.now)) }
+    ensures value { IfOk result (λ score. score ≡ score_along (items_of fields.now) first count (stages_in turns.now)) }
     ensures in_time { IfOk result (λ score. score.end.0 ≤ grains_of_the_latest_end) }
     ensures too_many { result ≢ Err TooMany }
     ensures too_late { result ≡ Err TooLate
@@ -95,9 +95,9 @@ pub(crate) fn score_along(
     if end > LATEST_END {
         return Err(StageError::TooLate);
     }
-    let changes = changes_along(alloc, given, turns, first)?;
-    let programs = voices_programs(alloc, given, turns, first, count)?;
-    let title = Sequence::from_slice(alloc, title_of(given))?;
+    let changes = changes_along(alloc, fields, turns, first)?;
+    let programs = voices_programs(alloc, fields, turns, first, count)?;
+    let title = Sequence::from_slice(alloc, title_of(fields))?;
     Ok(Score {
         title,
         end,

@@ -5,4 +5,4 @@ use Rattle.abc_voices.proofs.fields.is_steady.Given as goal
 
 -- the rest says what all say
 abbrev pub invariant-loop-item : goal.invariant-loop-item
-invariant-loop-item l = is_steady (items_of (drop l.item-index l.given)) ≡ is_steady (items_of l.given)
+invariant-loop-item l = is_steady (items_of (drop l.item-index l.fields)) ≡ is_steady (items_of l.fields)

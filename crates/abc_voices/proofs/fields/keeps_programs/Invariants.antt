@@ -5,4 +5,4 @@ use Rattle.abc_voices.proofs.fields.keeps_programs.Given as goal
 
 -- the rest says what all say
 abbrev pub invariant-loop-item : goal.invariant-loop-item
-invariant-loop-item l = keeps_programs (items_of (drop l.item-index l.given)) ≡ keeps_programs (items_of l.given)
+invariant-loop-item l = keeps_programs (items_of (drop l.item-index l.fields)) ≡ keeps_programs (items_of l.fields)

@@ -2,14 +2,14 @@ use Rattle.std.proofs.Common.{List, ℕ, map, ap, length, sym, ◌∙◌}
 use Rattle.std.proofs.lemmas.List.{length-map}
 use Rattle.std.specs.Borrow.{Bor}
 use Rattle.abc_voices_sections.specs.Items.{items_of}
-use Rattle.abc_voices.proofs.Given.{everyone_given}
+use Rattle.abc_voices.proofs.OfFields.{voices_of_fields}
 use Rattle.abc_voices.proofs.layout.lay_out_sections.Goals as goal
 
 pub stages_of-requires-clause-voices : goal.stages_of-requires-clause-voices
 stages_of-requires-clause-voices c =
-    ap (map (λ (voice : Bor (List ℕ)). voice.now)) c.as_slice.ensures.keys ∙ c.in_ok-voices.ensures ∙ everyone_given (items_of c.args.tune.now) (items_of c.args.given.now) c.requires.given
+    ap (map (λ (voice : Bor (List ℕ)). voice.now)) c.as_slice.ensures.keys ∙ c.in_ok-voices.ensures ∙ voices_of_fields (items_of c.args.tune.now) (items_of c.args.fields.now) c.requires.fields
 
 pub lay_out_turns-requires-clause-count : goal.lay_out_turns-requires-clause-count
 lay_out_turns-requires-clause-count c =
     c.len.ensures.len ∙ sym (length-map c.in_ok-voices.voices.keys (λ (voice : Bor (List ℕ)). voice.now))
-    ∙ ap length (c.in_ok-voices.ensures ∙ everyone_given (items_of c.args.tune.now) (items_of c.args.given.now) c.requires.given)
+    ∙ ap length (c.in_ok-voices.ensures ∙ voices_of_fields (items_of c.args.tune.now) (items_of c.args.fields.now) c.requires.fields)

@@ -4,7 +4,7 @@ use Rattle.abc_voices_sections.specs.Items.{items_of}
 use Rattle.abc_voices.specs.Turns.{stages_in}
 use Rattle.abc_voices_sections.specs.declared.stage.StageError.TheVariants.{TooLate}
 use Rattle.abc_voices_score.specs.declared.score.Score.{Score}
-use Rattle.abc_voices.proofs.Given.{score_given}
+use Rattle.abc_voices.proofs.OfFields.{score_of_fields}
 use Rattle.abc_voices.proofs.Layouts.{stages_hold, late_total, late_end, score_is, uneven_is, first_within}
 use Rattle.abc_voices.proofs.Lengths.{are_stages}
 use Rattle.abc_voices.proofs.Steady.{kept_along, steady_along}
@@ -22,16 +22,16 @@ score_along-requires-clause-voices c = omega (arith, first_within (items_of c.ar
 
 pub score_along-requires-clause-steady : goal.score_along-requires-clause-steady
 score_along-requires-clause-steady c =
-    steady_along (items_of c.args.tune.now) (items_of c.args.given.now) (stages_in c.args.turns.now) c.requires.given c.requires.stages
+    steady_along (items_of c.args.tune.now) (items_of c.args.fields.now) (stages_in c.args.turns.now) c.requires.fields c.requires.stages
 
 pub score_along-requires-clause-kept : goal.score_along-requires-clause-kept
 score_along-requires-clause-kept c =
-    kept_along (items_of c.args.tune.now) (items_of c.args.given.now) (stages_in c.args.turns.now) c.requires.given c.requires.stages
+    kept_along (items_of c.args.tune.now) (items_of c.args.fields.now) (stages_in c.args.turns.now) c.requires.fields c.requires.stages
 
 pub returns-in-Ok-clause-score : goal.returns-in-Ok-clause-score
 returns-in-Ok-clause-score c =
-    c.in-Ok.ensures.value ∙ score_given (items_of c.args.tune.now)
-    (items_of c.args.given.now) c.first_track-first.result c.args.count (stages_in c.args.turns.now) c.requires.given
+    c.in-Ok.ensures.value ∙ score_of_fields (items_of c.args.tune.now)
+    (items_of c.args.fields.now) c.first_track-first.result c.args.count (stages_in c.args.turns.now) c.requires.fields
     ∙ score_is (items_of c.args.tune.now) (stages_in c.args.turns.now) c.first_track-first.result c.args.count c.requires.stages c.first_track-first.ensures c.requires.count
 
 pub returns-in-Ok-clause-uneven : goal.returns-in-Ok-clause-uneven
@@ -40,8 +40,8 @@ returns-in-Ok-clause-uneven c =
 
 pub returns-in-Ok-clause-in_time : goal.returns-in-Ok-clause-in_time
 returns-in-Ok-clause-in_time c =
-    let score = c.in-Ok.ensures.value ∙ score_given (items_of c.args.tune.now)
-    (items_of c.args.given.now) c.first_track-first.result c.args.count (stages_in c.args.turns.now) c.requires.given
+    let score = c.in-Ok.ensures.value ∙ score_of_fields (items_of c.args.tune.now)
+    (items_of c.args.fields.now) c.first_track-first.result c.args.count (stages_in c.args.turns.now) c.requires.fields
     ∙ score_is (items_of c.args.tune.now) (stages_in c.args.turns.now) c.first_track-first.result c.args.count c.requires.stages c.first_track-first.ensures c.requires.count in
     subst (λ (n : ℕ). n ≤ grains_of_the_latest_end) (ap (λ (s : Score). s.end.0) score) c.in-Ok.ensures.in_time
 

@@ -7,7 +7,7 @@ use Rattle.abc_voices.proofs.Within.{IsAccepted, order_accepted, same_length, sa
 use Rattle.abc_voices.proofs.layout.order_of_sections.Goals as goal
 
 pub play_order-requires : goal.play_order-requires
-play_order-requires c = subst IsAccepted (sym c.order_of.ensures) (order_accepted (items_of c.args.given.now) None (λ text e. cc) c.requires)
+play_order-requires c = subst IsAccepted (sym c.order_of.ensures) (order_accepted (items_of c.args.fields.now) None (λ text e. cc) c.requires)
 
 pub returns-in-Ok-clause-few : goal.returns-in-Ok-clause-few
 returns-in-Ok-clause-few c =

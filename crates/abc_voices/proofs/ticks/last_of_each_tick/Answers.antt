@@ -12,5 +12,5 @@ one_stands (change ∷ next ∷ changes) h = absurd (omega arith)
 
 pub returns-then-changes-le1 : goal.returns-then-changes-le1
 returns-then-changes-le1 g c =
-    subst (λ l. IfOk c.from_slice.result (λ standing. standing.items ≡ l))
+    subst (λ l. IfOk c.from_slice.result (λ last_changes. last_changes.items ≡ l))
     (one_stands c.args.changes.now c.if-changes-le1.true) c.from_slice.ensures.items

@@ -8,7 +8,7 @@ use Rattle.abc_voices.proofs.ticks.last_of_many.Given as goal
 abbrev pub invariant-loop-left : goal.invariant-loop-left
 invariant-loop-left g l = record {
   inside : l.left ≤ length l.changes;
-  standing : l.standing.items ≡ last_of_each_tick (drop l.left l.changes);
+  last : l.last_changes.items ≡ last_of_each_tick (drop l.left l.changes);
   ticks : (tick : ℕ) → contains nat_eq l.ticks tick ≡ has_tick tick (drop l.left l.changes);
 }
 

@@ -32,7 +32,7 @@ changes_in_force-requires-2-clause-keys c =
 pub returns-then-is_steady : goal.returns-then-is_steady
 returns-then-is_steady c =
     let steady = c.requires.steady (sym c.is_steady.ensures ∙ c.if-is_steady.true) in
-    let same = steady_changes (items_of c.args.given.now) c.args.first (stages_in c.args.turns.now) c.unwrap_or-tempo.result c.unwrap_or-meter.result c.unwrap_or-key.result steady
+    let same = steady_changes (items_of c.args.fields.now) c.args.first (stages_in c.args.turns.now) c.unwrap_or-tempo.result c.unwrap_or-meter.result c.unwrap_or-key.result steady
     (opening_is c.opening_tempo.result _ usual_tempo _ c.unwrap_or-tempo.ensures c.opening_tempo.ensures)
     (opening_is c.opening_meter.result _ meters.Free _ c.unwrap_or-meter.ensures c.opening_meter.ensures)
     (opening_is c.opening_key.result _ (pos 0, false) _ c.unwrap_or-key.ensures c.opening_key.ensures) in

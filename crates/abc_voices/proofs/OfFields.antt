@@ -70,37 +70,37 @@ from_right f before goes kept (step ∷ tune) =
     right_step f before goes kept step tune (from_right f before goes kept tune) (is_music step) refl
 
 -- the last value of several fields
-after_given : {V : Type 0} (past : Option V → Item → Option V) → ((item : Item) → is_music item ≡ true → (v : Option V) → past v item ≡ v)
+after_fields : {V : Type 0} (past : Option V → Item → Option V) → ((item : Item) → is_music item ≡ true → (v : Option V) → past v item ≡ v)
     → (tune : List Item) → after_all past None (without_music tune) ≡ after_all past None tune
-after_given past kept tune = from_left (after_all past) past (λ _ _ _. refl) kept None tune
+after_fields past kept tune = from_left (after_all past) past (λ _ _ _. refl) kept None tune
 
 -- the order of the parts
 order_kept : (item : Item) → is_music item ≡ true → (v : Option (List ℕ)) → order_after v item ≡ v
 order_kept item music v = of_music (order_after v) v (λ _ _. refl) (λ _ _. refl) (λ _. refl) (λ _. refl) item music
 
-order_given : (tune : List Item) → after_all order_after None (without_music tune) ≡ after_all order_after None tune
-order_given = after_given order_after order_kept
+order_of_fields : (tune : List Item) → after_all order_after None (without_music tune) ≡ after_all order_after None tune
+order_of_fields = after_fields order_after order_kept
 
 -- the letters of the parts
 letter_kept : (item : Item) → is_music item ≡ true → (v : List ℕ) → cons_option (letter_of item) v ≡ v
 letter_kept item music v = of_music (λ i. cons_option (letter_of i) v) v (λ _ _. refl) (λ _ _. refl) (λ _. refl) (λ _. refl) item music
 
-pub letters_given : (tune : List Item) → letters (without_music tune) ≡ letters tune
-letters_given tune = from_right (letters) (λ v item. cons_option (letter_of item) v) (λ _ _. refl) letter_kept tune
+pub letters_of_fields : (tune : List Item) → letters (without_music tune) ≡ letters tune
+letters_of_fields tune = from_right (letters) (λ v item. cons_option (letter_of item) v) (λ _ _. refl) letter_kept tune
 
 -- the voices
 names_kept : (item : Item) → is_music item ≡ true → (v : List (List ℕ)) → names_after v item ≡ v
 names_kept item music v = of_music (names_after v) v (λ _ _. refl) (λ _ _. refl) (λ _. refl) (λ _. refl) item music
 
-pub everyone_given : (tune given : List Item) → given ≡ without_music tune → voice_names given ≡ voice_names tune
-everyone_given tune given is =
+pub voices_of_fields : (tune fields : List Item) → fields ≡ without_music tune → voice_names fields ≡ voice_names tune
+voices_of_fields tune fields is =
     ap (voice_names) is ∙ from_left (names_from) names_after (λ _ _ _. refl) names_kept ([] ∷ []) tune
 
 declared_kept : (item : Item) → is_music item ≡ true → (v : List ℕ) → declared_or v item ≡ v
 declared_kept item music v = of_music (declared_or v) v (λ _ _. refl) (λ _ _. refl) (λ _. refl) (λ _. refl) item music
 
-pub opening_given : (tune given : List Item) → given ≡ without_music tune → opening_voice given ≡ opening_voice tune
-opening_given tune given is =
+pub opening_voice_of_fields : (tune fields : List Item) → fields ≡ without_music tune → opening_voice fields ≡ opening_voice tune
+opening_voice_of_fields tune fields is =
     ap (opening_voice) is ∙ from_right (opening_voice) declared_or (λ _ _. refl) declared_kept tune
 
 -- the tempo, the meter and the key with which a tune opens
@@ -121,40 +121,40 @@ program_kept item music v = of_music (program_after v) v (λ _ _. refl) (λ _ _.
 title_kept : (item : Item) → is_music item ≡ true → (v : List ℕ) → title_before v item ≡ v
 title_kept item music v = of_music (title_before v) v (λ _ _. refl) (λ _ _. refl) (λ _. refl) (λ _. refl) item music
 
-title_given : (tune : List Item) → title_of (without_music tune) ≡ title_of tune
-title_given tune = from_right (title_of) title_before (λ _ _. refl) title_kept tune
+title_of_fields : (tune : List Item) → title_of (without_music tune) ≡ title_of tune
+title_of_fields tune = from_right (title_of) title_before (λ _ _. refl) title_kept tune
 
 -- the score of stages
-score_fields : (tune : List Item) (first count : ℕ) (stages : List Stage) → score_along (without_music tune) first count stages ≡ score_along tune first count stages
-score_fields tune first count stages =
+score_without_music : (tune : List Item) (first count : ℕ) (stages : List Stage) → score_along (without_music tune) first count stages ≡ score_along tune first count stages
+score_without_music tune first count stages =
     let voices = voices_along stages first (count - first) in
     λ i. record {
-      title = title_given tune i;
+      title = title_of_fields tune i;
       end = record { 0 = end_along stages voices };
       conductor = changes_in_force
-          ((record { 0 = 0 }, or_else usual_tempo (after_given tempo_after tempo_kept tune i)) ∷ set_by_all tempo_of 0 stages)
-          ((record { 0 = 0 }, or_else meters.Free (after_given meter_after meter_kept tune i)) ∷ set_by_one meter_of first 0 stages)
-          ((record { 0 = 0 }, or_else (pos 0, false) (after_given key_after key_kept tune i)) ∷ set_by_one key_of first 0 stages);
+          ((record { 0 = 0 }, or_else usual_tempo (after_fields tempo_after tempo_kept tune i)) ∷ set_by_all tempo_of 0 stages)
+          ((record { 0 = 0 }, or_else meters.Free (after_fields meter_after meter_kept tune i)) ∷ set_by_one meter_of first 0 stages)
+          ((record { 0 = 0 }, or_else (pos 0, false) (after_fields key_after key_kept tune i)) ∷ set_by_one key_of first 0 stages);
       voices = voices;
-      programs = programs_along (after_given program_after program_kept tune i) stages first (count - first);
+      programs = programs_along (after_fields program_after program_kept tune i) stages first (count - first);
     }
 
-pub score_given : (tune given : List Item) (first count : ℕ) (stages : List Stage) → given ≡ without_music tune
-    → score_along given first count stages ≡ score_along tune first count stages
-score_given tune given first count stages is =
-    ap (λ g. score_along g first count stages) is ∙ score_fields tune first count stages
+pub score_of_fields : (tune fields : List Item) (first count : ℕ) (stages : List Stage) → fields ≡ without_music tune
+    → score_along fields first count stages ≡ score_along tune first count stages
+score_of_fields tune fields first count stages is =
+    ap (λ g. score_along g first count stages) is ∙ score_without_music tune first count stages
 
 -- the sections that are played, and whether the order has a letter without one
-pub played_given : (tune given : List Item) → given ≡ without_music tune
-    → sections_of (after_all order_after None given) (letters given) ≡ sections_of (after_all order_after None tune) (letters tune)
-played_given tune given is =
-    (λ i. sections_of (after_all order_after None (is i)) (letters (is i))) ∙ (λ i. sections_of (order_given tune i) (letters_given tune i))
+pub played_of_fields : (tune fields : List Item) → fields ≡ without_music tune
+    → sections_of (after_all order_after None fields) (letters fields) ≡ sections_of (after_all order_after None tune) (letters tune)
+played_of_fields tune fields is =
+    (λ i. sections_of (after_all order_after None (is i)) (letters (is i))) ∙ (λ i. sections_of (order_of_fields tune i) (letters_of_fields tune i))
 
-pub unknown_given : (tune given : List Item) → given ≡ without_music tune
-    → has_unknown (after_all order_after None given) (letters given) ≡ has_unknown (after_all order_after None tune) (letters tune)
-unknown_given tune given is =
-    (λ i. has_unknown (after_all order_after None (is i)) (letters (is i))) ∙ (λ i. has_unknown (order_given tune i) (letters_given tune i))
+pub unknown_of_fields : (tune fields : List Item) → fields ≡ without_music tune
+    → has_unknown (after_all order_after None fields) (letters fields) ≡ has_unknown (after_all order_after None tune) (letters tune)
+unknown_of_fields tune fields is =
+    (λ i. has_unknown (after_all order_after None (is i)) (letters (is i))) ∙ (λ i. has_unknown (order_of_fields tune i) (letters_of_fields tune i))
 
 -- each field is an item of the tune
-pub items_given : (P : Item → Type 0) (tune given : List Item) → given ≡ without_music tune → All P tune → All P given
-items_given P tune given is all = subst (All P) (sym is) (All-filter (λ step. not (is_music step)) P tune all)
+pub items_of_fields : (P : Item → Type 0) (tune fields : List Item) → fields ≡ without_music tune → All P tune → All P fields
+items_of_fields P tune fields is all = subst (All P) (sym is) (All-filter (λ step. not (is_music step)) P tune all)
