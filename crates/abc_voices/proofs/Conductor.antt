@@ -3,7 +3,7 @@ use Rattle.std.proofs.Common.{◌≡◌, ℕ, ℤ, pos, ◌+◌, Bool, true, fal
 use Rattle.std.proofs.lemmas.List.Elements.{filter-append}
 use Rattle.std.specs.Prelude.{◌==◌, filter, filter_map, option_map, option_and_then, unwrap_or}
 use Rattle.std.specs.List.{cons_option, flat_map}
-use Rattle.std.specs.Option.{option_to_list}
+use Rattle.std.specs.Option.{option_or, option_to_list}
 use Rattle.abc_bars_items.specs.declared.item.Item.{Item}
 use Rattle.abc_bars_items.specs.declared.item.Item.TheVariants as items
 use Rattle.abc_fields.specs.declared.meter.Meter.{Meter}
@@ -12,7 +12,7 @@ use Rattle.abc_time.specs.declared.grains.Grains.{Grains}
 use Rattle.abc_time.specs.Grains.{tick_at}
 use Rattle.abc_voices_score.specs.declared.score.Change.{Change}
 use Rattle.abc_voices_score.specs.declared.score.ChangeKind.TheVariants as kinds
-use Rattle.abc_voices.specs.Arrange.{first_of, or_else, played_sections, set_in, usual_tempo}
+use Rattle.abc_voices.specs.Arrange.{first_of, played_sections, set_in, usual_tempo}
 use Rattle.abc_voices_sections.specs.PlayedSection.{section_length, play_in}
 use Rattle.abc_voices.specs.Change.{tempo_of, meter_of, key_of, set_from}
 use Rattle.abc_voices.specs.Conductor.{opening_tempo_of, opening_meter_of, opening_key_of, opening_by, sections_in_time, last_beside, last_set}
@@ -22,7 +22,6 @@ use Rattle.abc_voices.specs.OnTicks.{last_said, set_on}
 use Rattle.abc_voices.specs.ScoreChanges.{tempo_change, meter_change, key_change, changes_in_force}
 use Rattle.abc_voices.specs.Ticks.{last_of_each_tick}
 use Rattle.abc_voices.specs.Track.{voice_names, tracks}
-use Rattle.abc_voices.specs.Voices.{or_said}
 use Rattle.abc_voices.proofs.OnTicks.{last_append, set_if_on, is_on, last_on, last_stands, as_list, play_said}
 
 voices_said : {V : Type 0} (value_of : Item → Option V) (those : List (List ℕ)) (tick at : ℕ) (section : List ℕ × List Item)
@@ -33,7 +32,7 @@ voices_said value_of (voice ∷ those) tick at section =
     let play : List Item = play_in section voice in
     last_append (set_if_on tick) (set_from value_of at play)
     (flat_map (λ one. set_from value_of at (play_in section one)) those)
-    ∙ (λ i. or_said (voices_said value_of those tick at section i) (play_said value_of tick at play i))
+    ∙ (λ i. option_or (voices_said value_of those tick at section i) (play_said value_of tick at play i))
 
 sections_said : {V : Type 0} (value_of : Item → Option V) (voices those : List (List ℕ)) (tick at : ℕ) (sections : List (List ℕ × List Item))
     → last_on tick (set_in value_of voices those at sections)
@@ -43,9 +42,9 @@ sections_said value_of voices those tick at (section ∷ rest) =
     let next : ℕ = at + section_length voices section in
     last_append (set_if_on tick) (flat_map (λ voice. set_from value_of at (play_in section voice)) those)
     (set_in value_of voices those next rest)
-    ∙ (λ i. or_said (sections_said value_of voices those tick next rest i) (voices_said value_of those tick at section i))
+    ∙ (λ i. option_or (sections_said value_of voices those tick next rest i) (voices_said value_of those tick at section i))
 
-later_or : {X : Type 0} (last first : Option X) (value : X) → unwrap_or last (unwrap_or first value) ≡ unwrap_or (or_said last first) value
+later_or : {X : Type 0} (last first : Option X) (value : X) → unwrap_or last (unwrap_or first value) ≡ unwrap_or (option_or last first) value
 later_or None first value = refl
 later_or (Some x) first value = refl
 
@@ -59,15 +58,11 @@ all_past past says one value (item ∷ tune) =
     ∙ ap (unwrap_or (last_said says tune)) (one value item)
     ∙ later_or (last_said says tune) (says item) value
 
-or_usual : {V : Type 0} (usual : V) (value : Option V) → or_else usual value ≡ unwrap_or value usual
-or_usual usual None = refl
-or_usual usual (Some value) = refl
-
 opens : {V : Type 0} (past : Option V → Item → Option V) (says : Item → Option (Option V)) (usual : V)
     → ((value : Option V) (item : Item) → past value item ≡ unwrap_or (says item) value)
-    → (tune : List Item) → or_else usual (after_all past None tune) ≡ opening_by says usual tune
+    → (tune : List Item) → unwrap_or (after_all past None tune) usual ≡ opening_by says usual tune
 opens past says usual one tune =
-    ap (or_else usual) (all_past past says one None tune) ∙ or_usual usual (unwrap_or (last_said says tune) None)
+    ap (λ value. unwrap_or value usual) (all_past past says one None tune)
 
 tempo_said : (value : Option ℕ) (item : Item) → tempo_after value item ≡ unwrap_or (opening_tempo_of item) value
 tempo_said value (items.Tempo true micros out) = refl
@@ -177,22 +172,22 @@ played_with value_of those opening tune =
     (record { 0 = 0 }, opening) ∷ set_in value_of (voice_names tune) those 0 (played_sections tune)
 
 abbrev tempos_in : List Item → List (Grains × ℕ)
-tempos_in tune = played_with tempo_of (voice_names tune) (or_else usual_tempo (after_all tempo_after None tune)) tune
+tempos_in tune = played_with tempo_of (voice_names tune) (unwrap_or (after_all tempo_after None tune) usual_tempo) tune
 
 abbrev meters_in : List Item → List (Grains × Meter)
-meters_in tune = played_with meter_of (first_of (tracks tune)) (or_else meters.Free (after_all meter_after None tune)) tune
+meters_in tune = played_with meter_of (first_of (tracks tune)) (unwrap_or (after_all meter_after None tune) meters.Free) tune
 
 abbrev keys_in : List Item → List (Grains × (ℤ × Bool))
-keys_in tune = played_with key_of (first_of (tracks tune)) (or_else (pos 0, false) (after_all key_after None tune)) tune
+keys_in tune = played_with key_of (first_of (tracks tune)) (unwrap_or (after_all key_after None tune) (pos 0, false)) tune
 
 -- what is set after what a tune opens with
 following_opening : {V : Type 0} (value_of : Item → Option V) (those same_voices : List (List ℕ)) (tune : List Item) (tick : ℕ) (given opening : V)
     → those ≡ same_voices → given ≡ opening
     → last_on tick (played_with value_of those given tune) ≡ set_or_opening value_of same_voices opening tune tick
 following_opening value_of those same_voices tune tick given opening voices same =
-    ap (λ last. or_said last (set_on tick 0 (Some given)))
+    ap (λ last. option_or last (set_on tick 0 (Some given)))
     (sections_said value_of (voice_names tune) those tick 0 (played_sections tune))
-    ∙ (λ i. or_said (last_set value_of (voices i) tune tick) (set_on tick 0 (Some (same i))))
+    ∙ (λ i. option_or (last_set value_of (voices i) tune tick) (set_on tick 0 (Some (same i))))
 
 pub is_conducted : IsConductedOnTicks
 is_conducted tune tick =
@@ -201,16 +196,16 @@ is_conducted tune tick =
       tempo = tempos_stand tick (tempos_in tune) (meters_in tune) (keys_in tune)
           ∙ ap (λ last. option_to_list (option_map tempo_change last))
           (following_opening tempo_of (voice_names tune) (voice_names tune) tune tick
-          (or_else usual_tempo (after_all tempo_after None tune)) (opening_by opening_tempo_of at_120 tune) refl
+          (unwrap_or (after_all tempo_after None tune) usual_tempo) (opening_by opening_tempo_of at_120 tune) refl
           (opens tempo_after opening_tempo_of at_120 tempo_said tune));
       meter = meters_stand tick (tempos_in tune) (meters_in tune) (keys_in tune)
           ∙ ap (λ last. option_to_list (option_and_then meter_change last))
           (following_opening meter_of (first_of (tracks tune)) (leader tune) tune tick
-          (or_else meters.Free (after_all meter_after None tune)) (opening_by opening_meter_of meters.Free tune) first
+          (unwrap_or (after_all meter_after None tune) meters.Free) (opening_by opening_meter_of meters.Free tune) first
           (opens meter_after opening_meter_of meters.Free meter_said tune));
       key = keys_stand tick (tempos_in tune) (meters_in tune) (keys_in tune)
           ∙ ap (λ last. option_to_list (option_map key_change last))
           (following_opening key_of (first_of (tracks tune)) (leader tune) tune tick
-          (or_else (pos 0, false) (after_all key_after None tune)) (opening_by opening_key_of (pos 0, false) tune) first
+          (unwrap_or (after_all key_after None tune) (pos 0, false)) (opening_by opening_key_of (pos 0, false) tune) first
           (opens key_after opening_key_of (pos 0, false) key_said tune));
     }

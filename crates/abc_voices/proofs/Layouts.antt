@@ -6,7 +6,7 @@ use Rattle.std.proofs.lemmas.List.{drop_more, length-map}
 use Rattle.std.proofs.lemmas.List.Folds.{flat_map-map}
 use Rattle.std.proofs.lemmas.List.Sums.{sum_by_from}
 use Rattle.std.proofs.lemmas.Option.{slice_get-map, slice_get-get_or, slice_get_past}
-use Rattle.std.specs.Prelude.{◌||◌, pos, bytes_eq, All, slice_get, filter_map, sum_by, option_map}
+use Rattle.std.specs.Prelude.{◌||◌, pos, bytes_eq, All, slice_get, filter_map, sum_by, option_map, unwrap_or}
 use Rattle.std.specs.List.{list_any, flat_map}
 use Rattle.abc_bars_items.specs.declared.item.Item.{Item}
 use Rattle.abc_bars_items.specs.declared.item.Item.TheVariants as items
@@ -21,7 +21,7 @@ use Rattle.abc_voices_sections.specs.declared.stage.Stage.{Stage}
 use Rattle.abc_voices.specs.Turns.{IsStage, length_along, steps_of, notes_along, for_voices, voices_along, set_by_all, set_by_one, parts_differ}
 use Rattle.abc_voices.specs.Turns.{is_stage_uneven, first_place, changes_along, programs_by, programs_along, end_along, score_along}
 use Rattle.abc_voices.specs.Arrange.{played_sections, voice_notes, all_notes, set_in, first_of, lengths_differ, is_uneven, voices_notes, last_off}
-use Rattle.abc_voices.specs.Arrange.{end_of, changes_of, programs_in, programs_of, score_of, or_else, usual_tempo, arranged_of}
+use Rattle.abc_voices.specs.Arrange.{end_of, changes_of, programs_in, programs_of, score_of, usual_tempo, arranged_of}
 use Rattle.abc_voices_sections.specs.PlayedSection.{play_in, section_length}
 use Rattle.abc_voices.specs.Change.{tempo_of, meter_of, key_of, program_of, set_from, after_opening}
 use Rattle.abc_voices.specs.ScoreChanges.{programs_in_force}
@@ -199,9 +199,9 @@ changes_here tune =
     let meter_sets = one_here meter_of voices (first_place tune) 0 played ∙ ap (λ those. set_in meter_of voices (first_of those) 0 played) first in
     let key_sets = one_here key_of voices (first_place tune) 0 played ∙ ap (λ those. set_in key_of voices (first_of those) 0 played) first in
     λ i. changes_in_force
-    ((record { 0 = 0 }, or_else usual_tempo (after_all tempo_after None tune)) ∷ all_here tempo_of voices 0 played i)
-    ((record { 0 = 0 }, or_else meters.Free (after_all meter_after None tune)) ∷ meter_sets i)
-    ((record { 0 = 0 }, or_else (pos 0, false) (after_all key_after None tune)) ∷ key_sets i)
+    ((record { 0 = 0 }, unwrap_or (after_all tempo_after None tune) usual_tempo) ∷ all_here tempo_of voices 0 played i)
+    ((record { 0 = 0 }, unwrap_or (after_all meter_after None tune) meters.Free) ∷ meter_sets i)
+    ((record { 0 = 0 }, unwrap_or (after_all key_after None tune) (pos 0, false)) ∷ key_sets i)
 
 -- the score of the stages that are played
 pub score_of_stages : (tune : List Item)

@@ -1,7 +1,7 @@
 -- The opening, the parts and the voices of a tune depend on its fields alone: music changes none of them.
 use Rattle.std.proofs.Common.{◌≡◌, ℕ, ◌-◌, Bool, true, false, cond, List, [], ◌∷◌, Option, None, refl, sym, subst, ap, ◌∙◌}
 use Rattle.std.proofs.lemmas.List.Elements.{All-filter}
-use Rattle.std.specs.Prelude.{not, ℤ, pos, All}
+use Rattle.std.specs.Prelude.{not, ℤ, pos, All, unwrap_or}
 use Rattle.std.specs.List.{cons_option}
 use Rattle.abc_bars_items.specs.declared.item.Item.{Item}
 use Rattle.abc_bars_items.specs.declared.item.Item.TheVariants as items
@@ -12,7 +12,7 @@ use Rattle.abc_repeat.specs.Order.{sections_of, has_unknown}
 use Rattle.abc_time.specs.declared.grains.Grains.{Grains}
 use Rattle.abc_voices.specs.ScoreChanges.{changes_in_force}
 use Rattle.abc_voices.specs.Turns.{set_by_all, set_by_one, voices_along, programs_along, end_along, score_along}
-use Rattle.abc_voices.specs.Arrange.{or_else, usual_tempo}
+use Rattle.abc_voices.specs.Arrange.{usual_tempo}
 use Rattle.abc_voices.specs.Change.{tempo_of, meter_of, key_of}
 use Rattle.abc_voices.specs.Fields.{is_music, without_music}
 use Rattle.abc_voices.specs.Opening.{tempo_after, meter_after, key_after, program_after, order_after, after_all, title_before, title_of}
@@ -132,9 +132,9 @@ score_without_music tune first count stages =
       title = title_of_fields tune i;
       end = record { 0 = end_along stages voices };
       conductor = changes_in_force
-          ((record { 0 = 0 }, or_else usual_tempo (after_fields tempo_after tempo_kept tune i)) ∷ set_by_all tempo_of 0 stages)
-          ((record { 0 = 0 }, or_else meters.Free (after_fields meter_after meter_kept tune i)) ∷ set_by_one meter_of first 0 stages)
-          ((record { 0 = 0 }, or_else (pos 0, false) (after_fields key_after key_kept tune i)) ∷ set_by_one key_of first 0 stages);
+          ((record { 0 = 0 }, unwrap_or (after_fields tempo_after tempo_kept tune i) usual_tempo) ∷ set_by_all tempo_of 0 stages)
+          ((record { 0 = 0 }, unwrap_or (after_fields meter_after meter_kept tune i) meters.Free) ∷ set_by_one meter_of first 0 stages)
+          ((record { 0 = 0 }, unwrap_or (after_fields key_after key_kept tune i) (pos 0, false)) ∷ set_by_one key_of first 0 stages);
       voices = voices;
       programs = programs_along (after_fields program_after program_kept tune i) stages first (count - first);
     }

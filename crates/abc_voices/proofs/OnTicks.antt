@@ -3,7 +3,7 @@ use Rattle.std.proofs.Common.{◌≡◌, ℕ, ◌+◌, Bool, true, false, cond, 
 use Rattle.std.proofs.lemmas.List.Elements.{filter-append}
 use Rattle.std.specs.Prelude.{◌==◌, ◌||◌, filter, is_some, option_map}
 use Rattle.std.specs.List.{cons_option}
-use Rattle.std.specs.Option.{option_to_list}
+use Rattle.std.specs.Option.{option_or, option_to_list}
 use Rattle.abc_bars_items.specs.declared.item.Item.{Item}
 use Rattle.abc_bars_items.specs.declared.item.Item.TheVariants as items
 use Rattle.abc_time.specs.declared.grains.Grains.{Grains}
@@ -18,21 +18,20 @@ use Rattle.abc_voices.specs.ScoreChanges.{program_change}
 use Rattle.abc_voices_sections.specs.Step.{length_of}
 use Rattle.abc_voices.specs.Ticks.{has_tick, last_of_each_tick}
 use Rattle.abc_voices.specs.Track.{voice_names, tracks}
-use Rattle.abc_voices.specs.Voices.{or_said}
 
 -- the value of the first of these that has one
-pub or_none : {V : Type 0} (value : Option V) → value ≡ or_said value None
+pub or_none : {V : Type 0} (value : Option V) → value ≡ option_or value None
 or_none None = refl
 or_none (Some value) = refl
 
-or_all : {V : Type 0} (a b c : Option V) → or_said (or_said a b) c ≡ or_said a (or_said b c)
+or_all : {V : Type 0} (a b c : Option V) → option_or (option_or a b) c ≡ option_or a (option_or b c)
 or_all None b c = refl
 or_all (Some value) b c = refl
 
-pub last_append : {X V : Type 0} (says : X → Option V) (xs ys : List X) → last_said says (xs ++ ys) ≡ or_said (last_said says ys) (last_said says xs)
+pub last_append : {X V : Type 0} (says : X → Option V) (xs ys : List X) → last_said says (xs ++ ys) ≡ option_or (last_said says ys) (last_said says xs)
 last_append says [] ys = or_none (last_said says ys)
 last_append says (x ∷ xs) ys =
-    ap (λ (v : _). or_said v (says x)) (last_append says xs ys) ∙ or_all (last_said says ys) (last_said says xs) (says x)
+    ap (λ (v : _). option_or v (says x)) (last_append says xs ys) ∙ or_all (last_said says ys) (last_said says xs) (says x)
 
 -- a change, if it is on a tick
 abbrev pub set_if_on : {V : Type 0} → ℕ → Grains × V → Option (Grains × V)
@@ -40,7 +39,7 @@ set_if_on tick set = cond (tick_at set.0.0 == tick) (Some set) None
 
 -- whether one is
 said_there : {X : Type 0} (last : Option X) (here : Bool) (x : X) (later : Bool) → later ≡ is_some last
-    → (here || later) ≡ is_some (or_said last (cond here (Some x) None))
+    → (here || later) ≡ is_some (option_or last (cond here (Some x) None))
 said_there None true x later e = refl
 said_there None false x later e = e
 said_there (Some value) true x later e = refl
@@ -57,7 +56,7 @@ is_on tick set = tick_at set.0.0 == tick
 
 one_stands : {V : Type 0} (tick : ℕ) (changes : List (Grains × V)) (set : Grains × V) (last : Option (Grains × V)) (later here : Bool) → is_on tick set ≡ here
     → filter (is_on tick) changes ≡ option_to_list last → (here ≡ true → later ≡ is_some last)
-    → filter (is_on tick) (cond later changes (changes ++ set ∷ [])) ≡ option_to_list (or_said last (cond here (Some set) None))
+    → filter (is_on tick) (cond later changes (changes ++ set ∷ [])) ≡ option_to_list (option_or last (cond here (Some set) None))
 one_stands tick changes set None true true e those same = let h : true ≡ false = same refl in cc
 one_stands tick changes set None true false e those same = those
 one_stands tick changes set None false true e those same =
@@ -103,9 +102,9 @@ neither true = refl
 neither false = refl
 
 one_more : {V : Type 0} (tick at : ℕ) (value : Option V) (sets : List (Grains × V))
-    → last_on tick (cons_option (at_moment at value) sets) ≡ or_said (last_on tick sets) (set_on tick at value)
+    → last_on tick (cons_option (at_moment at value) sets) ≡ option_or (last_on tick sets) (set_on tick at value)
 one_more tick at None sets =
-    or_none (last_on tick sets) ∙ ap (or_said (last_on tick sets)) (sym (neither (tick_at at == tick)))
+    or_none (last_on tick sets) ∙ ap (option_or (last_on tick sets)) (sym (neither (tick_at at == tick)))
 one_more tick at (Some value) sets = refl
 
 pub play_said : {V : Type 0} (value_of : Item → Option V) (tick at : ℕ) (play : List Item)
@@ -113,7 +112,7 @@ pub play_said : {V : Type 0} (value_of : Item → Option V) (tick at : ℕ) (pla
 play_said value_of tick at [] = refl
 play_said value_of tick at (item ∷ play) =
     one_more tick at (value_of item) (set_from value_of (at + length_of item) play)
-    ∙ ap (λ last. or_said last (set_on tick at (value_of item))) (play_said value_of tick (at + length_of item) play)
+    ∙ ap (λ last. option_or last (set_on tick at (value_of item))) (play_said value_of tick (at + length_of item) play)
 
 sections_said : (tick : ℕ) (voices : List (List ℕ)) (voice : List ℕ) (at : ℕ) (sections : List (List ℕ × List Item))
     → last_on tick (set_in program_of voices (voice ∷ []) at sections) ≡ last_said (set_by program_of tick) (moments_in voices voice at sections)
@@ -125,26 +124,26 @@ sections_said tick voices voice at (section ∷ rest) =
     let others : List (Grains × ℕ) = set_in program_of voices (voice ∷ []) next rest in
     ap (λ sets. last_on tick (sets ++ others)) (append-nil own)
     ∙ last_append (set_if_on tick) own others
-    ∙ (λ i. or_said (sections_said tick voices voice next rest i) (play_said program_of tick at play i))
+    ∙ (λ i. option_or (sections_said tick voices voice next rest i) (play_said program_of tick at play i))
     ∙ sym (last_append (set_by program_of tick) (at_moments at play) (moments_in voices voice next rest))
 
 -- what a tune opens with is the last program of its header
-one_past : (program : Option ℕ) (item : Item) → program_after program item ≡ or_said (opening_program_of item) program
+one_past : (program : Option ℕ) (item : Item) → program_after program item ≡ option_or (opening_program_of item) program
 one_past program (items.Program true (Some number)) = refl
 one_past program _ = refl
 
 -- what holds after a tune is what is said last in it
 all_past : {V : Type 0} (past : Option V → Item → Option V) (says : Item → Option V)
-    → ((value : Option V) (item : Item) → past value item ≡ or_said (says item) value)
-    → (value : Option V) (tune : List Item) → after_all past value tune ≡ or_said (last_said says tune) value
+    → ((value : Option V) (item : Item) → past value item ≡ option_or (says item) value)
+    → (value : Option V) (tune : List Item) → after_all past value tune ≡ option_or (last_said says tune) value
 all_past past says one value [] = refl
 all_past past says one value (item ∷ tune) =
     all_past past says one (past value item) tune
-    ∙ ap (or_said (last_said says tune)) (one value item)
+    ∙ ap (option_or (last_said says tune)) (one value item)
     ∙ sym (or_all (last_said says tune) (says item) value)
 
 pub opens : {V : Type 0} (past : Option V → Item → Option V) (says : Item → Option V)
-    → ((value : Option V) (item : Item) → past value item ≡ or_said (says item) value)
+    → ((value : Option V) (item : Item) → past value item ≡ option_or (says item) value)
     → (tune : List Item) → after_all past None tune ≡ last_said says tune
 opens past says one tune = all_past past says one None tune ∙ sym (or_none (last_said says tune))
 
@@ -159,7 +158,7 @@ voice_on tune tick voice =
     ∙ ap (map program_change) (last_stands tick (after_opening opening sets))
     ∙ as_list program_change (last_said (set_if_on tick) (after_opening opening sets))
     ∙ ap (λ last. option_to_list (option_map program_change last)) (one_more tick 0 opening sets
-    ∙ (λ i. or_said (sections_said tick (voice_names tune) voice 0 (played_sections tune) i) (set_on tick 0 (opens program_after opening_program_of one_past tune i))))
+    ∙ (λ i. option_or (sections_said tick (voice_names tune) voice 0 (played_sections tune) i) (set_on tick 0 (opens program_after opening_program_of one_past tune i))))
 
 voices_on : {X Y Z : Type 0} (f : Y → Z) (g : X → Y) (h : X → Z) → ((x : X) → f (g x) ≡ h x) → (xs : List X) → map f (map g xs) ≡ map h xs
 voices_on f g h same [] = refl

@@ -1,6 +1,7 @@
 -- The last order of a tune counts.
 use Rattle.std.proofs.Common.{◌≡◌, ℕ, List, length, filter_map, Option, None, refl, ap}
 use Rattle.std.specs.Prelude.{slice_get}
+use Rattle.std.specs.Option.{option_or}
 use Rattle.abc_bars_items.specs.declared.item.Item.{Item}
 use Rattle.abc_bars_items.specs.declared.item.Item.TheVariants as items
 use Rattle.abc_repeat.specs.Order.{sections_of, has_unknown}
@@ -9,10 +10,9 @@ use Rattle.abc_voices.specs.Arrange.{arranged_of}
 use Rattle.abc_voices.specs.OnTicks.{last_said}
 use Rattle.abc_voices.specs.Opening.{order_after, after_all}
 use Rattle.abc_voices.specs.Orders.{order_said, AreInLastOrder}
-use Rattle.abc_voices.specs.Voices.{or_said}
 use Rattle.abc_voices.proofs.OnTicks.{opens}
 
-one_past : (order : Option (List ℕ)) (item : Item) → order_after order item ≡ or_said (order_said item) order
+one_past : (order : Option (List ℕ)) (item : Item) → order_after order item ≡ option_or (order_said item) order
 one_past order (items.Order text) = refl
 one_past order _ = refl
 

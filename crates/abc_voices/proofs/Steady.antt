@@ -11,7 +11,7 @@ use Rattle.abc_fields.specs.declared.meter.Meter.TheVariants as meters
 use Rattle.abc_voices_sections.specs.declared.stage.VoicePart.{VoicePart}
 use Rattle.abc_voices_sections.specs.declared.stage.Stage.{Stage}
 use Rattle.abc_voices.specs.Turns.{IsSteady, PlaysNone, steps_of, set_by_all, set_by_one, changes_along, programs_by, programs_along}
-use Rattle.abc_voices.specs.Arrange.{played_sections, or_else, usual_tempo}
+use Rattle.abc_voices.specs.Arrange.{played_sections, usual_tempo}
 use Rattle.abc_voices.specs.Change.{tempo_of, meter_of, key_of, program_of, at_moment, set_from, after_opening}
 use Rattle.abc_voices.specs.ScoreChanges.{changes_in_force, programs_in_force}
 use Rattle.abc_voices.specs.Fields.{is_music, is_change, is_steady, sets_program, keeps_programs, without_music}
@@ -151,13 +151,12 @@ pub kept_along : (tune fields : List Item) (stages : List Stage) → fields ≡ 
 kept_along = none_along sets_program music_keeps
 
 -- the changes of steady stages are those with which their tune opens
-pub opening_is : {V : Type 0} (found last : Option V) (usual value : V) → value ≡ unwrap_or found usual → found ≡ last → value ≡ or_else usual last
-opening_is None last usual value is same = is ∙ ap (or_else usual) same
-opening_is (Some other) last usual value is same = is ∙ ap (or_else usual) same
+pub opening_is : {V : Type 0} (found last : Option V) (usual value : V) → value ≡ unwrap_or found usual → found ≡ last → value ≡ unwrap_or last usual
+opening_is found last usual value is same = is ∙ ap (λ last. unwrap_or last usual) same
 
 pub steady_changes : (fields : List Item) (first : ℕ) (stages : List Stage) (tempo : ℕ) (meter : Meter) (key : ℤ × Bool) → All IsSteady stages
-    → tempo ≡ or_else usual_tempo (after_all tempo_after None fields) → meter ≡ or_else meters.Free (after_all meter_after None fields)
-    → key ≡ or_else (pos 0, false) (after_all key_after None fields)
+    → tempo ≡ unwrap_or (after_all tempo_after None fields) usual_tempo → meter ≡ unwrap_or (after_all meter_after None fields) meters.Free
+    → key ≡ unwrap_or (after_all key_after None fields) (pos 0, false)
     → changes_in_force ((record { 0 = 0 }, tempo) ∷ []) ((record { 0 = 0 }, meter) ∷ []) ((record { 0 = 0 }, key) ∷ []) ≡ changes_along fields first stages
 steady_changes fields first stages tempo meter key steady p q r =
     let tempos = sym (all_set_nothing tempo_of is_field (λ item h. (sets_no_change item h).0) 0 stages steady) in

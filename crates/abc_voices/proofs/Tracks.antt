@@ -4,13 +4,13 @@ use Rattle.std.proofs.lemmas.List.Folds.{list_any-append}
 use Rattle.std.proofs.lemmas.Slice.Eq.{bytes_eq-Decides}
 use Rattle.std.specs.Prelude.{◌&&◌, ◌||◌, bytes_eq, filter_map, Option, Some, None, unwrap_or}
 use Rattle.std.specs.List.{list_any, cons_option}
-use Rattle.std.specs.Option.{is_none}
+use Rattle.std.specs.Option.{is_none, option_or}
 use Rattle.abc_bars_items.specs.declared.item.Item.{Item}
 use Rattle.abc_bars_items.specs.declared.item.Item.TheVariants as items
 use Rattle.abc_voices.specs.Arrange.{takes_time}
 use Rattle.abc_voices.specs.Track.{has_unnamed_track, names_from, plays_first}
 use Rattle.abc_voices.specs.Tracks.{HaveTracksByMention, mentioned_voices, mentioned_by, mentioned_first, plays_unnamed}
-use Rattle.abc_voices.specs.Voices.{declared_by, first_said, named_by, or_said, voice_at_place, with_items_before}
+use Rattle.abc_voices.specs.Voices.{declared_by, first_said, named_by, voice_at_place, with_items_before}
 use Rattle.abc_voices.proofs.Voices.{declared}
 
 -- the names that are known are the empty one and those that these items mention
@@ -66,7 +66,7 @@ names_are known past (items.Voice opening name ∷ rest) are =
 names_are known past (item ∷ rest) are = names_are known (item ∷ past) rest are
 
 -- a name is after items where one was after fewer
-still : (one : Option (List ℕ)) (past : Option (List ℕ)) → is_none past ≡ false → is_none (or_said one past) ≡ false
+still : (one : Option (List ℕ)) (past : Option (List ℕ)) → is_none past ≡ false → is_none (option_or one past) ≡ false
 still None past h = h
 still (Some name) past h = refl
 

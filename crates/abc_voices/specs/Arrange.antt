@@ -1,6 +1,6 @@
 -- A tune laid out in time: its sections one after another, in each its voices beside one another. Not in ABC 2.1.
 use Rattle.std.specs.Prelude.{ℕ, pos, ◌+◌, max, nat_lt, Bool, true, false, not, ◌&&◌, ◌||◌, ◌==◌, List, [], ◌∷◌, ◌++◌, length}
-use Rattle.std.specs.Prelude.{map, filter_map, slice_get, sum_by, Option, Some, None}
+use Rattle.std.specs.Prelude.{map, filter_map, slice_get, sum_by, Option, None, unwrap_or}
 use Rattle.std.specs.List.{list_any, flat_map}
 use Rattle.abc_bars_items.specs.declared.item.Item.{Item}
 use Rattle.abc_bars_items.specs.declared.item.Item.TheVariants as items
@@ -47,11 +47,6 @@ set_in value_of voices those at [] = []
 set_in value_of voices those at (section ∷ rest) =
     flat_map (λ voice. set_from value_of at (play_in section voice)) those
     ++ set_in value_of voices those (at + section_length voices section) rest
-
--- A value of its own if there is none.
-abbrev pub or_else : {V : Type 0} → V → Option V → V
-or_else value None = value
-or_else value (Some other) = other
 
 -- A quarter note of half a second, which holds if no tempo is set: 120 a minute.
 abbrev pub usual_tempo : ℕ
@@ -104,9 +99,9 @@ changes_of tune =
     let first = first_of (tracks tune) in
     let played = played_sections tune in
     changes_in_force
-    ((record { 0 = 0 }, or_else usual_tempo (after_all tempo_after None tune)) ∷ set_in tempo_of voices voices 0 played)
-    ((record { 0 = 0 }, or_else meters.Free (after_all meter_after None tune)) ∷ set_in meter_of voices first 0 played)
-    ((record { 0 = 0 }, or_else (pos 0, false) (after_all key_after None tune)) ∷ set_in key_of voices first 0 played)
+    ((record { 0 = 0 }, unwrap_or (after_all tempo_after None tune) usual_tempo) ∷ set_in tempo_of voices voices 0 played)
+    ((record { 0 = 0 }, unwrap_or (after_all meter_after None tune) meters.Free) ∷ set_in meter_of voices first 0 played)
+    ((record { 0 = 0 }, unwrap_or (after_all key_after None tune) (pos 0, false)) ∷ set_in key_of voices first 0 played)
 
 -- The programs of a voice in sections that are played, after the one with which a tune opens, if it opens with one.
 abbrev pub programs_in : Option ℕ → List (List ℕ) → List (List ℕ × List Item) → List ℕ → List ProgramChange

@@ -1,7 +1,7 @@
 -- The tempo, the meter and the key on each tick, by what is played there. Not in ABC 2.1.
 use Rattle.std.specs.Prelude.{◌≡◌, ℕ, ℤ, pos, ◌+◌, ◌*◌, ◌/◌, ◌^◌, ◌==◌, Bool, true, false, ◌&&◌, List, [], ◌∷◌, take, filter}
 use Rattle.std.specs.Prelude.{Option, Some, None, option_map, option_and_then, unwrap_or}
-use Rattle.std.specs.Option.{option_to_list}
+use Rattle.std.specs.Option.{option_or, option_to_list}
 use Rattle.abc_bars_items.specs.declared.item.Item.{Item}
 use Rattle.abc_bars_items.specs.declared.item.Item.TheVariants as items
 use Rattle.abc_fields.specs.declared.meter.Meter.{Meter}
@@ -16,7 +16,6 @@ use Rattle.abc_voices_sections.specs.PlayedSection.{section_length, play_in}
 use Rattle.abc_voices.specs.Change.{tempo_of, meter_of, key_of}
 use Rattle.abc_voices.specs.OnTicks.{at_moments, last_said, set_by, set_on}
 use Rattle.abc_voices.specs.Track.{voice_names, tracks}
-use Rattle.abc_voices.specs.Voices.{or_said}
 
 -- The tempo, the meter and the key that a field of the header sets for the opening of the tune, if it is such a field: a
 -- value, or none.
@@ -60,7 +59,7 @@ last_set value_of those tune tick =
 
 -- The value on a tick: the one set there last, or else that with which the tune opens, if it begins on the tick.
 abbrev pub set_or_opening : {V : Type 0} → (Item → Option V) → List (List ℕ) → V → List Item → ℕ → Option (Grains × V)
-set_or_opening value_of those opening tune tick = or_said (last_set value_of those tune tick) (set_on tick 0 (Some opening))
+set_or_opening value_of those opening tune tick = option_or (last_set value_of those tune tick) (set_on tick 0 (Some opening))
 
 -- The first voice that has a track, if one has.
 abbrev pub leader : List Item → List (List ℕ)

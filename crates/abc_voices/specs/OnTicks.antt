@@ -1,6 +1,6 @@
 -- The program of a voice on each tick, by what is played there. Not in ABC 2.1.
 use Rattle.std.specs.Prelude.{◌≡◌, ℕ, ◌+◌, ◌==◌, true, if◌then◌else◌, List, [], ◌∷◌, ◌++◌, map, filter, Option, None, option_map}
-use Rattle.std.specs.Option.{option_to_list}
+use Rattle.std.specs.Option.{option_or, option_to_list}
 use Rattle.abc_bars_items.specs.declared.item.Item.{Item}
 use Rattle.abc_bars_items.specs.declared.item.Item.TheVariants as items
 use Rattle.abc_time.specs.declared.grains.Grains.{Grains}
@@ -11,12 +11,11 @@ use Rattle.abc_voices_sections.specs.PlayedSection.{section_length, play_in}
 use Rattle.abc_voices.specs.Change.{at_moment, program_of}
 use Rattle.abc_voices_sections.specs.Step.{length_of}
 use Rattle.abc_voices.specs.Track.{voice_names, tracks}
-use Rattle.abc_voices.specs.Voices.{or_said}
 
 -- What the last of some that says something says.
 abbrev pub last_said : {X V : Type 0} → (X → Option V) → List X → Option V
 last_said says [] = None
-last_said says (x ∷ later) = or_said (last_said says later) (says x)
+last_said says (x ∷ later) = option_or (last_said says later) (says x)
 
 -- The program that a directive of the header sets, if it sets one.
 abbrev pub opening_program_of : Item → Option ℕ
@@ -51,7 +50,7 @@ as_program set = record { at = set.0; number = set.1 }
 abbrev pub program_on : List Item → ℕ → List ℕ → Option ProgramChange
 program_on tune tick voice =
     option_map as_program
-    (or_said (last_said (set_by program_of tick) (moments_in (voice_names tune) voice 0 (played_sections tune)))
+    (option_or (last_said (set_by program_of tick) (moments_in (voice_names tune) voice 0 (played_sections tune)))
     (set_on tick 0 (last_said opening_program_of tune)))
 
 -- On each tick each voice of a tune has that program, and no other one.

@@ -1,6 +1,6 @@
 -- Stages played one after another. Not in ABC 2.1.
 use Rattle.std.specs.Prelude.{◌≡◌, ◌≤◌, ℕ, pos, ◌+◌, ◌-◌, Bool, false, not, if◌then◌else◌, ◌&&◌, ◌==◌, zero, suc, List, [], ◌∷◌}
-use Rattle.std.specs.Prelude.{◌++◌, map, sum_by, All, Option, Some, None, slice_get}
+use Rattle.std.specs.Prelude.{◌++◌, map, sum_by, All, Option, Some, None, slice_get, unwrap_or}
 use Rattle.std.specs.List.{list_any, flat_map}
 use Rattle.abc_bars_items.specs.declared.item.Item.{Item}
 use Rattle.abc_bars_items.specs.Item.{IsItem}
@@ -13,7 +13,7 @@ use Rattle.abc_voices_score.specs.declared.score.Sounding.{Sounding}
 use Rattle.abc_voices_sections.specs.declared.stage.VoicePart.{VoicePart}
 use Rattle.abc_voices_sections.specs.declared.stage.Stage.{Stage}
 use Rattle.abc_voices.specs.declared.turns.Turn.{Turn}
-use Rattle.abc_voices.specs.Arrange.{all_notes, takes_time, last_off, or_else, usual_tempo}
+use Rattle.abc_voices.specs.Arrange.{all_notes, takes_time, last_off, usual_tempo}
 use Rattle.abc_voices.specs.Change.{tempo_of, meter_of, key_of, program_of, set_from, after_opening}
 use Rattle.abc_voices.specs.ScoreChanges.{changes_in_force, programs_in_force}
 use Rattle.abc_voices.specs.TiedNotes.{Notes, notes_from}
@@ -103,9 +103,9 @@ is_stage_uneven stage = list_any (λ a. list_any (parts_differ a) stage.parts) s
 abbrev pub changes_along : List Item → ℕ → List Stage → List Change
 changes_along tune first stages =
     changes_in_force
-    ((record { 0 = 0 }, or_else usual_tempo (after_all tempo_after None tune)) ∷ set_by_all tempo_of 0 stages)
-    ((record { 0 = 0 }, or_else meters.Free (after_all meter_after None tune)) ∷ set_by_one meter_of first 0 stages)
-    ((record { 0 = 0 }, or_else (pos 0, false) (after_all key_after None tune)) ∷ set_by_one key_of first 0 stages)
+    ((record { 0 = 0 }, unwrap_or (after_all tempo_after None tune) usual_tempo) ∷ set_by_all tempo_of 0 stages)
+    ((record { 0 = 0 }, unwrap_or (after_all meter_after None tune) meters.Free) ∷ set_by_one meter_of first 0 stages)
+    ((record { 0 = 0 }, unwrap_or (after_all key_after None tune) (pos 0, false)) ∷ set_by_one key_of first 0 stages)
 
 -- The place of the first voice that has a track: that without a name, or else the one after it.
 abbrev pub first_place : List Item → ℕ

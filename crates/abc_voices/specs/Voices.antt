@@ -1,6 +1,7 @@
 -- The voice of an item, by looking back. ABC 2.1 section 7.
 use Rattle.std.specs.Prelude.{◌≡◌, ℕ, Bool, true, false, ◌&&◌, if◌then◌else◌, bytes_eq, unwrap_or, List, [], ◌∷◌, map, filter}
 use Rattle.std.specs.Prelude.{Option, Some, None}
+use Rattle.std.specs.Option.{option_or}
 use Rattle.abc_bars_items.specs.declared.item.Item.{Item}
 use Rattle.abc_bars_items.specs.declared.item.Item.TheVariants as items
 use Rattle.abc_voices_sections.specs.Section.{is_section, is_step, part, sections}
@@ -15,15 +16,10 @@ abbrev pub declared_by : Item → Option (List ℕ)
 declared_by (items.Voice true name) = Some name
 declared_by _ = None
 
--- The first value, or else the second.
-abbrev pub or_said : {V : Type 0} → Option V → Option V → Option V
-or_said None other = other
-or_said (Some value) other = Some value
-
 -- What the first of some items that says something says.
 abbrev pub first_said : {V : Type 0} → (Item → Option V) → List Item → Option V
 first_said says [] = None
-first_said says (item ∷ others) = or_said (says item) (first_said says others)
+first_said says (item ∷ others) = option_or (says item) (first_said says others)
 
 -- The voice after these items of a tune, the last of them first: that of the last V: of the body, else the first
 -- voice that the header declares, else the one without a name. The one without a name is not in ABC 2.1.

@@ -1,6 +1,6 @@
 -- A score within the limits of time and of places, with few enough voices and a short enough title, fits a file.
 use Rattle.std.proofs.Common.{◌≡◌, ℕ, ℤ, pos, ◌+◌, ◌≤◌, Bool, true, false, List, [], ◌∷◌, ◌++◌, length, map, filter_map, Option, Some, None, arith, sym, ◌∙◌, length-append}
-use Rattle.std.specs.Prelude.{All, IfSome, sum_by, slice_index_or}
+use Rattle.std.specs.Prelude.{All, IfSome, sum_by, slice_index_or, unwrap_or}
 use Rattle.std.specs.List.{flat_map}
 use Rattle.std.proofs.lemmas.List.{length-map}
 use Rattle.std.proofs.lemmas.List.Elements.{All-nil, All-cons, All-head, All-tail, All-append, All-map, All-weaker}
@@ -20,7 +20,7 @@ use Rattle.abc_bars_items.specs.declared.program.TheConstants.{HIGHEST_PROGRAM}
 use Rattle.abc_voices_score.specs.declared.limits.TheConstants.{LONGEST_TITLE, MOST_CHANGES, MOST_NOTES, MOST_PROGRAMS}
 use Rattle.abc_voices_score.specs.declared.score.Change.{Change}
 use Rattle.abc_voices_score.specs.declared.score.Sounding.{Sounding}
-use Rattle.abc_voices.specs.Arrange.{played_sections, voice_notes, all_notes, set_in, or_else, usual_tempo, first_of, total, voices_notes, end_of}
+use Rattle.abc_voices.specs.Arrange.{played_sections, voice_notes, all_notes, set_in, usual_tempo, first_of, total, voices_notes, end_of}
 use Rattle.abc_voices.specs.Arrange.{changes_of, programs_in, programs_of, score_of, places_played}
 use Rattle.abc_voices_sections.specs.PlayedSection.{section_length}
 use Rattle.abc_voices.specs.Change.{tempo_of, meter_of, key_of, program_of, after_opening}
@@ -95,7 +95,7 @@ program_past_is : (program : Option ℕ) (item : Item) → IfSome program IsProg
 program_past_is program (items.Program true (Some number)) was is = is
 program_past_is program _ was is = was
 
-or_else_is : {V : Type 0} (Q : V → Type 0) (value : V) (other : Option V) → Q value → IfSome other Q → Q (or_else value other)
+or_else_is : {V : Type 0} (Q : V → Type 0) (value : V) (other : Option V) → Q value → IfSome other Q → Q (unwrap_or other value)
 or_else_is Q value None is known = is
 or_else_is Q value (Some other) is known = known
 
@@ -212,40 +212,40 @@ module _ (tune : List Item) (short : IsShort tune) where
   sets value_of Q is heard_notes all = sections_set value_of Q is end.0 0 voices heard_notes played in_time all all_played
 
   abbrev tempos : List (Grains × ℕ)
-  tempos = (record { 0 = 0 }, or_else usual_tempo (after_all tempo_after None tune)) ∷ set_in tempo_of voices voices 0 played
+  tempos = (record { 0 = 0 }, unwrap_or (after_all tempo_after None tune) usual_tempo) ∷ set_in tempo_of voices voices 0 played
 
   abbrev meter_sets : List (Grains × Meter)
-  meter_sets = (record { 0 = 0 }, or_else meters.Free (after_all meter_after None tune)) ∷ set_in meter_of voices (first_of those) 0 played
+  meter_sets = (record { 0 = 0 }, unwrap_or (after_all meter_after None tune) meters.Free) ∷ set_in meter_of voices (first_of those) 0 played
 
   abbrev keys : List (Grains × (ℤ × Bool))
-  keys = (record { 0 = 0 }, or_else (pos 0, false) (after_all key_after None tune)) ∷ set_in key_of voices (first_of those) 0 played
+  keys = (record { 0 = 0 }, unwrap_or (after_all key_after None tune) (pos 0, false)) ∷ set_in key_of voices (first_of those) 0 played
 
   first_ones : All (IsHeard voices) (first_of those)
   first_ones = first_heard (IsHeard voices) those (tracks_heard tune)
 
-  opening_tempo_is : FitsInTempoEvent (or_else usual_tempo (after_all tempo_after None tune))
+  opening_tempo_is : FitsInTempoEvent (unwrap_or (after_all tempo_after None tune) usual_tempo)
   opening_tempo_is = or_else_is FitsInTempoEvent usual_tempo (after_all tempo_after None tune) (record { least = omega arith; most = omega arith })
       (past_kept tempo_after (λ tempo. IfSome tempo FitsInTempoEvent) tempo_past_is None tune tt short.each)
 
-  opening_meter_is : IsMeterInRange (or_else meters.Free (after_all meter_after None tune))
+  opening_meter_is : IsMeterInRange (unwrap_or (after_all meter_after None tune) meters.Free)
   opening_meter_is = or_else_is IsMeterInRange meters.Free (after_all meter_after None tune) tt
       (past_kept meter_after (λ meter. IfSome meter IsMeterInRange) meter_past_is None tune tt short.each)
 
   no_sharps : IsKey (pos 0, false)
   no_sharps = record { 0 = grind arith; 1 = grind arith }
 
-  opening_key_is : IsKey (or_else (pos 0, false) (after_all key_after None tune))
+  opening_key_is : IsKey (unwrap_or (after_all key_after None tune) (pos 0, false))
   opening_key_is = or_else_is IsKey (pos 0, false) (after_all key_after None tune) no_sharps
       (past_kept key_after (λ key. IfSome key IsKey) key_past_is None tune tt short.each)
 
   changes_fit : All (IsChangeWithin end) (changes_of tune)
   changes_fit =
       conductor_fits end tempos meter_sets keys
-      (with_opening end.0 FitsInTempoEvent (or_else usual_tempo (after_all tempo_after None tune)) (set_in tempo_of voices voices 0 played)
+      (with_opening end.0 FitsInTempoEvent (unwrap_or (after_all tempo_after None tune) usual_tempo) (set_in tempo_of voices voices 0 played)
       opening_tempo_is (sets tempo_of FitsInTempoEvent tempo_is voices (all_heard voices)))
-      (with_opening end.0 IsMeterInRange (or_else meters.Free (after_all meter_after None tune)) (set_in meter_of voices (first_of those) 0 played)
+      (with_opening end.0 IsMeterInRange (unwrap_or (after_all meter_after None tune) meters.Free) (set_in meter_of voices (first_of those) 0 played)
       opening_meter_is (sets meter_of IsMeterInRange meter_is (first_of those) first_ones))
-      (with_opening end.0 IsKey (or_else (pos 0, false) (after_all key_after None tune)) (set_in key_of voices (first_of those) 0 played)
+      (with_opening end.0 IsKey (unwrap_or (after_all key_after None tune) (pos 0, false)) (set_in key_of voices (first_of those) 0 played)
       opening_key_is (sets key_of IsKey key_is (first_of those) first_ones))
 
   few_changes : length (changes_of tune) ≤ MOST_CHANGES
