@@ -9,8 +9,8 @@ abbrev pub first_tones : List TimeToken → List Tone
 first_tones [] = []
 first_tones (token ∷ tokens) = token.tones
 
--- The tone at a place of a time token is joined with the one at another place of the next: it is tied, both have one
--- key, and as many tied tones of the key are before it as tones of the key before the other.
+-- The tone at `place` of a time token is joined with the one at `other` of the next one. The first is tied, and both have
+-- one key. As many tied tones of the key are before the first as tones of the key are before the second.
 pub record IsJoined (tones next : List Tone) (place other : ℕ) : Type 0 where
   pub tone : Tone
   pub stands : slice_get tones place ≡ Some tone
@@ -22,7 +22,7 @@ pub record IsJoined (tones next : List Tone) (place other : ℕ) : Type 0 where
   pub same_key : follower.key ≡ Some key
   pub in_turn : tied_with key (take place tones) ≡ tones_with key (take other next)
 
--- A chain of tones, one in each of some time tokens from the first on, by their places: each is joined with the next
+-- A chain of tones, one in each time token from the first on: at `place`, and then at `others`. Each is joined with the next
 -- one, and the last with none.
 abbrev pub IsChain : List TimeToken → ℕ → List ℕ → Type 0
 IsChain [] place others = ⊥
@@ -46,8 +46,8 @@ abbrev pub first_moment : List TimeToken → ℕ
 first_moment [] = 0
 first_moment (token ∷ tokens) = token.at
 
--- The note of the chain that begins with the tone at a place of the first time token: from the beginning of its first
--- tone to the end of its last, as loud as its first.
+-- The note of the chain that begins with the tone at `place` of the first time token. It lasts from the beginning of its
+-- first tone to the end of its last, as loud as its first.
 pub record IsNoteOf (tokens : List TimeToken) (place : ℕ) (note : Sounding) : Type 0 where
   pub tone : Tone
   pub stands : slice_get (first_tones tokens) place ≡ Some tone
@@ -58,8 +58,8 @@ pub record IsNoteOf (tokens : List TimeToken) (place : ℕ) (note : Sounding) : 
   pub off : note.off.0 ≡ end_of_chain tokens place others
   pub velocity : note.velocity ≡ tone.velocity
 
--- What is heard by the tone at a place of the first time token, after one with these tones: nothing if it is silent
--- or one of those is joined with it, else the note of the chain that it begins.
+-- The notes that begin with the tone at `place` of the first time token, after one with the tones `previous`. There is none
+-- if the tone is silent or one of `previous` is joined with it, else the note of the chain that it begins.
 pub data IsBegun (previous : List Tone) (tokens : List TimeToken) (place : ℕ) (notes : List Sounding) : Type 0 where
   silent : (tone : Tone) → slice_get (first_tones tokens) place ≡ Some tone → tone.key ≡ None → notes ≡ []
       → IsBegun previous tokens place notes
@@ -67,14 +67,14 @@ pub data IsBegun (previous : List Tone) (tokens : List TimeToken) (place : ℕ) 
   begins : (note : Sounding) → ((before : ℕ) → IsJoined previous (first_tones tokens) before place → ⊥)
       → IsNoteOf tokens place note → notes ≡ note ∷ [] → IsBegun previous tokens place notes
 
--- What is heard by tones of the first time token, from the one at a place on, in turn.
+-- The notes that begin with `tones` of the first time token, the first of them at `place`, in turn.
 abbrev pub AreBegun : List Tone → List TimeToken → ℕ → List Tone → List Sounding → Type 0
 AreBegun previous tokens place [] notes = notes ≡ []
 AreBegun previous tokens place (tone ∷ tones) notes =
     (own : List Sounding) × (others : List Sounding) × (notes ≡ own ++ others)
     × IsBegun previous tokens place own × AreBegun previous tokens (suc place) tones others
 
--- What is heard of time tokens after one with these tones, those that begin at the last one first.
+-- The notes of time tokens after one with the tones `previous`, those that begin at the last one first.
 abbrev pub AreHeard : List Tone → List TimeToken → List Sounding → Type 0
 AreHeard previous [] notes = notes ≡ []
 AreHeard previous (token ∷ tokens) notes =

@@ -12,7 +12,7 @@ use Rattle.abc_voices.specs.Change.{at_moment, program_of}
 use Rattle.abc_voices_sections.specs.Step.{length_of}
 use Rattle.abc_voices.specs.Track.{voice_names, tracks}
 
--- What the last of some that says something says.
+-- The last value that an element has, if one has any.
 abbrev pub last_said : {X V : Type 0} → (X → Option V) → List X → Option V
 last_said says [] = None
 last_said says (x ∷ later) = option_or (last_said says later) (says x)

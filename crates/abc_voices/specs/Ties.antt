@@ -46,16 +46,16 @@ abbrev pub tied_with : ℕ → List Tone → ℕ
 tied_with key [] = 0
 tied_with key (tone ∷ tones) = if tone.tied && has_key key tone.key then suc (tied_with key tones) else tied_with key tones
 
--- The tone of a key at an index among those of the key, of tones after these, the last of these first; and
--- how many tied ones of the key are before it.
+-- The tone in `tones` that has the key and exactly `number` tones of the key before it, and how many of those are tied.
+-- `past` has the tones before `tones`, the last one first.
 abbrev pub tone_at : ℕ → ℕ → List Tone → List Tone → Option (Tone × ℕ)
 tone_at key number past [] = None
 tone_at key number past (tone ∷ tones) =
     if has_key key tone.key && (tones_with key past == number) then Some (tone, tied_with key past)
     else tone_at key number (tone ∷ past) tones
 
--- The tone of the next time token with which a tone is joined: a tied one at an index among the tied ones of its key,
--- with the one at the same index among those of the key.
+-- The tone of `next`, the next time token, with which `tone` is joined if it is tied: that of the key at the index `number`.
+-- `number` tied tones of the key are before `tone` in its own time token.
 abbrev pub joined_with : Tone → ℕ → ℕ → List Tone → Option (Tone × ℕ)
 joined_with tone key number next = if tone.tied then tone_at key number [] next else None
 
@@ -64,15 +64,15 @@ abbrev pub end_by : ℕ → (Tone × ℕ → ℕ) → Option (Tone × ℕ) → �
 end_by own following None = own
 end_by own following (Some other) = following other
 
--- The end of the chain of a tone, which begins at this moment before these time tokens, and which this many tied ones
--- of its key are before: with the last tone that is joined.
+-- When the chain that `tone` begins at the moment `at` ends: with the last tone that is joined. `number` tied tones of its
+-- key are before it in its time token, and the time tokens `tokens` follow.
 abbrev pub chain_end : ℕ → Tone → ℕ → ℕ → List TimeToken → ℕ
 chain_end at tone key number [] = at + tone.length.0
 chain_end at tone key number (token ∷ tokens) =
     end_by (at + tone.length.0) (λ other. chain_end token.at other.0 key other.1 tokens) (joined_with tone key number token.tones)
 
--- The note of a chain that a tone begins after these tones of its time token, the last of these first, as loud as that
--- tone; none if the tone is joined with one of the time token before, by its counts of tied ones of each key.
+-- The note of the chain that `tone` begins, as loud as `tone`. `past` has the tones before it in its time token, the last
+-- one first. There is no note if a tone of the preceding time token is joined with it: `tied` counts the tied ones of each key.
 abbrev pub begun_by : (ℕ → ℕ) → ℕ → List Tone → Tone → List TimeToken → Option ℕ → List Sounding
 begun_by tied at past tone tokens None = []
 begun_by tied at past tone tokens (Some key) =
@@ -84,7 +84,7 @@ begun_by tied at past tone tokens (Some key) =
       velocity = tone.velocity;
     } ∷ []
 
--- The notes of the chains that begin with tones of one time token, before these.
+-- The notes of the chains that begin with `tones`, those of one time token after its tones `past`.
 abbrev pub begun_at : (ℕ → ℕ) → ℕ → List Tone → List Tone → List TimeToken → List Sounding
 begun_at tied at past [] tokens = []
 begun_at tied at past (tone ∷ tones) tokens = begun_by tied at past tone tokens tone.key

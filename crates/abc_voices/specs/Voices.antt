@@ -16,7 +16,7 @@ abbrev pub declared_by : Item → Option (List ℕ)
 declared_by (items.Voice true name) = Some name
 declared_by _ = None
 
--- What the first of some items that says something says.
+-- The first value that an item has, if one has any.
 abbrev pub first_said : {V : Type 0} → (Item → Option V) → List Item → Option V
 first_said says [] = None
 first_said says (item ∷ others) = option_or (says item) (first_said says others)
