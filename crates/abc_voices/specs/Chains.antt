@@ -13,7 +13,7 @@ first_tones (token ∷ tokens) = token.tones
 -- one key. As many tied tones of the key are before the first as tones of the key are before the second.
 pub record IsJoined (tones next : List Tone) (place other : ℕ) : Type 0 where
   pub tone : Tone
-  pub stands : slice_get tones place ≡ Some tone
+  pub tone_is : slice_get tones place ≡ Some tone
   pub tied : tone.tied ≡ true
   pub follower : Tone
   pub follows : slice_get next other ≡ Some follower
@@ -50,7 +50,7 @@ first_moment (token ∷ tokens) = token.at
 -- first tone to the end of its last, as loud as its first.
 pub record IsNoteOf (tokens : List TimeToken) (place : ℕ) (note : Sounding) : Type 0 where
   pub tone : Tone
-  pub stands : slice_get (first_tones tokens) place ≡ Some tone
+  pub tone_is : slice_get (first_tones tokens) place ≡ Some tone
   pub key : tone.key ≡ Some note.key
   pub others : List ℕ
   pub chain : IsChain tokens place others
