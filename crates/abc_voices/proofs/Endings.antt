@@ -11,8 +11,8 @@ use Rattle.abc_repeat.specs.Strain.{Strain, without_endings, leads_to_ending, go
 use Rattle.abc_repeat.proofs.Cuts.{one_or_cut}
 use Rattle.abc_repeat.proofs.Existence.{with_plain}
 use Rattle.abc_repeat.proofs.Readings.{stays, ends, single_stays, inside_stays, bar_stays, bar_ends, sign_stays, reading_computed}
-use Rattle.abc_voices_sections.specs.declared.ending_fields.Region.{Region}
-use Rattle.abc_voices_sections.specs.declared.ending_fields.Region.TheVariants.{Common, Inside, AfterBar}
+use Rattle.abc_voices_sections.specs.declared.ending_fields.EndingRegion.{EndingRegion}
+use Rattle.abc_voices_sections.specs.declared.ending_fields.EndingRegion.TheVariants.{Common, Inside, AfterBar}
 use Rattle.abc_voices.specs.Endings.{without_fields, has_ending, past_its_bar, between_endings, between_endings_of, between_endings_in, with_waits, after_signs, MovesByStrains}
 use Rattle.abc_voices_sections.specs.EndingFields.{with_fields_in_endings_from, put_with_waiting, waits, after_mark, after_bar, region_after}
 use Rattle.abc_voices_sections.specs.Play.{marks_of}
@@ -270,7 +270,7 @@ plain_common opened item rest e plain w =
     ∙ sym (ap (after_signs []) (plain_flags false false (outside opened) (outside f.following (marks_left rest)) item rest e plain f.is))
 
 -- inside an ending, after an item that is no sign
-plain_after : (region : Region) (opened flag : Bool) (more : List Bool) (item : Item) (rest : List Item) → is_field item ≡ false → is_ending (mark_of item) ≡ false
+plain_after : (region : EndingRegion) (opened flag : Bool) (more : List Bool) (item : Item) (rest : List Item) → is_field item ≡ false → is_ending (mark_of item) ≡ false
     → after_mark Inside (mark_of item) ≡ region → inside opened false (mark_of item ∷ marks_left rest) ≡ flag ∷ more
     → with_fields_in_endings_from region [] rest ≡ says flag more rest
     → with_fields_in_endings_from Inside [] (item ∷ rest) ≡ says false (inside opened false (marks_left (item ∷ rest))) (item ∷ rest)

@@ -10,7 +10,7 @@ use Rattle.abc_bars_items.specs.declared.item.Item.{Item}
 use Rattle.abc_repeat.specs.declared.mark.Mark.{Mark}
 use Rattle.abc_repeat.specs.Mark.{is_play}
 use Rattle.abc_repeat.specs.Runs.{Run, played_run, items_at}
-use Rattle.abc_voices_sections.specs.declared.ending_fields.Region.{Region}
+use Rattle.abc_voices_sections.specs.declared.ending_fields.EndingRegion.{EndingRegion}
 use Rattle.abc_voices_sections.specs.declared.item_runs.ItemRun.{ItemRun}
 use Rattle.abc_voices_sections.specs.EndingFields.{waits, region_after, nothing_waits}
 use Rattle.abc_voices_sections.specs.Items.{items_of}
@@ -144,7 +144,7 @@ first_alike [] x = refl
 first_alike (step ∷ steps) x = refl
 
 -- whether something waits from a run on
-waits_from : (item_runs : List ItemRun) (i : ℕ) (s : ItemRun) (x : Bor Item) (region : Region) (own : Bool)
+waits_from : (item_runs : List ItemRun) (i : ℕ) (s : ItemRun) (x : Bor Item) (region : EndingRegion) (own : Bool)
     → All IsRun (runs_of item_runs) → i < length item_runs → s ≡ get_or item_runs i s → own ≡ waits region (get_or s.items.now 0 x).now
     → nothing_waits region (items_in (runs_of (drop i item_runs)))
     ≡ (not own && nothing_waits (region_after region s.mark) (items_in (runs_of (drop (i + 1) item_runs))))
@@ -155,7 +155,7 @@ waits_from item_runs i s x region own all within is told =
     ∙ ap (λ b. not b && nothing_waits (region_after region s.mark) rest) (sym told)
 
 -- it does if the first item of the run does
-pub waits_here : (item_runs : List ItemRun) (i : ℕ) (s : ItemRun) (x : Bor Item) (region : Region) (own : Bool)
+pub waits_here : (item_runs : List ItemRun) (i : ℕ) (s : ItemRun) (x : Bor Item) (region : EndingRegion) (own : Bool)
     → All IsRun (runs_of item_runs) → i < length item_runs → s ≡ get_or item_runs i s → own ≡ waits region (get_or s.items.now 0 x).now → own ≡ true
     → nothing_waits region (items_in (runs_of (drop i item_runs))) ≡ false
 waits_here item_runs i s x region own all within is told here =
@@ -163,7 +163,7 @@ waits_here item_runs i s x region own all within is told here =
     ∙ ap (λ b. not b && nothing_waits (region_after region s.mark) (items_in (runs_of (drop (i + 1) item_runs)))) here
 
 -- else the others decide
-pub waits_after : (item_runs : List ItemRun) (i : ℕ) (s : ItemRun) (x : Bor Item) (region : Region) (own : Bool)
+pub waits_after : (item_runs : List ItemRun) (i : ℕ) (s : ItemRun) (x : Bor Item) (region : EndingRegion) (own : Bool)
     → All IsRun (runs_of item_runs) → i < length item_runs → s ≡ get_or item_runs i s → own ≡ waits region (get_or s.items.now 0 x).now → own ≡ false
     → nothing_waits region (items_in (runs_of (drop i item_runs))) ≡ nothing_waits (region_after region s.mark) (items_in (runs_of (drop (i + 1) item_runs)))
 waits_after item_runs i s x region own all within is told here =

@@ -9,7 +9,7 @@ use Rattle.abc_repeat.specs.Runs.{Run, items_played}
 use Rattle.abc_repeat.specs.declared.fault.RepeatFault.{RepeatFault}
 use Rattle.abc_voices_sections.specs.declared.item_runs.ItemRun.{ItemRun}
 use Rattle.abc_voices_sections.specs.Items.{items_of}
-use Rattle.abc_voices_sections.specs.declared.ending_fields.Region.TheVariants.{Common}
+use Rattle.abc_voices_sections.specs.declared.ending_fields.EndingRegion.TheVariants.{Common}
 use Rattle.abc_voices_sections.specs.EndingFields.{nothing_waits, with_fields_in_endings}
 use Rattle.abc_voices_sections.specs.Play.{places_of, played_items}
 use Rattle.abc_voices_sections.specs.ItemRuns.{runs_of, items_in, AreAllPlayed, AreRuns}

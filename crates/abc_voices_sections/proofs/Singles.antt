@@ -10,8 +10,8 @@ use Rattle.abc_repeat.specs.Mark.{is_ending, is_single}
 use Rattle.abc_repeat.specs.Runs.{Run, items_played}
 use Rattle.abc_repeat.proofs.Readings.{single_stays}
 use Rattle.abc_repeat.proofs.Whole.{bars_passed}
-use Rattle.abc_voices_sections.specs.declared.ending_fields.Region.{Region}
-use Rattle.abc_voices_sections.specs.declared.ending_fields.Region.TheVariants.{Common, Inside, AfterBar}
+use Rattle.abc_voices_sections.specs.declared.ending_fields.EndingRegion.{EndingRegion}
+use Rattle.abc_voices_sections.specs.declared.ending_fields.EndingRegion.TheVariants.{Common, Inside, AfterBar}
 use Rattle.abc_voices_sections.specs.EndingFields.{waits, after_mark, after_bar, region_after, put_with_waiting, with_fields_in_endings_from, with_fields_in_endings}
 use Rattle.abc_voices_sections.specs.Play.{places_of, played_items, without_single_bars}
 use Rattle.abc_voices_sections.specs.Step.{is_field, mark_of}
@@ -48,11 +48,11 @@ bars_played before [] = refl
 bars_played before (step ∷ steps) = one_played before step steps (is_single (mark_of step)) refl (λ front. bars_played front steps)
 
 -- only after an ending's bar something waits
-abbrev MayWait : Region → List Item → Type 0
+abbrev MayWait : EndingRegion → List Item → Type 0
 MayWait AfterBar held = ⊤
 MayWait _ held = held ≡ []
 
-none_waits : (region : Region) → MayWait region []
+none_waits : (region : EndingRegion) → MayWait region []
 none_waits AfterBar = tt
 none_waits _ = refl
 
@@ -60,7 +60,7 @@ no_sign : (mark : Mark) → is_single mark ≡ true → is_ending mark ≡ false
 no_sign (marks.Ending numbers) h = cc
 no_sign _ h = refl
 
-abbrev order : Region → List Item → List Item → List Item
+abbrev order : EndingRegion → List Item → List Item → List Item
 order region held steps = with_fields_in_endings_from region held steps
 
 -- a single bar that waits for nothing stays where it is
@@ -88,7 +88,7 @@ set_alike held step h = by_sign (is_ending (mark_of step))
     by_sign false = filter-append matters held (step ∷ []) ∙ ap (λ l. without_single_bars held ++ l) (kept step [] h)
 
 -- what stays after an item that matters
-goes_alike : (region : Region) (held steps : List Item) (step : Item) → is_single (mark_of step) ≡ false
+goes_alike : (region : EndingRegion) (held steps : List Item) (step : Item) → is_single (mark_of step) ≡ false
     → without_single_bars (order (region_after region (mark_of step)) [] steps) ≡ order (region_after region (mark_of step)) [] (without_single_bars steps)
     → without_single_bars (put_with_waiting held step ++ order (region_after region (mark_of step)) [] steps)
     ≡ put_with_waiting (without_single_bars held) step ++ order (region_after region (mark_of step)) [] (without_single_bars steps)
@@ -97,7 +97,7 @@ goes_alike region held steps step h rest =
     ∙ (λ i. set_alike held step h i ++ rest i)
 
 -- what is moved is the same without single bars
-abbrev MovedAlike : Region → List Item → List Item → Type 0
+abbrev MovedAlike : EndingRegion → List Item → List Item → Type 0
 MovedAlike region held steps = without_single_bars (order region held steps) ≡ order region (without_single_bars held) (without_single_bars steps)
 
 after_single : (held steps : List Item) (step : Item) → is_single (mark_of step) ≡ true → MovedAlike AfterBar (held ++ step ∷ []) steps → MovedAlike AfterBar held (step ∷ steps)
@@ -123,7 +123,7 @@ after_other held steps step h waiting going =
     ∙ ap (order AfterBar (without_single_bars held)) (sym (kept step steps h))
 
 -- if nothing waits
-alone : (region : Region) (steps : List Item) (step : Item) → is_single (mark_of step) ≡ true → region_after region (mark_of step) ≡ region → MovedAlike region [] steps
+alone : (region : EndingRegion) (steps : List Item) (step : Item) → is_single (mark_of step) ≡ true → region_after region (mark_of step) ≡ region → MovedAlike region [] steps
     → without_single_bars (put_with_waiting [] step ++ order (region_after region (mark_of step)) [] steps) ≡ order region [] (without_single_bars (step ∷ steps))
 alone region steps step h same rest =
     (λ i. without_single_bars (single_alone step h i ++ order (same i) [] steps))
@@ -136,8 +136,8 @@ inside_other : (steps : List Item) (step : Item) → is_single (mark_of step) �
 inside_other steps step h going = goes_alike Inside [] steps step h going ∙ ap (order Inside []) (sym (kept step steps h))
 
 -- one step more
-moved_more : (region : Region) (held steps : List Item) (step : Item) (single : Bool) → is_single (mark_of step) ≡ single → MayWait region held
-    → ((next : Region) (waiting : List Item) → MayWait next waiting → MovedAlike next waiting steps) → MovedAlike region held (step ∷ steps)
+moved_more : (region : EndingRegion) (held steps : List Item) (step : Item) (single : Bool) → is_single (mark_of step) ≡ single → MayWait region held
+    → ((next : EndingRegion) (waiting : List Item) → MayWait next waiting → MovedAlike next waiting steps) → MovedAlike region held (step ∷ steps)
 moved_more AfterBar held steps step true h may rest = after_single held steps step h (rest AfterBar (held ++ step ∷ []) tt)
 moved_more AfterBar held steps step false h may rest =
     after_other held steps step h (rest AfterBar (held ++ step ∷ []) tt) (rest (region_after AfterBar (mark_of step)) [] (none_waits (region_after AfterBar (mark_of step))))
@@ -152,7 +152,7 @@ moved_more Inside held steps step false h may rest =
     subst (λ l. MovedAlike Inside l (step ∷ steps)) (sym may)
     (inside_other steps step h (rest (region_after Inside (mark_of step)) [] (none_waits (region_after Inside (mark_of step)))))
 
-moved_alike : (region : Region) (held steps : List Item) → MayWait region held → MovedAlike region held steps
+moved_alike : (region : EndingRegion) (held steps : List Item) → MayWait region held → MovedAlike region held steps
 moved_alike region held [] may = refl
 moved_alike region held (step ∷ steps) may =
     moved_more region held steps step (is_single (mark_of step)) refl may (λ next waiting. moved_alike next waiting steps)

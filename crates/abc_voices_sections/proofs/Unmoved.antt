@@ -3,7 +3,7 @@ use Rattle.std.proofs.Common.{◌≡◌, true, false, not, cond, List, [], ◌�
 use Rattle.std.proofs.lemmas.Bool.{and_parts, not-true}
 use Rattle.abc_bars_items.specs.declared.item.Item.{Item}
 use Rattle.abc_repeat.specs.Mark.{is_ending}
-use Rattle.abc_voices_sections.specs.declared.ending_fields.Region.{Region}
+use Rattle.abc_voices_sections.specs.declared.ending_fields.EndingRegion.{EndingRegion}
 use Rattle.abc_voices_sections.specs.EndingFields.{waits, region_after, nothing_waits, put_with_waiting, with_fields_in_endings_from}
 use Rattle.abc_voices_sections.specs.Step.{mark_of}
 
@@ -14,7 +14,7 @@ single_run step = elim (is_ending (mark_of step)) as (λ b. cond b (step ∷ [])
   | false ↦ refl
 ]
 
-pub nothing_moves : (region : Region) (steps : List Item)
+pub nothing_moves : (region : EndingRegion) (steps : List Item)
     → nothing_waits region steps ≡ true → with_fields_in_endings_from region [] steps ≡ steps
 nothing_moves region [] h = refl
 nothing_moves region (step ∷ steps) h =

@@ -3,30 +3,30 @@ use Rattle.std.specs.Prelude.{Bool, true, false, not, ◌&&◌, ◌||◌, if◌t
 use Rattle.abc_bars_items.specs.declared.item.Item.{Item}
 use Rattle.abc_repeat.specs.declared.mark.Mark.{Mark}
 use Rattle.abc_repeat.specs.Mark.{is_ending, is_single, opens_next, closes_ending}
-use Rattle.abc_voices_sections.specs.declared.ending_fields.Region.{Region}
-use Rattle.abc_voices_sections.specs.declared.ending_fields.Region.TheVariants.{Common, Inside, AfterBar}
+use Rattle.abc_voices_sections.specs.declared.ending_fields.EndingRegion.{EndingRegion}
+use Rattle.abc_voices_sections.specs.declared.ending_fields.EndingRegion.TheVariants.{Common, Inside, AfterBar}
 use Rattle.abc_voices_sections.specs.Step.{is_field, mark_of}
 
 -- What may be after an ending's bar before the sign of the next ending of the strain.
-abbrev pub waits : Region → Item → Bool
+abbrev pub waits : EndingRegion → Item → Bool
 waits AfterBar item = is_field item || is_single (mark_of item)
 waits _ item = false
 
 -- The region after a bar that ends an ending: a colon after it opens another strain.
-abbrev pub after_bar : Mark → Region
+abbrev pub after_bar : Mark → EndingRegion
 after_bar bar = if opens_next bar then Common else AfterBar
 
 -- The region after a mark that is no ending's sign and waits for none.
-abbrev pub after_mark : Region → Mark → Region
+abbrev pub after_mark : EndingRegion → Mark → EndingRegion
 after_mark Inside mark = if closes_ending mark then after_bar mark else Inside
 after_mark _ mark = Common
 
 -- The region after a mark that waits for none.
-abbrev pub region_after : Region → Mark → Region
+abbrev pub region_after : EndingRegion → Mark → EndingRegion
 region_after region mark = if is_ending mark then Inside else after_mark region mark
 
 -- Whether none of some steps waits for an ending's sign; the first is in this region.
-abbrev pub nothing_waits : Region → List Item → Bool
+abbrev pub nothing_waits : EndingRegion → List Item → Bool
 nothing_waits region [] = true
 nothing_waits region (step ∷ steps) =
     not (waits region step) && nothing_waits (region_after region (mark_of step)) steps
@@ -37,7 +37,7 @@ put_with_waiting held step =
     if is_ending (mark_of step) then step ∷ held else held ++ step ∷ []
 
 -- The steps from a place on in the order of their play, after those that wait.
-abbrev pub with_fields_in_endings_from : Region → List Item → List Item → List Item
+abbrev pub with_fields_in_endings_from : EndingRegion → List Item → List Item → List Item
 with_fields_in_endings_from region held [] = held
 with_fields_in_endings_from region held (step ∷ steps) =
     if waits region step then with_fields_in_endings_from region (held ++ step ∷ []) steps

@@ -3,7 +3,7 @@
 ghost use Rattle.std.specs.Prelude.{◌≡◌, ◌++◌, [], not, All, IfOk, OnOk};
 ghost use Rattle.abc_voices_sections.specs.Items.{items_of};
 ghost use Rattle.abc_voices_sections.specs.ItemRuns.{runs_of, items_in, IsRun};
-ghost use Rattle.abc_voices_sections.specs.declared.ending_fields.Region.TheVariants as regions;
+ghost use Rattle.abc_voices_sections.specs.declared.ending_fields.EndingRegion.TheVariants as regions;
 ghost use Rattle.abc_voices_sections.specs.EndingFields.{waits, after_bar, after_mark, region_after, nothing_waits};
 ghost use Rattle.abc_voices_sections.specs.EndingFields.{put_with_waiting, with_fields_in_endings};
 
@@ -13,9 +13,9 @@ use abc_bars_items::Item;
 use abc_repeat::Mark;
 use std::alloc::{AllocError, Global};
 
-/// The region of a strain.
+/// The region of a strain, by its endings.
 #[derive(Clone, Copy)]
-pub enum Region {
+pub enum EndingRegion {
     /// Before the first ending.
     Common,
     /// In an ending.
@@ -24,37 +24,37 @@ pub enum Region {
     AfterBar,
 }
 
-impl Region {
+impl EndingRegion {
     /// Whether an item in this region waits for the next ending's sign.
     fn waits(self, item: &Item) -> bool
         ensures { result ≡ waits self item.now }
     {
         match self {
-            Region::AfterBar => is_field(item) || is_single_bar(item),
+            EndingRegion::AfterBar => is_field(item) || is_single_bar(item),
             _ => false,
         }
     }
 
     /// Returns the region after a bar that ends an ending.
-    fn after_bar(bar: Mark) -> Region
+    fn after_bar(bar: Mark) -> EndingRegion
         ensures { result ≡ after_bar bar }
     {
         if bar.opens_next() {
-            Region::Common
+            EndingRegion::Common
         } else {
-            Region::AfterBar
+            EndingRegion::AfterBar
         }
     }
 
     /// Returns the region after a mark that does not wait.
-    fn after_mark(self, mark: Mark) -> Region
+    fn after_mark(self, mark: Mark) -> EndingRegion
         ensures { result ≡ region_after self mark }
     {
         match self {
-            _ if mark.is_ending() => Region::Inside,
-            Region::Inside if mark.closes_ending() => Region::after_bar(mark),
-            Region::Inside => Region::Inside,
-            _ => Region::Common,
+            _ if mark.is_ending() => EndingRegion::Inside,
+            EndingRegion::Inside if mark.closes_ending() => EndingRegion::after_bar(mark),
+            EndingRegion::Inside => EndingRegion::Inside,
+            _ => EndingRegion::Common,
         }
     }
 }
@@ -64,7 +64,7 @@ pub(crate) fn has_waiting_item(item_runs: &[ItemRun]) -> bool
     requires { All IsRun (runs_of item_runs.now) }
     ensures { not result ≡ nothing_waits regions.Common (items_in (runs_of item_runs.now)) }
 {
-    let mut region = Region::Common;
+    let mut region = EndingRegion::Common;
     for item_run in item_runs {
         if region.waits(item_run.items[0]) {
             return true;
@@ -108,7 +108,7 @@ pub(crate) fn with_fields_in_endings<'a>(
 {
     let mut steps = Vec::with_capacity(alloc, part.len())?;
     let mut held = Vec::new(alloc);
-    let mut region = Region::Common;
+    let mut region = EndingRegion::Common;
     for item in part {
         if region.waits(item) {
             held.push(*item)?;

@@ -8,7 +8,7 @@ mod section;
 mod stage;
 mod step;
 
-pub use ending_fields::Region;
+pub use ending_fields::EndingRegion;
 pub use section::{
     Section, has_one_section, is_step, letters, only_section, opening_voice, sections,
 };

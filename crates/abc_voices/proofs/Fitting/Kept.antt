@@ -5,8 +5,8 @@ use Rattle.std.specs.List.{cons_option}
 use Rattle.std.proofs.lemmas.List.Elements.{All-nil, All-cons, All-head, All-tail, All-append, All-push}
 use Rattle.abc_bars_items.specs.declared.item.Item.{Item}
 use Rattle.abc_repeat.specs.Mark.{is_ending}
-use Rattle.abc_voices_sections.specs.declared.ending_fields.Region.{Region}
-use Rattle.abc_voices_sections.specs.declared.ending_fields.Region.TheVariants.{Common}
+use Rattle.abc_voices_sections.specs.declared.ending_fields.EndingRegion.{EndingRegion}
+use Rattle.abc_voices_sections.specs.declared.ending_fields.EndingRegion.TheVariants.{Common}
 use Rattle.abc_voices.specs.Arrange.{played_sections}
 use Rattle.abc_voices_sections.specs.PlayedSection.{play_in}
 use Rattle.abc_voices_sections.specs.EndingFields.{waits, put_with_waiting, region_after, with_fields_in_endings_from, with_fields_in_endings}
@@ -39,7 +39,7 @@ module _ (P : Item → Type 0) where
   set_down_kept held step all is =
       either P (is_ending (mark_of step)) (step ∷ held) (held ++ step ∷ []) (All-cons P step held is all) (All-push P held step all is)
 
-  moved_kept : (region : Region) (held steps : List Item) → All P held → All P steps → All P (with_fields_in_endings_from region held steps)
+  moved_kept : (region : EndingRegion) (held steps : List Item) → All P held → All P steps → All P (with_fields_in_endings_from region held steps)
   moved_kept region held [] waiting all = waiting
   moved_kept region held (step ∷ steps) waiting all =
       let is : P step = All-head P step steps all in

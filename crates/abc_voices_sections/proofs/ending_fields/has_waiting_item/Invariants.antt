@@ -1,6 +1,6 @@
 use Rattle.std.proofs.Common.{◌≡◌, drop}
 use Rattle.abc_voices_sections.specs.EndingFields.{nothing_waits}
-use Rattle.abc_voices_sections.specs.declared.ending_fields.Region.TheVariants.{Common}
+use Rattle.abc_voices_sections.specs.declared.ending_fields.EndingRegion.TheVariants.{Common}
 use Rattle.abc_voices_sections.specs.ItemRuns.{runs_of, items_in}
 use Rattle.abc_voices_sections.proofs.ending_fields.has_waiting_item.Given as goal
 

@@ -1,6 +1,6 @@
 use Rattle.std.proofs.Common.{◌≡◌, ◌++◌, [], drop}
 use Rattle.abc_voices_sections.specs.Items.{items_of}
-use Rattle.abc_voices_sections.specs.declared.ending_fields.Region.TheVariants.{Common}
+use Rattle.abc_voices_sections.specs.declared.ending_fields.EndingRegion.TheVariants.{Common}
 use Rattle.abc_voices_sections.specs.EndingFields.{with_fields_in_endings_from}
 use Rattle.abc_voices_sections.proofs.ending_fields.with_fields_in_endings.Given as goal
 
