@@ -8,15 +8,15 @@ use std::fs::{self, File};
 use std::io::{self, ErrorKind, Write};
 use std::rt::Runtime;
 
-/// The kind of thing under a name.
+/// What a path leads to.
 #[derive(Drop)]
-pub(crate) enum Place {
+pub(crate) enum PathKind {
     Folder,
     /// A file, or something else that is not a folder.
     NoFolder,
     Nothing,
     /// It cannot be reached, for instance if a folder in the path may not be entered.
-    Hidden(io::Error),
+    Unreachable(io::Error),
 }
 
 /// Files by their names in one folder. For each file that cannot be stored or removed it prints the reason on standard
@@ -39,13 +39,13 @@ impl<'a, R: Runtime + AllocGlobal> Directory<'a, R> {
         }
     }
 
-    /// Returns the kind of thing under the folder's name.
-    pub(crate) fn place(&self) -> Place {
+    /// Returns what the path of the folder leads to.
+    pub(crate) fn path_kind(&self) -> PathKind {
         match fs::metadata(self.rt, self.path) {
-            Ok(metadata) if metadata.is_dir() => Place::Folder,
-            Ok(_) => Place::NoFolder,
-            Err(error) if error.kind() == ErrorKind::NotFound => Place::Nothing,
-            Err(error) => Place::Hidden(error),
+            Ok(metadata) if metadata.is_dir() => PathKind::Folder,
+            Ok(_) => PathKind::NoFolder,
+            Err(error) if error.kind() == ErrorKind::NotFound => PathKind::Nothing,
+            Err(error) => PathKind::Unreachable(error),
         }
     }
 

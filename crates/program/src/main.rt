@@ -8,7 +8,7 @@ use abc_fold::Work;
 use abc2midi_live::{Piped, RunFault, fault_of_book, run_before_exit};
 use arguments::command;
 use clap::error::ErrorKind;
-use directory::{Directory, Place};
+use directory::{Directory, PathKind};
 use std::alloc::AllocError;
 use std::process::ExitCode;
 use std::rt::{Files, Runtime};
@@ -83,18 +83,18 @@ fn words_of<R: Runtime + AllocGlobal>(rt: &R) -> Result<Vec<String>, Failure> {
 }
 
 /// Prints a warning on standard error if no MIDI file can be stored. The run continues.
-fn warn<R: Runtime + AllocGlobal>(rt: &R, dir: &str, place: Place) {
-    let _ = match place {
-        Place::Folder => Ok(()),
-        Place::NoFolder => {
+fn warn<R: Runtime + AllocGlobal>(rt: &R, dir: &str, kind: PathKind) {
+    let _ = match kind {
+        PathKind::Folder => Ok(()),
+        PathKind::NoFolder => {
             eprintln!(rt; "warning: '{dir}' is no folder, so no MIDI file can be stored in it")
         }
-        Place::Nothing => {
+        PathKind::Nothing => {
             eprintln!(rt;
                 "warning: there is no folder '{dir}', so no MIDI file can be stored in it"
             )
         }
-        Place::Hidden(error) => {
+        PathKind::Unreachable(error) => {
             eprintln!(rt;
                 "warning: the folder '{dir}' cannot be reached, so no MIDI file can be stored in it: {error}"
             )
@@ -141,7 +141,7 @@ fn converse<R: Runtime + AllocGlobal>(rt: &R) -> Result<(), Failure> {
     let mut reader = Piped::new(rt.reader());
     let mut writer = Piped::new(io::writer(rt));
     let mut store = Directory::new(rt, dir);
-    warn(rt, dir, store.place());
+    warn(rt, dir, store.path_kind());
     let book = book_of(rt, matches.get_str("book"))?;
     let mut work = Work::mint(rt);
     run_before_exit(
