@@ -33,15 +33,15 @@ nothing_waits region (step ∷ steps) =
 
 -- An ending's sign goes before what has waited for it, anything else after it.
 abbrev pub put_with_waiting : List Item → Item → List Item
-put_with_waiting held step =
-    if is_ending (mark_of step) then step ∷ held else held ++ step ∷ []
+put_with_waiting waiting step =
+    if is_ending (mark_of step) then step ∷ waiting else waiting ++ step ∷ []
 
--- The steps from a place on in the order of their play, after those that wait.
+-- The steps from a place on in the order of their play, after the steps `waiting`.
 abbrev pub with_fields_in_endings_from : EndingRegion → List Item → List Item → List Item
-with_fields_in_endings_from region held [] = held
-with_fields_in_endings_from region held (step ∷ steps) =
-    if waits region step then with_fields_in_endings_from region (held ++ step ∷ []) steps
-    else put_with_waiting held step ++ with_fields_in_endings_from (region_after region (mark_of step)) [] steps
+with_fields_in_endings_from region waiting [] = waiting
+with_fields_in_endings_from region waiting (step ∷ steps) =
+    if waits region step then with_fields_in_endings_from region (waiting ++ step ∷ []) steps
+    else put_with_waiting waiting step ++ with_fields_in_endings_from (region_after region (mark_of step)) [] steps
 
 -- The steps of a voice in a section, in the order in which repeats and endings play them.
 abbrev pub with_fields_in_endings : List Item → List Item

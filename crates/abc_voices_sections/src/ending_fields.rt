@@ -77,25 +77,25 @@ pub(crate) fn has_waiting_item(item_runs: &[ItemRun]) -> bool
 /// Appends an item and those that have waited: an ending's sign before them, anything else after.
 fn put_with_waiting<'a>(
     out: &mut Vec<&'a Item>,
-    held: &mut Vec<&'a Item>,
+    waiting: &mut Vec<&'a Item>,
     item: &'a Item,
 ) -> Result<(), AllocError>
     ensures put { OnOk result (items_of out.new.items
-        ≡ items_of out.old.items ++ put_with_waiting (items_of held.old.items) item.entry.now) }
-    ensures held { OnOk result (held.new.items ≡ []) }
+        ≡ items_of out.old.items ++ put_with_waiting (items_of waiting.old.items) item.entry.now) }
+    ensures waiting { OnOk result (waiting.new.items ≡ []) }
 {
-    if held.is_empty() {
+    if waiting.is_empty() {
         out.push(item)?;
         return Ok(());
     }
     if mark_of(item).is_ending() {
         out.push(item)?;
-        out.extend_from_slice(held)?;
+        out.extend_from_slice(waiting)?;
     } else {
-        out.extend_from_slice(held)?;
+        out.extend_from_slice(waiting)?;
         out.push(item)?;
     }
-    held.clear();
+    waiting.clear();
     Ok(())
 }
 
@@ -107,16 +107,16 @@ pub(crate) fn with_fields_in_endings<'a>(
     ensures { IfOk result (λ steps. items_of steps.items ≡ with_fields_in_endings (items_of part.now)) }
 {
     let mut steps = Vec::with_capacity(alloc, part.len())?;
-    let mut held = Vec::new(alloc);
+    let mut waiting = Vec::new(alloc);
     let mut region = EndingRegion::Common;
     for item in part {
         if region.waits(item) {
-            held.push(*item)?;
+            waiting.push(*item)?;
         } else {
-            put_with_waiting(&mut steps, &mut held, item)?;
+            put_with_waiting(&mut steps, &mut waiting, item)?;
             region = region.after_mark(mark_of(item));
         }
     }
-    steps.extend_from_slice(&held)?;
+    steps.extend_from_slice(&waiting)?;
     Ok(steps)
 }

@@ -6,5 +6,5 @@ use Rattle.abc_voices_sections.proofs.ending_fields.with_fields_in_endings.Given
 
 -- what is put, and the order of the rest after what waits
 abbrev pub invariant-loop-item : goal.invariant-loop-item
-invariant-loop-item l = items_of l.steps.items ++ with_fields_in_endings_from l.region (items_of l.held.items)
+invariant-loop-item l = items_of l.steps.items ++ with_fields_in_endings_from l.region (items_of l.waiting.items)
     (items_of (drop l.item-index l.part)) ≡ with_fields_in_endings_from Common [] (items_of l.part)
