@@ -63,7 +63,7 @@ use Rattle.abc_tune.specs.HeaderText.{items_of_tune, sets_out_of_range, unit_of_
 use Rattle.abc_tune.specs.WholeFaults.{fault_if, faults_with, is_opening_key, lacks_key, opens_out_of_range, out_after}
 use Rattle.abc_tune.proofs.WholeFaults.{last_passed, passed, past_append}
 use Rattle.abc_tune_compiler.specs.Tune.{first_of}
-use Rattle.abc_voices.specs.Arrange.{is_too_long, items_in}
+use Rattle.abc_voices.specs.Layout.{is_too_long, items_in}
 use Rattle.abc_voices.specs.Opening.{after_all}
 
 -- the results of a tune's cells are those of looking back

@@ -9,7 +9,7 @@ use Rattle.abc_bars_items.specs.declared.item.Item.TheVariants as items
 use Rattle.abc_tune.specs.Abc.{first_value, rules_of_abc}
 use Rattle.abc_tune.specs.Title.{HasOneTitle}
 use Rattle.abc_tune_compiler.specs.Tune.{first_of}
-use Rattle.abc_voices.specs.Arrange.{arranged_of, items_in}
+use Rattle.abc_voices.specs.Layout.{arranged_of, items_in}
 use Rattle.abc_voices.specs.Opening.{title_before, title_of}
 
 first : (item : Item) (later : List ℕ) → title_before later item ≡ unwrap_or (title_said item) later

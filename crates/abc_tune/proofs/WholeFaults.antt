@@ -10,7 +10,7 @@ use Rattle.abc_fields.specs.declared.fault_code.FaultCode.{FaultCode}
 use Rattle.abc_fields.specs.declared.fault_code.FaultCode.TheVariants as codes
 use Rattle.abc_fields.specs.Fault.{number_of}
 use Rattle.abc_tune.specs.WholeFaults.{is_opening_key, lacks_key, out_after, opens_out_of_range, fault_if, faults_with, AreRisingFrom, is_too_long_fault}
-use Rattle.abc_voices.specs.Arrange.{items_in}
+use Rattle.abc_voices.specs.Layout.{items_in}
 use Rattle.abc_voices.specs.Opening.{after_all}
 
 -- one of a tune is one of a cell

@@ -4,7 +4,7 @@ use Rattle.abc_bars_items.specs.declared.item.Item.{Item}
 use Rattle.abc_bars_items.specs.Item.{Items}
 use Rattle.abc_fields.specs.declared.fault_code.FaultCode.{FaultCode}
 use Rattle.abc_tune.specs.WholeFaults.{faults_with}
-use Rattle.abc_voices.specs.Arrange.{arranged_of, is_too_long, items_in}
+use Rattle.abc_voices.specs.Layout.{arranged_of, is_too_long, items_in}
 use Rattle.smf_bytes.specs.File.{file_bytes}
 
 -- Whether the order of the parts names one that the tune does not have, also if the tune is too long. Not in ABC 2.1.

@@ -3,7 +3,7 @@ use Rattle.std.specs.Prelude.{◌≡◌, List, []}
 use Rattle.abc_bars_items.specs.Item.{Items}
 use Rattle.abc_tune.specs.Abc.{rules_of_abc}
 use Rattle.abc_tune_compiler.specs.Tune.{first_of}
-use Rattle.abc_voices.specs.Arrange.{arranged_of, items_in}
+use Rattle.abc_voices.specs.Layout.{arranged_of, items_in}
 
 -- The title in a tune's file is that under which the tune is in the list of titles: the first that one of its cells
 -- gives, or the empty one.

@@ -5,7 +5,7 @@ ghost use Rattle.std.specs.List.{list_any};
 ghost use Rattle.abc_fold.specs.Work.{raised};
 ghost use Rattle.abc_tune.specs.Built.{bytes_of, build_faults_of};
 ghost use Rattle.abc_tune.specs.WholeFaults.{faults_with, is_too_long_fault, AreRisingFrom};
-ghost use Rattle.abc_voices.specs.Arrange.{items_in};
+ghost use Rattle.abc_voices.specs.Layout.{items_in};
 ghost use Rattle.abc_voices_score.specs.Limits.{IsWithinLimits};
 ghost use Rattle.smf_bytes.specs.File.{file_bytes};
 

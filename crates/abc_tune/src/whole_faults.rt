@@ -4,7 +4,7 @@ ghost use Rattle.std.specs.Prelude.{◌≡◌, ◌++◌, IfOk, OnOk};
 ghost use Rattle.std.specs.List.{list_any};
 ghost use Rattle.abc_tune.specs.WholeFaults.{is_opening_key, lacks_key, out_after, opens_out_of_range, fault_if, faults_with};
 ghost use Rattle.abc_tune.specs.WholeFaults.{is_too_long_fault, AreRisingFrom};
-ghost use Rattle.abc_voices.specs.Arrange.{items_in};
+ghost use Rattle.abc_voices.specs.Layout.{items_in};
 ghost use Rattle.abc_voices.specs.Opening.{after_all};
 
 use abc_bars_items::{Item, Items};

@@ -12,7 +12,7 @@ use Rattle.abc_time.specs.declared.grains.Grains.{Grains}
 use Rattle.abc_time.specs.Grains.{tick_at}
 use Rattle.abc_voices_score.specs.declared.score.Change.{Change}
 use Rattle.abc_voices_score.specs.declared.score.ChangeKind.TheVariants as kinds
-use Rattle.abc_voices.specs.Arrange.{first_of, played_sections, set_in, usual_tempo}
+use Rattle.abc_voices.specs.Layout.{first_of, played_sections, set_in, usual_tempo}
 use Rattle.abc_voices_sections.specs.PlayedSection.{section_length, play_in}
 use Rattle.abc_voices.specs.Change.{tempo_of, meter_of, key_of, set_from}
 use Rattle.abc_voices.specs.Conductor.{opening_tempo_of, opening_meter_of, opening_key_of, opening_by, sections_in_time, last_beside, last_set}

@@ -4,7 +4,7 @@ use Rattle.std.specs.Prelude.{Any}
 use Rattle.std.specs.List.{flat_map}
 use Rattle.std.proofs.lemmas.Bool.{cases_lt}
 use Rattle.abc_voices_score.specs.declared.score.Sounding.{Sounding}
-use Rattle.abc_voices.specs.Arrange.{last_off, total, voices_notes}
+use Rattle.abc_voices.specs.Layout.{last_off, total, voices_notes}
 use Rattle.abc_voices.specs.Ends.{EndsOnce}
 use Rattle.abc_voices.proofs.Fitting.Voices.{last_past, latest_end}
 

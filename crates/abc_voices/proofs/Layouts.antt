@@ -20,8 +20,8 @@ use Rattle.abc_voices_sections.specs.declared.stage.VoicePart.{VoicePart}
 use Rattle.abc_voices_sections.specs.declared.stage.Stage.{Stage}
 use Rattle.abc_voices.specs.Turns.{IsStage, length_along, steps_of, notes_along, for_voices, voices_along, set_by_all, set_by_one, parts_differ}
 use Rattle.abc_voices.specs.Turns.{is_stage_uneven, first_place, changes_along, programs_by, programs_along, end_along, score_along}
-use Rattle.abc_voices.specs.Arrange.{played_sections, voice_notes, all_notes, set_in, first_of, lengths_differ, is_uneven, voices_notes, last_off}
-use Rattle.abc_voices.specs.Arrange.{end_of, changes_of, programs_in, programs_of, score_of, usual_tempo, arranged_of}
+use Rattle.abc_voices.specs.Layout.{played_sections, voice_notes, all_notes, set_in, first_of, lengths_differ, is_uneven, voices_notes, last_off}
+use Rattle.abc_voices.specs.Layout.{end_of, changes_of, programs_in, programs_of, score_of, usual_tempo, arranged_of}
 use Rattle.abc_voices_sections.specs.PlayedSection.{play_in, section_length}
 use Rattle.abc_voices.specs.Change.{tempo_of, meter_of, key_of, program_of, set_from, after_opening}
 use Rattle.abc_voices.specs.ScoreChanges.{programs_in_force}

@@ -11,7 +11,7 @@ use Rattle.abc_voices_score.specs.declared.score.Sounding.{Sounding}
 use Rattle.abc_voices_sections.specs.declared.stage.Stage.{Stage}
 use Rattle.abc_voices.specs.declared.turns.Turn.{Turn}
 use Rattle.abc_voices.specs.Turns.{IsStage, stages_in, length_along, for_voices, set_at, set_by_one}
-use Rattle.abc_voices.specs.Arrange.{last_off}
+use Rattle.abc_voices.specs.Layout.{last_off}
 use Rattle.abc_voices.specs.Change.{after_opening}
 
 -- what holds of each stage holds at its turn

@@ -12,7 +12,7 @@ use Rattle.abc_repeat.specs.Order.{sections_of, has_unknown}
 use Rattle.abc_time.specs.declared.grains.Grains.{Grains}
 use Rattle.abc_voices.specs.ScoreChanges.{changes_in_force}
 use Rattle.abc_voices.specs.Turns.{set_by_all, set_by_one, voices_along, programs_along, end_along, score_along}
-use Rattle.abc_voices.specs.Arrange.{usual_tempo}
+use Rattle.abc_voices.specs.Layout.{usual_tempo}
 use Rattle.abc_voices.specs.Change.{tempo_of, meter_of, key_of}
 use Rattle.abc_voices.specs.Fields.{is_music, without_music}
 use Rattle.abc_voices.specs.Opening.{tempo_after, meter_after, key_after, program_after, order_after, after_all, title_before, title_of}

@@ -9,7 +9,7 @@ use Rattle.abc_bars_items.specs.declared.item.Item.TheVariants as items
 use Rattle.abc_time.specs.declared.grains.Grains.{Grains}
 use Rattle.abc_time.specs.Grains.{tick_at}
 use Rattle.abc_voices_score.specs.declared.score.ProgramChange.{ProgramChange}
-use Rattle.abc_voices.specs.Arrange.{played_sections, programs_in, set_in}
+use Rattle.abc_voices.specs.Layout.{played_sections, programs_in, set_in}
 use Rattle.abc_voices_sections.specs.PlayedSection.{section_length, play_in}
 use Rattle.abc_voices.specs.Change.{at_moment, after_opening, program_of, set_from}
 use Rattle.abc_voices.specs.Opening.{after_all, program_after}

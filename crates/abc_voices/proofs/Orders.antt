@@ -6,7 +6,7 @@ use Rattle.abc_bars_items.specs.declared.item.Item.{Item}
 use Rattle.abc_bars_items.specs.declared.item.Item.TheVariants as items
 use Rattle.abc_repeat.specs.Order.{sections_of, has_unknown}
 use Rattle.abc_voices_sections.specs.Section.{letters, sections}
-use Rattle.abc_voices.specs.Arrange.{arranged_of}
+use Rattle.abc_voices.specs.Layout.{arranged_of}
 use Rattle.abc_voices.specs.OnTicks.{last_said}
 use Rattle.abc_voices.specs.Opening.{order_after, after_all}
 use Rattle.abc_voices.specs.Orders.{order_said, AreInLastOrder}

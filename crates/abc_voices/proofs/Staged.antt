@@ -7,7 +7,7 @@ use Rattle.abc_bars_items.specs.declared.item.Item.{Item}
 use Rattle.abc_bars_items.specs.Item.{IsItem}
 use Rattle.abc_time.specs.declared.grains.Grains.{Grains}
 use Rattle.abc_voices.specs.Turns.{IsPart, IsStage}
-use Rattle.abc_voices.specs.Arrange.{total, voices_notes, end_of}
+use Rattle.abc_voices.specs.Layout.{total, voices_notes, end_of}
 use Rattle.abc_voices_sections.specs.PlayedSection.{length_in, section_length}
 use Rattle.abc_voices_sections.specs.Stage.{part_of, stage_of}
 use Rattle.abc_voices.proofs.Fitting.Kept.{play_kept}

@@ -7,7 +7,7 @@ use Rattle.std.specs.List.{list_any, cons_option}
 use Rattle.std.specs.Option.{is_none, option_or}
 use Rattle.abc_bars_items.specs.declared.item.Item.{Item}
 use Rattle.abc_bars_items.specs.declared.item.Item.TheVariants as items
-use Rattle.abc_voices.specs.Arrange.{takes_time}
+use Rattle.abc_voices.specs.Layout.{takes_time}
 use Rattle.abc_voices.specs.Track.{has_unnamed_track, names_from, plays_first}
 use Rattle.abc_voices.specs.Tracks.{HaveTracksByMention, mentioned_voices, mentioned_by, mentioned_first, plays_unnamed}
 use Rattle.abc_voices.specs.Voices.{declared_by, first_said, named_by, voice_at_place, with_items_before}

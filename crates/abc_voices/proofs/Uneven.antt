@@ -7,7 +7,7 @@ use Rattle.std.proofs.lemmas.List.Folds.{Any-from_list_any, list_any-from_Any}
 use Rattle.abc_bars_items.specs.declared.item.Item.{Item}
 use Rattle.abc_bars_items.specs.declared.item.Item.TheVariants as items
 use Rattle.abc_voices_sections.specs.PlayedSection.{length_in, play_in}
-use Rattle.abc_voices.specs.Arrange.{arranged_of, lengths_differ, is_uneven, played_sections, plays_time, takes_time}
+use Rattle.abc_voices.specs.Layout.{arranged_of, lengths_differ, is_uneven, played_sections, plays_time, takes_time}
 use Rattle.abc_voices.specs.Track.{voice_names}
 use Rattle.abc_voices.specs.Uneven.{TakesTime, by_tones, by_rest, AreUneven, TellsUneven}
 

@@ -11,7 +11,7 @@ use Rattle.abc_time.specs.Grains.{tick_at}
 use Rattle.abc_voices_score.specs.declared.score.Change.{Change}
 use Rattle.abc_voices_score.specs.declared.score.ChangeKind.{ChangeKind}
 use Rattle.abc_voices_score.specs.declared.score.ChangeKind.TheVariants as kinds
-use Rattle.abc_voices.specs.Arrange.{played_sections, score_of}
+use Rattle.abc_voices.specs.Layout.{played_sections, score_of}
 use Rattle.abc_voices_sections.specs.PlayedSection.{section_length, play_in}
 use Rattle.abc_voices.specs.Change.{tempo_of, meter_of, key_of}
 use Rattle.abc_voices.specs.OnTicks.{at_moments, last_said, set_by, set_on}

@@ -4,7 +4,7 @@ use Rattle.std.specs.List.{flat_map}
 use Rattle.abc_bars_items.specs.declared.item.Item.{Item}
 use Rattle.abc_voices_score.specs.declared.score.Sounding.{Sounding}
 use Rattle.abc_voices_sections.specs.PlayedSection.{section_length}
-use Rattle.abc_voices.specs.Arrange.{played_sections, score_of}
+use Rattle.abc_voices.specs.Layout.{played_sections, score_of}
 use Rattle.abc_voices.specs.Track.{voice_names}
 
 -- How long the sections of a tune are that are played, one after another.

@@ -1,10 +1,10 @@
-pub mod Arrange
 pub mod Chains
 pub mod Change
 pub mod Conductor
 pub mod Endings
 pub mod Ends
 pub mod Fields
+pub mod Layout
 pub mod Limits
 pub mod OnTicks
 pub mod Opening

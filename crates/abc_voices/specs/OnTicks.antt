@@ -6,7 +6,7 @@ use Rattle.abc_bars_items.specs.declared.item.Item.TheVariants as items
 use Rattle.abc_time.specs.declared.grains.Grains.{Grains}
 use Rattle.abc_time.specs.Grains.{tick_at}
 use Rattle.abc_voices_score.specs.declared.score.ProgramChange.{ProgramChange}
-use Rattle.abc_voices.specs.Arrange.{played_sections, score_of}
+use Rattle.abc_voices.specs.Layout.{played_sections, score_of}
 use Rattle.abc_voices_sections.specs.PlayedSection.{section_length, play_in}
 use Rattle.abc_voices.specs.Change.{at_moment, program_of}
 use Rattle.abc_voices_sections.specs.Step.{length_of}

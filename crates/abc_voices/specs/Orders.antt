@@ -4,7 +4,7 @@ use Rattle.abc_bars_items.specs.declared.item.Item.{Item}
 use Rattle.abc_bars_items.specs.declared.item.Item.TheVariants as items
 use Rattle.abc_repeat.specs.Order.{sections_of, has_unknown}
 use Rattle.abc_voices_sections.specs.Section.{letters, sections}
-use Rattle.abc_voices.specs.Arrange.{arranged_of, played_sections, sections_played}
+use Rattle.abc_voices.specs.Layout.{arranged_of, played_sections, sections_played}
 use Rattle.abc_voices.specs.OnTicks.{last_said}
 
 -- The order of the parts that an item says, if it says one: a P: of the header that is accepted does.

@@ -4,7 +4,7 @@ use Rattle.std.specs.Prelude.{Option, Some, None}
 use Rattle.abc_bars_items.specs.declared.item.Item.{Item}
 use Rattle.abc_bars_items.specs.declared.item.Tone.{Tone}
 use Rattle.abc_voices_score.specs.declared.score.Sounding.{Sounding}
-use Rattle.abc_voices.specs.Arrange.{all_notes, played_sections, score_of}
+use Rattle.abc_voices.specs.Layout.{all_notes, played_sections, score_of}
 use Rattle.abc_voices_sections.specs.PlayedSection.{section_length, play_in}
 use Rattle.abc_voices.specs.TiedNotes.{notes_from}
 use Rattle.abc_voices_sections.specs.Step.{length_of, tones_of}

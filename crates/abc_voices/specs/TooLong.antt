@@ -7,7 +7,7 @@ use Rattle.abc_repeat.specs.declared.order.TheConstants.{MOST_SECTIONS}
 use Rattle.abc_repeat.specs.declared.play.TheConstants.{MOST_PLACES}
 use Rattle.abc_time.specs.Grains.{grains_of_the_latest_end}
 use Rattle.abc_voices_score.specs.declared.limits.TheConstants.{LONGEST_TITLE}
-use Rattle.abc_voices.specs.Arrange.{end_of, is_too_long, places_played, score_of, sections_played}
+use Rattle.abc_voices.specs.Layout.{end_of, is_too_long, places_played, score_of, sections_played}
 use Rattle.abc_voices_score.specs.Limits.{IsWithinLimits}
 use Rattle.abc_voices.specs.Opening.{title_of}
 use Rattle.abc_voices.specs.Track.{tracks}

@@ -6,7 +6,7 @@ use Rattle.std.specs.List.{list_any}
 use Rattle.std.specs.Option.{is_none}
 use Rattle.abc_bars_items.specs.declared.item.Item.{Item}
 use Rattle.abc_bars_items.specs.declared.item.Item.TheVariants as items
-use Rattle.abc_voices.specs.Arrange.{takes_time}
+use Rattle.abc_voices.specs.Layout.{takes_time}
 use Rattle.abc_voices.specs.Track.{tracks}
 use Rattle.abc_voices.specs.Voices.{first_said, named_by, voice_at_place, with_items_before}
 

@@ -13,7 +13,7 @@ use Rattle.abc_voices_score.specs.declared.score.Sounding.{Sounding}
 use Rattle.abc_voices_sections.specs.declared.stage.VoicePart.{VoicePart}
 use Rattle.abc_voices_sections.specs.declared.stage.Stage.{Stage}
 use Rattle.abc_voices.specs.declared.turns.Turn.{Turn}
-use Rattle.abc_voices.specs.Arrange.{all_notes, takes_time, last_off, usual_tempo}
+use Rattle.abc_voices.specs.Layout.{all_notes, takes_time, last_off, usual_tempo}
 use Rattle.abc_voices.specs.Change.{tempo_of, meter_of, key_of, program_of, set_from, after_opening}
 use Rattle.abc_voices.specs.ScoreChanges.{changes_in_force, programs_in_force}
 use Rattle.abc_voices.specs.TiedNotes.{Notes, notes_from}

@@ -5,7 +5,7 @@ use Rattle.abc_bars_items.specs.declared.item.Item.TheVariants as items
 use Rattle.abc_bars_items.specs.declared.item.Tone.{Tone}
 use Rattle.abc_time.specs.declared.grains.Grains.{Grains}
 use Rattle.abc_voices_sections.specs.PlayedSection.{length_in, play_in}
-use Rattle.abc_voices.specs.Arrange.{arranged_of, played_sections}
+use Rattle.abc_voices.specs.Layout.{arranged_of, played_sections}
 use Rattle.abc_voices.specs.Track.{voice_names}
 
 -- A note, chord, rest or bar rest takes time; nothing else does.

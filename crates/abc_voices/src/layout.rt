@@ -12,8 +12,8 @@ ghost use Rattle.abc_voices_sections.specs.declared.stage.StageError.TheVariants
 ghost use Rattle.abc_repeat.specs.declared.order.TheConstants.{MOST_SECTIONS};
 ghost use Rattle.abc_repeat.specs.declared.play.TheConstants.{MOST_PLACES};
 ghost use Rattle.abc_voices.specs.Turns.{first_place, stages_in};
-ghost use Rattle.abc_voices.specs.Arrange.{played_sections, is_uneven, end_of, score_of, arranged_of, sections_played};
-ghost use Rattle.abc_voices.specs.Arrange.{places_played, is_too_long, items_in};
+ghost use Rattle.abc_voices.specs.Layout.{played_sections, is_uneven, end_of, score_of, arranged_of, sections_played};
+ghost use Rattle.abc_voices.specs.Layout.{places_played, is_too_long, items_in};
 ghost use Rattle.abc_voices.specs.Fields.{without_music};
 ghost use Rattle.abc_voices_score.specs.Limits.{IsWithinLimits};
 ghost use Rattle.abc_voices_score.specs.declared.limits.TheConstants.{LONGEST_TITLE};

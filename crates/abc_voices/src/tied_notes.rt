@@ -4,7 +4,7 @@ ghost use Rattle.std.specs.Prelude.{◌≡◌, ◌==◌, ◌≤◌, ◌<◌, ◌
 ghost use Rattle.std.specs.Prelude.{IfSome, OnOk};
 ghost use Rattle.abc_bars_items.specs.Item.{IsTone};
 ghost use Rattle.abc_time.specs.Grains.{grains_of_the_latest_end};
-ghost use Rattle.abc_voices.specs.Arrange.{all_notes};
+ghost use Rattle.abc_voices.specs.Layout.{all_notes};
 ghost use Rattle.abc_voices.specs.TiedNotes.{before, next_place, notes_in, with_key, with_token_begun};
 
 use abc_bars_items::Tone;

@@ -3,7 +3,7 @@
 ghost use Rattle.std.specs.Prelude.{◌≡◌};
 ghost use Rattle.std.specs.List.{list_any};
 ghost use Rattle.abc_voices_sections.specs.Items.{items_of};
-ghost use Rattle.abc_voices.specs.Arrange.{takes_time, last_off};
+ghost use Rattle.abc_voices.specs.Layout.{takes_time, last_off};
 
 use abc_bars_items::Item;
 use abc_time::Grains;

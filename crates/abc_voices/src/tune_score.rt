@@ -7,7 +7,7 @@ ghost use Rattle.abc_voices_sections.specs.Items.{items_of};
 ghost use Rattle.abc_voices_sections.specs.declared.stage.StageError.TheVariants.{TooMany, TooLate};
 ghost use Rattle.abc_voices.specs.Turns.{IsStage, IsSteady, PlaysNone, stages_in, length_along, voices_along, changes_along};
 ghost use Rattle.abc_voices.specs.Turns.{end_along, score_along};
-ghost use Rattle.abc_voices.specs.Arrange.{last_off};
+ghost use Rattle.abc_voices.specs.Layout.{last_off};
 ghost use Rattle.abc_voices.specs.Fields.{is_steady, sets_program, keeps_programs};
 
 use crate::fields::is_steady;

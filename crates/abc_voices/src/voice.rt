@@ -3,7 +3,7 @@
 ghost use Rattle.std.specs.Prelude.{◌≡◌, ◌+◌, ◌-◌, ◌≤◌, All, IfOk, OnOk};
 ghost use Rattle.abc_time.specs.Grains.{grains_of_the_latest_end};
 ghost use Rattle.abc_voices.specs.Turns.{IsPart, IsStage, stages_in, length_along, before_rest, notes_along, voices_along};
-ghost use Rattle.abc_voices.specs.Arrange.{all_notes};
+ghost use Rattle.abc_voices.specs.Layout.{all_notes};
 ghost use Rattle.abc_voices.specs.TiedNotes.{notes_from, notes_in};
 
 use crate::notes::put_notes;

@@ -6,8 +6,8 @@ ghost use Rattle.std.specs.Prelude.{◌≡◌, true, false, [], ◌∷◌, Some,
 ghost use Rattle.std.specs.List.{list_any};
 ghost use Rattle.abc_bars_items.specs.declared.item.Item.TheVariants as items;
 ghost use Rattle.abc_repeat.specs.Strain.{strains_of};
-ghost use Rattle.abc_voices.specs.Arrange.{changes_of, end_of, is_uneven, places_played, played_sections, programs_of, set_in};
-ghost use Rattle.abc_voices.specs.Arrange.{voices_notes};
+ghost use Rattle.abc_voices.specs.Layout.{changes_of, end_of, is_uneven, places_played, played_sections, programs_of, set_in};
+ghost use Rattle.abc_voices.specs.Layout.{voices_notes};
 ghost use Rattle.abc_voices.specs.Change.{program_of, tempo_of};
 ghost use Rattle.abc_voices.specs.Endings.{between_endings_in, without_fields};
 ghost use Rattle.abc_voices_sections.specs.EndingFields.{with_fields_in_endings};

@@ -1,7 +1,7 @@
 //! A tune as a score, by `abc_voices`.
 
 ghost use Rattle.std.specs.Prelude.{◌≡◌, ◌^◌, ◌-◌, IfOk};
-ghost use Rattle.abc_voices.specs.Arrange.{arranged_of, items_in};
+ghost use Rattle.abc_voices.specs.Layout.{arranged_of, items_in};
 ghost use Rattle.abc_voices.specs.Limits.{HIGHEST_KEY, IsWithinLimits, LONGEST_TITLE, MOST_CHANGES, MOST_CHORD_NOTES};
 ghost use Rattle.abc_voices.specs.Limits.{MOST_NOTES, MOST_PROGRAMS, MOST_VOICES};
 

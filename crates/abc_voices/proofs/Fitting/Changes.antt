@@ -8,7 +8,7 @@ use Rattle.abc_bars_items.specs.Item.{IsItem}
 use Rattle.abc_bars_items.specs.declared.item.Item.{Item}
 use Rattle.abc_time.specs.declared.grains.Grains.{Grains}
 use Rattle.abc_time.specs.Grains.{tick_at}
-use Rattle.abc_voices.specs.Arrange.{set_in}
+use Rattle.abc_voices.specs.Layout.{set_in}
 use Rattle.abc_voices_sections.specs.PlayedSection.{play_in, section_length}
 use Rattle.abc_voices.specs.Change.{at_moment, set_from}
 use Rattle.abc_voices.specs.Opening.{after_all}

@@ -7,7 +7,7 @@ use Rattle.abc_bars_items.specs.declared.item.Item.{Item}
 use Rattle.abc_repeat.specs.Mark.{is_ending}
 use Rattle.abc_voices_sections.specs.declared.ending_fields.EndingRegion.{EndingRegion}
 use Rattle.abc_voices_sections.specs.declared.ending_fields.EndingRegion.TheVariants.{Common}
-use Rattle.abc_voices.specs.Arrange.{played_sections}
+use Rattle.abc_voices.specs.Layout.{played_sections}
 use Rattle.abc_voices_sections.specs.PlayedSection.{play_in}
 use Rattle.abc_voices_sections.specs.EndingFields.{waits, put_with_waiting, region_after, with_fields_in_endings_from, with_fields_in_endings}
 use Rattle.abc_voices_sections.specs.Play.{places_of}

@@ -8,7 +8,7 @@ use Rattle.abc_bars_items.specs.declared.item.Item.{Item}
 use Rattle.abc_bars_items.specs.declared.item.Item.TheVariants as items
 use Rattle.abc_fields.specs.declared.meter.Meter.{Meter}
 use Rattle.abc_time.specs.declared.grains.Grains.{Grains}
-use Rattle.abc_voices.specs.Arrange.{set_in, first_of}
+use Rattle.abc_voices.specs.Layout.{set_in, first_of}
 use Rattle.abc_voices_sections.specs.PlayedSection.{play_in, size_in, section_length}
 use Rattle.abc_voices.specs.Change.{tempo_of, meter_of, key_of, at_moment, set_from}
 use Rattle.abc_voices_sections.specs.EndingFields.{with_fields_in_endings}

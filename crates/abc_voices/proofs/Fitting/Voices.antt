@@ -7,7 +7,7 @@ use Rattle.std.proofs.lemmas.List.Sums.{sum_by-cons}
 use Rattle.abc_bars_items.specs.Item.{IsItem}
 use Rattle.abc_bars_items.specs.declared.item.Item.{Item}
 use Rattle.abc_voices_score.specs.declared.score.Sounding.{Sounding}
-use Rattle.abc_voices.specs.Arrange.{voice_notes, last_off}
+use Rattle.abc_voices.specs.Layout.{voice_notes, last_off}
 use Rattle.abc_voices_sections.specs.PlayedSection.{play_in, size_in, length_in, section_length}
 use Rattle.abc_voices.specs.TiedNotes.{Notes}
 use Rattle.abc_voices_sections.specs.EndingFields.{with_fields_in_endings}

@@ -20,8 +20,8 @@ use Rattle.abc_bars_items.specs.declared.program.TheConstants.{HIGHEST_PROGRAM}
 use Rattle.abc_voices_score.specs.declared.limits.TheConstants.{LONGEST_TITLE, MOST_CHANGES, MOST_NOTES, MOST_PROGRAMS}
 use Rattle.abc_voices_score.specs.declared.score.Change.{Change}
 use Rattle.abc_voices_score.specs.declared.score.Sounding.{Sounding}
-use Rattle.abc_voices.specs.Arrange.{played_sections, voice_notes, all_notes, set_in, usual_tempo, first_of, total, voices_notes, end_of}
-use Rattle.abc_voices.specs.Arrange.{changes_of, programs_in, programs_of, score_of, places_played}
+use Rattle.abc_voices.specs.Layout.{played_sections, voice_notes, all_notes, set_in, usual_tempo, first_of, total, voices_notes, end_of}
+use Rattle.abc_voices.specs.Layout.{changes_of, programs_in, programs_of, score_of, places_played}
 use Rattle.abc_voices_sections.specs.PlayedSection.{section_length}
 use Rattle.abc_voices.specs.Change.{tempo_of, meter_of, key_of, program_of, after_opening}
 use Rattle.abc_voices.specs.ScoreChanges.{tempo_change, meter_at, meter_change, key_change, program_change, changes_in_force, programs_in_force}

@@ -1,6 +1,6 @@
 use Rattle.std.proofs.Common.{◌≡◌, false, drop}
 use Rattle.abc_tune.specs.WholeFaults.{out_after}
-use Rattle.abc_voices.specs.Arrange.{items_in}
+use Rattle.abc_voices.specs.Layout.{items_in}
 use Rattle.abc_voices.specs.Opening.{after_all}
 use Rattle.abc_tune.proofs.whole_faults.opens_out_of_range.Given as goal
 

@@ -1,7 +1,7 @@
 use Rattle.std.proofs.Common.{◌≡◌, Err, ap, sym, subst, ◌∙◌}
 use Rattle.std.specs.List.{list_any}
 use Rattle.abc_voices_sections.specs.Items.{items_of}
-use Rattle.abc_voices.specs.Arrange.{score_of, is_uneven, played_sections}
+use Rattle.abc_voices.specs.Layout.{score_of, is_uneven, played_sections}
 use Rattle.abc_voices_score.specs.Limits.{IsWithinLimits}
 use Rattle.abc_voices.specs.TooLong.{of_places, of_time}
 use Rattle.abc_voices.specs.Track.{voice_names}

@@ -1,5 +1,5 @@
 use Rattle.std.proofs.Common.{◌≡◌, ◌-◌, ◌^◌, min, take, length}
-use Rattle.abc_voices.specs.Arrange.{items_in}
+use Rattle.abc_voices.specs.Layout.{items_in}
 use Rattle.abc_voices.proofs.layout.count_of.Given as goal
 
 -- how many those give that are passed

@@ -2,7 +2,7 @@ use Rattle.std.proofs.Common.{◌≡◌, ◌++◌, drop}
 use Rattle.std.specs.Prelude.{All}
 use Rattle.abc_bars_items.specs.Item.{IsItem}
 use Rattle.abc_voices_sections.specs.Items.{items_of}
-use Rattle.abc_voices.specs.Arrange.{items_in}
+use Rattle.abc_voices.specs.Layout.{items_in}
 use Rattle.abc_voices.proofs.layout.tune_of.Given as goal
 
 -- the items so far, and those of the other cells

@@ -1,5 +1,5 @@
 use Rattle.std.proofs.Common.{◌≡◌, drop}
-use Rattle.abc_voices.specs.Arrange.{last_off}
+use Rattle.abc_voices.specs.Layout.{last_off}
 use Rattle.abc_voices.proofs.timing.last_off.Given as goal
 
 -- the last so far, and of the rest

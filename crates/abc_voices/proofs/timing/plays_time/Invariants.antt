@@ -1,7 +1,7 @@
 use Rattle.std.proofs.Common.{◌≡◌, drop}
 use Rattle.std.specs.List.{list_any}
 use Rattle.abc_voices_sections.specs.Items.{items_of}
-use Rattle.abc_voices.specs.Arrange.{takes_time}
+use Rattle.abc_voices.specs.Layout.{takes_time}
 use Rattle.abc_voices.proofs.timing.plays_time.Given as goal
 
 -- the rest says what the whole does

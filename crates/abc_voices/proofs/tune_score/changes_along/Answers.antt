@@ -5,7 +5,7 @@ use Rattle.abc_time.specs.Grains.{grains_of_the_latest_end}
 use Rattle.abc_voices_score.specs.declared.score.Change.{Change}
 use Rattle.abc_voices_sections.specs.Items.{items_of}
 use Rattle.abc_voices.specs.Turns.{stages_in, IsStage}
-use Rattle.abc_voices.specs.Arrange.{usual_tempo}
+use Rattle.abc_voices.specs.Layout.{usual_tempo}
 use Rattle.abc_voices.specs.Change.{tempo_of, meter_of, key_of}
 use Rattle.std.proofs.lemmas.List.Elements.{All-map}
 use Rattle.abc_voices.proofs.Steady.{opening_is, steady_changes}

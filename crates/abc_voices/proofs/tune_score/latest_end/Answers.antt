@@ -1,6 +1,6 @@
 use Rattle.std.proofs.Common.{◌+◌, drop, ap, ◌∙◌}
 use Rattle.std.specs.List.{flat_map}
-use Rattle.abc_voices.specs.Arrange.{last_off}
+use Rattle.abc_voices.specs.Layout.{last_off}
 use Rattle.abc_voices.proofs.Lengths.{all_more}
 use Rattle.abc_voices.proofs.tune_score.latest_end.Goals as goal
 

@@ -1,6 +1,6 @@
 use Rattle.std.proofs.Common.{arith}
 use Rattle.std.proofs.lemmas.Grind.{common_steps}
-use Rattle.abc_voices.specs.Arrange.{all_notes}
+use Rattle.abc_voices.specs.Layout.{all_notes}
 use Rattle.abc_voices.specs.Turns.{stages_in, notes_along}
 use Rattle.abc_voices.proofs.Lengths.{voices_step}
 use Rattle.abc_voices.proofs.voice.voices_notes.Goals as goal

@@ -1,5 +1,5 @@
 use Rattle.std.proofs.Common.{ap, ◌∙◌}
-use Rattle.abc_voices.specs.Arrange.{all_notes}
+use Rattle.abc_voices.specs.Layout.{all_notes}
 use Rattle.abc_voices.specs.TiedNotes.{NotesInParts, notes_in}
 use Rattle.abc_voices.proofs.InOne.{whole}
 use Rattle.abc_voices.proofs.tied_notes.ReverseNotes.into_notes.Goals as goal
