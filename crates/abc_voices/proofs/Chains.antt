@@ -6,7 +6,7 @@ use Rattle.std.proofs.lemmas.Bool.{and_parts, eqb-true, ltb-true, ltb-false}
 use Rattle.std.proofs.Math.Seq.{take-append_seam}
 use Rattle.abc_bars_items.specs.declared.item.Tone.{Tone}
 use Rattle.abc_voices_score.specs.declared.score.Sounding.{Sounding}
-use Rattle.abc_voices.specs.Ties.{TimeToken, has_key, tones_with, tied_with, tone_at, joined_with, end_by, chain_end, begun_by, begun_at, tie_chains}
+use Rattle.abc_voices.specs.Ties.{TimeToken, has_key, tones_with, tied_with, tone_at, joined_with, end_by, chain_end, chain_note, chain_notes, tie_chains}
 use Rattle.abc_voices.specs.Chains.{IsJoined, IsChain, length_if, end_of_chain, IsBegun, AreBegun, AreHeard, HearsChains, HearsNoOthers, silent, goes_on, begins}
 
 -- counts of more tones
@@ -255,10 +255,10 @@ module _ (previous : List Tone) (token : TimeToken) (tokens : List TimeToken) wh
       omega (arith, above, turn, below)
 
   one_begun : (place : ℕ) (past : List Tone) (tone : Tone) → slice_get token.tones place ≡ Some tone → Fronts past (take place token.tones)
-      → IsBegun previous all place (begun_by (λ key. tied_with key previous) token.at past tone tokens tone.key)
+      → IsBegun previous all place (chain_note (λ key. tied_with key previous) token.at past tone tokens tone.key)
   one_begun place past tone tone_is same = by tone.key refl
     where
-      by : (own : Option ℕ) → tone.key ≡ own → IsBegun previous all place (begun_by (λ key. tied_with key previous) token.at past tone tokens own)
+      by : (own : Option ℕ) → tone.key ≡ own → IsBegun previous all place (chain_note (λ key. tied_with key previous) token.at past tone tokens own)
       by None own_key = silent tone tone_is own_key refl
       by (Some key) own_key = each (nat_lt (tones_with key past) (tied_with key previous)) refl
         where
@@ -310,14 +310,14 @@ after_front (first ∷ front) tone tones = after_front front tone tones
 
 tones_begun : (previous : List Tone) (token : TimeToken) (tokens : List TimeToken) (place : ℕ) (past front tones : List Tone)
     → place ≡ length front → token.tones ≡ front ++ tones → Fronts past front
-    → AreBegun previous (token ∷ tokens) place tones (begun_at (λ key. tied_with key previous) token.at past tones tokens)
+    → AreBegun previous (token ∷ tokens) place tones (chain_notes (λ key. tied_with key previous) token.at past tones tokens)
 tones_begun previous token tokens place past front [] long whole same = refl
 tones_begun previous token tokens place past front (tone ∷ tones) long whole same =
     let tone_is : slice_get token.tones place ≡ Some tone =
     (λ i. slice_get (whole i) (long i)) ∙ after_front front tone tones in
     let before : take place token.tones ≡ front = (λ i. take (long i) (whole i)) ∙ take-append_seam front (tone ∷ tones) in (
-      begun_by (λ key. tied_with key previous) token.at past tone tokens tone.key,
-      begun_at (λ key. tied_with key previous) token.at (tone ∷ past) tones tokens,
+      chain_note (λ key. tied_with key previous) token.at past tone tokens tone.key,
+      chain_notes (λ key. tied_with key previous) token.at (tone ∷ past) tones tokens,
       refl,
       one_begun previous token tokens place past tone tone_is (subst (Fronts past) (sym before) same),
       tones_begun previous token tokens (suc place) (tone ∷ past) (front ++ tone ∷ []) tones
@@ -328,7 +328,7 @@ all_heard : (previous : List Tone) (tokens : List TimeToken) → AreHeard previo
 all_heard previous [] = refl
 all_heard previous (token ∷ tokens) = (
   tie_chains (λ key. tied_with key token.tones) tokens,
-  begun_at (λ key. tied_with key previous) token.at [] token.tones tokens,
+  chain_notes (λ key. tied_with key previous) token.at [] token.tones tokens,
   refl,
   all_heard token.tones tokens,
   tones_begun previous token tokens 0 [] [] token.tones refl refl (record { tones = λ key. refl; tied = λ key. refl }),
@@ -409,7 +409,7 @@ joined_below previous tones before place key tone tone_is own_key is =
 
 module _ (previous : List Tone) (token : TimeToken) (tokens : List TimeToken) where
   abbrev begun : List Tone → Tone → Option ℕ → List Sounding
-  begun past tone key = begun_by (λ k. tied_with k previous) token.at past tone tokens key
+  begun past tone key = chain_note (λ k. tied_with k previous) token.at past tone tokens key
 
   one_is : (place : ℕ) (past : List Tone) (tone : Tone) (own : List Sounding) → slice_get token.tones place ≡ Some tone → Fronts past (take place token.tones)
       → IsBegun previous (token ∷ tokens) place own → own ≡ begun past tone tone.key
@@ -448,7 +448,7 @@ module _ (previous : List Tone) (token : TimeToken) (tokens : List TimeToken) wh
 
 tones_are : (previous : List Tone) (token : TimeToken) (tokens : List TimeToken) (place : ℕ) (past front tones : List Tone) (notes : List Sounding)
     → place ≡ length front → token.tones ≡ front ++ tones → Fronts past front
-    → AreBegun previous (token ∷ tokens) place tones notes → notes ≡ begun_at (λ key. tied_with key previous) token.at past tones tokens
+    → AreBegun previous (token ∷ tokens) place tones notes → notes ≡ chain_notes (λ key. tied_with key previous) token.at past tones tokens
 tones_are previous token tokens place past front [] notes long whole same none = none
 tones_are previous token tokens place past front (tone ∷ tones) notes long whole same (own, others, parts, one, rest) =
     let tone_is : slice_get token.tones place ≡ Some tone =

@@ -12,8 +12,8 @@ use Rattle.abc_voices_sections.specs.PlayedSection.{section_length, play_in}
 use Rattle.abc_voices.specs.TiedNotes.{TokenNotes, Notes, own_note, with_note, with_key, with_tones, next_place, before, before_all, notes_from}
 use Rattle.abc_voices_sections.specs.Step.{length_of, tones_of}
 use Rattle.abc_voices.specs.Track.{voice_names, tracks}
-use Rattle.abc_voices.specs.Ties.{TimeToken, with_token, tokens_from, tokens_in, has_key, tones_with, tied_with, tone_at, end_by, chain_end, begun_by}
-use Rattle.abc_voices.specs.Ties.{begun_at, tie_chains, heard_notes, PlaysChains, VoicesPlayChains}
+use Rattle.abc_voices.specs.Ties.{TimeToken, with_token, tokens_from, tokens_in, has_key, tones_with, tied_with, tone_at, end_by, chain_end, chain_note}
+use Rattle.abc_voices.specs.Ties.{chain_notes, tie_chains, heard_notes, PlaysChains, VoicesPlayChains}
 
 -- the first note of a key, and the others
 abbrev first_off : ℕ → ℕ → List Sounding → ℕ
@@ -88,7 +88,7 @@ with_taken key note linked =
 
 -- notes by other numbers of tied tones
 begun_same : (f g : ℕ → ℕ) → ((key : ℕ) → f key ≡ g key) → (at : ℕ) (past : List Tone) (tone : Tone) (tokens : List TimeToken) (key : Option ℕ)
-    → begun_by f at past tone tokens key ≡ begun_by g at past tone tokens key
+    → chain_note f at past tone tokens key ≡ chain_note g at past tone tokens key
 begun_same f g same at past tone tokens None = refl
 begun_same f g same at past tone tokens (Some key) =
     ap (λ n. cond (nat_lt (tones_with key past) n) [] (record {
@@ -102,7 +102,7 @@ both : {X : Type 0} {a b c d : List X} → a ≡ b → c ≡ d → a ++ c ≡ b 
 both {b = b} {c = c} p q = ap (λ x. x ++ c) p ∙ ap (λ y. b ++ y) q
 
 all_same : (f g : ℕ → ℕ) → ((key : ℕ) → f key ≡ g key) → (at : ℕ) (past tones : List Tone) (tokens : List TimeToken)
-    → begun_at f at past tones tokens ≡ begun_at g at past tones tokens
+    → chain_notes f at past tones tokens ≡ chain_notes g at past tones tokens
 all_same f g same at past [] tokens = refl
 all_same f g same at past (tone ∷ tones) tokens =
     both (begun_same f g same at past tone tokens tone.key) (all_same f g same at (tone ∷ past) tones tokens)
@@ -119,7 +119,7 @@ grows key false n = omega arith
 -- after as many tones of the key as are tied, one more makes no difference
 begun_past : (key : ℕ) (tied more : ℕ → ℕ) → IsOneMore key tied more → (at : ℕ) (past : List Tone) (tone : Tone) (tokens : List TimeToken) (own : Option ℕ)
     → suc (tied key) ≤ tones_with key past
-    → begun_by tied at past tone tokens own ≡ begun_by more at past tone tokens own
+    → chain_note tied at past tone tokens own ≡ chain_note more at past tone tokens own
 begun_past key tied more one at past tone tokens None far = refl
 begun_past key tied more one at past tone tokens (Some own) far =
     let N : List Sounding = record { key = own; on = record { 0 = at }; off = record { 0 = chain_end at tone own (tied_with own past) tokens }; velocity = tone.velocity } ∷ [] in
@@ -135,7 +135,7 @@ begun_past key tied more one at past tone tokens (Some own) far =
 
 all_past : (key : ℕ) (tied more : ℕ → ℕ) → IsOneMore key tied more → (at : ℕ) (past tones : List Tone) (tokens : List TimeToken)
     → suc (tied key) ≤ tones_with key past
-    → begun_at tied at past tones tokens ≡ begun_at more at past tones tokens
+    → chain_notes tied at past tones tokens ≡ chain_notes more at past tones tokens
 all_past key tied more one at past [] tokens far = refl
 all_past key tied more one at past (tone ∷ tones) tokens far =
     let next : tones_with key past ≤ tones_with key (tone ∷ past) = grows key (has_key key tone.key) (tones_with key past) in
@@ -148,8 +148,8 @@ following tokens at key other = chain_end at other.0 key other.1 tokens
 
 -- the first note of a key is that of the tone after as many of the key as are tied
 record IsTaken (key : ℕ) (tied more : ℕ → ℕ) (at own : ℕ) (past tones : List Tone) (tokens : List TimeToken) : Type 0 where
-  left : without_first key (begun_at tied at past tones tokens) ≡ begun_at more at past tones tokens
-  off : first_off key own (begun_at tied at past tones tokens) ≡ end_by own (following tokens at key) (tone_at key (tied key) past tones)
+  left : without_first key (chain_notes tied at past tones tokens) ≡ chain_notes more at past tones tokens
+  off : first_off key own (chain_notes tied at past tones tokens) ≡ end_by own (following tokens at key) (tone_at key (tied key) past tones)
 
 -- words of a note, if there is one, before others
 without_if : (key : ℕ) (b : Bool) (note : Sounding) (notes : List Sounding) → (note.key == key) ≡ false
@@ -168,12 +168,12 @@ take_other : (key : ℕ) (tied more : ℕ → ℕ) → IsOneMore key tied more �
     → IsTaken key tied more at own past (tone ∷ tones) tokens
 take_other key tied more one at own past tone tones tokens other is apart rest =
     let N : Sounding = record { key = other; on = record { 0 = at }; off = record { 0 = chain_end at tone other (tied_with other past) tokens }; velocity = tone.velocity } in
-    let T : List Sounding = begun_at tied at (tone ∷ past) tones tokens in
-    let M : List Sounding = begun_at more at (tone ∷ past) tones tokens in
+    let T : List Sounding = chain_notes tied at (tone ∷ past) tones tokens in
+    let M : List Sounding = chain_notes more at (tone ∷ past) tones tokens in
     let b : Bool = nat_lt (tones_with other past) (tied other) in
-    let open_tied : begun_at tied at past (tone ∷ tones) tokens ≡ cond b [] (N ∷ []) ++ T = ap (λ k. begun_by tied at past tone tokens k ++ T) is in
-    let open_more : begun_at more at past (tone ∷ tones) tokens ≡ cond b [] (N ∷ []) ++ M =
-    ap (λ k. begun_by more at past tone tokens k ++ M) is ∙ ap (λ n. cond (nat_lt (tones_with other past) n) [] (N ∷ []) ++ M) (one.there other apart) in
+    let open_tied : chain_notes tied at past (tone ∷ tones) tokens ≡ cond b [] (N ∷ []) ++ T = ap (λ k. chain_note tied at past tone tokens k ++ T) is in
+    let open_more : chain_notes more at past (tone ∷ tones) tokens ≡ cond b [] (N ∷ []) ++ M =
+    ap (λ k. chain_note more at past tone tokens k ++ M) is ∙ ap (λ n. cond (nat_lt (tones_with other past) n) [] (N ∷ []) ++ M) (one.there other apart) in
     let passed : tone_at key (tied key) past (tone ∷ tones) ≡ tone_at key (tied key) (tone ∷ past) tones =
     ap (λ q. cond (q && (tones_with key past == tied key)) (Some (tone, tied_with key past)) (tone_at key (tied key) (tone ∷ past) tones))
     (ap (has_key key) is ∙ apart) in
@@ -189,20 +189,20 @@ take_own : (key : ℕ) (tied more : ℕ → ℕ) → IsOneMore key tied more →
 take_own key tied more one at own past tone tones tokens is few rest =
     let count : ℕ = tones_with key past in
     let N : Sounding = record { key = key; on = record { 0 = at }; off = record { 0 = chain_end at tone key (tied_with key past) tokens }; velocity = tone.velocity } in
-    let T : List Sounding = begun_at tied at (tone ∷ past) tones tokens in
-    let M : List Sounding = begun_at more at (tone ∷ past) tones tokens in
+    let T : List Sounding = chain_notes tied at (tone ∷ past) tones tokens in
+    let M : List Sounding = chain_notes more at (tone ∷ past) tones tokens in
     let is_own : (key == key) ≡ true = eq-eqb key key refl in
-    let open_tied : begun_at tied at past (tone ∷ tones) tokens ≡ cond (nat_lt count (tied key)) [] (N ∷ []) ++ T = ap (λ k. begun_by tied at past tone tokens k ++ T) is in
-    let open_more : begun_at more at past (tone ∷ tones) tokens ≡ cond (nat_lt count (more key)) [] (N ∷ []) ++ M = ap (λ k. begun_by more at past tone tokens k ++ M) is in
+    let open_tied : chain_notes tied at past (tone ∷ tones) tokens ≡ cond (nat_lt count (tied key)) [] (N ∷ []) ++ T = ap (λ k. chain_note tied at past tone tokens k ++ T) is in
+    let open_more : chain_notes more at past (tone ∷ tones) tokens ≡ cond (nat_lt count (more key)) [] (N ∷ []) ++ M = ap (λ k. chain_note more at past tone tokens k ++ M) is in
     let own_key : has_key key tone.key ≡ true = ap (has_key key) is ∙ is_own in
     let counted : tones_with key (tone ∷ past) ≡ suc count = ap (λ q. cond q (suc count) count) own_key in
     let more_is : more key ≡ suc (tied key) = one.here in
-    let gone : begun_at more at past (tone ∷ tones) tokens ≡ M =
+    let gone : chain_notes more at past (tone ∷ tones) tokens ≡ M =
     open_more ∙ ap (λ q. cond q [] (N ∷ []) ++ M) (lt-ltb count (more key) (omega arith)) in
     elim (cases_lt count (tied key)) [
       | inl lt ↦
           let next : IsTaken key tied more at own (tone ∷ past) tones tokens = rest (omega arith) in
-          let joined : begun_at tied at past (tone ∷ tones) tokens ≡ T = open_tied ∙ ap (λ q. cond q [] (N ∷ []) ++ T) (lt-ltb count (tied key) lt) in
+          let joined : chain_notes tied at past (tone ∷ tones) tokens ≡ T = open_tied ∙ ap (λ q. cond q [] (N ∷ []) ++ T) (lt-ltb count (tied key) lt) in
           let passed : tone_at key (tied key) past (tone ∷ tones) ≡ tone_at key (tied key) (tone ∷ past) tones =
           ap (λ q. cond (q && (count == tied key)) (Some (tone, tied_with key past)) (tone_at key (tied key) (tone ∷ past) tones)) own_key
           ∙ ap (λ q. cond q (Some (tone, tied_with key past)) (tone_at key (tied key) (tone ∷ past) tones)) (ne_eqb count (tied key) (λ e. omega arith)) in
@@ -211,7 +211,7 @@ take_own key tied more one at own past tone tones tokens is few rest =
             off = ap (first_off key own) joined ∙ next.off ∙ ap (end_by own (following tokens at key)) (sym passed);
           }
       | inr ge ↦
-          let begins : begun_at tied at past (tone ∷ tones) tokens ≡ N ∷ T = open_tied ∙ ap (λ q. cond q [] (N ∷ []) ++ T) (le-ltb count (tied key) ge) in
+          let begins : chain_notes tied at past (tone ∷ tones) tokens ≡ N ∷ T = open_tied ∙ ap (λ q. cond q [] (N ∷ []) ++ T) (le-ltb count (tied key) ge) in
           let found : tone_at key (tied key) past (tone ∷ tones) ≡ Some (tone, tied_with key past) =
           ap (λ q. cond (q && (count == tied key)) (Some (tone, tied_with key past)) (tone_at key (tied key) (tone ∷ past) tones)) own_key
           ∙ ap (λ q. cond q (Some (tone, tied_with key past)) (tone_at key (tied key) (tone ∷ past) tones)) (eq-eqb count (tied key) (omega arith)) in
@@ -227,10 +227,10 @@ take_none : (key : ℕ) (tied more : ℕ → ℕ) (at own : ℕ) (past : List To
     → IsTaken key tied more at own (tone ∷ past) tones tokens
     → IsTaken key tied more at own past (tone ∷ tones) tokens
 take_none key tied more at own past tone tones tokens is rest =
-    let T : List Sounding = begun_at tied at (tone ∷ past) tones tokens in
-    let M : List Sounding = begun_at more at (tone ∷ past) tones tokens in
-    let open_tied : begun_at tied at past (tone ∷ tones) tokens ≡ T = ap (λ k. begun_by tied at past tone tokens k ++ T) is in
-    let open_more : begun_at more at past (tone ∷ tones) tokens ≡ M = ap (λ k. begun_by more at past tone tokens k ++ M) is in
+    let T : List Sounding = chain_notes tied at (tone ∷ past) tones tokens in
+    let M : List Sounding = chain_notes more at (tone ∷ past) tones tokens in
+    let open_tied : chain_notes tied at past (tone ∷ tones) tokens ≡ T = ap (λ k. chain_note tied at past tone tokens k ++ T) is in
+    let open_more : chain_notes more at past (tone ∷ tones) tokens ≡ M = ap (λ k. chain_note more at past tone tokens k ++ M) is in
     let passed : tone_at key (tied key) past (tone ∷ tones) ≡ tone_at key (tied key) (tone ∷ past) tones =
     ap (λ q. cond (q && (tones_with key past == tied key)) (Some (tone, tied_with key past)) (tone_at key (tied key) (tone ∷ past) tones)) (ap (has_key key) is) in
     record {
@@ -265,7 +265,7 @@ take_all key tied more one at own past (tone ∷ tones) tokens few =
 -- the notes of a next time token that no tone is joined with yet
 abbrev unjoined : (ℕ → ℕ) → List TimeToken → List Sounding
 unjoined tied [] = []
-unjoined tied (token ∷ tokens) = begun_at tied token.at [] token.tones tokens
+unjoined tied (token ∷ tokens) = chain_notes tied token.at [] token.tones tokens
 
 unjoined_same : (f g : ℕ → ℕ) → ((key : ℕ) → f key ≡ g key) → (tokens : List TimeToken) → unjoined f tokens ≡ unjoined g tokens
 unjoined_same f g same [] = refl
@@ -273,7 +273,7 @@ unjoined_same f g same (token ∷ tokens) = all_same f g same token.at [] token.
 
 -- each tone begins a note by itself
 single_run : (key at : ℕ) (past : List Tone) (tone : Tone) (tokens : List TimeToken)
-    → begun_by (λ k. 0) at past tone tokens (Some key)
+    → chain_note (λ k. 0) at past tone tokens (Some key)
     ≡ record { key = key; on = record { 0 = at }; off = record { 0 = chain_end at tone key (tied_with key past) tokens }; velocity = tone.velocity } ∷ []
 single_run key at past tone tokens =
     ap (λ b. cond b [] (record { key = key; on = record { 0 = at }; off = record { 0 = chain_end at tone key (tied_with key past) tokens }; velocity = tone.velocity } ∷ []))
@@ -328,7 +328,7 @@ tied_one at (token ∷ tokens) begun past tone key is tied =
 with_one : (at : ℕ) (tokens : List TimeToken) (begun : List Sounding) (past : List Tone) (tone : Tone) (key : Option ℕ) (tied : Bool)
     → tone.key ≡ key → tone.tied ≡ tied
     → IsSameLinked (with_key at tone (record { begun = begun; next = unjoined (λ k. tied_with k past) tokens }) key)
-    (record { begun = begun ++ begun_by (λ k. 0) at past tone tokens key; next = unjoined (λ k. tied_with k (tone ∷ past)) tokens })
+    (record { begun = begun ++ chain_note (λ k. 0) at past tone tokens key; next = unjoined (λ k. tied_with k (tone ∷ past)) tokens })
 with_one at tokens begun past tone None tied is e =
     linked_by (sym (append-nil begun))
     (unjoined_same (λ k. tied_with k past) (λ k. tied_with k (tone ∷ past))
@@ -356,15 +356,15 @@ moves false all past tones e = e
 joined_tones : (at : ℕ) (tokens : List TimeToken) (all : ℕ → ℕ) (begun : List Sounding) (past tones : List Tone)
     → ((key : ℕ) → all key ≡ tied_with key past + tied_with key tones)
     → IsSameLinked (with_tones at (record { begun = begun; next = unjoined (λ k. tied_with k past) tokens }) tones)
-    (record { begun = begun ++ begun_at (λ k. 0) at past tones tokens; next = unjoined all tokens })
+    (record { begun = begun ++ chain_notes (λ k. 0) at past tones tokens; next = unjoined all tokens })
 joined_tones at tokens all begun past [] counts =
     linked_by (sym (append-nil begun)) (unjoined_same (λ k. tied_with k past) all (λ k. omega (arith, counts k)) tokens)
 joined_tones at tokens all begun past (tone ∷ tones) counts =
-    let here : List Sounding = begun_by (λ k. 0) at past tone tokens tone.key in
+    let here : List Sounding = chain_note (λ k. 0) at past tone tokens tone.key in
     ap (λ linked. with_tones at linked tones) (with_one at tokens begun past tone tone.key tone.tied refl refl)
     ∙ joined_tones at tokens all (begun ++ here) (tone ∷ past) tones
     (λ k. moves (tone.tied && has_key k tone.key) (all k) (tied_with k past) (tied_with k tones) (counts k))
-    ∙ linked_by (append_assoc begun here (begun_at (λ k. 0) at (tone ∷ past) tones tokens)) refl
+    ∙ linked_by (append_assoc begun here (chain_notes (λ k. 0) at (tone ∷ past) tones tokens)) refl
 
 -- the walk over time tokens
 abbrev by_tokens : List TimeToken → Notes
@@ -386,7 +386,7 @@ by_chains (token ∷ tokens) =
 whole : (tied : ℕ → ℕ) (tokens : List TimeToken) → left_over tokens ++ unjoined tied tokens ≡ tie_chains tied tokens
 whole tied [] = refl
 whole tied (token ∷ tokens) =
-    ap (λ notes. notes ++ begun_at tied token.at [] token.tones tokens) (whole (λ key. tied_with key token.tones) tokens)
+    ap (λ notes. notes ++ chain_notes tied token.at [] token.tones tokens) (whole (λ key. tied_with key token.tones) tokens)
 
 heard_by : (tokens : List TimeToken) → all_notes (by_tokens tokens) ≡ heard_notes tokens
 heard_by tokens = ap all_notes (by_chains tokens) ∙ whole (λ k. 0) tokens

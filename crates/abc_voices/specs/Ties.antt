@@ -73,9 +73,9 @@ chain_end at tone key number (token ∷ tokens) =
 
 -- The note of the chain that `tone` begins, as loud as `tone`. `past` has the tones before it in its time token, the last
 -- one first. There is no note if a tone of the preceding time token is joined with it: `tied` counts the tied ones of each key.
-abbrev pub begun_by : (ℕ → ℕ) → ℕ → List Tone → Tone → List TimeToken → Option ℕ → List Sounding
-begun_by tied at past tone tokens None = []
-begun_by tied at past tone tokens (Some key) =
+abbrev pub chain_note : (ℕ → ℕ) → ℕ → List Tone → Tone → List TimeToken → Option ℕ → List Sounding
+chain_note tied at past tone tokens None = []
+chain_note tied at past tone tokens (Some key) =
     if nat_lt (tones_with key past) (tied key) then []
     else record {
       key = key;
@@ -85,16 +85,16 @@ begun_by tied at past tone tokens (Some key) =
     } ∷ []
 
 -- The notes of the chains that begin with `tones`, those of one time token after its tones `past`.
-abbrev pub begun_at : (ℕ → ℕ) → ℕ → List Tone → List Tone → List TimeToken → List Sounding
-begun_at tied at past [] tokens = []
-begun_at tied at past (tone ∷ tones) tokens = begun_by tied at past tone tokens tone.key
-    ++ begun_at tied at (tone ∷ past) tones tokens
+abbrev pub chain_notes : (ℕ → ℕ) → ℕ → List Tone → List Tone → List TimeToken → List Sounding
+chain_notes tied at past [] tokens = []
+chain_notes tied at past (tone ∷ tones) tokens = chain_note tied at past tone tokens tone.key
+    ++ chain_notes tied at (tone ∷ past) tones tokens
 
 -- The notes of all chains, those that begin at the last time token first.
 abbrev pub tie_chains : (ℕ → ℕ) → List TimeToken → List Sounding
 tie_chains tied [] = []
 tie_chains tied (token ∷ tokens) = tie_chains (λ key. tied_with key token.tones) tokens
-    ++ begun_at tied token.at [] token.tones tokens
+    ++ chain_notes tied token.at [] token.tones tokens
 
 -- What is heard of time tokens: a note for each longest chain of joined tones.
 abbrev pub heard_notes : List TimeToken → List Sounding

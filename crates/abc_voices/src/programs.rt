@@ -65,7 +65,7 @@ pub(crate) fn voices_programs(
 ) -> Result<Sequence<Sequence<ProgramChange>>, AllocError>
     requires stages { All (λ turn. IsStage turn.stage.now) turns.now }
     requires in_time { length_along (stages_in turns.now) ≤ grains_of_the_latest_end }
-    requires kept { keeps_programs (items_of fields.now) ≡ true → All (PlaysNone sets_program) (stages_in turns.now) }
+    requires programs { keeps_programs (items_of fields.now) ≡ true → All (PlaysNone sets_program) (stages_in turns.now) }
     requires voices { first ≤ count }
     ensures { IfOk result (λ voices. voices
         ≡ programs_along (after_all program_after None (items_of fields.now)) (stages_in turns.now) first (count - first)) }

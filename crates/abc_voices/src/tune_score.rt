@@ -82,7 +82,7 @@ pub(crate) fn score_along(
     requires total { total.0 ≡ length_along (stages_in turns.now) }
     requires in_time { total.0 ≤ grains_of_the_latest_end }
     requires steady { is_steady (items_of fields.now) ≡ true → All IsSteady (stages_in turns.now) }
-    requires kept { keeps_programs (items_of fields.now) ≡ true → All (PlaysNone sets_program) (stages_in turns.now) }
+    requires programs { keeps_programs (items_of fields.now) ≡ true → All (PlaysNone sets_program) (stages_in turns.now) }
     requires voices { first ≤ count }
     ensures value { IfOk result (λ score. score ≡ score_along (items_of fields.now) first count (stages_in turns.now)) }
     ensures in_time { IfOk result (λ score. score.end.0 ≤ grains_of_the_latest_end) }

@@ -24,8 +24,8 @@ pub score_along-requires-clause-steady : goal.score_along-requires-clause-steady
 score_along-requires-clause-steady c =
     steady_along (items_of c.args.tune.now) (items_of c.args.fields.now) (stages_in c.args.turns.now) c.requires.fields c.requires.stages
 
-pub score_along-requires-clause-kept : goal.score_along-requires-clause-kept
-score_along-requires-clause-kept c =
+pub score_along-requires-clause-programs : goal.score_along-requires-clause-programs
+score_along-requires-clause-programs c =
     kept_along (items_of c.args.tune.now) (items_of c.args.fields.now) (stages_in c.args.turns.now) c.requires.fields c.requires.stages
 
 pub returns-in-Ok-clause-score : goal.returns-in-Ok-clause-score
