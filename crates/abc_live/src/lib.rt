@@ -1,5 +1,5 @@
-//! The session over a text, for any compiler of tunes: edits of lines, and after each of them the file of each reference
-//! number, the titles and the faults, always those of the whole present text.
+//! The session over a text, for any compiler of tunes. After each edit of lines it has the files by their reference numbers,
+//! the titles and the faults, always those of the whole present text.
 #![tactic(auto)]
 
 mod abc;

@@ -83,8 +83,8 @@ impl<C: Compiler> LiveSession<C> {
         Ok(LiveSession { text, book, memo })
     }
 
-    /// Prepares an edit. Nothing changes but the counters and the memo: the counters rise by the new lines, the fresh
-    /// cells and the touched tunes at most, and not at all if the edit is refused for another reason than memory.
+    /// Prepares an edit. Only the counters and the memo change. The counters rise at most by the new lines, the fresh cells
+    /// and the touched tunes. If the edit is refused for another reason than memory, they do not rise.
     pub fn prepare(&mut self, edit: &Edit, work: &mut C::Work) -> Result<EditPatch<C>, EditError>
         ensures unchanged { self.new ≡ self.old }
         ensures on { IfOk result (λ patch. patch.on ≡ self.old) }

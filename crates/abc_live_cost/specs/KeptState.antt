@@ -39,8 +39,8 @@ abbrev pub following : {State : Type 0} → State → Option (KeptState State) �
 following otherwise None = otherwise
 following otherwise (Some held) = held.after
 
--- The steps along cells: one if no state is kept of the cell or it was entered in a state that is not equivalent; else the
--- fold goes on in the kept state.
+-- The count of steps along cells. A cell takes one step if no state is kept of it, or if it was entered in a state that is
+-- not equivalent. Else it takes none, and the fold goes on in the kept state.
 abbrev pub steps_over : {State Cell Items : Type 0} → Steps State Cell Items → State → List Cell
     → List (Option (KeptState State)) → ℕ
 steps_over steps state [] kept_states = 0

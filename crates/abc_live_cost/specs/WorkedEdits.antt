@@ -1,6 +1,6 @@
--- Edits of small texts, worked by hand: how many cells are fresh and how many tunes are touched. A field is a cell and
--- a directive too, a line of music has one before each bar line and one after the last, and the state is what the last
--- M: set, or `0`. Not in ABC 2.1.
+-- Edits of small texts, worked by hand: how many cells are fresh and how many tunes are touched. A field is a cell, and so
+-- is a directive. A line of music has a cell before each bar line and one after the last. The state is what the last M:
+-- set, or `0`. Not in ABC 2.1.
 use Rattle.std.specs.Prelude.{◌≡◌, ℕ, ◌==◌, if◌then◌else◌, List, [], ◌∷◌, codes, slice_index, None, unwrap_or}
 use Rattle.std.specs.List.{slice_split}
 use Rattle.abc_lines.specs.Text.{Splice, Text}

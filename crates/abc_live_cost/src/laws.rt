@@ -1,5 +1,5 @@
-//! Laws of what an edit may cost: rows that code can walk along have the fresh cells and the touched tunes of the
-//! definitions, and an edit may reuse what an old chain gives. Each function has no body: its contract is the law.
+//! Laws on the cost of an edit. The rows that code walks along have the fresh cells and the touched tunes of the
+//! definitions. An edit may reuse the items of an old chain. Each function has no body: its contract is the law.
 
 ghost use Rattle.abc_live_cost.specs.EditLaws.{CarriedCells, CellsAreThings, KeptStatesMatch, StepsAreFresh, UntouchedItems};
 ghost use Rattle.abc_live_cost.specs.Laws.{ChainsLieInOrder, EditsCount, EnteredAreItems, LinesSuffice, NthOfLine, OriginsAgree};

@@ -1,5 +1,5 @@
-//! What an edit may cost: which cells of an edited text are fresh and which of its tunes are touched, by definition, and
-//! the laws that tie both to rows that code can walk along.
+//! The cost of an edit: which cells of the edited text are fresh, and which of its tunes are touched. Laws connect both
+//! definitions to the rows that code walks along.
 #![tactic(auto)]
 
 pub mod laws;

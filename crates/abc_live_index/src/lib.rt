@@ -1,5 +1,5 @@
-//! The index of a text that is edited: what each tune gives, by its chain or by a memo of built tunes, the file of each
-//! reference number, the titles and the faults. An edit changes it by differences.
+//! The index of a text that is edited: the output of each tune, the file of each reference number, the titles and the
+//! faults. An output comes from the chain of its tune or from a memo. An edit changes the index by differences.
 #![tactic(auto)]
 
 mod faults;

@@ -36,8 +36,8 @@ abbrev pub parts : {State Cell Items : Type 0} → List (Row Cell) → Option Bl
     → Parts State Cell Items
 parts rows header tunes chains = record { rows = rows; header = header; tunes = tunes; chains = chains }
 
--- The parts are those of a text: the rows have the classes and the cells of its lines; the chains are the folds over
--- their blocks from the states in which these begin.
+-- The parts are those of a text. The rows have the classes and the cells of its lines. The chains are the folds over their
+-- blocks, each from the state in which its block begins.
 pub record ArePartsOf {State Cell Items Defaults : Type 0} (steps : Steps State Cell Items)
     (rules : Rules State Cell Items Defaults) (text : Text) (kept : Parts State Cell Items) : Type 0 where
   pub read : AreRows rules text kept.rows
@@ -58,8 +58,8 @@ pub record KeptTextView (C State Cell Items : Type 0) : Type 0 where
 abbrev pub parts_of : {C State Cell Items : Type 0} → KeptTextView C State Cell Items → Parts State Cell Items
 parts_of on = parts on.rows.items on.header on.tunes on.chains.items
 
--- A kept text, the text after an edit, the kept parts of that, and the stretch outside which nothing changes: the chains
--- and the places of its tunes, and which of these have the items of old ones.
+-- A kept text, and the text after an edit with its kept parts. Nothing changes outside the stretch. Of the tunes in it the
+-- patch has the chains, the places, and which of them have the items of old tunes.
 pub record KeptPatchView (C State Cell Items : Type 0) : Type 0 where
   pub on : KeptTextView C State Cell Items
   pub text : Text

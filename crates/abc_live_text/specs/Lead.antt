@@ -70,8 +70,8 @@ pub record IsLeadEdit {C State Cell Items Defaults : Type 0} (rules : Rules Stat
   pub is_lead : IsLead on.tunes (length on.lines.text) (s.at + s.removed) lead
   pub rows_are : rows ≡ lead_rows on lead s.at s.removed (map (new_row rules) s.lines)
 
--- New parts for an edit of the first lines, by its rows: if the file header opens so after it and tunes may go on, they are those
--- of the text after it. `Made` lifts a property of parts to a result that has them.
+-- The new parts of an edit of the first lines are those of the text after it, if its file header has the opening `opening`
+-- and the old tunes may go on from that. `Made` lifts a property of parts to a result that has them.
 abbrev pub RefoldsLead : {C State Cell Items Defaults : Type 0} → Steps State Cell Items → Rules State Cell Items Defaults
     → KeptTextView C State Cell Items → Span → List (CarriedRow Cell) → Option Block → ChainView State Cell Items → State
     → ((NewPartsView State Cell Items → Type 0) → Type 0) → Type 0

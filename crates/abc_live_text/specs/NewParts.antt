@@ -108,8 +108,8 @@ pub record HeaderIsReplaced {State Cell Items : Type 0} (first : Option (ChainVi
   pub goes : MayEndBy stretch.lines.to was
   pub comes : MayEndBy stretch.lines.came header
 
--- What an edit folds again: the file header, its chain if that may change, the tunes of the stretch, counted from its
--- first line, their chains, and which old ones have their items.
+-- The parts that an edit folds again: the file header, with its chain if that may change, and the tunes of the stretch, their
+-- lines counted from its first line. Each tune has its chain, and the old tune whose items it has, if there is one.
 pub record NewPartsView (State Cell Items : Type 0) : Type 0 where
   pub stretch : Stretch
   pub header : Option Block

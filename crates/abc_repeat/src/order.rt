@@ -78,8 +78,8 @@ fn play_parts(alloc: Global, order: &[u8], letters: &[u8]) -> Result<Played, Ord
     Ok(Played { sections, unknown })
 }
 
-/// Returns the sections that are played, of a tune whose body has parts with these letters (ABC 2.1 section 3.1.9): the
-/// opening section, then the sections of the order in its header or, without one, all of them.
+/// Returns the sections that are played, in order (ABC 2.1 section 3.1.9). `letters` are those of the parts of the body. The
+/// opening section is first; then come the sections of `order`, the order in the header, or all of them if there is none.
 ///
 /// No contract bounds its time. The body goes through the order, the letters and the sections that are played.
 pub fn play_order(alloc: Global, order: Option<&[u8]>, letters: &[u8]) -> Result<Played, OrderFault>

@@ -97,9 +97,9 @@ abbrev pub MissesKeyByText : Type 0
 MissesKeyByText = (opening : Defaults) (cells : List CellTokens)
     → list_any is_missing_key (build_faults_of (items_of_tune opening cells)) ≡ not (has_key cells)
 
--- A tune that begins with a field or a directive, as each begins with its X:, has the fault TempoRange exactly if no tempo
--- event can say the tempo with which it begins: that of the last Q: of its header that sets one, else that of the file header.
--- A number alone counts the unit notes of the header's last L:, else of the file header, else of the header's meter.
+-- A tune has the fault TempoRange exactly if no tempo event can hold the tempo with which it begins. That is the tempo of the
+-- last Q: of its header that sets one, else that of the file header. A number alone counts unit notes: those of the header's
+-- last L:, else of the file header, else of the header's meter. Each tune begins with a header line, its X:.
 abbrev pub TempoRangeByText : Type 0
 TempoRangeByText = (opening : Defaults) (line : HeaderLine) (first : CellTokens) (cells : List CellTokens)
     → line_in first ≡ Some line

@@ -24,8 +24,8 @@ pub fn one_title()
 {}
 
 /// A tune has the fault MissingKey exactly if no K: is before all music. It has the fault TempoRange exactly if no tempo
-/// event can hold the tempo with which it begins: that of the last Q: of its header that sets one, else of the file
-/// header. Its number in the book is that of its X:.
+/// event can hold its first tempo: that of the last Q: of its header that sets one, else of the file header. Its number in
+/// the book is that of its X:.
 pub fn tunes_by_headers()
     ensures missing_key { MissesKeyByText }
     ensures tempo_range { TempoRangeByText }

@@ -1,5 +1,5 @@
-//! A compiler of tunes, whatever language they are written in; and the book of a text by the definitions of a compiler:
-//! what each tune gives, the file of each reference number, the titles and the faults.
+//! The interface of a compiler of tunes, in whatever language they are written. And the book of a text by the definitions
+//! of a compiler: the files by their reference numbers, the titles and the faults.
 #![tactic(auto)]
 
 mod built;

@@ -45,14 +45,14 @@ abbrev pub sections_in_time : List (List ℕ) → ℕ → List (List ℕ × List
 sections_in_time voices at [] = []
 sections_in_time voices at (section ∷ rest) = (at, section) ∷ sections_in_time voices (at + section_length voices section) rest
 
--- What some voices set last on a tick in a section that is played from a moment on: of the voices that set something
--- there the last one decides, in the order of the voices, whichever of them sets it later.
+-- What the voices `those` set last on a tick in a section that is played from the moment `at` on. The last voice that sets
+-- something there decides, even if a voice before it sets something later.
 abbrev pub last_beside : {V : Type 0} → (Item → Option V) → List (List ℕ) → ℕ → ℕ × (List ℕ × List Item) → Option (Grains × V)
 last_beside value_of those tick (at, section) =
     last_said (λ voice. last_played value_of tick at (play_in section voice)) those
 
--- What some voices set last on a tick in a tune: of the sections in which they set something there the last one decides,
--- in order of play.
+-- What the voices `those` set last on a tick in a tune. The last section in order of play in which they set something there
+-- decides.
 abbrev pub last_set : {V : Type 0} → (Item → Option V) → List (List ℕ) → List Item → ℕ → Option (Grains × V)
 last_set value_of those tune tick =
     last_said (last_beside value_of those tick) (sections_in_time (voice_names tune) 0 (played_sections tune))

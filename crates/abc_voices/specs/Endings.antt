@@ -25,8 +25,8 @@ abbrev pub past_its_bar : Bool → List Mark → List Bool
 past_its_bar ended [] = []
 past_its_bar ended (mark ∷ run) = (ended || closes_ending mark) ∷ past_its_bar (ended || closes_ending mark) run
 
--- For each mark of the endings of a strain, each sign before its run, whether it is between a bar that ended an
--- ending and the sign of the next one, or is that bar.
+-- For each mark of the endings of a strain, each sign before its run: whether it ends an ending that is not the last, or is
+-- between such a bar and the next ending's sign.
 abbrev pub between_endings : List Ending → List Bool
 between_endings [] = []
 between_endings (ending ∷ endings) =
@@ -55,8 +55,8 @@ after_signs waiting (one ∷ others) =
     if one.0 then after_signs (waiting ++ one.1 ∷ []) others
     else one.1 ∷ (waiting ++ after_signs [] others)
 
--- What is between a bar that ended an ending and the sign of the strain's next ending is put after that sign, and
--- nothing else is moved, whatever strains the marks of a voice's items in a section are, its fields left out.
+-- Let the marks of a voice's items in a section, without its fields, be any strains. Then the items between a bar that ended
+-- an ending and the sign of the strain's next ending are put after that sign, and nothing else is moved.
 abbrev pub MovesByStrains : Type 0
 MovesByStrains = (part : List Item) (strains : List Strain)
     → IsStrains false (marks_of (without_fields part)) strains

@@ -45,8 +45,8 @@ set_by value_of tick (at, item) = set_on tick at (value_of item)
 abbrev pub as_program : Grains × ℕ → ProgramChange
 as_program set = record { at = set.0; number = set.1 }
 
--- The program of a voice on a tick: the last one that something sets which is played there, or else the one with which
--- the tune opens, if it begins on the tick.
+-- The program of a voice on a tick: the last one that an item which is played there sets. If none does, it is the one with
+-- which the tune opens, if the tune begins on the tick.
 abbrev pub program_on : List Item → ℕ → List ℕ → Option ProgramChange
 program_on tune tick voice =
     option_map as_program

@@ -7,7 +7,7 @@ use Rattle.abc_bars_items.specs.declared.item.Tone.{Tone}
 use Rattle.abc_voices_score.specs.declared.score.Sounding.{Sounding}
 use Rattle.abc_voices_sections.specs.Step.{length_of, tones_of}
 
--- Notes that begin at a time token, and of those that begin at the next one what none of them is tied to.
+-- The notes that begin at a time token, and those of the next one to which none of the first is tied.
 pub record TokenNotes : Type 0 where
   pub begun : List Sounding
   pub next : List Sounding
@@ -61,8 +61,8 @@ before at None notes = notes
 before at (Some tones) notes =
     before_all (with_tones at (record { begun = []; next = notes.first }) tones) notes.others
 
--- The notes of a play in three parts: those that begin at its first time token, of those that begin at the next one what
--- none of them is tied to, and the others.
+-- The notes of a play in three parts. `linked` has those that begin at its first time token, and those of the next one to
+-- which none of the first is tied. `others` has the others.
 pub record NotesInParts : Type 0 where
   pub linked : TokenNotes
   pub others : List Sounding

@@ -12,8 +12,8 @@ use Rattle.abc_voices_score.specs.Limits.{IsWithinLimits}
 use Rattle.abc_voices.specs.Opening.{title_of}
 use Rattle.abc_voices.specs.Track.{tracks}
 
--- A tune passes a limit: more sections or more places are played than may be, it ends later than a tune may, it has
--- more voices than may have a track, or its title is longer than a line.
+-- A tune passes one of five limits: of the sections and of the places that are played, of its end, of the voices with a
+-- track, and of the title, which fits a line.
 pub data PassesALimit (tune : List Item) : Type 0 where
   of_sections : MOST_SECTIONS < sections_played tune → PassesALimit tune
   of_places : MOST_PLACES < places_played tune → PassesALimit tune
@@ -21,8 +21,8 @@ pub data PassesALimit (tune : List Item) : Type 0 where
   of_voices : MOST_VOICES < length (tracks tune) → PassesALimit tune
   of_title : LONGEST_TITLE < length (title_of tune) → PassesALimit tune
 
--- The score of each tune that plays no more places than may be, ends in time, has no more voices than may have a
--- track, and a title that fits a line, is within the limits of a file.
+-- If a tune is within the limits of places, of time, of voices with a track and of the title, its score is within the limits
+-- of a file.
 abbrev pub EachShortTuneFits : Type 0
 EachShortTuneFits =
     (tune : List Item) → All IsItem tune

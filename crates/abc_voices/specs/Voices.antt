@@ -21,12 +21,12 @@ abbrev pub first_said : {V : Type 0} → (Item → Option V) → List Item → O
 first_said says [] = None
 first_said says (item ∷ others) = option_or (says item) (first_said says others)
 
--- The voice after these items of a tune, the last of them first: that of the last V: of the body, else the first
--- voice that the header declares, else the one without a name. The one without a name is not in ABC 2.1.
+-- The voice after the items `past` of a tune, the last one first: that of the last V: of the body. If there is none, it is the
+-- first voice that the header declares, else the one without a name. The one without a name is not in ABC 2.1.
 abbrev pub voice_at_place : List Item → List Item → List ℕ
 voice_at_place tune past = unwrap_or (first_said named_by past) (unwrap_or (first_said declared_by tune) [])
 
--- What is in a tune after these items, the last of them first, each with the items before it.
+-- The items of a tune after `past`, each with the items before it. Of `past` and of these the last item is first.
 abbrev pub with_items_before : List Item → List Item → List (List Item × Item)
 with_items_before past [] = []
 with_items_before past (item ∷ rest) = (past, item) ∷ with_items_before (item ∷ past) rest

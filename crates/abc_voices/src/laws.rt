@@ -12,8 +12,8 @@ ghost use Rattle.abc_voices.specs.Tracks.{HaveTracksByMention};
 ghost use Rattle.abc_voices.specs.Uneven.{TellsUneven};
 ghost use Rattle.abc_voices.specs.Voices.{AreOfVoices};
 
-/// The voice that plays an item is that of the last V: of the body before it; without one, the first declared voice; and
-/// without that, the voice without a name.
+/// The voice that plays an item is that of the last V: of the body before it. If there is none, it is the first declared
+/// voice, else the voice without a name.
 #[tactic(auto, using(crate::proofs::Voices::are_of_voices))]
 pub fn voices_by_looking_back()
     ensures { AreOfVoices }
@@ -28,7 +28,7 @@ pub fn tracks_by_mention()
 {}
 
 /// The notes of a voice are the longest chains of tied tones. A tied tone is joined with one of its key in the next time
-/// token that is played: the first tied one of the key with the first of the key, and so on.
+/// token that is played. Of a key, the first tied tone is joined with the first tone, and so on.
 pub fn ties_in_play()
     ensures chains { HearsChains }
     ensures once { HearsNoOthers }
@@ -63,8 +63,8 @@ pub fn sections_in_last_order()
     ensures { AreInLastOrder }
 {}
 
-/// The voices of a tune are uneven exactly if two of them differ in length in a section that is played, and both play
-/// a note, chord, rest or bar rest there. Not in ABC 2.1.
+/// The voices of a tune are uneven exactly if, in a section that is played, two of them differ in length and both play a
+/// note, chord, rest or bar rest. Not in ABC 2.1.
 #[tactic(auto, using(crate::proofs::Uneven::tells_uneven))]
 pub fn uneven_voices()
     ensures { TellsUneven }
@@ -75,8 +75,8 @@ pub fn ends_of_tunes()
     ensures { EndsOnce }
 {}
 
-/// A file can hold the score of each tune that plays no more places than may be, ends in time, has no more voices than
-/// channels, and a title that fits a line. So a tune is too long for nothing else.
+/// A file can hold the score of each tune within the limits of places, of time, of voices with a track and of the title. So
+/// a tune is too long for nothing else.
 #[tactic(auto, using(crate::proofs::Fitting::Whole::fits_a_file))]
 pub fn scores_fit()
     ensures { EachShortTuneFits }

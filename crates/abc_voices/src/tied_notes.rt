@@ -28,8 +28,8 @@ fn next_place(tied: bool, key: u8, next: &[Sounding]) -> Option<usize>
     if tied { place_of(next, key) } else { None }
 }
 
-/// The notes of a play, in one list: those that begin at its first time token last, and before them those of the
-/// next one that none of them is tied to. Contracts see the parts.
+/// The notes of a play, in one list. The last are those that begin at its first time token. Before them are those of the
+/// next one to which none of these is tied. Contracts see the parts.
 #[derive(Drop)]
 pub(crate) struct ReverseNotes {
     notes: Vec<Sounding>,

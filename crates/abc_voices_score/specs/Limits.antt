@@ -12,8 +12,8 @@ use Rattle.abc_voices_score.specs.declared.score.ChangeKind.TheVariants.{Tempo, 
 use Rattle.abc_voices_score.specs.declared.score.ProgramChange.{ProgramChange}
 use Rattle.abc_voices_score.specs.declared.score.Sounding.{Sounding}
 
--- A tempo of one to 2^24 - 1 microseconds to a quarter, a meter over a power of two up to 64, a key of at
--- most seven sharps or flats (SMF 1.0).
+-- A tempo has 1 to 2^24 - 1 microseconds to a quarter. A meter is over a power of two up to 64. A key has at most seven
+-- sharps or flats (SMF 1.0).
 abbrev pub IsWritable : ChangeKind → Type 0
 IsWritable (Tempo micros) = (1 ≤ micros) × (micros < 2 ^ 24)
 IsWritable (Meter num den) = IsPowerUpTo 6 den
@@ -47,8 +47,8 @@ pub record AreProgramsWithin (end : Grains) (changes : List ProgramChange) : Typ
   pub count : length changes ≤ MOST_PROGRAMS
   pub each : All (IsProgramWithin end) changes
 
--- The end at most 131,072 whole notes, each voice with its programs, and counts that keep a track's length within 32 bits (SMF 1.0;
--- the counts are not in ABC 2.1).
+-- The end is at most 131,072 whole notes, and each voice has its programs. The counts keep a track's length within 32 bits
+-- (SMF 1.0; the counts are not in ABC 2.1).
 pub record AreCountsWithin (score : Score) : Type 0 where
   pub end : score.end.0 ≤ grains_of_the_latest_end
   pub title : length score.title ≤ LONGEST_TITLE

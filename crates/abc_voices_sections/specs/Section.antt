@@ -45,13 +45,13 @@ abbrev pub opening_voice : List Item → List ℕ
 opening_voice [] = []
 opening_voice (step ∷ tune) = declared_or (opening_voice tune) step
 
--- The sections of the items after `held`, the steps so far of a section that began in the voice `opening`, while `voice`
--- is the current one: each section with the voice in which it begins.
+-- The sections of a tune from one on that began in the voice `opening`. `steps` has its steps so far, and `voice` is the
+-- current voice. Each section has the voice in which it begins.
 abbrev pub sections_from : List ℕ → List Item → List ℕ → List Item → List (List ℕ × List Item)
-sections_from opening held voice [] = (opening, held) ∷ []
-sections_from opening held voice (step ∷ tune) =
-    if is_section step then (opening, held) ∷ sections_from voice [] voice tune
-    else sections_from opening (held ++ step ∷ []) (voice_after voice step) tune
+sections_from opening steps voice [] = (opening, steps) ∷ []
+sections_from opening steps voice (step ∷ tune) =
+    if is_section step then (opening, steps) ∷ sections_from voice [] voice tune
+    else sections_from opening (steps ++ step ∷ []) (voice_after voice step) tune
 
 -- The sections of a tune, the opening one first.
 abbrev pub sections : List Item → List (List ℕ × List Item)

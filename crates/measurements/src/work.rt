@@ -1,6 +1,6 @@
-//! Prints the work of each edit: reads the commands of the program from standard input, applies the edits among them to a
-//! session, and prints a line `work S F B` for each: the lines that it scanned, the steps that it folded and the tunes that
-//! it built. A refused edit costs nothing.
+//! Prints the work of each edit. Reads the commands of the program from standard input, applies the edits among them to a
+//! session, and prints a line `work S F B` for each: the scanned lines, the folded steps and the built tunes. A refused edit
+//! costs nothing.
 
 use abc_fold::Work;
 use abc_live::{Edit, EditError, Session};

@@ -7,13 +7,13 @@ use Rattle.abc_voices_score.specs.declared.score.Score.{Score}
 use Rattle.abc_voices_score.specs.declared.score.Sounding.{Sounding}
 use Rattle.smf_bytes.specs.Track.{chunk, track, conductor_events, voice_events, channel_of}
 
--- The header, a chunk of the type MThd: format 1, the count of tracks, 480 ticks to a quarter note
--- (SMF 1.0; that each file is of format 1, with that division, is not in ABC 2.1).
+-- The header, a chunk of the type MThd (SMF 1.0): format 1, the count of tracks, 480 ticks to a quarter note. The choice of
+-- format and division is not in ABC 2.1.
 unfoldable pub header_chunk : ℕ → List ℕ
 header_chunk tracks = chunk (codes "MThd") (big_bytes 2 1 ++ big_bytes 2 tracks ++ big_bytes 2 480)
 
--- A track for each voice, from the voice of this place on, with the programs of the same place: there are as many
--- lists of them.
+-- A track for each voice, the first of them at the index `place`, with the programs at the same index of their list. Both
+-- lists have one length.
 abbrev pub voice_tracks : ℕ → ℕ → List (List ProgramChange) → List (List Sounding) → List ℕ
 voice_tracks end place (changes ∷ programs) (notes ∷ voices) =
     track end (voice_events (channel_of place) changes notes) ++ voice_tracks end (place + 1) programs voices

@@ -11,8 +11,8 @@ use std::alloc::{AllocError, Global};
 pub struct Event {
     /// The tick at which it comes, from the start of the track.
     pub tick: u32,
-    /// Its place among the events of one tick: 1 a title or a note off, 2 a tempo or a program,
-    /// 3 a meter or a note on, 4 a key, 5 the end of the track.
+    /// Its rank among the events of one tick. 1: a title or a note off. 2: a tempo or a program. 3: a meter or a note on.
+    /// 4: a key. 5: the end of the track.
     pub class: u8,
     /// The key of a note, else 0.
     pub key: u8,

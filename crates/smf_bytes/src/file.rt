@@ -19,8 +19,8 @@ use std::alloc::{AllocError, Global};
 /// About how many bytes come before the notes of the first voice: the header and the first track.
 const USUAL_OPENING: usize = 128;
 
-/// Returns the Standard MIDI File of a score within its limits (`IsWithinLimits`): format 1, 480 ticks to a quarter note,
-/// first the title and the changes, then a track for each voice.
+/// Returns the Standard MIDI File of a score, of format 1, with 480 ticks to a quarter note. The title and the changes are in
+/// the first track; each voice has a track after it.
 pub fn file_of(alloc: Global, score: &Score) -> Result<Vec<u8>, AllocError>
     requires { IsWithinLimits score.now }
     ensures { IfOk result (λ file. file.items ≡ file_bytes score.now) }

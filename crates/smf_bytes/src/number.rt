@@ -55,8 +55,8 @@ pub(crate) fn leading_byte(n: u32) -> u8
     (0x80 + n % 0x80) as u8
 }
 
-/// Reads the variable-length quantity (SMF 1.0) at the front of bytes: returns its number and its count of bytes. Refuses, in this
-/// order: `Padded` if the first byte is 80 in hexadecimal, `TooLong` if the first four bytes have the top bit set, `Truncated` if
+/// Reads the variable-length quantity (SMF 1.0) at the front of bytes, and returns its number and its count of bytes. Refuses,
+/// in this order: `Padded` if the first byte is `0x80`; `TooLong` if the first four bytes have the top bit set; `Truncated` if
 /// the bytes end before the quantity does.
 pub fn read_number(bytes: &[u8]) -> Result<(u32, usize), NumberFault>
     ensures ok { (n used : ℕ) → (result ≡ Ok (n, used)) ↔ StartsWithNumber bytes.now n used }
