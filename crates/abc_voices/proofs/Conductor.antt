@@ -18,7 +18,7 @@ use Rattle.abc_voices.specs.Change.{tempo_of, meter_of, key_of, set_from}
 use Rattle.abc_voices.specs.Conductor.{opening_tempo_of, opening_meter_of, opening_key_of, opening_by, sections_in_time, last_beside, last_set}
 use Rattle.abc_voices.specs.Conductor.{set_or_opening, at_120, leader, is_tempo, is_meter, is_key, is_there, IsConductedOnTicks}
 use Rattle.abc_voices.specs.Opening.{after_all, tempo_after, meter_after, key_after}
-use Rattle.abc_voices.specs.OnTicks.{last_said, set_on}
+use Rattle.abc_voices.specs.OnTicks.{last_value, set_on}
 use Rattle.abc_voices.specs.ScoreChanges.{tempo_change, meter_change, key_change, changes_in_force}
 use Rattle.abc_voices.specs.Ticks.{last_of_each_tick}
 use Rattle.abc_voices.specs.Track.{voice_names, tracks}
@@ -36,7 +36,7 @@ voices_said value_of (voice ∷ those) tick at section =
 
 sections_said : {V : Type 0} (value_of : Item → Option V) (voices those : List (List ℕ)) (tick at : ℕ) (sections : List (List ℕ × List Item))
     → last_on tick (set_in value_of voices those at sections)
-    ≡ last_said (last_beside value_of those tick) (sections_in_time voices at sections)
+    ≡ last_value (last_beside value_of those tick) (sections_in_time voices at sections)
 sections_said value_of voices those tick at [] = refl
 sections_said value_of voices those tick at (section ∷ rest) =
     let next : ℕ = at + section_length voices section in
@@ -51,12 +51,12 @@ later_or (Some x) first value = refl
 -- what a tune opens with is what the last field of its header says
 all_past : {V : Type 0} (past : Option V → Item → Option V) (says : Item → Option (Option V))
     → ((value : Option V) (item : Item) → past value item ≡ unwrap_or (says item) value)
-    → (value : Option V) (tune : List Item) → after_all past value tune ≡ unwrap_or (last_said says tune) value
+    → (value : Option V) (tune : List Item) → after_all past value tune ≡ unwrap_or (last_value says tune) value
 all_past past says one value [] = refl
 all_past past says one value (item ∷ tune) =
     all_past past says one (past value item) tune
-    ∙ ap (unwrap_or (last_said says tune)) (one value item)
-    ∙ later_or (last_said says tune) (says item) value
+    ∙ ap (unwrap_or (last_value says tune)) (one value item)
+    ∙ later_or (last_value says tune) (says item) value
 
 opens : {V : Type 0} (past : Option V → Item → Option V) (says : Item → Option (Option V)) (usual : V)
     → ((value : Option V) (item : Item) → past value item ≡ unwrap_or (says item) value)

@@ -13,7 +13,7 @@ use Rattle.abc_voices.specs.Layout.{played_sections, programs_in, set_in}
 use Rattle.abc_voices_sections.specs.PlayedSection.{section_length, play_in}
 use Rattle.abc_voices.specs.Change.{at_moment, after_opening, program_of, set_from}
 use Rattle.abc_voices.specs.Opening.{after_all, program_after}
-use Rattle.abc_voices.specs.OnTicks.{last_said, opening_program_of, at_moments, moments_in, set_on, set_by, program_on, HaveProgramsOnTicks}
+use Rattle.abc_voices.specs.OnTicks.{last_value, opening_program_of, at_moments, moments_in, set_on, set_by, program_on, HaveProgramsOnTicks}
 use Rattle.abc_voices.specs.ScoreChanges.{program_change}
 use Rattle.abc_voices_sections.specs.Step.{length_of}
 use Rattle.abc_voices.specs.Ticks.{has_tick, last_of_each_tick}
@@ -28,10 +28,10 @@ or_all : {V : Type 0} (a b c : Option V) → option_or (option_or a b) c ≡ opt
 or_all None b c = refl
 or_all (Some value) b c = refl
 
-pub last_append : {X V : Type 0} (says : X → Option V) (xs ys : List X) → last_said says (xs ++ ys) ≡ option_or (last_said says ys) (last_said says xs)
-last_append says [] ys = or_none (last_said says ys)
+pub last_append : {X V : Type 0} (says : X → Option V) (xs ys : List X) → last_value says (xs ++ ys) ≡ option_or (last_value says ys) (last_value says xs)
+last_append says [] ys = or_none (last_value says ys)
 last_append says (x ∷ xs) ys =
-    ap (λ (v : _). option_or v (says x)) (last_append says xs ys) ∙ or_all (last_said says ys) (last_said says xs) (says x)
+    ap (λ (v : _). option_or v (says x)) (last_append says xs ys) ∙ or_all (last_value says ys) (last_value says xs) (says x)
 
 -- a change, if it is on a tick
 abbrev pub set_if_on : {V : Type 0} → ℕ → Grains × V → Option (Grains × V)
@@ -45,10 +45,10 @@ said_there None false x later e = e
 said_there (Some value) true x later e = refl
 said_there (Some value) false x later e = e
 
-has_last : {V : Type 0} (tick : ℕ) (sets : List (Grains × V)) → has_tick tick sets ≡ is_some (last_said (set_if_on tick) sets)
+has_last : {V : Type 0} (tick : ℕ) (sets : List (Grains × V)) → has_tick tick sets ≡ is_some (last_value (set_if_on tick) sets)
 has_last tick [] = refl
 has_last tick (set ∷ later) =
-    said_there (last_said (set_if_on tick) later) (tick_at set.0.0 == tick) set (has_tick tick later) (has_last tick later)
+    said_there (last_value (set_if_on tick) later) (tick_at set.0.0 == tick) set (has_tick tick later) (has_last tick later)
 
 -- one change more
 abbrev pub is_on : {V : Type 0} → ℕ → Grains × V → Bool
@@ -70,10 +70,10 @@ one_stands tick changes set (Some value) false false e those same =
     filter-append (is_on tick) changes (set ∷ []) ∙ (λ i. those i ++ cond (e i) (set ∷ []) [])
 
 -- the last change on a tick is in force
-pub last_stands : {V : Type 0} (tick : ℕ) (sets : List (Grains × V)) → filter (is_on tick) (last_of_each_tick sets) ≡ option_to_list (last_said (set_if_on tick) sets)
+pub last_stands : {V : Type 0} (tick : ℕ) (sets : List (Grains × V)) → filter (is_on tick) (last_of_each_tick sets) ≡ option_to_list (last_value (set_if_on tick) sets)
 last_stands tick [] = refl
 last_stands tick (set ∷ later) =
-    one_stands tick (last_of_each_tick later) set (last_said (set_if_on tick) later) (has_tick (tick_at set.0.0) later) (is_on tick set) refl (last_stands tick later)
+    one_stands tick (last_of_each_tick later) set (last_value (set_if_on tick) later) (has_tick (tick_at set.0.0) later) (is_on tick set) refl (last_stands tick later)
     (λ here. ap (λ n. has_tick n later) (eqb-true (tick_at set.0.0) tick here) ∙ has_last tick later)
 
 -- the same of programs
@@ -95,7 +95,7 @@ as_list f (Some value) = refl
 
 -- what is set last on a tick, of changes in order
 abbrev pub last_on : {V : Type 0} → ℕ → List (Grains × V) → Option (Grains × V)
-last_on tick sets = last_said (set_if_on tick) sets
+last_on tick sets = last_value (set_if_on tick) sets
 
 neither : {X : Type 0} (here : Bool) → ◌≡◌ {A = Option X} (cond here None None) None
 neither true = refl
@@ -108,14 +108,14 @@ one_more tick at None sets =
 one_more tick at (Some value) sets = refl
 
 pub play_said : {V : Type 0} (value_of : Item → Option V) (tick at : ℕ) (play : List Item)
-    → last_on tick (set_from value_of at play) ≡ last_said (set_by value_of tick) (at_moments at play)
+    → last_on tick (set_from value_of at play) ≡ last_value (set_by value_of tick) (at_moments at play)
 play_said value_of tick at [] = refl
 play_said value_of tick at (item ∷ play) =
     one_more tick at (value_of item) (set_from value_of (at + length_of item) play)
     ∙ ap (λ last. option_or last (set_on tick at (value_of item))) (play_said value_of tick (at + length_of item) play)
 
 sections_said : (tick : ℕ) (voices : List (List ℕ)) (voice : List ℕ) (at : ℕ) (sections : List (List ℕ × List Item))
-    → last_on tick (set_in program_of voices (voice ∷ []) at sections) ≡ last_said (set_by program_of tick) (moments_in voices voice at sections)
+    → last_on tick (set_in program_of voices (voice ∷ []) at sections) ≡ last_value (set_by program_of tick) (moments_in voices voice at sections)
 sections_said tick voices voice at [] = refl
 sections_said tick voices voice at (section ∷ rest) =
     let play : List Item = play_in section voice in
@@ -135,17 +135,17 @@ one_past program _ = refl
 -- what holds after a tune is what is said last in it
 all_past : {V : Type 0} (past : Option V → Item → Option V) (says : Item → Option V)
     → ((value : Option V) (item : Item) → past value item ≡ option_or (says item) value)
-    → (value : Option V) (tune : List Item) → after_all past value tune ≡ option_or (last_said says tune) value
+    → (value : Option V) (tune : List Item) → after_all past value tune ≡ option_or (last_value says tune) value
 all_past past says one value [] = refl
 all_past past says one value (item ∷ tune) =
     all_past past says one (past value item) tune
-    ∙ ap (option_or (last_said says tune)) (one value item)
-    ∙ sym (or_all (last_said says tune) (says item) value)
+    ∙ ap (option_or (last_value says tune)) (one value item)
+    ∙ sym (or_all (last_value says tune) (says item) value)
 
 pub opens : {V : Type 0} (past : Option V → Item → Option V) (says : Item → Option V)
     → ((value : Option V) (item : Item) → past value item ≡ option_or (says item) value)
-    → (tune : List Item) → after_all past None tune ≡ last_said says tune
-opens past says one tune = all_past past says one None tune ∙ sym (or_none (last_said says tune))
+    → (tune : List Item) → after_all past None tune ≡ last_value says tune
+opens past says one tune = all_past past says one None tune ∙ sym (or_none (last_value says tune))
 
 -- the program of a voice on a tick
 voice_on : (tune : List Item) (tick : ℕ) (voice : List ℕ)
@@ -156,7 +156,7 @@ voice_on tune tick voice =
     let sets : List (Grains × ℕ) = set_in program_of (voice_names tune) (voice ∷ []) 0 (played_sections tune) in
     those_there tick (last_of_each_tick (after_opening opening sets))
     ∙ ap (map program_change) (last_stands tick (after_opening opening sets))
-    ∙ as_list program_change (last_said (set_if_on tick) (after_opening opening sets))
+    ∙ as_list program_change (last_value (set_if_on tick) (after_opening opening sets))
     ∙ ap (λ last. option_to_list (option_map program_change last)) (one_more tick 0 opening sets
     ∙ (λ i. option_or (sections_said tick (voice_names tune) voice 0 (played_sections tune) i) (set_on tick 0 (opens program_after opening_program_of one_past tune i))))
 

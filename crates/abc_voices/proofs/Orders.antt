@@ -7,17 +7,17 @@ use Rattle.abc_bars_items.specs.declared.item.Item.TheVariants as items
 use Rattle.abc_repeat.specs.Order.{sections_of, has_unknown}
 use Rattle.abc_voices_sections.specs.Section.{letters, sections}
 use Rattle.abc_voices.specs.Layout.{arranged_of}
-use Rattle.abc_voices.specs.OnTicks.{last_said}
+use Rattle.abc_voices.specs.OnTicks.{last_value}
 use Rattle.abc_voices.specs.Opening.{order_after, after_all}
-use Rattle.abc_voices.specs.Orders.{order_said, AreInLastOrder}
+use Rattle.abc_voices.specs.Orders.{order_by, AreInLastOrder}
 use Rattle.abc_voices.proofs.OnTicks.{opens}
 
-one_past : (order : Option (List ℕ)) (item : Item) → order_after order item ≡ option_or (order_said item) order
+one_past : (order : Option (List ℕ)) (item : Item) → order_after order item ≡ option_or (order_by item) order
 one_past order (items.Order text) = refl
 one_past order _ = refl
 
-last_order : (tune : List Item) → after_all order_after None tune ≡ last_said order_said tune
-last_order tune = opens order_after order_said one_past tune
+last_order : (tune : List Item) → after_all order_after None tune ≡ last_value order_by tune
+last_order tune = opens order_after order_by one_past tune
 
 pub in_last_order : AreInLastOrder
 unfolding arranged_of

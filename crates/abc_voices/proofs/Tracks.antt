@@ -10,7 +10,7 @@ use Rattle.abc_bars_items.specs.declared.item.Item.TheVariants as items
 use Rattle.abc_voices.specs.Layout.{takes_time}
 use Rattle.abc_voices.specs.Track.{has_unnamed_track, names_from, plays_first}
 use Rattle.abc_voices.specs.Tracks.{HaveTracksByMention, mentioned_voices, mentioned_by, mentioned_first, plays_unnamed}
-use Rattle.abc_voices.specs.Voices.{declared_by, first_said, named_by, voice_at_place, with_items_before}
+use Rattle.abc_voices.specs.Voices.{declared_by, first_value, named_by, voice_at_place, with_items_before}
 use Rattle.abc_voices.proofs.Voices.{declared}
 
 -- the names that are known are the empty one and those that these items mention
@@ -76,11 +76,11 @@ none_more true false named others h rest = rest
 none_more false false named others h rest = rest
 
 -- after a V: of the body nothing plays for the voice without a name
-none_after : (tune past rest : List Item) → is_none (first_said named_by past) ≡ false → list_any (plays_unnamed tune) (with_items_before past rest) ≡ false
+none_after : (tune past rest : List Item) → is_none (first_value named_by past) ≡ false → list_any (plays_unnamed tune) (with_items_before past rest) ≡ false
 none_after tune past [] h = refl
 none_after tune past (item ∷ rest) h =
-    none_more (takes_time item) (is_none (first_said named_by past)) (bytes_eq (voice_at_place tune past) []) _ h
-    (none_after tune (item ∷ past) rest (still (named_by item) (first_said named_by past) h))
+    none_more (takes_time item) (is_none (first_value named_by past)) (bytes_eq (voice_at_place tune past) []) _ h
+    (none_after tune (item ∷ past) rest (still (named_by item) (first_value named_by past) h))
 
 and_false : (b : Bool) → false ≡ (b && false)
 and_false true = refl
@@ -91,23 +91,23 @@ or_more true c = refl
 or_more false c = refl
 
 -- something that takes time before the first V: of the body
-plays_here : (tune past : List Item) (rest others : Bool) → first_said named_by past ≡ None → others ≡ (bytes_eq (unwrap_or (first_said declared_by tune) []) [] && rest)
-    → ((is_none (first_said named_by past) && bytes_eq (voice_at_place tune past) []) || others) ≡ (bytes_eq (unwrap_or (first_said declared_by tune) []) [] && true)
+plays_here : (tune past : List Item) (rest others : Bool) → first_value named_by past ≡ None → others ≡ (bytes_eq (unwrap_or (first_value declared_by tune) []) [] && rest)
+    → ((is_none (first_value named_by past) && bytes_eq (voice_at_place tune past) []) || others) ≡ (bytes_eq (unwrap_or (first_value declared_by tune) []) [] && true)
 plays_here tune past rest others none e =
-    let opening = unwrap_or (first_said declared_by tune) [] in
+    let opening = unwrap_or (first_value declared_by tune) [] in
     ap (λ said. (is_none said && bytes_eq (unwrap_or said opening) []) || others) none
     ∙ ap (λ b. bytes_eq opening [] || b) e
     ∙ or_more (bytes_eq opening []) rest
 
-plays_as : (tune past rest : List Item) → first_said named_by past ≡ None
-    → list_any (plays_unnamed tune) (with_items_before past rest) ≡ (bytes_eq (unwrap_or (first_said declared_by tune) []) [] && plays_first rest)
-plays_as tune past [] none = and_false (bytes_eq (unwrap_or (first_said declared_by tune) []) [])
+plays_as : (tune past rest : List Item) → first_value named_by past ≡ None
+    → list_any (plays_unnamed tune) (with_items_before past rest) ≡ (bytes_eq (unwrap_or (first_value declared_by tune) []) [] && plays_first rest)
+plays_as tune past [] none = and_false (bytes_eq (unwrap_or (first_value declared_by tune) []) [])
 plays_as tune past (items.Tone tones length ∷ rest) none =
     plays_here tune past (plays_first rest) _ none (plays_as tune (items.Tone tones length ∷ past) rest none)
 plays_as tune past (items.Rest length bar ∷ rest) none =
     plays_here tune past (plays_first rest) _ none (plays_as tune (items.Rest length bar ∷ past) rest none)
 plays_as tune past (items.Voice false name ∷ rest) none =
-    none_after tune (items.Voice false name ∷ past) rest refl ∙ and_false (bytes_eq (unwrap_or (first_said declared_by tune) []) [])
+    none_after tune (items.Voice false name ∷ past) rest refl ∙ and_false (bytes_eq (unwrap_or (first_value declared_by tune) []) [])
 plays_as tune past (item ∷ rest) none = plays_as tune (item ∷ past) rest none
 
 by_nameless : (b : Bool) (names : List (List ℕ)) → cond b ([] ∷ names) names ≡ cond b ([] ∷ []) [] ++ names

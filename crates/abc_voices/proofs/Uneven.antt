@@ -9,7 +9,7 @@ use Rattle.abc_bars_items.specs.declared.item.Item.TheVariants as items
 use Rattle.abc_voices_sections.specs.PlayedSection.{length_in, play_in}
 use Rattle.abc_voices.specs.Layout.{arranged_of, lengths_differ, is_uneven, played_sections, plays_time, takes_time}
 use Rattle.abc_voices.specs.Track.{voice_names}
-use Rattle.abc_voices.specs.Uneven.{TakesTime, by_tones, by_rest, AreUneven, TellsUneven}
+use Rattle.abc_voices.specs.Uneven.{TakesTime, by_tones, by_rest, AreUneven, UnevenByLengths}
 
 -- some of what has one property has another
 some : {X : Type 0} (P Q : X → Type 0) → ((x : X) → P x → Q x) → (xs : List X) → Any P xs → Any Q xs
@@ -50,9 +50,9 @@ told section one other are =
     let unequal : (length_in section one == length_in section other) ≡ false = ne_eqb (length_in section one) (length_in section other) are.lengths_differ in
     λ i. first i && second i && not (unequal i)
 
-pub tells_uneven : TellsUneven
+pub uneven_by_lengths : UnevenByLengths
 unfolding arranged_of
-tells_uneven tune =
+uneven_by_lengths tune =
     let voices : List (List ℕ) = voice_names tune in
     let sections : List (List ℕ × List Item) = played_sections tune in (
       λ is. some (λ section. is_uneven voices section ≡ true) (λ section. Any (λ one. Any (AreUneven section one) voices) voices)

@@ -4,20 +4,20 @@ use Rattle.std.specs.Prelude.{◌&&◌, bytes_eq, unwrap_or, filter}
 use Rattle.abc_bars_items.specs.declared.item.Item.{Item}
 use Rattle.abc_bars_items.specs.declared.item.Item.TheVariants as items
 use Rattle.abc_voices_sections.specs.Section.{is_section, is_step, opening_voice, part, part_from, sections_from, voice_after}
-use Rattle.abc_voices.specs.Voices.{named_by, declared_by, first_said, voice_at_place, with_voices, put_in_front, pieces_between, items_of_voice, AreOfVoices}
+use Rattle.abc_voices.specs.Voices.{named_by, declared_by, first_value, voice_at_place, with_voices, put_in_front, pieces_between, items_of_voice, AreOfVoices}
 
 abbrev is_letter : List ℕ × Item → Bool
 is_letter one = is_section one.1
 
 -- the first declared voice
-pub declared : (tune : List Item) → opening_voice tune ≡ unwrap_or (first_said declared_by tune) []
+pub declared : (tune : List Item) → opening_voice tune ≡ unwrap_or (first_value declared_by tune) []
 declared [] = refl
 declared (items.Voice true name ∷ tune) = refl
 declared (_ ∷ tune) = declared tune
 
 -- one item more to look back at
 one_more : (opening : List ℕ) (item : Item) (past : List Item)
-    → voice_after (unwrap_or (first_said named_by past) opening) item ≡ unwrap_or (first_said named_by (item ∷ past)) opening
+    → voice_after (unwrap_or (first_value named_by past) opening) item ≡ unwrap_or (first_value named_by (item ∷ past)) opening
 one_more opening (items.Voice false name) past = refl
 one_more opening _ past = refl
 
@@ -114,7 +114,7 @@ walk : (tune : List Item) (voice opening : List ℕ) (held : List Item) (current
 walk tune voice opening held current past [] back on = ap (λ steps. steps ∷ []) (sym (append-nil (part_from voice opening held)))
 walk tune voice opening held current past (item ∷ rest) back on =
     let following : voice_after current item ≡ voice_at_place tune (item ∷ past) =
-    ap (λ v. voice_after v item) back ∙ one_more (unwrap_or (first_said declared_by tune) []) item past in
+    ap (λ v. voice_after v item) back ∙ one_more (unwrap_or (first_value declared_by tune) []) item past in
     let more = walk tune voice opening (held ++ item ∷ []) (voice_after current item) (item ∷ past) rest following
     (ap (λ v. voice_after v item) on ∙ sym (after_more opening held item)) in
     walk_item voice opening held (voice_at_place tune past, item) (sections_from current [] current rest)

@@ -14,7 +14,7 @@ use Rattle.abc_voices_score.specs.declared.score.ChangeKind.TheVariants as kinds
 use Rattle.abc_voices.specs.Layout.{played_sections, score_of}
 use Rattle.abc_voices_sections.specs.PlayedSection.{section_length, play_in}
 use Rattle.abc_voices.specs.Change.{tempo_of, meter_of, key_of}
-use Rattle.abc_voices.specs.OnTicks.{at_moments, last_said, set_by, set_on}
+use Rattle.abc_voices.specs.OnTicks.{at_moments, last_value, set_by, set_on}
 use Rattle.abc_voices.specs.Track.{voice_names, tracks}
 
 -- The tempo, the meter and the key that a field of the header sets for the opening of the tune, if it is such a field: a
@@ -34,11 +34,11 @@ opening_key_of _ = None
 -- The value with which a tune opens: that of the last such field of its header, or the usual one if this sets none or there
 -- is no such field.
 abbrev pub opening_by : {V : Type 0} → (Item → Option (Option V)) → V → List Item → V
-opening_by says usual tune = unwrap_or (unwrap_or (last_said says tune) None) usual
+opening_by value_of usual tune = unwrap_or (unwrap_or (last_value value_of tune) None) usual
 
 -- The last value that something sets on a tick which is played one after another from a moment on.
 abbrev pub last_played : {V : Type 0} → (Item → Option V) → ℕ → ℕ → List Item → Option (Grains × V)
-last_played value_of tick at play = last_said (set_by value_of tick) (at_moments at play)
+last_played value_of tick at play = last_value (set_by value_of tick) (at_moments at play)
 
 -- Sections that are played one after another from a moment on, each at its moment.
 abbrev pub sections_in_time : List (List ℕ) → ℕ → List (List ℕ × List Item) → List (ℕ × (List ℕ × List Item))
@@ -49,13 +49,13 @@ sections_in_time voices at (section ∷ rest) = (at, section) ∷ sections_in_ti
 -- something there decides, even if a voice before it sets something later.
 abbrev pub last_beside : {V : Type 0} → (Item → Option V) → List (List ℕ) → ℕ → ℕ × (List ℕ × List Item) → Option (Grains × V)
 last_beside value_of those tick (at, section) =
-    last_said (λ voice. last_played value_of tick at (play_in section voice)) those
+    last_value (λ voice. last_played value_of tick at (play_in section voice)) those
 
 -- What the voices `those` set last on a tick in a tune. The last section in order of play in which they set something there
 -- decides.
 abbrev pub last_set : {V : Type 0} → (Item → Option V) → List (List ℕ) → List Item → ℕ → Option (Grains × V)
 last_set value_of those tune tick =
-    last_said (last_beside value_of those tick) (sections_in_time (voice_names tune) 0 (played_sections tune))
+    last_value (last_beside value_of those tick) (sections_in_time (voice_names tune) 0 (played_sections tune))
 
 -- The value on a tick: the one set there last, or else that with which the tune opens, if it begins on the tick.
 abbrev pub set_or_opening : {V : Type 0} → (Item → Option V) → List (List ℕ) → V → List Item → ℕ → Option (Grains × V)

@@ -13,9 +13,9 @@ use Rattle.abc_voices_sections.specs.Step.{length_of}
 use Rattle.abc_voices.specs.Track.{voice_names, tracks}
 
 -- The last value that an element has, if one has any.
-abbrev pub last_said : {X V : Type 0} → (X → Option V) → List X → Option V
-last_said says [] = None
-last_said says (x ∷ later) = option_or (last_said says later) (says x)
+abbrev pub last_value : {X V : Type 0} → (X → Option V) → List X → Option V
+last_value value_of [] = None
+last_value value_of (x ∷ later) = option_or (last_value value_of later) (value_of x)
 
 -- The program that a directive of the header sets, if it sets one.
 abbrev pub opening_program_of : Item → Option ℕ
@@ -50,8 +50,8 @@ as_program set = record { at = set.0; number = set.1 }
 abbrev pub program_on : List Item → ℕ → List ℕ → Option ProgramChange
 program_on tune tick voice =
     option_map as_program
-    (option_or (last_said (set_by program_of tick) (moments_in (voice_names tune) voice 0 (played_sections tune)))
-    (set_on tick 0 (last_said opening_program_of tune)))
+    (option_or (last_value (set_by program_of tick) (moments_in (voice_names tune) voice 0 (played_sections tune)))
+    (set_on tick 0 (last_value opening_program_of tune)))
 
 -- On each tick each voice of a tune has that program, and no other one.
 abbrev pub HaveProgramsOnTicks : Type 0

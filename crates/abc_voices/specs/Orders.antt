@@ -5,22 +5,22 @@ use Rattle.abc_bars_items.specs.declared.item.Item.TheVariants as items
 use Rattle.abc_repeat.specs.Order.{sections_of, has_unknown}
 use Rattle.abc_voices_sections.specs.Section.{letters, sections}
 use Rattle.abc_voices.specs.Layout.{arranged_of, played_sections, sections_played}
-use Rattle.abc_voices.specs.OnTicks.{last_said}
+use Rattle.abc_voices.specs.OnTicks.{last_value}
 
--- The order of the parts that an item says, if it says one: a P: of the header that is accepted does.
-abbrev pub order_said : Item → Option (List ℕ)
-order_said (items.Order text) = Some text
-order_said _ = None
+-- The order of the parts that an item sets, if it sets one: an accepted P: of the header does.
+abbrev pub order_by : Item → Option (List ℕ)
+order_by (items.Order text) = Some text
+order_by _ = None
 
--- Which sections of a tune are played, by their places in it: those of the last order that it says, or all.
+-- The places in a tune of the sections that are played: those of the last order that it sets, or all.
 abbrev pub places_in_order : List Item → List ℕ
-places_in_order tune = sections_of (last_said order_said tune) (letters tune)
+places_in_order tune = sections_of (last_value order_by tune) (letters tune)
 
 -- These sections of a tune are played and counted, and a letter of that order is the one that may be unknown.
 pub record IsInLastOrder (tune : List Item) : Type 0 where
   pub played : played_sections tune ≡ filter_map (slice_get (sections tune)) (places_in_order tune)
   pub counted : sections_played tune ≡ length (places_in_order tune)
-  pub unknown : (arranged_of tune).unknown ≡ has_unknown (last_said order_said tune) (letters tune)
+  pub unknown : (arranged_of tune).unknown ≡ has_unknown (last_value order_by tune) (letters tune)
 
 -- So for each tune.
 abbrev pub AreInLastOrder : Type 0

@@ -8,7 +8,7 @@ use Rattle.abc_bars_items.specs.declared.item.Item.{Item}
 use Rattle.abc_bars_items.specs.declared.item.Item.TheVariants as items
 use Rattle.abc_voices.specs.Layout.{takes_time}
 use Rattle.abc_voices.specs.Track.{tracks}
-use Rattle.abc_voices.specs.Voices.{first_said, named_by, voice_at_place, with_items_before}
+use Rattle.abc_voices.specs.Voices.{first_value, named_by, voice_at_place, with_items_before}
 
 -- The voice that a V: of the header or of the body mentions.
 abbrev pub mentioned_by : Item → Option (List ℕ)
@@ -23,7 +23,7 @@ mentioned_first (past, item) =
 
 -- Whether an item takes time, no V: of the body is before it, and its voice is the one without a name.
 abbrev pub plays_unnamed : List Item → List Item × Item → Bool
-plays_unnamed tune (past, item) = takes_time item && (is_none (first_said named_by past) && bytes_eq (voice_at_place tune past) [])
+plays_unnamed tune (past, item) = takes_time item && (is_none (first_value named_by past) && bytes_eq (voice_at_place tune past) [])
 
 -- The names of the voices that a tune mentions, in the order of their first mention.
 abbrev pub mentioned_voices : List Item → List (List ℕ)

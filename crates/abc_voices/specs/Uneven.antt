@@ -25,5 +25,5 @@ HasUneven tune =
     Any (λ section. Any (λ one. Any (AreUneven section one) (voice_names tune)) (voice_names tune)) (played_sections tune)
 
 -- A tune has the fault of uneven voices exactly if it has some.
-abbrev pub TellsUneven : Type 0
-TellsUneven = (tune : List Item) → ((arranged_of tune).uneven ≡ true) ↔ HasUneven tune
+abbrev pub UnevenByLengths : Type 0
+UnevenByLengths = (tune : List Item) → ((arranged_of tune).uneven ≡ true) ↔ HasUneven tune

@@ -17,14 +17,14 @@ declared_by (items.Voice true name) = Some name
 declared_by _ = None
 
 -- The first value that an item has, if one has any.
-abbrev pub first_said : {V : Type 0} → (Item → Option V) → List Item → Option V
-first_said says [] = None
-first_said says (item ∷ others) = option_or (says item) (first_said says others)
+abbrev pub first_value : {V : Type 0} → (Item → Option V) → List Item → Option V
+first_value value_of [] = None
+first_value value_of (item ∷ others) = option_or (value_of item) (first_value value_of others)
 
 -- The voice after the items `past` of a tune, the last one first: that of the last V: of the body. If there is none, it is the
 -- first voice that the header declares, else the one without a name. The one without a name is not in ABC 2.1.
 abbrev pub voice_at_place : List Item → List Item → List ℕ
-voice_at_place tune past = unwrap_or (first_said named_by past) (unwrap_or (first_said declared_by tune) [])
+voice_at_place tune past = unwrap_or (first_value named_by past) (unwrap_or (first_value declared_by tune) [])
 
 -- The items of a tune after `past`, each with the items before it. Of `past` and of these the last item is first.
 abbrev pub with_items_before : List Item → List Item → List (List Item × Item)

@@ -9,7 +9,7 @@ ghost use Rattle.abc_voices.specs.Orders.{AreInLastOrder};
 ghost use Rattle.abc_voices.specs.Ties.{PlaysChains, VoicesPlayChains};
 ghost use Rattle.abc_voices.specs.TooLong.{EachShortTuneFits, IsTooLongByALimit};
 ghost use Rattle.abc_voices.specs.Tracks.{HaveTracksByMention};
-ghost use Rattle.abc_voices.specs.Uneven.{TellsUneven};
+ghost use Rattle.abc_voices.specs.Uneven.{UnevenByLengths};
 ghost use Rattle.abc_voices.specs.Voices.{AreOfVoices};
 
 /// The voice that plays an item is that of the last V: of the body before it. If there is none, it is the first declared
@@ -65,9 +65,9 @@ pub fn sections_in_last_order()
 
 /// The voices of a tune are uneven exactly if, in a section that is played, two of them differ in length and both play a
 /// note, chord, rest or bar rest. Not in ABC 2.1.
-#[tactic(auto, using(crate::proofs::Uneven::tells_uneven))]
+#[tactic(auto, using(crate::proofs::Uneven::uneven_by_lengths))]
 pub fn uneven_voices()
-    ensures { TellsUneven }
+    ensures { UnevenByLengths }
 {}
 
 /// A tune ends when its sections, one after another, and all of its notes are over, and no sooner. Not in ABC 2.1.
