@@ -7,7 +7,7 @@ use Rattle.abc_repeat.specs.declared.mark.Mark.{Mark}
 use Rattle.abc_repeat.specs.declared.mark.Mark.TheVariants as marks
 use Rattle.abc_repeat.specs.Mark.{is_ending, is_single, opens_next, closes_common, closes_ending}
 use Rattle.abc_repeat.specs.Strain.{Ending, Strain, without_endings, endings_text, in_common, in_ending, leads_to_ending, goes_on, IsInnerRun}
-use Rattle.abc_repeat.specs.Strain.{straight, barred, AreEndings, to_the_end, to_a_bar, another, IsStrains, last_common, last_endings, common_part}
+use Rattle.abc_repeat.specs.Strain.{without_bar, with_bar, AreEndings, to_the_end, to_a_bar, another, IsStrains, last_common, last_endings, common_part}
 use Rattle.abc_repeat.specs.Strain.{with_endings, put_first, texts_of, with_mark, strain_of, strains_from}
 use Rattle.std.proofs.Common.{ltb, arith}
 use Rattle.std.proofs.lemmas.Bool.Decides.{nat_tests}
@@ -32,15 +32,15 @@ on_first m (strain ∷ strains) = with_mark m strain ∷ strains
 sign_inner : (numbers : ℕ) (ms : List Mark) (strains : List Strain) → IsInside ms strains → IsInside (marks.Ending numbers ∷ ms) (on_first (marks.Ending numbers) strains)
 sign_inner numbers ms strains (last_run body h) =
     subst (λ l. IsInside (marks.Ending numbers ∷ l) (record { common = []; endings = record { numbers = numbers; run = body } ∷ [] } ∷ [])) (append-nil body)
-    (run_to_end [] (record { numbers = numbers; run = body } ∷ []) (straight [] (All-nil (λ m. in_ending m ≡ true))) (to_the_end numbers body h))
+    (run_to_end [] (record { numbers = numbers; run = body } ∷ []) (without_bar [] (All-nil (λ m. in_ending m ≡ true))) (to_the_end numbers body h))
 sign_inner numbers ms strains (closed_run body rest bar later h closes stops following) =
     subst (λ l. IsInside (marks.Ending numbers ∷ l) (record { common = []; endings = record { numbers = numbers; run = body ++ bar ∷ [] } ∷ [] } ∷ later))
     (let e : ((body ++ bar ∷ []) ++ []) ++ rest ≡ body ++ bar ∷ rest = simp (append_assoc, append-nil) in e)
-    (run_to_bar [] rest (record { numbers = numbers; run = body ++ bar ∷ [] } ∷ []) bar later (straight [] (All-nil (λ m. in_ending m ≡ true))) (to_a_bar numbers body bar h closes) stops following)
+    (run_to_bar [] rest (record { numbers = numbers; run = body ++ bar ∷ [] } ∷ []) bar later (without_bar [] (All-nil (λ m. in_ending m ≡ true))) (to_a_bar numbers body bar h closes) stops following)
 sign_inner numbers ms strains (run_to_end run endings inner are) =
-    run_to_end [] (record { numbers = numbers; run = run } ∷ endings) (straight [] (All-nil (λ m. in_ending m ≡ true))) (another numbers run endings None inner are)
+    run_to_end [] (record { numbers = numbers; run = run } ∷ endings) (without_bar [] (All-nil (λ m. in_ending m ≡ true))) (another numbers run endings None inner are)
 sign_inner numbers ms strains (run_to_bar run rest endings bar later inner are stops following) =
-    run_to_bar [] rest (record { numbers = numbers; run = run } ∷ endings) bar later (straight [] (All-nil (λ m. in_ending m ≡ true)))
+    run_to_bar [] rest (record { numbers = numbers; run = run } ∷ endings) bar later (without_bar [] (All-nil (λ m. in_ending m ≡ true)))
     (another numbers run endings (Some bar) inner are) stops following
 
 sign_outer : (opened : Bool) (numbers : ℕ) (ms : List Mark) (strains : List Strain) → IsInside ms strains → IsStrains opened (marks.Ending numbers ∷ ms) (on_first (marks.Ending numbers) strains)
@@ -63,8 +63,8 @@ with_plain _ strain e = refl
 
 -- a mark before a run
 run_more : (m : Mark) (run : List Mark) → in_ending m ≡ true → IsInnerRun run → IsInnerRun (m ∷ run)
-run_more m run e (straight body h) = straight (m ∷ body) (All-cons (λ x. in_ending x ≡ true) m body e h)
-run_more m run e (barred body gap bar h closes opens singles) = barred (m ∷ body) gap bar (All-cons (λ x. in_ending x ≡ true) m body e h) closes opens singles
+run_more m run e (without_bar body h) = without_bar (m ∷ body) (All-cons (λ x. in_ending x ≡ true) m body e h)
+run_more m run e (with_bar body gap bar h closes opens singles) = with_bar (m ∷ body) gap bar (All-cons (λ x. in_ending x ≡ true) m body e h) closes opens singles
 
 inside_more : (m : Mark) (ms : List Mark) (strains : List Strain) → in_ending m ≡ true → is_ending m ≡ false → IsInside ms strains → IsInside (m ∷ ms) (on_first m strains)
 inside_more m ms strains e plain (last_run body h) =
@@ -123,8 +123,8 @@ closing_leads (marks.Bar closes opens double) rest e f = let no = closing_single
 closing_leads _ rest e f = cc
 
 inner_gap : (run rest : List Mark) → IsInnerRun run → leads_to_ending (run ++ rest) ≡ true → AllPass is_single run
-inner_gap run rest (straight body h) e = (body_gap body rest h e).0
-inner_gap run rest (barred body gap bar h closes opens singles) e =
+inner_gap run rest (without_bar body h) e = (body_gap body rest h e).0
+inner_gap run rest (with_bar body gap bar h closes opens singles) e =
     absurd (closing_leads bar (gap ++ rest) closes (body_gap body (bar ∷ (gap ++ rest)) h (subst (λ l. leads_to_ending l ≡ true) (append_assoc body (bar ∷ gap) rest) e)).1)
 
 -- a bar after which the strain goes on is in a run
@@ -135,11 +135,11 @@ bar_more bar ms strains closes opens plain leads (last_run body h) =
 bar_more bar ms strains closes opens plain leads (closed_run body rest end later h ends stops following) = absurd (closing_leads end rest ends (body_gap body (end ∷ rest) h leads).1)
 bar_more bar ms strains closes opens plain leads (run_to_end run endings inner are) =
     subst (λ s. IsInside (bar ∷ (run ++ endings_text endings)) (s ∷ [])) (sym (with_plain bar (record { common = run; endings = endings }) plain))
-    (run_to_end (bar ∷ run) endings (barred [] run bar (All-nil (λ m. in_ending m ≡ true)) closes opens (inner_gap run (endings_text endings) inner leads)) are)
+    (run_to_end (bar ∷ run) endings (with_bar [] run bar (All-nil (λ m. in_ending m ≡ true)) closes opens (inner_gap run (endings_text endings) inner leads)) are)
 bar_more bar ms strains closes opens plain leads (run_to_bar run rest endings end later inner are stops following) =
     subst (λ s. IsInside (bar ∷ ((run ++ endings_text endings) ++ rest)) (s ∷ later)) (sym (with_plain bar (record { common = run; endings = endings }) plain))
     (run_to_bar (bar ∷ run) rest endings end later
-    (barred [] run bar (All-nil (λ m. in_ending m ≡ true)) closes opens
+    (with_bar [] run bar (All-nil (λ m. in_ending m ≡ true)) closes opens
     (inner_gap run (endings_text endings ++ rest) inner (subst (λ l. leads_to_ending l ≡ true) (append_assoc run (endings_text endings) rest) leads)))
     are stops following)
 

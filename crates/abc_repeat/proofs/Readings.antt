@@ -7,7 +7,7 @@ use Rattle.abc_repeat.specs.declared.mark.Mark.{Mark}
 use Rattle.abc_repeat.specs.declared.mark.Mark.TheVariants as marks
 use Rattle.abc_repeat.specs.Mark.{is_ending, is_single, opens_next, closes_common, closes_ending}
 use Rattle.abc_repeat.specs.Strain.{Ending, Strain, without_endings, endings_text, in_common, in_ending, leads_to_ending, goes_on, IsInnerRun}
-use Rattle.abc_repeat.specs.Strain.{straight, barred, AreEndings, to_the_end, to_a_bar, another, IsStrains, last_common, last_endings, common_part}
+use Rattle.abc_repeat.specs.Strain.{without_bar, with_bar, AreEndings, to_the_end, to_a_bar, another, IsStrains, last_common, last_endings, common_part}
 use Rattle.abc_repeat.specs.Strain.{with_endings, ends_strain, put_first, texts_of, with_mark, strain_of, strains_from}
 
 or_second : (a b : Bool) → b ≡ true → (a || b) ≡ true
@@ -103,8 +103,8 @@ sign_stays opened false numbers rest = refl
 
 inner_front : (opened : Bool) (run rest : List Mark) (numbers : ℕ) → IsInnerRun run
     → texts_of opened true (run ++ marks.Ending numbers ∷ rest) ≡ put_front run (texts_of opened true (marks.Ending numbers ∷ rest))
-inner_front opened run rest numbers (straight body h) = run_front opened body (marks.Ending numbers ∷ rest) h
-inner_front opened run rest numbers (barred body gap bar h closes opens singles) =
+inner_front opened run rest numbers (without_bar body h) = run_front opened body (marks.Ending numbers ∷ rest) h
+inner_front opened run rest numbers (with_bar body gap bar h closes opens singles) =
     let following = marks.Ending numbers ∷ rest in
     ap (texts_of opened true) (append_assoc body (bar ∷ gap) following)
     ∙ run_front opened body (bar ∷ (gap ++ following)) h
@@ -199,8 +199,8 @@ join_plain : (xs ys : List Mark) → AllPass (λ m. not (is_ending m)) xs → Al
 join_plain xs ys h k = All-append (λ m. not (is_ending m) ≡ true) xs ys h k
 
 inner_plain : {run : List Mark} → IsInnerRun run → AllPass (λ m. not (is_ending m)) run
-inner_plain (straight body h) = plain_passes in_ending body ending_plain h
-inner_plain (barred body gap bar h closes opens singles) =
+inner_plain (without_bar body h) = plain_passes in_ending body ending_plain h
+inner_plain (with_bar body gap bar h closes opens singles) =
     join_plain body (bar ∷ gap) (plain_passes in_ending body ending_plain h)
     (All-cons (λ x. not (is_ending x) ≡ true) bar gap (closing_plain bar closes) (plain_passes is_single gap single_plain singles))
 

@@ -4,7 +4,7 @@ use Rattle.std.specs.List.{AllPass}
 use Rattle.abc_repeat.specs.declared.mark.Mark.{Mark}
 use Rattle.abc_repeat.specs.declared.mark.Mark.TheVariants as marks
 use Rattle.abc_repeat.specs.Mark.{is_single, opens_next, closes_common, closes_ending}
-use Rattle.abc_repeat.specs.Strain.{Ending, Strain, without_endings, endings_text, text_of, in_common, in_ending, IsInnerRun, straight, barred}
+use Rattle.abc_repeat.specs.Strain.{Ending, Strain, without_endings, endings_text, text_of, in_common, in_ending, IsInnerRun, without_bar, with_bar}
 use Rattle.abc_repeat.specs.Strain.{AreEndings, to_the_end, to_a_bar, another, IsStrains, last_common, last_endings, common_part, with_endings}
 use Rattle.abc_repeat.specs.Play.{strain_play, plays_from, play_of}
 use Rattle.abc_repeat.specs.PlayLaws.{PlacedEnding, placed_ending, IsEndBar, AreEndingsFrom, until_end, until_bar, until_sign, past_bar, IsStrainPlay}
@@ -38,9 +38,9 @@ past at numbers body gap _ endings closing h closes opens singles following = cc
 inner_placed : (at numbers : ℕ) {run : List Mark} (endings : List Ending) (closing : Option Mark) → IsInnerRun run
     → ((k : ℕ) → AreEndingsFrom k (all_placed k endings) (endings_text endings) closing)
     → AreEndingsFrom at (all_placed at (ended numbers run ∷ endings)) (endings_text (ended numbers run ∷ endings)) closing
-inner_placed at numbers endings closing (straight body h) following =
+inner_placed at numbers endings closing (without_bar body h) following =
     until_sign at numbers body (endings_text endings) (all_placed (at + 1 + length body) endings) closing (all_inside_told body h) (following (at + 1 + length body))
-inner_placed at numbers endings closing (barred body gap bar h closes opens singles) following =
+inner_placed at numbers endings closing (with_bar body gap bar h closes opens singles) following =
     past at numbers body gap bar endings closing h closes opens singles (following (at + 1 + length (body ++ bar ∷ gap)))
 
 -- endings have the rules
@@ -125,7 +125,7 @@ read_endings (until_sign at numbers body text endings closing h following) =
     let rest = read_endings following in
     record {
       endings = ended numbers body ∷ rest.endings;
-      are = another numbers body rest.endings closing (straight body (all_inside_tested body h)) rest.are;
+      are = another numbers body rest.endings closing (without_bar body (all_inside_tested body h)) rest.are;
       places = ap (λ l. placed_ending at numbers body ∷ l) rest.places;
       whole = ap (λ l. marks.Ending numbers ∷ (body ++ l)) rest.whole;
     }
@@ -135,7 +135,7 @@ read_endings (past_bar at numbers closes double body gap text endings closing h 
     let run = body ++ bar ∷ gap in
     record {
       endings = ended numbers run ∷ rest.endings;
-      are = another numbers run rest.endings closing (barred body gap bar (all_inside_tested body h) (end_tested bar is) refl (all_between_tested gap singles)) rest.are;
+      are = another numbers run rest.endings closing (with_bar body gap bar (all_inside_tested body h) (end_tested bar is) refl (all_between_tested gap singles)) rest.are;
       places = ap (λ l. placed_ending at numbers run ∷ l) rest.places;
       whole = ap (λ l. marks.Ending numbers ∷ (run ++ l)) rest.whole;
     }

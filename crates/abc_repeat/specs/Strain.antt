@@ -50,8 +50,8 @@ goes_on bar rest = not (opens_next bar) && leads_to_ending rest
 -- The run of an ending before another one: up to the sign of that one, or up to a bar that opens nothing and single
 -- bars after it. Not in ABC 2.1.
 pub data IsInnerRun : List Mark → Type 0 where
-  straight : (body : List Mark) → AllPass in_ending body → IsInnerRun body
-  barred : (body gap : List Mark) (bar : Mark) → AllPass in_ending body → closes_ending bar ≡ true → opens_next bar ≡ false
+  without_bar : (body : List Mark) → AllPass in_ending body → IsInnerRun body
+  with_bar : (body gap : List Mark) (bar : Mark) → AllPass in_ending body → closes_ending bar ≡ true → opens_next bar ≡ false
       → AllPass is_single gap
       → IsInnerRun (body ++ bar ∷ gap)
 
