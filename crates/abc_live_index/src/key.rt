@@ -14,10 +14,14 @@ use abc_tune_memo::{TuneKey, put_line};
 use std::alloc::{AllocError, Global};
 
 /// The defaults that a file header sets, by the state after its last cell; without one, those of an empty file header.
-fn defaults_by<C: Compiler>(compiler: &C, alloc: Global, left: Option<&C::State>) -> C::Defaults
-    ensures { result ≡ defaults_by (C.rules compiler.now) (option_copied left.entry) }
+fn defaults_by<C: Compiler>(
+    compiler: &C,
+    alloc: Global,
+    header_state: Option<&C::State>,
+) -> C::Defaults
+    ensures { result ≡ defaults_by (C.rules compiler.now) (option_copied header_state.entry) }
 {
-    match left {
+    match header_state {
         Some(state) => compiler.defaults(state),
         None => compiler.defaults(&compiler.header(alloc)),
     }

@@ -99,8 +99,8 @@ impl<C: Compiler> KeptText<C> {
         if self.tunes.len() <= following {
             return true;
         }
-        let was = self.kept_opening();
-        C::same(&was, opening)
+        let old_opening = self.kept_opening();
+        C::same(&old_opening, opening)
     }
 
     /// Folds the tunes of the first lines again, by the new file header and the new rows of these lines.

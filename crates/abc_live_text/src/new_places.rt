@@ -27,11 +27,11 @@ fn block_after(block: Block, stretch: Stretch) -> Block
     requires numbers { stretch.lines.came ≤ MOST_LINES }
     ensures { result ≡ block_after stretch block }
 {
-    let gone = stretch.lines.to - stretch.lines.from;
+    let removed = stretch.lines.to - stretch.lines.from;
     Block {
         kind: block.kind,
-        from: block.from - gone + stretch.lines.came,
-        to: block.to - gone + stretch.lines.came,
+        from: block.from - removed + stretch.lines.came,
+        to: block.to - removed + stretch.lines.came,
     }
 }
 

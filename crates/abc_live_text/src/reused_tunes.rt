@@ -92,11 +92,11 @@ pub(crate) fn whole_chain<'a, F: Fold>(
 {
     let source = first_source(rows)?;
     let known = old.get(source)?;
-    let was = known.get();
-    if !is_along(rows, source, was.len()) {
+    let old_chain = known.get();
+    if !is_along(rows, source, old_chain.len()) {
         return None;
     }
-    if !begins_in(was, opening) {
+    if !begins_in(old_chain, opening) {
         return None;
     }
     Some(known)
@@ -122,11 +122,11 @@ fn reused_tune<F: Fold>(
         return None;
     }
     let known = old.get(source)?;
-    let was = known.get();
-    if !is_along(rows, source, was.len()) {
+    let old_chain = known.get();
+    if !is_along(rows, source, old_chain.len()) {
         return None;
     }
-    if !begin_alike(was, chain) {
+    if !begin_alike(old_chain, chain) {
         return None;
     }
     Some(source - 1)

@@ -46,9 +46,9 @@ rules_of_abc = record {
   header = entries.FileHeader no_defaults;
   tune = opening_after;
   defaults = defaults_of;
-  number = λ given. first_value number_of given.items;
-  title = λ given. first_value title_said given.items;
-  faults = λ given. given.faults;
+  number = λ cell. first_value number_of cell.items;
+  title = λ cell. first_value title_said cell.items;
+  faults = λ cell. cell.faults;
   bytes = bytes_of;
   build_faults = build_faults_of;
 }
