@@ -17,7 +17,7 @@ pub record Past (State : Type 0) : Type 0 where
 abbrev pub past_of : {State : Type 0} → ℕ → ℕ → State → Past State
 past_of source place entered = record { source = source; place = place; entered = entered }
 
--- The cells of a line of a chain, the first of which has this place.
+-- The pasts of the cells of a line of the chain `source`. The first cell has the place `place` in the chain.
 abbrev pub pasts_in_line : {State Cell : Type 0} → (State → Cell → State) → ℕ → ℕ → State → List Cell → List (Option (Past State))
 pasts_in_line next source place state [] = []
 pasts_in_line next source place state (cell ∷ cells) = Some (past_of source place state)
@@ -28,7 +28,7 @@ abbrev pub no_pasts : {State Cell Items : Type 0} → Steps State Cell Items →
     → List (Option (Past State))
 no_pasts steps read bytes = map (λ _. None) (read bytes)
 
--- The rows of the lines of a chain, the first of which holds the chain's cells from this one on.
+-- The pasts of the cells of lines of a chain, row by row. `first` is the past of the first cell.
 abbrev pub pasts_along : {State Cell Items : Type 0} → Steps State Cell Items → (List ℕ → List Cell) → Past State → Text
     → List (List (Option (Past State)))
 pasts_along steps read first [] = []

@@ -50,8 +50,8 @@ pub fn pasts_name_cells<State, Cell, Items>()
     ensures { PastsNameCells State Cell Items }
 {}
 
-/// The cells of a chain are those that its lines have in the book. A chain whose cells are carried, in order, from all
-/// those of an old one has the same cells.
+/// The cells of a chain are those that its lines have in the book. If all cells of an old chain are carried to a new one, in
+/// order, both have the same cells.
 pub fn carried_cells<State, Cell, Items>()
     ensures things { CellsAreThings State Cell }
     ensures carried { CarriedCells State Cell Items }

@@ -31,7 +31,7 @@ pub fn outputs_follow()
     ensures titles { TitlesFollow }
 {}
 
-/// The faults of a text, of which those of a stretch of lines are replaced, are those of the text whose stretch is.
+/// Replacing the faults of a stretch of lines gives the faults of the text in which the stretch is replaced.
 pub fn faults_meet()
     ensures { FaultsMeet }
 {}

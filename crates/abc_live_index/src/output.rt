@@ -23,7 +23,7 @@ pub struct Output {
 }
 
 impl Output {
-    /// What items give, of which this was built.
+    /// Returns the output of items, from the tune that was built of them.
     pub(crate) fn of<C: Compiler>(
         compiler: &C,
         alloc: Global,

@@ -91,7 +91,7 @@ fn differs(change: &TuneChange, before: &Owners, after: &Owners, number: u32) ->
     !change.keeps_file(old, new)
 }
 
-/// The numbers whose file after a change is new or has other bytes.
+/// Returns the numbers whose file after a change is new or has other bytes.
 #[tactic(auto, unfolding(abc_tune_compiler::specs::Files::written_numbers))]
 fn new_or_changed_numbers(
     alloc: Global,

@@ -31,8 +31,8 @@ fn undo_if_refused(
     put
 }
 
-/// Appends the faults of the cells of a chain: of a tune, or of the file header, whose place lies in a stretch. If an
-/// allocation fails, nothing is appended.
+/// Appends the faults of the cells of a chain in a stretch, that of a tune or of the file header. If an allocation fails,
+/// nothing is appended.
 pub fn put_cell_faults<C: Compiler>(
     compiler: &C,
     faults: &mut Vec<Fault>,

@@ -16,11 +16,11 @@ use std::alloc::{AllocError, Global};
 pub(crate) enum NewTitles {
     /// All titles.
     Whole(Vec<Title>),
-    /// Those from this index on, which replace as many old ones.
+    /// New titles, which replace as many old ones from this index on.
     Among(usize, Vec<Title>),
 }
 
-/// The number and the title of a tune.
+/// Returns the number and the title of a tune.
 fn title_by(alloc: Global, output: &Output) -> Result<Title, AllocError>
     ensures { IfOk result (λ title. title ≡ title_by output.now) }
 {
@@ -30,7 +30,7 @@ fn title_by(alloc: Global, output: &Output) -> Result<Title, AllocError>
     })
 }
 
-/// The titles after a change, from one place to another.
+/// Returns the titles after a change, from one place to another.
 fn titles_between(
     alloc: Global,
     change: &TuneChange,
@@ -50,7 +50,7 @@ fn titles_between(
 }
 
 impl NewTitles {
-    /// The titles after a change: only those of the stretch if as many tunes came as went.
+    /// Returns the titles after a change: only those of the stretch if the count of tunes is unchanged.
     pub(crate) fn of(alloc: Global, change: &TuneChange) -> Result<NewTitles, AllocError>
         requires { IsChange change.now }
         ensures fit { IfOk result (TitlesFit (titles_of (old_outputs change.now))) }

@@ -104,7 +104,7 @@ impl TuneChange<'_> {
         bytes_of(self.new_output(owner?)?)
     }
 
-    /// Whether as many tunes came as went.
+    /// Whether the count of tunes is unchanged.
     pub(crate) fn keeps_count(&self) -> bool
         requires { IsChange self.now }
         ensures { result ≡ true → self.now.tunes.came ≡ self.now.tunes.to - self.now.tunes.from }

@@ -17,6 +17,6 @@ unfoldable pub has_unknown : Option (List ℕ) → List ℕ → Bool
 has_unknown None letters = false
 has_unknown (Some order) letters = list_any (λ letter. is_none (first_section letters letter)) (letters_of order)
 
--- More sections than this many would be played, and whether the order has a letter without a section.
+-- More than `most` sections would be played; `unknown` is whether the order has a letter without a section.
 abbrev pub IsTooLong : ℕ → Option (List ℕ) → List ℕ → Bool → Type 0
 IsTooLong most order letters unknown = (most < length (sections_of order letters)) × (unknown ≡ has_unknown order letters)

@@ -1,4 +1,4 @@
--- What a tune's header says of the tune as a whole, by the text of its lines. ABC 2.1 sections 3.1.1, 3.1.7, 3.1.8 and 3.1.14.
+-- The properties of a tune that its header decides, by the text of its lines. ABC 2.1 sections 3.1.1, 3.1.7, 3.1.8 and 3.1.14.
 use Rattle.std.specs.Prelude.{◌≡◌, ◌≢◌, ◌≤◌, ℕ, ◌*◌, Bool, true, false, not, ◌||◌, nat_lt, if◌then◌else◌, is_none, List, []}
 use Rattle.std.specs.Prelude.{◌∷◌, Option, Some, None, unwrap_or}
 use Rattle.std.specs.List.{list_any}
@@ -106,7 +106,7 @@ TempoRangeByText = (opening : Defaults) (line : HeaderLine) (first : CellTokens)
     → list_any is_tempo_range (build_faults_of (items_of_tune opening (first ∷ cells)))
     ≡ sets_out_of_range (defaults_at opening (header_lines [] (first ∷ cells)))
 
--- The reference number that the value of an X: says: a number from 1, and 0 if the value is empty or anything else. Both
+-- The reference number of an X: with the value `value`: a number from 1. It is 0 if the value is empty or anything else; both
 -- exceptions are not in ABC 2.1.
 pub data IsReference (value : List ℕ) (number : ℕ) : Type 0 where
   empty : value ≡ [] → number ≡ 0 → IsReference value number

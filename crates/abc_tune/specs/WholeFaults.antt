@@ -17,12 +17,12 @@ is_opening_key _ = false
 abbrev pub lacks_key : List Item → Bool
 lacks_key tune = not (list_any is_opening_key tune)
 
--- Whether the tempo with which a tune opens is out of range after an item: each field of the header says it.
+-- Whether the tempo with which a tune opens is out of range, after an item: a Q: of the header decides it.
 abbrev pub out_after : Bool → Item → Bool
 out_after before (items.Tempo true micros out) = out
 out_after before _ = before
 
--- Whether no tempo event can say the tempo with which a tune opens (SMF 1.0), by the last that its header sets.
+-- Whether no tempo event (SMF 1.0) can hold the tempo with which a tune opens, the last that its header sets.
 abbrev pub opens_out_of_range : List Item → Bool
 opens_out_of_range tune = after_all out_after false tune
 

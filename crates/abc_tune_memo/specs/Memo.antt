@@ -13,13 +13,13 @@ use Rattle.abc_tune_compiler.specs.Rules.{Rules}
 -- The items are those of lines within the limits whose bytes the key has. The fold begins after a file header that sets
 -- the defaults of the key.
 pub record AreItemsOf {State Cell Items Defaults : Type 0} (steps : Steps State Cell Items)
-    (rules : Rules State Cell Items Defaults) (key : TuneKey Defaults) (given : List Items) : Type 0 where
+    (rules : Rules State Cell Items Defaults) (key : TuneKey Defaults) (items : List Items) : Type 0 where
   pub header : State
   pub lines : Text
   pub own_defaults : rules.defaults header ≡ key.defaults
   pub limits : list_all is_line lines ≡ true
   pub own_bytes : bytes_of_lines rules.class lines ≡ key.bytes
-  pub own_items : given ≡ items_from steps (rules.tune (Some header)) (flat_map rules.cells lines)
+  pub own_items : items ≡ items_from steps (rules.tune (Some header)) (flat_map rules.cells lines)
 
 -- A built tune has the values of the compiler's definitions at the items of the key.
 pub record IsBuiltOf {State Cell Items Defaults : Type 0} (steps : Steps State Cell Items) (rules : Rules State Cell Items Defaults)

@@ -40,8 +40,8 @@ between_endings_of strain = map (λ mark. false) strain.common ++ between_ending
 abbrev pub between_endings_in : List Strain → List Bool
 between_endings_in strains = flat_map between_endings_of strains
 
--- Each item with whether it waits for an ending's sign. `between` says so of what precedes the first item, `others` of each
--- mark that is no field; a field waits if the mark before it does.
+-- Each item, and whether it waits for an ending's sign. `between` is whether what precedes the first item waits; `others`, of
+-- each mark that is no field, whether it waits. A field waits if the mark before it does.
 abbrev pub with_waits : Bool → List Bool → List Item → List (Bool × Item)
 with_waits between others [] = []
 with_waits between others (item ∷ items) =

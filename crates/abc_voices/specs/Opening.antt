@@ -4,22 +4,22 @@ use Rattle.abc_bars_items.specs.declared.item.Item.{Item}
 use Rattle.abc_bars_items.specs.declared.item.Item.TheVariants as items
 use Rattle.abc_fields.specs.declared.meter.Meter.{Meter}
 
--- The tempo after an item: each field of the header says with which the tune opens.
+-- The tempo with which the tune opens, after an item: a Q: of the header sets it.
 abbrev pub tempo_after : Option ℕ → Item → Option ℕ
 tempo_after tempo (items.Tempo true micros out) = micros
 tempo_after tempo _ = tempo
 
--- The meter after an item, likewise.
+-- The meter with which the tune opens, after an item: an M: of the header sets it.
 abbrev pub meter_after : Option Meter → Item → Option Meter
 meter_after meter (items.Meter true opening) = opening
 meter_after meter _ = meter
 
--- The key after an item: the field that ends the header says it.
+-- The key with which the tune opens, after an item: the field that ends the header sets it.
 abbrev pub key_after : Option (ℤ × Bool) → Item → Option (ℤ × Bool)
 key_after key (items.Key true opening) = opening
 key_after key _ = key
 
--- The program after an item: the last directive of the header that sets one says it.
+-- The program with which the tune opens, after an item: the last directive of the header that sets one counts.
 abbrev pub program_after : Option ℕ → Item → Option ℕ
 program_after program (items.Program true (Some number)) = Some number
 program_after program _ = program
@@ -29,7 +29,7 @@ abbrev pub order_after : Option (List ℕ) → Item → Option (List ℕ)
 order_after order (items.Order text) = Some text
 order_after order _ = order
 
--- What holds after a tune, of what holds before it.
+-- The value after the items of a tune, from the value before them.
 abbrev pub after_all : {V : Type 0} → (V → Item → V) → V → List Item → V
 after_all past value [] = value
 after_all past value (step ∷ tune) = after_all past (past value step) tune

@@ -39,7 +39,7 @@ abbrev pub length_for : List (List ℕ) → List Section → ℕ → ℕ
 length_for voices sections place =
     number_of (λ section. section_length voices (content section)) (slice_get sections place)
 
--- What a stage at a place says of its section.
+-- The stage at a place is that of the section there.
 pub record IsStageAt (voices : List (List ℕ)) (sections : List Section) (place : ℕ) (stage : Stage) : Type 0 where
   pub value : stage_for voices sections place ≡ Some stage
   pub size : stage_size stage ≡ size_for voices sections place

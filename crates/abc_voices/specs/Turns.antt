@@ -53,21 +53,21 @@ abbrev pub steps_of : Option VoicePart → List Item
 steps_of None = []
 steps_of (Some part) = part.steps
 
--- What the voice at this place plays of a stage, before these notes.
+-- What the voice at the index `voice` plays of a stage, followed by `notes`.
 abbrev pub before_rest : ℕ → ℕ → Stage → Notes → Notes
 before_rest voice at stage notes = notes_from at (steps_of (slice_get stage.parts voice)) notes
 
--- The notes of the voice at this place, in stages that are played from a moment on.
+-- The notes of the voice at the index `voice`, in stages that are played from the moment `at` on.
 abbrev pub notes_along : ℕ → ℕ → List Stage → Notes
 notes_along voice at [] = record { first = []; others = [] }
 notes_along voice at (stage ∷ stages) = before_rest voice at stage (notes_along voice (at + stage.longest.0) stages)
 
--- The values of `count` voices, from the one at this place on.
+-- The values of `count` voices, from the index `voice` on.
 abbrev pub for_voices : {X : Type 0} → (ℕ → X) → ℕ → ℕ → List X
 for_voices one voice zero = []
 for_voices one voice (suc count) = one voice ∷ for_voices one (voice + 1) count
 
--- The notes of `count` voices, from the one at this place on.
+-- The notes of `count` voices, from the index `voice` on.
 abbrev pub voices_along : List Stage → ℕ → ℕ → List (List Sounding)
 voices_along stages voice count = for_voices (λ one. all_notes (notes_along one 0 stages)) voice count
 

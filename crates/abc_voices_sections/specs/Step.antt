@@ -26,7 +26,7 @@ length_of (items.Tone tones length) = length.0
 length_of (items.Rest length bar) = length.0
 length_of _ = 0
 
--- The tones of a time token, of which a rest has none; a bar rest is no time token. ABC 2.1 section 4.5.
+-- The tones of a time token. A rest has no tones, and a bar rest is no time token. ABC 2.1 section 4.5.
 abbrev pub tones_of : Item → Option (List Tone)
 tones_of (items.Tone tones length) = Some tones
 tones_of (items.Rest length true) = None

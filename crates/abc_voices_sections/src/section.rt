@@ -72,7 +72,7 @@ pub fn opening_voice<'a>(tune: &[&'a Item]) -> &'a [u8]
     &[]
 }
 
-/// Whether a voice is the current one after an item; `is_own` says whether it is before it.
+/// Whether a voice is the current one after an item. `is_own` is whether it is the current one before the item.
 fn is_own_after(voice: &[u8], is_own: bool, item: &Item) -> bool
     ensures { result ≡ is_own_after voice.now is_own item.now }
 {

@@ -42,7 +42,7 @@ pub fn file_of(alloc: Global, score: &Score) -> Result<Vec<u8>, AllocError>
     Ok(file)
 }
 
-/// Appends the header of a file with this many tracks.
+/// Appends the header of a file with `tracks` tracks.
 #[tactic(auto, unfolding(crate::specs::File::header_chunk))]
 fn put_header(out: &mut Vec<u8>, tracks: usize) -> Result<(), AllocError>
     requires { tracks ≤ 16 }

@@ -40,7 +40,7 @@ fn write_waiting(
 }
 
 impl TrackBytes {
-    /// These bytes, none of which waits.
+    /// Returns the bytes `written`, and none that wait.
     pub(crate) fn of(written: Vec<u8>) -> TrackBytes
         ensures { result ≡ written.items }
     {

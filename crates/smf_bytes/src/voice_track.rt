@@ -31,7 +31,7 @@ pub(crate) struct VoiceMusic<'a> {
 }
 
 /// Appends the events of a voice in their order, each after its delta time, and the end of the track. Most voices have no
-/// programs, and notes that begin in turn: they need no list of events.
+/// programs, and their notes are in the order of their beginnings, the last one first: they need no list of events.
 pub(crate) fn put_music(out: &mut Vec<u8>, music: VoiceMusic) -> Result<(), AllocError>
     requires within { IsMusicWithin music }
     ensures { OnOk result (out.new.items ≡ out.old.items
@@ -49,7 +49,7 @@ pub(crate) fn put_music(out: &mut Vec<u8>, music: VoiceMusic) -> Result<(), Allo
     Ok(())
 }
 
-/// Whether a voice has no programs, and its notes begin in turn.
+/// Whether a voice has no programs, and its notes are in the order of their beginnings, the last one first.
 #[tactic(auto, using(std::proofs::lemmas::List::nil_from_length))]
 fn is_plain(music: VoiceMusic) -> bool
     ensures plain { IsTrue result → (music.entry.programs.now ≡ []) × AreInTurn music.entry.notes.now }
@@ -72,7 +72,7 @@ fn put_sorted(out: &mut TrackBytes, music: VoiceMusic) -> Result<(), AllocError>
     out.put_end(delta)
 }
 
-/// Appends the events of notes that begin in turn, group by group, and the end of the track.
+/// Appends the events of notes that are in the order of their beginnings, group by group, and the end of the track.
 fn put_in_turn(out: &mut TrackBytes, music: VoiceMusic) -> Result<(), AllocError>
     requires within { IsMusicWithin music }
     requires programs { music.programs.now ≡ [] }
