@@ -10,7 +10,7 @@ use std::alloc::{AllocError, Global};
 pub type Session = LiveSession<Abc>;
 
 impl LiveSession<Abc> {
-    /// A session with no lines.
+    /// Returns a session with no lines.
     pub fn new(alloc: Global) -> Result<Session, AllocError>
         ensures { IfOk result (λ s. s.text ≡ []) }
     {

@@ -17,7 +17,7 @@ pub(crate) struct Change<'a> {
     pub(crate) lines: &'a [Vec<u8>],
 }
 
-/// The run of lines that an edit replaces, if it names one.
+/// Returns the run of lines that an edit replaces, if it names one.
 pub(crate) fn change_of(edit: &Edit) -> Option<Change<'_>>
     ensures { option_map splice_in result ≡ splice_of edit.now }
 {
@@ -37,7 +37,7 @@ pub(crate) fn change_of(edit: &Edit) -> Option<Change<'_>>
     }
 }
 
-/// The run of lines from one number to another, and the lines that replace it.
+/// Returns the run of lines from one number to another, and the lines that replace it.
 fn change_at(from: u32, to: u32, lines: &[Vec<u8>]) -> Option<Change<'_>>
     ensures { option_map splice_in result ≡ replacement from to (lines_of lines.now) }
 {

@@ -72,7 +72,7 @@ impl<C: Compiler> Model for EditPatch<C> {
 }
 
 impl<C: Compiler> LiveSession<C> {
-    /// A session with no lines, whose tunes this compiler compiles.
+    /// Returns a session with no lines, whose tunes this compiler compiles.
     pub fn with(alloc: Global, compiler: C) -> Result<LiveSession<C>, AllocError>
         ensures compiler { IfOk result (λ s. s.compiler ≡ compiler) }
         ensures text { IfOk result (λ s. s.text ≡ []) }
@@ -165,7 +165,7 @@ impl<C: Compiler> LiveSession<C> {
         Ok(self.commit(patch))
     }
 
-    /// The bytes of a number's file: those of the first tune of the number that has one.
+    /// Returns the bytes of a number's file: those of the first tune of the number that has one.
     #[tactic(auto, using(crate::proofs::Books::file_of_first))]
     pub fn output(&self, n: u32) -> Option<&[u8]>
         ensures file { option_copied result ≡ file_at (book_in C.steps C.rules self.now).files n }
@@ -174,7 +174,7 @@ impl<C: Compiler> LiveSession<C> {
         self.book.file(n)
     }
 
-    /// The reference numbers that have a file, rising.
+    /// Returns the reference numbers that have a file, rising.
     #[tactic(auto, using(crate::proofs::Books::numbers_have_files))]
     pub fn numbers(&self) -> &[u32]
         ensures value { result.now ≡ keys_of (book_in C.steps C.rules self.now).files }
@@ -184,14 +184,14 @@ impl<C: Compiler> LiveSession<C> {
         self.book.numbers()
     }
 
-    /// The numbers and titles, tune by tune.
+    /// Returns the numbers and titles, tune by tune.
     pub fn titles(&self) -> &[Title]
         ensures { result.now ≡ (book_in C.steps C.rules self.now).titles }
     {
         self.book.titles()
     }
 
-    /// The faults of the text, in order, each once.
+    /// Returns the faults of the text, in order, each once.
     #[tactic(auto, using(crate::proofs::Books::faults_in_order))]
     pub fn faults(&self) -> &[Fault]
         ensures value { result.now ≡ (book_in C.steps C.rules self.now).faults }
@@ -200,7 +200,7 @@ impl<C: Compiler> LiveSession<C> {
         self.book.faults()
     }
 
-    /// The bytes of the line of a number, counted from 1. None for 0 and after the last line.
+    /// Returns the bytes of the line of a number, counted from 1. None for 0 and after the last line.
     pub fn line(&self, n: u32) -> Option<&[u8]>
         ensures { option_copied result ≡ line_at self.now.text n }
     {
@@ -210,7 +210,7 @@ impl<C: Compiler> LiveSession<C> {
         self.text.lines().line(n as usize - 1)
     }
 
-    /// How many lines there are.
+    /// Returns how many lines there are.
     pub fn line_count(&self) -> u32
         ensures value { result ≡ length self.now.text }
         ensures limit { result ≤ MOST_LINES }

@@ -11,7 +11,7 @@ use abc_live_text::{KeptPatch, KeptText, Stretch};
 use abc_tune_compiler::Compiler;
 use std::alloc::{AllocError, Global};
 
-/// The line at index `i` of the text after a change.
+/// Returns the line at index `i` of the text after a change.
 fn line_after<'a>(text: &'a LineBuffer, change: &Change<'a>, i: usize) -> Option<&'a [u8]>
     requires change { change.now.at + change.now.removed ≤ length text.now.text }
     requires inside { i < length (spliced text.now.text (splice_in change.now)) }
@@ -29,7 +29,7 @@ fn line_after<'a>(text: &'a LineBuffer, change: &Change<'a>, i: usize) -> Option
     }
 }
 
-/// The lines of a stretch after a change, borrowed.
+/// Returns the lines of a stretch after a change, borrowed.
 pub(crate) fn lines_of<'a>(
     text: &'a LineBuffer,
     change: &Change<'a>,
@@ -50,7 +50,7 @@ pub(crate) fn lines_of<'a>(
     Ok(lines)
 }
 
-/// How many cells each line of the stretch of a prepared edit has. The edit belongs to the text as it is now.
+/// Returns how many cells each line of the stretch of a prepared edit has. The edit belongs to the text as it is now.
 pub(crate) fn counts_of<C: Compiler>(
     alloc: Global,
     text: &KeptText<C>,

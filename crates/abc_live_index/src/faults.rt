@@ -8,7 +8,7 @@ use abc_lines::Replacement;
 use abc_tune_compiler::{Fault, sort_dedup};
 use std::alloc::{AllocError, Global};
 
-/// The faults of the first `from` lines.
+/// Returns the faults of the first `from` lines.
 fn faults_before(alloc: Global, faults: &[Fault], from: usize) -> Result<Vec<Fault>, AllocError>
     ensures { IfOk result (λ kept. kept.items ≡ filter (is_before from) faults.now) }
 {
@@ -19,7 +19,7 @@ fn faults_before(alloc: Global, faults: &[Fault], from: usize) -> Result<Vec<Fau
         .collect(alloc)
 }
 
-/// The faults after the first `to` lines.
+/// Returns the faults after the first `to` lines.
 fn faults_following(alloc: Global, faults: &[Fault], to: usize) -> Result<Vec<Fault>, AllocError>
     ensures { IfOk result (λ kept. kept.items ≡ filter (is_after to) faults.now) }
 {
@@ -51,7 +51,7 @@ fn put_shifted(
     Ok(())
 }
 
-/// The old faults, with new ones instead of those of the lines that go.
+/// Returns the old faults, with new ones instead of those of the lines that go.
 pub(crate) fn faults_after(
     alloc: Global,
     lines: Replacement,

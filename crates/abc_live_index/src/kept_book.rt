@@ -82,7 +82,7 @@ struct Differences {
 }
 
 impl KeptBook {
-    /// The book of no tunes. It allocates nothing yet.
+    /// Returns the book of no tunes. It allocates nothing yet.
     pub fn new(alloc: Global) -> Result<KeptBook, AllocError>
         ensures succeeds { IsOk result }
         ensures outputs { IfOk result (λ book. book.outputs.items ≡ []) }
@@ -103,14 +103,14 @@ impl KeptBook {
         &self.outputs
     }
 
-    /// The file of a number, if it has one.
+    /// Returns the file of a number, if it has one.
     pub fn file(&self, number: u32) -> Option<&[u8]>
         ensures { option_copied result ≡ file_at (files_of self.now.outputs.items) number }
     {
         file_of(&self.outputs, self.owners.get(number))
     }
 
-    /// The numbers that have a file, rising.
+    /// Returns the numbers that have a file, rising.
     pub fn numbers(&self) -> &[u32]
         ensures value { result.now ≡ keys_of (files_of self.now.outputs.items) }
         ensures rise { IsStrictlyIncreasing result.now }
@@ -118,14 +118,14 @@ impl KeptBook {
         self.owners.numbers()
     }
 
-    /// The number and the title of each tune, in the order of the text.
+    /// Returns the number and the title of each tune, in the order of the text.
     pub fn titles(&self) -> &[Title]
         ensures { result.now ≡ titles_of self.now.outputs.items }
     {
         &self.titles
     }
 
-    /// The faults in order, each once.
+    /// Returns the faults in order, each once.
     pub fn faults(&self) -> &[Fault]
         ensures { result.now ≡ self.now.faults }
     {

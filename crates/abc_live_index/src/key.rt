@@ -13,7 +13,7 @@ use abc_tune_compiler::Compiler;
 use abc_tune_memo::{TuneKey, put_line};
 use std::alloc::{AllocError, Global};
 
-/// The defaults that a file header sets, by the state after its last cell; without one, those of an empty file header.
+/// Returns the defaults that a file header sets, by the state after its last cell; without one, those of an empty file header.
 fn defaults_by<C: Compiler>(
     compiler: &C,
     alloc: Global,
@@ -27,7 +27,7 @@ fn defaults_by<C: Compiler>(
     }
 }
 
-/// The bytes of lines in a key.
+/// Returns the bytes of lines in a key.
 fn bytes_of<C: Compiler>(
     compiler: &C,
     alloc: Global,
@@ -42,7 +42,7 @@ fn bytes_of<C: Compiler>(
     Ok(Sequence::from(bytes))
 }
 
-/// The memo's key of the tune of a place.
+/// Returns the memo's key of the tune of a place.
 pub(crate) fn key_of<C: Compiler>(
     compiler: &C,
     alloc: Global,

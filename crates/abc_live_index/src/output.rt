@@ -70,7 +70,7 @@ fn has_faults<C: Compiler>(compiler: &C, items: &[C::Items]) -> bool
     false
 }
 
-/// The reference number of the first cell that gives one, 0 if none does.
+/// Returns the reference number of the first cell that gives one, 0 if none does.
 fn number_of<C: Compiler>(compiler: &C, items: &[C::Items]) -> u32
     ensures { result ≡ first_of (C.rules compiler.now).number 0 items.now }
 {
@@ -82,7 +82,7 @@ fn number_of<C: Compiler>(compiler: &C, items: &[C::Items]) -> u32
     0
 }
 
-/// The title of the first cell that gives one, empty if none does.
+/// Returns the title of the first cell that gives one, empty if none does.
 fn title_of<'a, C: Compiler>(compiler: &C, items: &'a [C::Items]) -> &'a [u8]
     ensures { result.now ≡ first_of (C.rules compiler.now).title [] items.now }
 {

@@ -69,7 +69,7 @@ fn put_claim(
     Ok(())
 }
 
-/// The places of the tunes that give the files after a change.
+/// Returns the places of the tunes that give the files after a change.
 fn places_after(alloc: Global, change: &TuneChange) -> Result<BTreeMap<u32, usize>, AllocError>
     requires { IsChange change.now }
     ensures { IfOk result (λ places. places.entries ≡ owners_of (new_outputs change.now)) }
@@ -82,7 +82,7 @@ fn places_after(alloc: Global, change: &TuneChange) -> Result<BTreeMap<u32, usiz
 }
 
 impl Owners {
-    /// The owners among no tunes.
+    /// Returns the owners among no tunes.
     pub(crate) fn new(alloc: Global) -> Owners
         ensures { result ≡ [] }
     {
@@ -92,7 +92,7 @@ impl Owners {
         }
     }
 
-    /// The owners after a change.
+    /// Returns the owners after a change.
     pub(crate) fn after(alloc: Global, change: &TuneChange) -> Result<Owners, AllocError>
         requires { IsChange change.now }
         ensures { IfOk result (λ owners. owners ≡ owners_of (new_outputs change.now)) }
@@ -111,7 +111,7 @@ impl Owners {
         }
     }
 
-    /// The place of the tune that gives the file of a number, if it has one.
+    /// Returns the place of the tune that gives the file of a number, if it has one.
     #[tactic(auto, using(crate::proofs::Places::looked_up))]
     pub(crate) fn get(&self, number: u32) -> Option<usize>
         ensures { result ≡ owner_at self.now number }
@@ -119,7 +119,7 @@ impl Owners {
         self.places.get(&number).copied()
     }
 
-    /// The numbers that have a file, rising.
+    /// Returns the numbers that have a file, rising.
     pub(crate) fn numbers(&self) -> &[u32]
         ensures value { result.now ≡ keys_of self.now }
         ensures rise { IsStrictlyIncreasing result.now }
@@ -128,7 +128,7 @@ impl Owners {
     }
 }
 
-/// The numbers that have a file, rising.
+/// Returns the numbers that have a file, rising.
 fn numbers_of(alloc: Global, places: &BTreeMap<u32, usize>) -> Result<Vec<u32>, AllocError>
     ensures value { IfOk result (λ numbers. numbers.items ≡ keys_of places.now.entries) }
     ensures rise { IfOk result (λ numbers. IsStrictlyIncreasing numbers.items) }

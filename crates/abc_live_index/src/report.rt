@@ -17,7 +17,7 @@ use crate::tune_change::TuneChange;
 use abc_tune_compiler::{Report, sort_dedup};
 use std::alloc::{AllocError, Global};
 
-/// The number that the tune at a place owns, if its file has other bytes than that of the old tune there.
+/// Returns the number that the tune at a place owns, if its file has other bytes than that of the old tune there.
 fn changed_number_at(change: &TuneChange, owners: &Owners, place: usize) -> Option<u32>
     requires change { IsChange change.now }
     requires inside { place < length (new_outputs change.now) }
@@ -33,7 +33,7 @@ fn changed_number_at(change: &TuneChange, owners: &Owners, place: usize) -> Opti
     Some(output.number)
 }
 
-/// The numbers that tunes of the stretch own, if their files have other bytes than those of the old tunes.
+/// Returns the numbers that tunes of the stretch own, if their files have other bytes than those of the old tunes.
 fn changed_numbers(
     alloc: Global,
     change: &TuneChange,
@@ -55,7 +55,7 @@ fn changed_numbers(
     sort_dedup(alloc, &found)
 }
 
-/// The report of a change after which the tunes claim what the old ones did, one by one.
+/// Returns the report of a change after which the tunes claim what the old ones did, one by one.
 pub(crate) fn report_within(
     alloc: Global,
     change: &TuneChange,
@@ -114,7 +114,7 @@ fn new_or_changed_numbers(
         .collect(alloc)
 }
 
-/// Those of some numbers that have no owner.
+/// Returns those of some numbers that have no owner.
 fn numbers_without_owner(
     alloc: Global,
     numbers: &[u32],
@@ -129,7 +129,7 @@ fn numbers_without_owner(
         .collect(alloc)
 }
 
-/// The report of a change after which numbers may have other owners.
+/// Returns the report of a change after which numbers may have other owners.
 pub(crate) fn report_over(
     alloc: Global,
     change: &TuneChange,

@@ -19,7 +19,7 @@ pub(crate) struct TuneChange<'a> {
     pub(crate) tunes: Replacement,
 }
 
-/// The file of a tune, if it has one.
+/// Returns the file of a tune, if it has one.
 fn bytes_of(output: &Output) -> Option<&[u8]>
     ensures { option_copied result ≡ output.now.built.bytes }
 {
@@ -29,7 +29,7 @@ fn bytes_of(output: &Output) -> Option<&[u8]>
     }
 }
 
-/// The file of the tune at a place, if it has one.
+/// Returns the file of the tune at a place, if it has one.
 fn bytes_at(outputs: &GapList<Shared<Output>>, place: usize) -> Option<&[u8]>
     ensures { option_copied result ≡ bytes_at outputs.now.items place }
 {
@@ -39,7 +39,7 @@ fn bytes_at(outputs: &GapList<Shared<Output>>, place: usize) -> Option<&[u8]>
     }
 }
 
-/// The file that a tune gives, if there is one.
+/// Returns the file that a tune gives, if there is one.
 pub(crate) fn file_of(outputs: &GapList<Shared<Output>>, owner: Option<usize>) -> Option<&[u8]>
     ensures { option_copied result ≡ option_and_then (bytes_at outputs.now.items) owner }
 {
@@ -47,7 +47,7 @@ pub(crate) fn file_of(outputs: &GapList<Shared<Output>>, owner: Option<usize>) -
 }
 
 impl TuneChange<'_> {
-    /// How many tunes there are after the change.
+    /// Returns how many tunes there are after the change.
     pub(crate) fn count(&self) -> usize
         requires { IsChange self.now }
         ensures { result ≡ length (new_outputs self.now) }
@@ -55,7 +55,7 @@ impl TuneChange<'_> {
         self.splice.len(self.before)
     }
 
-    /// What the old tune at a place gives.
+    /// Returns the output of the old tune at a place.
     fn old_output(&self, place: usize) -> Option<&Output>
         ensures { option_copied result ≡ slice_get (old_outputs self.now) place }
     {
@@ -65,7 +65,7 @@ impl TuneChange<'_> {
         }
     }
 
-    /// What the tune at a place gives after the change.
+    /// Returns the output of the tune at a place after the change.
     fn new_output(&self, place: usize) -> Option<&Output>
         requires { IsChange self.now }
         ensures { option_copied result ≡ slice_get (new_outputs self.now) place }
@@ -76,7 +76,7 @@ impl TuneChange<'_> {
         }
     }
 
-    /// What the tune at an index gives after the change.
+    /// Returns the output of the tune at an index after the change.
     #[tactic(auto, using(crate::proofs::Lists::never_none))]
     pub(crate) fn new_at(&self, place: usize) -> &Output
         requires change { IsChange self.now }
@@ -89,14 +89,14 @@ impl TuneChange<'_> {
         }
     }
 
-    /// The file that an old tune gives, if there is one.
+    /// Returns the file that an old tune gives, if there is one.
     fn old_file(&self, owner: Option<usize>) -> Option<&[u8]>
         ensures { option_copied result ≡ option_and_then (bytes_at (old_outputs self.now)) owner }
     {
         file_of(self.before, owner)
     }
 
-    /// The file that a tune gives after the change, if there is one.
+    /// Returns the file that a tune gives after the change, if there is one.
     fn new_file(&self, owner: Option<usize>) -> Option<&[u8]>
         requires { IsChange self.now }
         ensures { option_copied result ≡ option_and_then (bytes_at (new_outputs self.now)) owner }

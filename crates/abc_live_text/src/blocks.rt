@@ -31,7 +31,7 @@ fn is_tune(kind: BlockKind) -> bool
     }
 }
 
-/// The file header, if there is one: no other block comes before it.
+/// Returns the file header, if there is one: no other block comes before it.
 pub(crate) fn header_in(blocks: &[Block]) -> Option<Block>
     ensures { result ≡ header_in blocks.now }
 {
@@ -47,7 +47,7 @@ pub(crate) fn header_in(blocks: &[Block]) -> Option<Block>
     }
 }
 
-/// The tunes of a text in order.
+/// Returns the tunes of a text in order.
 pub(crate) fn tunes_in(alloc: Global, blocks: &[Block]) -> Result<Vec<Block>, AllocError>
     ensures { IfOk result (λ tunes. tunes.items ≡ tunes_in blocks.now) }
 {
@@ -58,7 +58,7 @@ pub(crate) fn tunes_in(alloc: Global, blocks: &[Block]) -> Result<Vec<Block>, Al
         .collect(alloc)
 }
 
-/// The blocks of a text with these rows.
+/// Returns the blocks of a text with these rows.
 pub(crate) fn blocks_of<K: Drop>(
     alloc: Global,
     rows: &[CarriedRow<K>],
@@ -72,7 +72,7 @@ pub(crate) fn blocks_of<K: Drop>(
     blocks(alloc, &classes)
 }
 
-/// The place of the file header; without one, an empty place.
+/// Returns the place of the file header; without one, an empty place.
 fn header_place(header: Option<Block>) -> Block
     ensures { result ≡ header_place header }
 {
@@ -86,7 +86,7 @@ fn header_place(header: Option<Block>) -> Block
     }
 }
 
-/// The places of the chains of a text, in order.
+/// Returns the places of the chains of a text, in order.
 pub(crate) fn places_of(
     alloc: Global,
     header: Option<Block>,

@@ -18,7 +18,7 @@ use abc_tune_compiler::Compiler;
 use std::alloc::{AllocError, Global};
 
 impl<F: Fold> Refold<'_, F> {
-    /// A new chain of a block.
+    /// Returns a new chain of a block.
     fn chain_of(&self, block: &Block, work: &mut F::Work) -> Result<Chain<F>, AllocError>
         requires refold { IsRefold (F.steps self.now.fold.now) self.now }
         requires within { LiesInRefold self.now block.now }
@@ -33,7 +33,7 @@ impl<F: Fold> Refold<'_, F> {
         Ok(chain)
     }
 
-    /// The chain of a block: an old one if one has exactly the cells of the block and begins in an equivalent state.
+    /// Returns the chain of a block: an old one if one has exactly the cells of the block and begins in an equivalent state.
     pub(crate) fn chain_over(
         &self,
         block: &Block,
@@ -60,7 +60,7 @@ impl<F: Fold> Refold<'_, F> {
         }
     }
 
-    /// The chains of tunes.
+    /// Returns the chains of tunes.
     pub(crate) fn tune_chains(
         &self,
         blocks: &[Block],
@@ -82,7 +82,7 @@ impl<F: Fold> Refold<'_, F> {
     }
 }
 
-/// A chain without cells and states.
+/// Returns a chain without cells and states.
 fn empty_chain<F: Fold>(alloc: Global) -> Result<Shared<Chain<F>>, AllocError>
     ensures { IfOk result (λ chain. chain ≡ no_cells) }
 {
@@ -90,7 +90,7 @@ fn empty_chain<F: Fold>(alloc: Global) -> Result<Shared<Chain<F>>, AllocError>
     Shared::new(alloc, chain)
 }
 
-/// The chain of the file header; without a file header, a chain without cells and states.
+/// Returns the chain of the file header; without a file header, a chain without cells and states.
 pub(crate) fn header_chain<C: Compiler>(
     alloc: Global,
     compiler: &C,
@@ -122,7 +122,7 @@ pub(crate) fn header_chain<C: Compiler>(
     }
 }
 
-/// The state after the file header's last cell, if there is a file header.
+/// Returns the state after the file header's last cell, if there is a file header.
 pub fn header_state<C: Compiler>(header: Option<Block>, chain: &Chain<C>) -> Option<&C::State>
     ensures { option_copied result ≡ state_after_chain header chain.now }
 {
@@ -132,7 +132,7 @@ pub fn header_state<C: Compiler>(header: Option<Block>, chain: &Chain<C>) -> Opt
     }
 }
 
-/// The state in which tunes begin, by the chain of the file header.
+/// Returns the state in which tunes begin, by the chain of the file header.
 pub(crate) fn tune_opening<C: Compiler>(
     alloc: Global,
     compiler: &C,

@@ -97,7 +97,7 @@ struct PreparedParts<C: Compiler> {
 }
 
 impl<C: Compiler> KeptText<C> {
-    /// A text with no lines.
+    /// Returns a text with no lines.
     pub fn new(alloc: Global, compiler: C) -> Result<KeptText<C>, AllocError>
         ensures compiler { IfOk result (λ text. text.compiler ≡ compiler) }
         ensures empty { IfOk result (λ text. text.lines.text ≡ []) }
@@ -120,14 +120,14 @@ impl<C: Compiler> KeptText<C> {
         })
     }
 
-    /// The compiler.
+    /// Returns the compiler.
     pub fn compiler(&self) -> &C
         ensures { result.now ≡ self.now.compiler }
     {
         &self.compiler
     }
 
-    /// The lines. The kept parts are those of this text.
+    /// Returns the lines. The kept parts are those of this text.
     pub fn lines(&self) -> &LineBuffer
         ensures lines { result.now ≡ self.now.lines }
         ensures stands { ArePartsOf (C.steps self.now.compiler) (C.rules self.now.compiler) self.now.lines.text
@@ -275,28 +275,28 @@ impl<C: Compiler> KeptText<C> {
 }
 
 impl<C: Compiler> KeptPatch<C> {
-    /// The stretch outside which nothing changes.
+    /// Returns the stretch outside which nothing changes.
     pub fn stretch(&self) -> Stretch
         ensures { result ≡ self.now.stretch }
     {
         self.stretch
     }
 
-    /// The place of the file header after the edit, if there is one.
+    /// Returns the place of the file header after the edit, if there is one.
     pub fn header(&self) -> Option<Block>
         ensures { result ≡ self.now.header }
     {
         self.header
     }
 
-    /// The chains of the stretch's tunes after the edit.
+    /// Returns the chains of the stretch's tunes after the edit.
     pub fn new_chains(&self) -> &[Shared<Chain<C>>]
         ensures { result.now ≡ self.now.new_chains }
     {
         &self.new_chains
     }
 
-    /// The places of these tunes.
+    /// Returns the places of these tunes.
     pub fn places(&self) -> &[Block]
         ensures { result.now ≡ self.now.places }
     {
@@ -310,7 +310,7 @@ impl<C: Compiler> KeptPatch<C> {
         &self.reused_tunes
     }
 
-    /// The chain of a number after the edit: 0 is the file header's, which has no states without a file header; tunes
+    /// Returns the chain of a number after the edit: 0 is the file header's, which has no states without a file header; tunes
     /// are counted from 1. The patch belongs to the text as it is now.
     pub fn chain<'a>(&'a self, text: &'a KeptText<C>, i: usize) -> Option<&'a Shared<Chain<C>>>
         requires { self.now.on ≡ text.now }
@@ -319,7 +319,7 @@ impl<C: Compiler> KeptPatch<C> {
         self.chains.get(&text.chains, i)
     }
 
-    /// The row of the line at index `i` after the edit. The patch belongs to the text as it is now.
+    /// Returns the row of the line at index `i` after the edit. The patch belongs to the text as it is now.
     pub fn row<'a>(&'a self, text: &'a KeptText<C>, i: usize) -> Option<&'a Row<C::Cell>>
         requires { self.now.on ≡ text.now }
         ensures { option_copied result ≡ slice_get self.now.rows i }

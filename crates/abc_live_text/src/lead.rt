@@ -31,7 +31,7 @@ pub(crate) struct HeaderOpening<C: Compiler> {
 }
 
 impl<C: Compiler> KeptText<C> {
-    /// The first lines, which an edit ending at `end` may change if no tune begins before it.
+    /// Returns the first lines, which an edit ending at `end` may change if no tune begins before it.
     fn lead(&self, end: usize) -> Span
         requires { end ≤ length self.now.lines.text }
         ensures { IsLead self.now.tunes (length self.now.lines.text) end result }
@@ -46,7 +46,7 @@ impl<C: Compiler> KeptText<C> {
         span_to(self.tunes.len(), self.lines.len())
     }
 
-    /// The rows of the first lines of the text after an edit of them.
+    /// Returns the rows of the first lines of the text after an edit of them.
     fn lead_rows(
         &self,
         lead: Span,
@@ -66,7 +66,7 @@ impl<C: Compiler> KeptText<C> {
         Ok(rows)
     }
 
-    /// The file header of a text that begins with these rows, and how tunes begin after it.
+    /// Returns the file header of a text that begins with these rows, and how tunes begin after it.
     fn header_opening(
         &self,
         rows: &[CarriedRow<C::Cell>],

@@ -61,7 +61,7 @@ fn append_new<K: Drop>(rows: &mut Vec<CarriedRow<K>>, new: &[Row<K>]) -> Result<
     Ok(())
 }
 
-/// The rows of a stretch after an edit.
+/// Returns the rows of a stretch after an edit.
 pub(crate) fn edited_rows<K: Drop>(
     alloc: Global,
     old: &[CarriedRow<K>],
@@ -80,7 +80,7 @@ pub(crate) fn edited_rows<K: Drop>(
 }
 
 impl<C: Compiler> KeptText<C> {
-    /// The rows of a stretch that begins with a tune, after an edit of its lines.
+    /// Returns the rows of a stretch that begins with a tune, after an edit of its lines.
     fn span_rows(
         &self,
         span: Span,
@@ -106,7 +106,7 @@ impl<C: Compiler> KeptText<C> {
         Ok(rows)
     }
 
-    /// The state in which tunes begin, by the chain that is kept of the file header.
+    /// Returns the state in which tunes begin, by the chain that is kept of the file header.
     pub(crate) fn kept_opening(&self) -> C::State
         ensures { IsKeptOpening (C.rules self.now.compiler) self.now result }
     {

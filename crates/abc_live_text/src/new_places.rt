@@ -19,7 +19,7 @@ pub(crate) enum NewPlaces {
     Among,
 }
 
-/// The place after the edit of a tune that is after the stretch.
+/// Returns the place after the edit of a tune that is after the stretch.
 fn block_after(block: Block, stretch: Stretch) -> Block
     requires beyond { LiesAfter stretch block }
     requires within { LiesWithin MOST_LINES block }
@@ -50,7 +50,7 @@ fn append_after(tunes: &mut Vec<Block>, old: &[Block], stretch: Stretch) -> Resu
     Ok(())
 }
 
-/// The places of all tunes of a text after an edit.
+/// Returns the places of all tunes of a text after an edit.
 fn all_places(
     alloc: Global,
     old: &[Block],
@@ -102,7 +102,7 @@ fn move_after(tunes: &mut Vec<Block>, stretch: Stretch)
 }
 
 impl NewPlaces {
-    /// The places of a text's tunes after an edit. If as many came as went, those outside the stretch are not listed.
+    /// Returns the places of a text's tunes after an edit. If as many came as went, those outside the stretch are not listed.
     pub(crate) fn of(
         alloc: Global,
         old: &[Block],

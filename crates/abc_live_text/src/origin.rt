@@ -54,7 +54,7 @@ impl<K: Drop> CarriedRow<K> {
         self.class
     }
 
-    /// The cells of the line.
+    /// Returns the cells of the line.
     pub(crate) fn cells(&self) -> &[K]
         ensures { result.now ≡ self.now.cells }
     {
@@ -96,7 +96,7 @@ impl<K: Drop> CarriedRow<K> {
         }
     }
 
-    /// The same line.
+    /// Returns the same line.
     pub(crate) fn share(&self) -> Result<CarriedRow<K>, AllocError>
         ensures { IfOk result (λ row. row ≡ self.now) }
     {
@@ -116,7 +116,7 @@ impl<K: Drop> CarriedRow<K> {
 }
 
 impl<K: Drop> Row<K> {
-    /// The line with this origin.
+    /// Returns the line with this origin.
     pub(crate) fn with_origin(&self, origin: Option<Origin>) -> Result<CarriedRow<K>, AllocError>
         ensures { IfOk result (λ row. row ≡ at_origin origin (carried_row self.now)) }
     {
@@ -128,7 +128,7 @@ impl<K: Drop> Row<K> {
     }
 }
 
-/// The item of a list at index `i`.
+/// Returns the item of a list at index `i`.
 pub(crate) fn item_at<T>(list: &GapList<T>, i: usize) -> &T
     requires { i < length list.now.items }
     ensures { result.now ≡ get_or list.now.items i result.now }
@@ -184,7 +184,7 @@ fn append_block<K: Drop>(
     Ok(())
 }
 
-/// The lines `from..to` of a text with their origins: the cells of the blocks are in the chains numbered from `number`
+/// Returns the lines `from..to` of a text with their origins: the cells of the blocks are in the chains numbered from `number`
 /// on.
 pub(crate) fn rows_with_origins<K: Drop>(
     alloc: Global,

@@ -29,7 +29,7 @@ pub(crate) struct PartPatches<C: Compiler> {
     pub(crate) places: Vec<Block>,
 }
 
-/// The places in the text of the tunes of a stretch.
+/// Returns the places in the text of the tunes of a stretch.
 fn tune_places(alloc: Global, tunes: &[Block], stretch: Stretch) -> Result<Vec<Block>, AllocError>
     requires within { All (LiesWithin stretch.lines.came) tunes.now }
     requires numbers { stretch.lines.from + stretch.lines.came ≤ usize.MAX }

@@ -18,14 +18,14 @@ use abc_book::Block;
 use abc_fold::{Chain, Fold, Piece, Pieces, Shared};
 use std::alloc::AllocError;
 
-/// How many cells a chain has.
+/// Returns how many cells a chain has.
 fn count_of<F: Fold>(chain: &Shared<Chain<F>>) -> usize
     ensures { result ≡ length chain.now.cells }
 {
     chain.get().len()
 }
 
-/// The kept piece of a chain's cell at index `i`.
+/// Returns the kept piece of a chain's cell at index `i`.
 fn kept_piece<F: Fold>(chain: &Shared<Chain<F>>, i: usize) -> Result<Piece<F>, AllocError>
     requires { i < length chain.now.cells }
     ensures place { IfOk result (λ piece. IsKeptAt chain.now i piece) }
@@ -49,7 +49,7 @@ fn append<F: Fold>(pieces: &mut Pieces<F>, piece: Piece<F>, known: bool) -> Resu
     pieces.push(piece)
 }
 
-/// The number of cells of some rows. No result depends on it.
+/// Returns the number of cells of some rows. No result depends on it.
 fn room_for<C: Drop>(rows: &[CarriedRow<C>]) -> usize {
     let mut room: usize = 0;
     for row in rows {
@@ -59,7 +59,7 @@ fn room_for<C: Drop>(rows: &[CarriedRow<C>]) -> usize {
 }
 
 impl<F: Fold> Refold<'_, F> {
-    /// The piece of a line's cell at index `k`: a kept one if an old chain holds the cell, or a new one.
+    /// Returns the piece of a line's cell at index `k`: a kept one if an old chain holds the cell, or a new one.
     fn piece_at(&self, row: &CarriedRow<F::Cell>, k: usize) -> Result<Piece<F>, AllocError>
         requires inside { k < length row.now.cells }
         requires carried { IsCarried self.now.chains.now.items row.now }
@@ -137,7 +137,7 @@ impl<F: Fold> Refold<'_, F> {
         Ok(row.end())
     }
 
-    /// The pieces of the cells of a block.
+    /// Returns the pieces of the cells of a block.
     pub(crate) fn pieces_of(&self, block: &Block) -> Result<Pieces<F>, AllocError>
         requires refold { IsRefold (F.steps self.now.fold.now) self.now }
         requires within { LiesInRefold self.now block.now }

@@ -21,7 +21,7 @@ pub(crate) struct RefoldedTunes<F: Fold> {
 }
 
 impl<F: Fold> Refold<'_, F> {
-    /// The tunes among the rows, folded again.
+    /// Returns the tunes among the rows, folded again.
     pub(crate) fn refold_tunes(&self, work: &mut F::Work) -> Result<RefoldedTunes<F>, AllocError>
         requires { IsRefold (F.steps self.now.fold.now) self.now }
         ensures value { IfOk result (λ r. AreRefolded (F.steps self.now.fold.now) self.now.chains.now.items self.now.opening.now

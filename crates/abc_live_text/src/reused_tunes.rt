@@ -44,7 +44,7 @@ fn is_along<K: Drop>(rows: &[CarriedRow<K>], source: usize, count: usize) -> boo
     place == count
 }
 
-/// The old chain that holds the first of some lines.
+/// Returns the old chain that holds the first of some lines.
 fn first_source<K: Drop>(rows: &[CarriedRow<K>]) -> Option<usize>
     ensures { result ≡ first_source rows.now }
 {
@@ -78,7 +78,7 @@ fn begin_alike<F: Fold>(chain: &Chain<F>, other: &Chain<F>) -> bool
     }
 }
 
-/// The old chain that holds exactly the cells of lines and begins in an equivalent state, if there is one.
+/// Returns the old chain that holds exactly the cells of lines and begins in an equivalent state, if there is one.
 pub(crate) fn whole_chain<'a, F: Fold>(
     fold: &F,
     old: &'a GapList<Shared<Chain<F>>>,
@@ -102,7 +102,7 @@ pub(crate) fn whole_chain<'a, F: Fold>(
     Some(known)
 }
 
-/// The old tune, counted from 0, that has exactly the cells of a tune and begins in an equivalent state, if there is
+/// Returns the old tune, counted from 0, that has exactly the cells of a tune and begins in an equivalent state, if there is
 /// one.
 fn reused_tune<F: Fold>(
     fold: &F,

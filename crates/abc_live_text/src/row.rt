@@ -27,7 +27,7 @@ impl<K: Drop> Model for Row<K> {
 }
 
 impl<K: Drop> Row<K> {
-    /// The cells of the line.
+    /// Returns the cells of the line.
     pub fn cells(&self) -> &[K]
         ensures { result.now ≡ self.now.cells }
     {
@@ -35,7 +35,7 @@ impl<K: Drop> Row<K> {
     }
 }
 
-/// A line that has been read.
+/// Returns a line that has been read.
 fn read_line<C: Compiler>(
     alloc: Global,
     compiler: &C,

@@ -12,14 +12,14 @@ pub struct Job {
 }
 
 impl Job {
-    /// The reference number.
+    /// Returns the reference number.
     pub fn number(&self) -> u32
         ensures { result ≡ self.now.number }
     {
         self.number
     }
 
-    /// The bytes to write; None if the file is to be removed.
+    /// Returns the bytes to write; None if the file is to be removed.
     pub fn bytes(&self) -> Option<&[u8]>
         ensures { option_copied result ≡ self.now.bytes }
     {

@@ -46,7 +46,7 @@ impl Publisher {
         })
     }
 
-    /// A job for the least pending number that has none under way; None if there is no such number. An error changes
+    /// Returns a job for the least pending number that has none under way; None if there is no such number. An error changes
     /// nothing. The memory that `done` and `failed` need is allocated here.
     pub fn take<C: Compiler>(&mut self, session: &LiveSession<C>) -> Result<Option<Job>, AllocError>
         ensures job { IfOk result (IsNextJob (maps_of self.old) (book_in C.steps C.rules session.now).files 0) }
@@ -56,7 +56,7 @@ impl Publisher {
         self.take_from(session, 0)
     }
 
-    /// The same for the numbers from `from` on, for a caller who goes on after the number of the last job.
+    /// Returns the same for the numbers from `from` on, for a caller who goes on after the number of the last job.
     pub fn take_from<C: Compiler>(
         &mut self,
         session: &LiveSession<C>,
@@ -136,7 +136,7 @@ impl Publisher {
         self.is_pending(number, session) && !under_way
     }
 
-    /// The least number from another one on that is pending and has no job under way.
+    /// Returns the least number from another one on that is pending and has no job under way.
     fn next_wanted<C: Compiler>(&self, session: &LiveSession<C>, from: u32) -> Option<u32>
         ensures { let files = (book_in C.steps C.rules session.now).files in MatchOption result
             (HasNone (maps_of self.now) files from) (IsNext (maps_of self.now) files from) }
@@ -151,7 +151,7 @@ impl Publisher {
         None
     }
 
-    /// The least number from another one on that has a slot or a file.
+    /// Returns the least number from another one on that has a slot or a file.
     fn next_number<C: Compiler>(&self, session: &LiveSession<C>, at: u32) -> Option<u32>
         ensures from { IfSome result (λ number. at ≤ number) }
         ensures none { let files = (book_in C.steps C.rules session.now).files in (n : ℕ) → at ≤ n
@@ -164,7 +164,7 @@ impl Publisher {
         }
     }
 
-    /// The least number from another one on that has a slot.
+    /// Returns the least number from another one on that has a slot.
     fn next_slot(&self, at: u32) -> Option<u32>
         ensures from { IfSome result (λ number. at ≤ number) }
         ensures none { (n : ℕ) → at ≤ n → MatchOption result ⊤ (λ number. n < number) → slot_at self.now n ≡ None }
@@ -209,7 +209,7 @@ impl Publisher {
     }
 }
 
-/// The least of rising numbers from another one on.
+/// Returns the least of rising numbers from another one on.
 fn next_in(numbers: &[u32], at: u32) -> Option<u32>
     requires { IsStrictlyIncreasing numbers.now }
     ensures from { IfSome result (λ number. at ≤ number) }

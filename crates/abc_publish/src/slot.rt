@@ -40,7 +40,7 @@ impl Slot {
         }
     }
 
-    /// The file of a job that has ended, and no job.
+    /// Returns the file of a job that has ended, and no job.
     pub fn without_job(stored: Stored) -> Slot
         ensures { result ≡ slot_view (Some stored) None }
     {

@@ -9,7 +9,8 @@ returns-then-not-begin_alike-clause-along g c =
     let old_chain = c.get-old_chain.result.now in
     let from : first_source c.args.rows.now ≡ Some c.in_ok-source.source = search rules in
     let there : slice_get c.args.old.now.items c.in_ok-source.source ≡ Some old_chain = sym c.in_ok-known.ensures ∙ ap Some (sym c.get-old_chain.ensures) in
-    let not_alike : are_alike_both steps.alike (slice_get old_chain.entries 0) (slice_get c.args.chain.now.entries 0) ≡ false = sym (c.begin_alike.ensures c.args.fold.now) ∙ c.if-not-begin_alike.true in
+    let not_alike : are_alike_both steps.alike (slice_get old_chain.entries 0) (slice_get c.args.chain.now.entries 0) ≡ false =
+    sym (c.begin_alike.ensures c.args.fold.now) ∙ c.if-not-begin_alike.true in
     λ opening folds goes. absurd
     (let so = begins_so steps c.args.old.now.items c.args.rows.now c.in_ok-source.source old_chain c.args.chain.now (g.met.F.Fold.resumable c.args.fold.now) from there opening folds goes in cc)
 
