@@ -5,7 +5,7 @@ use Rattle.abc_live_index.specs.declared.output.Output.{Output}
 use Rattle.abc_tune_compiler.specs.declared.fault.Fault.{Fault}
 use Rattle.abc_tune_compiler.specs.declared.report.Report.{Report}
 
--- What each tune gives, and the faults in order. The files and the titles are what the tunes give.
+-- The output of each tune, and the faults in order. The files and the titles are those of the outputs.
 pub record KeptBookView : Type 0 where
   pub outputs : GapListView Output
   pub faults : List Fault

@@ -1,4 +1,4 @@
--- What is kept by differences is what the whole text gives. Not in ABC 2.1.
+-- The index that changes by differences is that of the whole text. Not in ABC 2.1.
 use Rattle.std.specs.Prelude.{◌≡◌, ℕ, ◌+◌, ◌<◌, ◌≤◌, List, [], ◌++◌, map, All}
 use Rattle.std.specs.List.{AllZip}
 use Rattle.abc_lines.specs.ItemRange.{removed_count}

@@ -1,4 +1,4 @@
--- What the items of a tune give, whatever its place in the text. Not in ABC 2.1.
+-- The output of a tune, by its items, at any place in the text. Not in ABC 2.1.
 use Rattle.std.specs.Prelude.{◌≡◌, ℕ, ◌+◌, ◌==◌, if◌then◌else◌, Bool, true, false, List, [], ◌∷◌, ◌++◌, length, map, take, drop}
 use Rattle.std.specs.Prelude.{Option, Some, IfSome, slice_get}
 use Rattle.abc_fold.specs.Chain.{ChainView}
@@ -12,7 +12,7 @@ abbrev pub has_faults : {State Cell Items Defaults : Type 0} → Rules State Cel
 has_faults rules [] = false
 has_faults rules (one ∷ rest) = if length (rules.faults one) == 0 then has_faults rules rest else true
 
--- What the items of a tune give: the first number and title that are there count.
+-- The output of the items of a tune: the first number and the first title count.
 abbrev pub output_of : {State Cell Items Defaults : Type 0} → Rules State Cell Items Defaults → List Items → Output
 output_of rules items = record {
   number = first_of rules.number 0 items;
@@ -21,7 +21,7 @@ output_of rules items = record {
   faulty = has_faults rules items;
 }
 
--- What the chain of a tune gives.
+-- The output of the chain of a tune.
 abbrev pub output_in : {State Cell Items Defaults : Type 0} → Rules State Cell Items Defaults → ChainView State Cell Items → Output
 output_in rules chain = output_of rules chain.items
 
@@ -34,7 +34,7 @@ placed_from line (count ∷ counts) all = map (placed_at line) (take count all) 
 abbrev pub counts_of : {Cell : Type 0} → (List ℕ → List Cell) → List (List ℕ) → List ℕ
 counts_of read lines = map (λ line. length (read line)) lines
 
--- If an old tune is named for a chain, its output is what the chain gives.
+-- If an old tune is named for a chain, its output is that of the chain.
 abbrev pub ReusesOutput : {State Cell Items Defaults : Type 0} → Rules State Cell Items Defaults → List Output
     → ChainView State Cell Items → Option ℕ → Type 0
 ReusesOutput rules outputs chain reused_tunes = IfSome reused_tunes (λ old. slice_get outputs old ≡ Some (output_in rules chain))

@@ -1,4 +1,4 @@
--- The files and the titles of what tunes give. Not in ABC 2.1.
+-- The files and the titles of outputs. Not in ABC 2.1.
 use Rattle.std.specs.Prelude.{List, [], map}
 use Rattle.abc_live_index.specs.declared.output.Output.{Output}
 use Rattle.abc_tune_compiler.specs.Files.{Files, files_by}

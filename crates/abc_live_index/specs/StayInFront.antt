@@ -1,4 +1,4 @@
--- What stays in front while more is put after it. Not in ABC 2.1.
+-- Lists that begin with the items of another one. Not in ABC 2.1.
 use Rattle.std.specs.Prelude.{◌≡◌, List, length, take}
 
 -- The items of a list are the first ones of another.

@@ -3,11 +3,11 @@ use Rattle.std.specs.Prelude.{◌≡◌, ◌+◌, ◌-◌, ◌≤◌, List, leng
 use Rattle.abc_live_index.specs.declared.tune_change.TuneChange.{TuneChange}
 use Rattle.abc_live_index.specs.declared.output.Output.{Output}
 
--- What the tunes give before a change.
+-- The outputs of the tunes before a change.
 abbrev pub old_outputs : TuneChange → List Output
 old_outputs change = change.before.now.items
 
--- What the tunes give after a change.
+-- The outputs of the tunes after a change.
 abbrev pub new_outputs : TuneChange → List Output
 new_outputs change = change.splice.now.after.items
 

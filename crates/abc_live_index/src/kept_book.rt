@@ -72,8 +72,8 @@ impl Model for BookPatch {
         × AreDifferences p.on.value.outputs.items p.outputs.after.items p.differences.owners p.differences.titles };
 }
 
-/// What a change makes of a book beside its outputs and faults: new owners, if they change, titles, and how the files
-/// differ.
+/// The differences that a change makes to a book besides its outputs and faults: new owners, if they change, new titles, and
+/// how the files differ.
 #[derive(Drop)]
 struct Differences {
     owners: Option<Owners>,
@@ -96,7 +96,7 @@ impl KeptBook {
         })
     }
 
-    /// What each tune gives, in the order of the text.
+    /// Returns the output of each tune, in the order of the text.
     pub fn outputs(&self) -> &GapList<Shared<Output>>
         ensures { result.now ≡ self.now.outputs }
     {
@@ -178,7 +178,7 @@ impl KeptBook {
         }
     }
 
-    /// What a change of the tunes makes of the book. If each new tune claims what the old one did, the owners stay.
+    /// Returns the differences that a change of the tunes makes. If each new tune has the claim of the old one, the owners stay.
     fn differences(&self, alloc: Global, change: &TuneChange) -> Result<Differences, AllocError>
         requires change { IsChange change.now }
         requires before { change.now.before.now ≡ self.now.outputs }

@@ -10,7 +10,7 @@ use abc_tune_compiler::Fault;
 pub struct NewTunes {
     /// The old tunes that are replaced.
     pub range: ItemRange,
-    /// What the tunes give that replace them.
+    /// The outputs of the tunes that replace them.
     pub outputs: Vec<Shared<Output>>,
     /// The old lines whose faults are replaced, and how many lines replace them.
     pub lines: Replacement,

@@ -9,7 +9,7 @@ use abc_text::Sequence;
 use abc_tune_compiler::{Built, Compiler};
 use std::alloc::{AllocError, Global};
 
-/// What a tune gives to the book, whatever its place in the text: all but the faults of its cells.
+/// The output of a tune for the book, at any place in the text: all but the faults of its cells.
 #[derive(Drop)]
 pub struct Output {
     /// The reference number, 0 if the tune has none.

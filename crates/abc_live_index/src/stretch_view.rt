@@ -23,11 +23,11 @@ pub struct StretchView<'a, C: Compiler> {
     pub counts: &'a [usize],
 }
 
-/// The outputs that the tunes of a stretch reuse: what the old tunes give, and which of them each tune reuses.
+/// The outputs that the tunes of a stretch reuse: those of the old tunes, and which of them each tune reuses.
 #[derive(Drop)]
 pub struct ReusedOutputs<'a> {
     /// The old tune whose output each tune reuses, if any.
     pub reused_tunes: &'a [Option<usize>],
-    /// What the old tunes give.
+    /// The outputs of the old tunes.
     pub outputs: &'a GapList<Shared<Output>>,
 }

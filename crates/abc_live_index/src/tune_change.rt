@@ -11,7 +11,7 @@ use crate::owners::Claim;
 use abc_fold::Shared;
 use abc_lines::{GapList, Replacement, SplicePatch};
 
-/// What the tunes give before a change, the tunes that others replace, and what the tunes give after it.
+/// The outputs of the tunes before a change, the tunes that others replace, and the outputs after it.
 #[derive(Drop)]
 pub(crate) struct TuneChange<'a> {
     pub(crate) before: &'a GapList<Shared<Output>>,

@@ -1,4 +1,4 @@
--- What is kept of a text: its rows, and the chains of its file header and its tunes. Not in ABC 2.1.
+-- The chains of a text: those of its file header and its tunes. Not in ABC 2.1.
 use Rattle.std.specs.Prelude.{◌≡◌, ℕ, List, [], ◌∷◌, length, slice_get, Option, Some, None}
 use Rattle.std.specs.List.{AllZip}
 use Rattle.abc_book.specs.declared.block.Block.{Block}

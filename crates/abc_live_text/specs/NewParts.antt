@@ -1,4 +1,4 @@
--- What an edit folds again: the tunes of its stretch, and the file header if that may change. Not in ABC 2.1.
+-- The parts that an edit folds again: the tunes of its stretch, and the file header if that may change. Not in ABC 2.1.
 use Rattle.std.specs.Prelude.{◌≡◌, ◌⊎◌, ℕ, ◌+◌, ◌-◌, ◌<◌, ◌≤◌, All, List, [], ◌∷◌, ◌++◌, drop, length, map, take, Option, Some}
 use Rattle.std.specs.Prelude.{None, IsSome}
 use Rattle.std.specs.List.{AllZip}

@@ -14,7 +14,7 @@ tune_places_after (Whole tunes) stretch old places = tunes.items
 tune_places_after Among stretch old places = take stretch.tunes.from old
     ++ (places ++ map (block_after stretch) (drop stretch.tunes.to old))
 
--- As many tunes come as go, and those after the stretch can be moved.
+-- The count of tunes is unchanged, and those after the stretch can be moved.
 pub record FitAmong (stretch : Stretch) (old places : List Block) : Type 0 where
   pub count : stretch.tunes.from + length places ≡ stretch.tunes.to
   pub inside : stretch.tunes.to ≤ length old

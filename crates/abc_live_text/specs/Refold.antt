@@ -1,4 +1,4 @@
--- What the chains of an edited text are folded from. Not in ABC 2.1.
+-- The inputs of the folds of an edited text. Not in ABC 2.1.
 use Rattle.std.specs.Prelude.{ℕ, All, length}
 use Rattle.std.specs.List.{sum_by}
 use Rattle.abc_book.specs.declared.block.Block.{Block}

@@ -1,16 +1,16 @@
--- What is kept of the lines of a text beside their bytes. Not in ABC 2.1.
+-- The rows of a text: the class and the cells of each line. Not in ABC 2.1.
 use Rattle.std.specs.Prelude.{◌≡◌, ℕ, ◌≤◌, List, Option, None}
 use Rattle.abc_fold.specs.Work.{Counters, raised}
 use Rattle.abc_live_cost.specs.Origin.{Origin}
 use Rattle.abc_scan.specs.declared.line_class.LineClass.{LineClass}
 use Rattle.abc_tune_compiler.specs.Rules.{Rules}
 
--- What a line is, and its cells.
+-- The class and the cells of a line.
 pub record Row (Cell : Type 0) : Type 0 where
   pub class : LineClass
   pub cells : List Cell
 
--- A line, and which chain holds its cells from which place on, if one does.
+-- The class and the cells of a line, and its origin: the chain that holds the cells, and the place of the first, if one does.
 pub record CarriedRow (Cell : Type 0) : Type 0 where
   pub class : LineClass
   pub cells : List Cell

@@ -28,8 +28,8 @@ use abc_tune_compiler::Compiler;
 use std::alloc::{AllocError, Global};
 use std::marker::Model;
 
-/// A text, the classes and the cells of its lines, the places of its file header and its tunes, and the chains of
-/// these. The invariant: all of this is what the compiler gives for the text.
+/// A text, the classes and the cells of its lines, and the places and chains of its file header and its tunes. The
+/// invariant: all of these are the compiler's for the text.
 #[derive(Drop)]
 pub struct KeptText<C: Compiler> {
     pub(crate) compiler: C,
@@ -90,7 +90,7 @@ impl<C: Compiler> Model for KeptPatch<C> {
         × MayReplaceTunes p.tunes p.stretch t.tunes p.places.items };
 }
 
-/// What an edit folds again, and the prepared changes of the kept parts.
+/// The parts that an edit folds again, and the prepared changes of the kept parts.
 struct PreparedParts<C: Compiler> {
     patches: PartPatches<C>,
     new_parts: NewParts<C>,

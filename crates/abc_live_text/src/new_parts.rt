@@ -1,4 +1,4 @@
-//! What an edit of a kept text folds again.
+//! The parts of a kept text that an edit folds again.
 
 ghost use Rattle.std.specs.Prelude.{◌≡◌, ◌+◌, ◌-◌, ◌≤◌, ◌++◌, All, IfOk, OnOk, drop, length, map, take};
 ghost use Rattle.std.specs.List.{sum_by};
@@ -23,7 +23,7 @@ use abc_fold::{Chain, Counts, Fold, Shared};
 use abc_tune_compiler::Compiler;
 use std::alloc::{AllocError, Global};
 
-/// What an edit folds again: the tunes of a stretch, and the file header's chain if that may change.
+/// The parts that an edit folds again: the tunes of a stretch, and the file header's chain if that may change.
 #[derive(Drop)]
 pub(crate) struct NewParts<C: Compiler> {
     pub(crate) stretch: Stretch,

@@ -15,7 +15,7 @@ use std::alloc::{AllocError, Global};
 pub(crate) enum NewPlaces {
     /// All places.
     Whole(Vec<Block>),
-    /// As many came as went: those of the stretch replace the old ones, and those after it move.
+    /// The count of tunes is unchanged: places of the stretch replace the old ones, and those after it move.
     Among,
 }
 
@@ -102,7 +102,7 @@ fn move_after(tunes: &mut Vec<Block>, stretch: Stretch)
 }
 
 impl NewPlaces {
-    /// Returns the places of a text's tunes after an edit. If as many came as went, those outside the stretch are not listed.
+    /// Returns the places of a text's tunes after an edit. If their count is unchanged, those outside the stretch are not listed.
     pub(crate) fn of(
         alloc: Global,
         old: &[Block],

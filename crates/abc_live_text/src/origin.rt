@@ -47,7 +47,7 @@ impl<K: Drop> Model for CarriedRow<K> {
 }
 
 impl<K: Drop> CarriedRow<K> {
-    /// What the line is.
+    /// Returns the class of the line.
     pub(crate) fn class(&self) -> LineClass
         ensures { result ≡ self.now.class }
     {

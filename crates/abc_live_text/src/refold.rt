@@ -1,11 +1,11 @@
-//! What the chains of an edited text are folded from.
+//! The inputs of the folds of an edited text.
 
 use crate::origin::CarriedRow;
 use abc_fold::{Chain, Fold, Shared};
 use abc_lines::GapList;
 
-/// What the chains of an edited text are folded from: its rows, the old chains that hold cells of theirs, and the state
-/// in which each block begins.
+/// The inputs of the folds of an edited text: its rows, the old chains that hold cells of theirs, and the state in which
+/// each block begins.
 #[derive(Drop)]
 pub(crate) struct Refold<'a, F: Fold> {
     pub(crate) fold: &'a F,

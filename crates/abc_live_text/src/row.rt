@@ -1,4 +1,4 @@
-//! What is kept of a line beside its bytes.
+//! The rows of a text: the class and the cells of each line.
 
 ghost use Rattle.std.specs.Prelude.{◌≡◌, IfOk, length, map};
 ghost use Rattle.abc_live_text.specs.Row.{IsScannedUpTo, new_row};
@@ -11,7 +11,7 @@ use abc_tune_compiler::Compiler;
 use std::alloc::{AllocError, Global};
 use std::marker::Model;
 
-/// What a line is and its cells, by its own bytes alone.
+/// The class and the cells of a line, by its own bytes alone.
 #[derive(Drop)]
 pub struct Row<K: Drop> {
     pub(crate) class: LineClass,
