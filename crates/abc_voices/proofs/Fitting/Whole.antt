@@ -95,9 +95,9 @@ program_past_is : (program : Option ℕ) (item : Item) → IfSome program IsProg
 program_past_is program (items.Program true (Some number)) was is = is
 program_past_is program _ was is = was
 
-or_else_is : {V : Type 0} (Q : V → Type 0) (value : V) (other : Option V) → Q value → IfSome other Q → Q (unwrap_or other value)
-or_else_is Q value None is known = is
-or_else_is Q value (Some other) is known = known
+unwrap_or_is : {V : Type 0} (Q : V → Type 0) (value : V) (other : Option V) → Q value → IfSome other Q → Q (unwrap_or other value)
+unwrap_or_is Q value None is known = is
+unwrap_or_is Q value (Some other) is known = known
 
 -- changes that a file can say
 tempo_fits : (end : Grains) (set : Grains × ℕ) → IsSetBy end.0 FitsInTempoEvent set → IsChangeWithin end (tempo_change set)
@@ -224,18 +224,18 @@ module _ (tune : List Item) (short : IsShort tune) where
   first_ones = first_heard (IsHeard voices) those (tracks_heard tune)
 
   opening_tempo_is : FitsInTempoEvent (unwrap_or (after_all tempo_after None tune) usual_tempo)
-  opening_tempo_is = or_else_is FitsInTempoEvent usual_tempo (after_all tempo_after None tune) (record { least = omega arith; most = omega arith })
+  opening_tempo_is = unwrap_or_is FitsInTempoEvent usual_tempo (after_all tempo_after None tune) (record { least = omega arith; most = omega arith })
       (past_kept tempo_after (λ tempo. IfSome tempo FitsInTempoEvent) tempo_past_is None tune tt short.each)
 
   opening_meter_is : IsMeterInRange (unwrap_or (after_all meter_after None tune) meters.Free)
-  opening_meter_is = or_else_is IsMeterInRange meters.Free (after_all meter_after None tune) tt
+  opening_meter_is = unwrap_or_is IsMeterInRange meters.Free (after_all meter_after None tune) tt
       (past_kept meter_after (λ meter. IfSome meter IsMeterInRange) meter_past_is None tune tt short.each)
 
   no_sharps : IsKey (pos 0, false)
   no_sharps = record { 0 = grind arith; 1 = grind arith }
 
   opening_key_is : IsKey (unwrap_or (after_all key_after None tune) (pos 0, false))
-  opening_key_is = or_else_is IsKey (pos 0, false) (after_all key_after None tune) no_sharps
+  opening_key_is = unwrap_or_is IsKey (pos 0, false) (after_all key_after None tune) no_sharps
       (past_kept key_after (λ key. IfSome key IsKey) key_past_is None tune tt short.each)
 
   changes_fit : All (IsChangeWithin end) (changes_of tune)
