@@ -2,6 +2,10 @@
 //! session, and prints a line `work S F B` for each: the scanned lines, the folded steps and the built tunes. A refused edit
 //! costs nothing.
 
+ghost use Rattle.std.specs.Prelude.{◌≡◌, [], length, nat_le, IfOk};
+ghost use Rattle.abc2midi_live.specs.Command.{command_of, line_count};
+ghost use Rattle.measurements.specs.Work.{HasNextLine, edit_of};
+
 use abc_fold::Work;
 use abc_live::{Edit, EditError, Session};
 use abc2midi_live::Command;
@@ -18,19 +22,27 @@ struct PartialCommand {
 
 impl PartialCommand {
     /// Returns the command that a line begins.
-    fn new(alloc: Global, line: &[u8]) -> PartialCommand {
+    fn new(alloc: Global, line: &[u8]) -> PartialCommand
+        ensures command { result.command ≡ command_of line.now }
+        ensures lines { result.lines.items ≡ [] }
+    {
         PartialCommand {
             command: Command::of(line),
             lines: Vec::new(alloc),
         }
     }
 
-    fn is_whole(&self) -> bool {
+    /// Whether all of its lines were read.
+    fn is_whole(&self) -> bool
+        ensures { result ≡ nat_le (line_count self.now.command) (length self.now.lines.items) }
+    {
         self.lines.len() >= self.command.line_count()
     }
 
     /// Returns its edit, if it is one.
-    fn edit(self) -> Option<Edit> {
+    fn edit(self) -> Option<Edit>
+        ensures { result ≡ edit_of self.command self.lines }
+    {
         let lines = self.lines;
         match self.command {
             Command::Insert { at, .. } => Some(Edit::Insert { at, lines }),
@@ -70,7 +82,9 @@ fn with_line(
     alloc: Global,
     pending: Option<PartialCommand>,
     line: Vec<u8>,
-) -> io::Result<PartialCommand> {
+) -> io::Result<PartialCommand>
+    ensures { IfOk result (HasNextLine pending line.items) }
+{
     match pending {
         Some(mut pending) => {
             pending.lines.push(line)?;

@@ -1,6 +1,6 @@
 //! The folder of the MIDI files.
 
-ghost use Rattle.std.specs.Prelude.{None};
+ghost use Rattle.std.specs.Prelude.{◌≡◌, ◌++◌, [], codes, string_bytes, None, IfOk, IsErr};
 ghost use Rattle.abc2midi_live.specs.Storing.{store_view};
 
 use abc2midi_live::{Store, StoreFault};
@@ -30,7 +30,12 @@ pub(crate) struct Directory<'a, R: Runtime + AllocGlobal> {
 }
 
 impl<'a, R: Runtime + AllocGlobal> Directory<'a, R> {
-    pub(crate) fn new(rt: &'a R, path: &'a str) -> Self {
+    /// Returns the folder of this path. No call has been made yet.
+    pub(crate) fn new(rt: &'a R, path: &'a str) -> Self
+        ensures path { result.path.now ≡ path.now }
+        ensures failures { result.failures ≡ 0 }
+        ensures calls { result.calls ≡ 0 }
+    {
         Directory {
             rt,
             path,
@@ -50,7 +55,10 @@ impl<'a, R: Runtime + AllocGlobal> Directory<'a, R> {
     }
 
     /// Returns the path of a name in the folder. An empty path has no files.
-    fn path_of(&self, name: &str) -> io::Result<String> {
+    fn path_of(&self, name: &str) -> io::Result<String>
+        ensures empty { self.now.path.now ≡ [] → IsErr result }
+        ensures value { IfOk result (λ path. string_bytes path ≡ self.now.path.now ++ codes "/" ++ name.now) }
+    {
         if self.path.is_empty() {
             return Err(io::Error::from(ErrorKind::NotFound));
         }
@@ -58,7 +66,10 @@ impl<'a, R: Runtime + AllocGlobal> Directory<'a, R> {
     }
 
     /// Returns the path of a file before it takes its name.
-    fn path_beside(&self, name: &str) -> io::Result<String> {
+    fn path_beside(&self, name: &str) -> io::Result<String>
+        ensures empty { self.now.path.now ≡ [] → IsErr result }
+        ensures value { IfOk result (λ path. string_bytes path ≡ self.now.path.now ++ codes "/." ++ name.now ++ codes ".new") }
+    {
         let beside = format!(in self.rt.alloc(); ".{name}.new")?;
         self.path_of(beside.as_str())
     }

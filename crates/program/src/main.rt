@@ -4,6 +4,8 @@
 mod arguments;
 mod directory;
 
+ghost use Rattle.std.specs.Prelude.{◌≡◌, ◌≢◌, is_none, is_some, true, IfOk, IsOk};
+
 use abc_fold::Work;
 use abc2midi_live::{Piped, RunFault, fault_of_book, run_before_exit};
 use arguments::command;
@@ -26,12 +28,21 @@ enum Failure {
 }
 
 impl From<RunFault> for Failure {
+    ghost use Rattle.program.specs.declared.Failure.TheVariants.{Run};
+
+    ghost from_gives = { λ fault failure. failure ≡ Run fault };
+
     fn from(fault: RunFault) -> Failure {
         Failure::Run(fault)
     }
 }
 
 impl From<AllocError> for Failure {
+    ghost use Rattle.abc2midi_live.specs.declared.run_fault.RunFault.TheVariants.{Memory};
+    ghost use Rattle.program.specs.declared.Failure.TheVariants.{Run};
+
+    ghost from_gives = { λ _ failure. failure ≡ Run Memory };
+
     fn from(_error: AllocError) -> Failure {
         Failure::Run(RunFault::Memory)
     }
@@ -66,7 +77,11 @@ fn main(rt: HostRuntime) -> ExitCode {
     }
 }
 
-fn status_of(fault: RunFault) -> u8 {
+/// Returns the exit status of a run that failed.
+fn status_of(fault: RunFault) -> u8
+    ensures memory { fault ≡ RunFault.Memory → result ≡ 3 }
+    ensures streams { fault ≢ RunFault.Memory → result ≡ 1 }
+{
     match fault {
         RunFault::Read | RunFault::Write => 1,
         RunFault::Memory => 3,
@@ -113,7 +128,10 @@ fn warn_of_book<R: Runtime + AllocGlobal>(rt: &R, path: &str, book: &[u8]) {
 fn book_of<R: Runtime + Files + AllocGlobal>(
     rt: &R,
     path: Option<&str>,
-) -> Result<Option<Vec<u8>>, Failure> {
+) -> Result<Option<Vec<u8>>, Failure>
+    ensures given { IfOk result (λ book. is_some book ≡ is_some path.entry) }
+    ensures none { is_none path.entry ≡ true → IsOk result }
+{
     let Some(path) = path else {
         return Ok(None);
     };

@@ -1,12 +1,13 @@
 //! Edits of a text, and the differences of two books. How a text is edited is not in ABC 2.1.
 #![tactic(auto, unfolding(crate::specs::Opened::edits, crate::specs::Opened::differences))]
 
-ghost use Rattle.std.specs.Prelude.{◌≡◌, ℕ, true, false, [], ◌∷◌, ◌++◌, length, codes, replicate};
+ghost use Rattle.std.specs.Prelude.{◌≡◌, ¬◌, ℕ, true, false, [], ◌∷◌, ◌++◌, length, codes, map, replicate, Ok, Err};
 ghost use Rattle.std.specs.Global.{Vec};
 ghost use Rattle.std.specs.List.{list_all};
-ghost use Rattle.abc_lines.specs.Edits.{deletion, edited, insertion, replacement};
+ghost use Rattle.abc_lines.specs.EditError.{name_of};
+ghost use Rattle.abc_lines.specs.Edits.{Refuses, deletion, edited, insertion, replacement};
 ghost use Rattle.abc_lines.specs.Text.{Text, is_line};
-ghost use Rattle.abc_lines.specs.declared.edit_error.EditError.TheVariants.{BadLine, BadRange, TooLarge};
+ghost use Rattle.abc_lines.specs.declared.edit_error.EditError.TheVariants.{BadLine, BadRange, OutOfMemory, TooLarge};
 ghost use Rattle.abc_live.specs.Edit.{line_at, splice_of};
 ghost use Rattle.abc_live.specs.declared.edit.Edit.TheVariants.{Delete, Insert, Replace};
 ghost use Rattle.abc_tune_compiler.specs.Files.{file_at, removed_numbers, written_numbers};
@@ -62,6 +63,21 @@ pub fn bad_lines()
     ensures inserted { edited four_lines (insertion 1 (codes "x" ∷ codes "a\nb" ∷ [])) ≡ Err BadLine }
     ensures replaced { edited four_lines (replacement 1 4 (codes "\n" ∷ [])) ≡ Err BadLine }
     ensures after_a_bad_range { edited four_lines (insertion 9 (codes "\n" ∷ [])) ≡ Err BadRange }
+{}
+
+/// The reason of a refusal is that of the definition. Out of memory is one only if there is no other.
+pub fn refusals()
+    ensures own_reason { Refuses BadLine (Err BadLine) }
+    ensures other_reason { ¬ Refuses BadLine (Err BadRange) }
+    ensures no_reason { ¬ Refuses BadLine (Ok four_lines) }
+    ensures no_memory { Refuses OutOfMemory (Ok four_lines) }
+    ensures no_memory_for_a_reason { ¬ Refuses OutOfMemory (Err TooLarge) }
+{}
+
+/// The words for refusals in answers.
+pub fn words_for_refusals()
+    ensures { map name_of (BadRange ∷ BadLine ∷ TooLarge ∷ OutOfMemory ∷ [])
+        ≡ codes "BadRange" ∷ codes "BadLine" ∷ codes "TooLarge" ∷ codes "OutOfMemory" ∷ [] }
 {}
 
 /// The numbers that two books differ in, rising: those with a file that is new or has other bytes, and those that
