@@ -4,8 +4,8 @@ use Rattle.abc2midi_live.specs.Answer.{end_line, failed_line, fault_line, fault_
 use Rattle.abc2midi_live.specs.Answer.{stored_line, title_line, title_list, truncated_line, unknown_line}
 use Rattle.abc2midi_live.specs.Command.{command_named, command_of, command_of_words, deletion, hex_dump, insertion, numbers_of}
 use Rattle.abc2midi_live.specs.Command.{replacement, with_numbers, within_line_limit, without_numbers, words_of}
-use Rattle.abc2midi_live.specs.Transcript.{answers, book_lines, edit_answer, input_lines, outcome_of, request_of, requests, transcript}
-use Rattle.abc2midi_live.specs.Transcript.{without_mark}
+use Rattle.abc2midi_live.specs.Transcript.{answers, book_lines, edit_answer, input_lines, outcome_of, request_of, requests}
+use Rattle.abc2midi_live.specs.Transcript.{transcript, without_mark}
 use Rattle.abc_book.specs.Block.{blocks_of}
 use Rattle.abc_lines.specs.Edits.{edited, replaced}
 use Rattle.abc_lines.specs.Text.{spliced}

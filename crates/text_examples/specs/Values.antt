@@ -1,5 +1,6 @@
 -- Values as the worked examples write them: a tick is 484,323,840 grains. Not in ABC 2.1.
-use Rattle.std.specs.Prelude.{ℕ, ℤ, ◌*◌, Bool, true, false, List, [], ◌∷◌, map, pos, neg_ℤ, Option, option_map, Some, None, Result, Ok, Err}
+use Rattle.std.specs.Prelude.{ℕ, ℤ, ◌*◌, Bool, true, false, List, [], ◌∷◌, map, pos, neg_ℤ, Option, option_map, Some, None}
+use Rattle.std.specs.Prelude.{Result, Ok, Err}
 use Rattle.abc_fields.specs.Key.{key_of}
 use Rattle.abc_fields.specs.declared.fault_code.FaultCode.{FaultCode}
 use Rattle.abc_fields.specs.declared.fault_code.FaultCode.TheVariants as faults

@@ -12,7 +12,8 @@ ghost use Rattle.abc_fields.specs.declared.fault_code.FaultCode.TheVariants.{Unc
 ghost use Rattle.abc_fields.specs.declared.meter.Meter.TheVariants.{Of};
 ghost use Rattle.abc_bars_items.specs.declared.item.Item.TheVariants as items;
 ghost use Rattle.abc_scan.specs.declared.directive.Reach.TheVariants.{Not, Octave, Pitch};
-ghost use Rattle.text_examples.specs.Bars.{bar_rest, entry_after_header, faults_by, in_common, in_compound, in_free, in_reach, items_by, keys, keys_by};
+ghost use Rattle.text_examples.specs.Bars.{bar_rest, entry_after_header, faults_by, in_common, in_compound, in_free, in_reach, items_by};
+ghost use Rattle.text_examples.specs.Bars.{keys, keys_by};
 ghost use Rattle.text_examples.specs.Bars.{lengths_by, sound, ticks, tone_lengths_by, velocities_by};
 
 /// Keys of notes: letters, octaves, the accidentals of a bar. ABC 2.1 sections 4.1 and 4.2; the MIDI keys 0 to 127 are
@@ -29,7 +30,8 @@ pub fn keys_of_notes()
 /// A clef and `transpose` shift by semitones, `octave` by octaves. ABC 2.1 section 4.6; the sum is not in ABC 2.1.
 pub fn shifts()
     ensures clef { keys_by (entry_after_header (codes "X:1" ∷ codes "K:C treble-8" ∷ [])) (codes "Cc") ≡ keys (48 ∷ 60 ∷ []) }
-    ensures transposed { keys_by (entry_after_header (codes "X:1" ∷ codes "K:C transpose=2" ∷ [])) (codes "CB,") ≡ keys (62 ∷ 61 ∷ []) }
+    ensures transposed { keys_by (entry_after_header (codes "X:1" ∷ codes "K:C transpose=2" ∷ [])) (codes "CB,")
+        ≡ keys (62 ∷ 61 ∷ []) }
     ensures all { keys_by (entry_after_header (codes "X:1" ∷ codes "K:C clef=treble+8 octave=-2 transpose=-3" ∷ [])) (codes "C^c")
         ≡ keys (45 ∷ 58 ∷ []) }
 {}

@@ -224,8 +224,8 @@ pub fn refused_voices()
 
 /// The names of faults, in the order of their numbers from 1. Not in ABC 2.1.
 pub fn names_of_faults()
-    ensures numbers { map number_of fault_codes ≡ 1 ∷ 2 ∷ 3 ∷ 4 ∷ 5 ∷ 6 ∷ 7 ∷ 8 ∷ 9 ∷ 10 ∷ 11 ∷ 12 ∷ 13 ∷ 14 ∷ 15 ∷ 16 ∷ 17 ∷ 18 ∷ 19
-        ∷ 20 ∷ 21 ∷ 22 ∷ 23 ∷ 24 ∷ 25 ∷ 26 ∷ 27 ∷ [] }
+    ensures numbers { map number_of fault_codes ≡ 1 ∷ 2 ∷ 3 ∷ 4 ∷ 5 ∷ 6 ∷ 7 ∷ 8 ∷ 9 ∷ 10 ∷ 11 ∷ 12 ∷ 13 ∷ 14 ∷ 15 ∷ 16 ∷ 17 ∷ 18
+        ∷ 19 ∷ 20 ∷ 21 ∷ 22 ∷ 23 ∷ 24 ∷ 25 ∷ 26 ∷ 27 ∷ [] }
     ensures names { map name_of fault_codes ≡ codes "BadReference" ∷ codes "BadMeter" ∷ codes "BadUnit" ∷ codes "BadTempo"
         ∷ codes "BadKey" ∷ codes "BadOrder" ∷ codes "BadPart" ∷ codes "BadVoice" ∷ codes "TooManyVoices" ∷ codes "BadByte"
         ∷ codes "Unclosed" ∷ codes "BadLength" ∷ codes "BadTuplet" ∷ codes "NestedTuplet" ∷ codes "BadBroken" ∷ codes "LooseTie"

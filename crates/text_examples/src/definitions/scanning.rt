@@ -226,8 +226,8 @@ pub fn tokens_in_brackets()
     ensures bar_inside { tokens_of (codes "[r:a|[b]") ≡ token (kinds.InlineField (record { letter = 114; value = codes "a|[b" }))
         0 8 ∷ [] }
     ensures chord { tokens_of (codes "[C C]") ≡ chord_token (c_part 1 2 ∷ part parts.NoEffect 2 3 ∷ c_part 3 4 ∷ []) 0 5 ∷ [] }
-    ensures length_after { tokens_of (codes "[C]3/2") ≡ token (kinds.Chord (record { parts = c_part 1 2 ∷ []; length = Factor 3 2 }))
-        0 6 ∷ [] }
+    ensures length_after { tokens_of (codes "[C]3/2")
+        ≡ token (kinds.Chord (record { parts = c_part 1 2 ∷ []; length = Factor 3 2 })) 0 6 ∷ [] }
     ensures bar_in_a_chord { tokens_of (codes "[C|") ≡ token kinds.Unclosed 0 1 ∷ c_token (pos 0) plain 1 2
         ∷ bar_token 0 0 false 2 3 ∷ [] }
     ensures bracket_in_a_chord { tokens_of (codes "[C[C]") ≡ token kinds.Unclosed 0 1 ∷ c_token (pos 0) plain 1 2

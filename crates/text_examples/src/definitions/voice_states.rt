@@ -2,7 +2,8 @@
 //! `abc_bars_voice`, `abc_bars_notes`, `abc_bars_header` and `abc_bars_body`.
 #![tactic(auto, unfolding(crate::specs::Opened::texts, crate::specs::Opened::times, abc_bars_notes::specs::BarRest::bar_grains))]
 
-ghost use Rattle.std.specs.Prelude.{◌≡◌, ◌^◌, ◌-◌, pos, negsuc, true, false, [], ◌∷◌, codes, map, replicate, take, Some, None, Ok, Err};
+ghost use Rattle.std.specs.Prelude.{◌≡◌, ◌^◌, ◌-◌, pos, negsuc, true, false, [], ◌∷◌, codes, map, replicate, take};
+ghost use Rattle.std.specs.Prelude.{Some, None, Ok, Err};
 ghost use Rattle.abc_bars_body.specs.Body.{with_current};
 ghost use Rattle.abc_bars_body.specs.BodyFields.{part_of};
 ghost use Rattle.abc_bars_body.specs.BodyOpening.{zero_shift};
@@ -212,7 +213,8 @@ pub fn voices_of_headers()
 
 /// A body has at most fifteen voices. Another one cannot become the current voice, and a known one can. Not in ABC 2.1.
 pub fn voices_of_bodies()
-    ensures fifteenth { (state : VoiceState) → voices_in (with_current (body_of state (take 14 fifteen_voices)) (codes "o") no_shift)
+    ensures fifteenth { (state : VoiceState)
+        → voices_in (with_current (body_of state (take 14 fifteen_voices)) (codes "o") no_shift)
         ≡ Some 15 }
     ensures sixteenth { (state : VoiceState) → with_current (body_of state fifteen_voices) (codes "p") no_shift ≡ None }
     ensures again { (state : VoiceState) → voices_in (with_current (body_of state fifteen_voices) (codes "o") no_shift) ≡ Some 15 }
