@@ -202,7 +202,7 @@ class Staves(test_page_in_browser.Browser):
         self.wait(lambda: self.run_script(DOUBT) == "This tune has faults. The score may differ from what you hear.")
         with self.media(media="print"):
             self.assertFalse(self.run_script("return document.querySelector('#score .doubt').checkVisibility()"))
-        self.press("\ue003\ue003")
+        self.type("\ue003\ue003")
         self.notes((2, 0, 1, "note"))
         self.wait(lambda: self.run_script(DOUBT) is None)
 
