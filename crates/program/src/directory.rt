@@ -54,24 +54,33 @@ impl<'a, R: Runtime + AllocGlobal> Directory<'a, R> {
         }
     }
 
-    /// Returns the path of a name in the folder. An empty path has no files.
-    fn path_of(&self, name: &str) -> io::Result<String>
+    /// Returns the path of the folder. An empty path has no files.
+    fn folder(&self) -> io::Result<&str>
         ensures empty { self.now.path.now ≡ [] → IsErr result }
-        ensures value { IfOk result (λ path. string_bytes path ≡ self.now.path.now ++ codes "/" ++ name.now) }
+        ensures value { IfOk result (λ path. path.now ≡ self.now.path.now) }
     {
         if self.path.is_empty() {
             return Err(io::Error::from(ErrorKind::NotFound));
         }
-        Ok(format!(in self.rt.alloc(); "{}/{name}", self.path)?)
+        Ok(self.path)
+    }
+
+    /// Returns the path of a name in the folder.
+    fn path_of(&self, name: &str) -> io::Result<String>
+        ensures empty { self.now.path.now ≡ [] → IsErr result }
+        ensures value { IfOk result (λ path. string_bytes path ≡ self.now.path.now ++ codes "/" ++ name.now) }
+    {
+        let folder = self.folder()?;
+        Ok(format!(in self.rt.alloc(); "{folder}/{name}")?)
     }
 
     /// Returns the path of a file before it takes its name.
     fn path_beside(&self, name: &str) -> io::Result<String>
         ensures empty { self.now.path.now ≡ [] → IsErr result }
-        ensures value { IfOk result (λ path. string_bytes path ≡ self.now.path.now ++ codes "/." ++ name.now ++ codes ".new") }
+        ensures value { IfOk result (λ path. string_bytes path ≡ self.now.path.now ++ (codes "/." ++ (name.now ++ codes ".new"))) }
     {
-        let beside = format!(in self.rt.alloc(); ".{name}.new")?;
-        self.path_of(beside.as_str())
+        let folder = self.folder()?;
+        Ok(format!(in self.rt.alloc(); "{folder}/.{name}.new")?)
     }
 
     /// Replaces a file in one step: a reader always sees a complete file, old or new. After an error the old file is
