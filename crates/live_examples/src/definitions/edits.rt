@@ -1,7 +1,7 @@
 //! Edits of a text, and the differences of two books. How a text is edited is not in ABC 2.1.
 #![tactic(auto, unfolding(crate::specs::Opened::edits, crate::specs::Opened::differences))]
 
-ghost use Rattle.std.specs.Prelude.{◌≡◌, ¬◌, ℕ, true, false, [], ◌∷◌, ◌++◌, length, codes, map, replicate, Ok, Err};
+ghost use Rattle.std.specs.Prelude.{◌≡◌, ℕ, true, false, [], ◌∷◌, ◌++◌, length, codes, map, replicate, Ok, Err};
 ghost use Rattle.std.specs.Global.{Vec};
 ghost use Rattle.std.specs.List.{list_all};
 ghost use Rattle.abc_lines.specs.EditError.{name_of};
