@@ -149,8 +149,8 @@ RestsLast =
     × HasLengthFault (Lasts state cell place written None) (column_of from) (play_rest state (factors_at cell place) from
     written).faults
 
--- The item of a rest of bars in a meter: one bar if no number is written, else that number of bars. If so many bars have
--- no length, the item is one bar, with the fault BadLength. What is refused is not in ABC 2.1.
+-- The item of a rest of bars in a meter. Its number of bars is one if none is written. If that number of bars has no length,
+-- the item is one bar, with the fault BadLength. What is refused is not in ABC 2.1.
 pub record RestsForBars (num den : ℕ) : Type 0 where
   pub bar : ℕ
   pub bar_is : AreBars num den 1 bar

@@ -5,6 +5,7 @@ pub mod Fronts
 pub mod Letters
 pub mod LineEnds
 pub mod Numbers
+pub mod Positions
 pub mod Powers
 pub mod Trims
 pub mod Words

@@ -4,12 +4,15 @@ ghost use Rattle.std.specs.Prelude.{◌≡◌, ◌<◌, ◌==◌, IfSome, MatchO
 ghost use Rattle.std.specs.List.{position};
 ghost use Rattle.abc_text.specs.Cut.{HasNoByte, IsCut, cut_at};
 
+use bstr::ByteSlice;
+
 /// Returns the index of the first byte of this value in a text.
+#[tactic(auto, using(crate::proofs::Positions::position_of))]
 fn find_byte(text: &[u8], byte: u8) -> Option<usize>
     ensures value { result ≡ position (λ b. b == byte) text.now }
     ensures inside { IfSome result (λ at. at < length text.now) }
 {
-    text.iter().position(|b| *b == byte)
+    text.find_byte(byte)
 }
 
 /// Returns the parts of a text before and after the first byte of this value, or none if the text has no such byte.

@@ -27,8 +27,8 @@ use Rattle.abc_bars.specs.LookBack.Defaults.{defaults_at}
 use Rattle.abc_bars.specs.LookBack.Element.{Element}
 use Rattle.abc_bars.specs.LookBack.Header.{file_header_view, header_at, header_view}
 
--- A place is what is before it, newest first: the lines of a file header; or the file header's values and the lines of a tune's
--- header; or these, the key that ended the header, and the elements of the body.
+-- A place is what is before it, newest first. In a file header that is its lines. In a tune's header it is the values of the file
+-- header, and the lines of the tune's header. In a body it is these, the key that ended the header, and the body's elements.
 pub data Place : Type 0 where
   InFileHeader : List HeaderLine → Place
   InHeader : Defaults → List HeaderLine → Place
