@@ -11,7 +11,7 @@ use Rattle.std.proofs.KnownBytes.{Appends-nil, Appends-trans, Appends-kept, Cons
 use Rattle.std.proofs.lemmas.List.Elements.{All-append, All-nil}
 use Rattle.abc_fold.specs.Work.{raised}
 use Rattle.abc_publish.specs.Publisher.{Directory}
-use Rattle.abc2midi_live.specs.Cut.{IsCut}
+use Rattle.abc2midi_live_protocol.specs.Cut.{IsCut}
 use Rattle.abc2midi_live.specs.Machine.{Future, future_change, IsClean, Answers, AsksNothing, CarriesOut, EndsOneAtMost}
 use Rattle.abc2midi_live.specs.Machine.{change_between, future_of_bytes, MachineState}
 use Rattle.abc2midi_live.specs.Outcome.{RunEnds, Outlets, outlets, Serves, Tells, TellsFirst, FailsToFeed, FailsToServe, FailsAtEnd}

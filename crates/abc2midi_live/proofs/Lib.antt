@@ -1,6 +1,4 @@
-pub mod Answers
 pub mod Counts
-pub mod Cuts
 pub mod Feeding
 pub mod InputLines
 pub mod Pending
@@ -9,4 +7,3 @@ pub mod Requests
 pub mod Runs
 pub mod Storing
 pub mod RunOutputs
-pub mod Words

@@ -13,7 +13,7 @@ use Rattle.abc_publish.specs.Publisher.{is_wanted, stored_as, with_entry, HasNon
 use Rattle.abc_publish.specs.declared.slot.Stored.{Stored}
 use Rattle.abc_publish.specs.declared.slot.Stored.TheVariants.{Unknown}
 use Rattle.abc_tune_compiler.specs.Files.{Files, file_at}
-use Rattle.abc2midi_live.specs.Answer.{end_line, failed_line, stored_line}
+use Rattle.abc2midi_live_protocol.specs.Answer.{end_line, failed_line, stored_line}
 use Rattle.abc2midi_live.specs.Book.{files_of}
 use Rattle.abc2midi_live.specs.Building.{answer_line, answer_of, entry_after, numbers_from, pending_from, pending_numbers, stage}
 use Rattle.abc2midi_live.specs.Building.{build_outcome, build_outcome_at, Builds, BuildStops, Stage, IsIdle, StopsAtOnce, StopsBy}

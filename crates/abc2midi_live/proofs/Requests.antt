@@ -13,18 +13,18 @@ use Rattle.abc_lines.specs.Text.{Text, Splice, text_of}
 use Rattle.abc_lines.specs.Edits.{insertion, replacement, deletion, edited, Refuses}
 use Rattle.abc2midi_live.specs.Book.{files_of, faults_of, titles_of}
 use Rattle.abc_tune_compiler.specs.Files.{file_at, written_numbers, removed_numbers}
-use Rattle.abc2midi_live.specs.Answer.{report_line, refusal}
-use Rattle.abc2midi_live.specs.Command.{line_count, command_of}
+use Rattle.abc2midi_live_protocol.specs.Answer.{report_line, refusal}
+use Rattle.abc2midi_live_protocol.specs.Command.{line_count, command_of}
 use Rattle.abc_publish.specs.Publisher.{Directory, Slots, maps_of}
 use Rattle.abc2midi_live.specs.Building.{Builds, BuildStops, StopsBy}
 use Rattle.abc2midi_live.specs.Storing.{StoreAnswer, StoreView}
 use Rattle.abc2midi_live.specs.RunOutput.{RequestOutcome, Extent, Whole, Stopped, DialogueView, RunOutput, request_outcome}
 use Rattle.abc2midi_live.specs.RunOutput.{with_text_before, dialogue_view, nothing_more, run_output}
 use Rattle.abc2midi_live.specs.Transcript.{edit_answer, Request, Edits, CutOff, request_of, requests, outcome_of, answers, goes_on}
-use Rattle.abc2midi_live.specs.Answer.{fault_list, title_list, hex_line, unknown_line, truncated_line}
-use Rattle.abc2midi_live.specs.declared.command.Command.{Command}
-use Rattle.abc2midi_live.specs.declared.command.Command.TheVariants.{Faults, Titles, Hex, Build, Quit, Unknown}
-use Rattle.abc2midi_live.specs.declared.command.Command.TheVariants as commands
+use Rattle.abc2midi_live_protocol.specs.Answer.{fault_list, title_list, hex_line, unknown_line, truncated_line}
+use Rattle.abc2midi_live_protocol.specs.declared.command.Command.{Command}
+use Rattle.abc2midi_live_protocol.specs.declared.command.Command.TheVariants.{Faults, Titles, Hex, Build, Quit, Unknown}
+use Rattle.abc2midi_live_protocol.specs.declared.command.Command.TheVariants as commands
 use Rattle.abc2midi_live.specs.Waiting.{request_unasked}
 use Rattle.abc2midi_live.proofs.RunOutputs.{no_text_before}
 use Rattle.abc2midi_live.proofs.Storing.{follows_same}

@@ -6,7 +6,7 @@ use Rattle.abc_publish.specs.Publisher.{Directory, PublisherView, Slots, is_pend
 use Rattle.abc_publish.specs.declared.slot.Stored.{Stored}
 use Rattle.abc_publish.specs.declared.slot.Stored.TheVariants.{Unknown}
 use Rattle.abc_tune_compiler.specs.Files.{Files, file_at}
-use Rattle.abc2midi_live.specs.Answer.{end_line, failed_line, stored_line}
+use Rattle.abc2midi_live_protocol.specs.Answer.{end_line, failed_line, stored_line}
 use Rattle.abc2midi_live.specs.Book.{files_of}
 use Rattle.abc2midi_live.specs.Storing.{StoreAnswer, StoreView, Follows, Done, Fault}
 use Rattle.abc2midi_live.specs.RunOutput.{RequestOutcome, Extent, Stopped, request_outcome, dialogue_view, line_before}

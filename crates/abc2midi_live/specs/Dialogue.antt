@@ -2,7 +2,7 @@
 use Rattle.std.specs.Prelude.{◌≡◌, ℕ, ◌-◌, Bool, true, false, is_ok, List, [], ◌∷◌, ◌++◌, length, Option, Some, None}
 use Rattle.abc_lines.specs.Text.{Text}
 use Rattle.abc_lines.specs.Edits.{edited}
-use Rattle.abc2midi_live.specs.Command.{line_count, command_of}
+use Rattle.abc2midi_live_protocol.specs.Command.{line_count, command_of}
 use Rattle.abc2midi_live.specs.Building.{StopsBy}
 use Rattle.abc2midi_live.specs.Machine.{CarriesOut, Future, FutureChange, future_change}
 use Rattle.abc_publish.specs.Publisher.{Directory}
@@ -10,7 +10,7 @@ use Rattle.abc2midi_live.specs.Storing.{StoreAnswer, StoreView, Follows}
 use Rattle.abc2midi_live.specs.RunOutput.{Extent, Stopped, DialogueView, request_outcome, with_text_before, nothing_more}
 use Rattle.abc2midi_live.specs.Transcript.{Request, Edits, ListsFaults, ListsTitles, Shows, Builds, Misspelled, CutOff, Ends}
 use Rattle.abc2midi_live.specs.Transcript.{request_of, requests, book_requests, answers, outcome_of, empty_dialogue, goes_on}
-use Rattle.abc2midi_live.specs.declared.command.Command.{Command}
+use Rattle.abc2midi_live_protocol.specs.declared.command.Command.{Command}
 use Rattle.abc2midi_live.specs.declared.machine.Reply.{Reply}
 use Rattle.abc2midi_live.specs.declared.machine.Reply.TheVariants.{Nothing, Answer, End}
 

@@ -1,8 +1,5 @@
-pub mod Answer
 pub mod Book
 pub mod Building
-pub mod Command
-pub mod Cut
 pub mod Dialogue
 pub mod DialogueState
 pub mod PendingCommand
@@ -16,5 +13,8 @@ pub mod RunOutput
 pub mod Transcript
 pub mod Waiting
 -- The definitions of the crates below that public clauses cite: a caller needs only this crate.
+pub use Rattle.abc2midi_live_protocol.specs.Answer
+pub use Rattle.abc2midi_live_protocol.specs.Command
+pub use Rattle.abc2midi_live_protocol.specs.Cut
 pub use Rattle.abc_fold.specs.Work
 pub use Rattle.abc_lines.specs.Edits

@@ -12,16 +12,16 @@ use Rattle.abc_lines.specs.TextLines.{lines_in, whole_lines}
 use Rattle.abc_publish.specs.Publisher.{Directory}
 use Rattle.abc_tune_compiler.specs.Files.{file_at}
 use Rattle.abc2midi_live.specs.Book.{files_of, faults_of, titles_of}
-use Rattle.abc2midi_live.specs.Command.{command_of, line_count}
-use Rattle.abc2midi_live.specs.Answer.{report, refusal, fault_list, title_list, hex_line, unknown_line, truncated_line}
+use Rattle.abc2midi_live_protocol.specs.Command.{command_of, line_count}
+use Rattle.abc2midi_live_protocol.specs.Answer.{report, refusal, fault_list, title_list, hex_line, unknown_line, truncated_line}
 use Rattle.abc2midi_live.specs.Building.{pending_numbers, build_outcome}
 use Rattle.abc2midi_live.specs.Storing.{StoreAnswer}
 use Rattle.abc2midi_live.specs.RunOutput.{Extent, Whole, is_whole, DialogueView, dialogue_view, RunOutput, with_text_before}
 use Rattle.abc2midi_live.specs.RunOutput.{nothing_more, RequestOutcome, request_outcome}
 use Rattle.abc_lines.specs.declared.edit_error.EditError.{EditError}
-use Rattle.abc2midi_live.specs.declared.command.Command.{Command}
-use Rattle.abc2midi_live.specs.declared.command.Command.TheVariants.{Insert, Replace, Delete, Faults, Titles, Hex, Build, Quit}
-use Rattle.abc2midi_live.specs.declared.command.Command.TheVariants.{Unknown}
+use Rattle.abc2midi_live_protocol.specs.declared.command.Command.{Command}
+use Rattle.abc2midi_live_protocol.specs.declared.command.Command.TheVariants.{Insert, Replace, Delete, Faults, Titles, Hex, Build, Quit}
+use Rattle.abc2midi_live_protocol.specs.declared.command.Command.TheVariants.{Unknown}
 
 -- The stored bytes of a line of an input are at most one more than a line of a text may have.
 abbrev pub most_kept : ℕ

@@ -11,10 +11,10 @@ use Rattle.abc_lines.specs.Text.{Text, text_of}
 use Rattle.abc_lines.specs.Edits.{edited, insertion, replacement}
 use Rattle.abc_publish.specs.Publisher.{Directory}
 use Rattle.abc_tune_compiler.specs.Files.{file_at}
-use Rattle.abc2midi_live.specs.Answer.{end_line, fault_list, hex_line, title_list, unknown_line}
+use Rattle.abc2midi_live_protocol.specs.Answer.{end_line, fault_list, hex_line, title_list, unknown_line}
 use Rattle.abc2midi_live.specs.Book.{faults_of, files_of, titles_of}
 use Rattle.abc2midi_live.specs.Building.{pending_numbers, build_outcome}
-use Rattle.abc2midi_live.specs.Command.{line_count}
+use Rattle.abc2midi_live_protocol.specs.Command.{line_count}
 use Rattle.abc2midi_live.specs.Machine.{AsksNothing}
 use Rattle.abc2midi_live.specs.Storing.{StoreAnswer}
 use Rattle.abc2midi_live.specs.RunOutput.{RequestOutcome, DialogueView, SoFar, Stopped, RunOutput, request_outcome}
@@ -24,9 +24,9 @@ use Rattle.abc2midi_live.specs.Transcript.{answers, outcome_of, edit_answer, goe
 use Rattle.abc2midi_live.specs.Dialogue.{BegunCommand, dialogue_future}
 use Rattle.abc2midi_live.specs.PendingCommand.{begun_command}
 use Rattle.abc2midi_live.specs.declared.dialogue.PendingCommand.{PendingCommand}
-use Rattle.abc2midi_live.specs.declared.command.Command.{Command}
-use Rattle.abc2midi_live.specs.declared.command.Command.TheVariants.{Insert, Replace, Delete, Faults, Titles, Hex, Build, Quit}
-use Rattle.abc2midi_live.specs.declared.command.Command.TheVariants.{Unknown}
+use Rattle.abc2midi_live_protocol.specs.declared.command.Command.{Command}
+use Rattle.abc2midi_live_protocol.specs.declared.command.Command.TheVariants.{Insert, Replace, Delete, Faults, Titles, Hex, Build, Quit}
+use Rattle.abc2midi_live_protocol.specs.declared.command.Command.TheVariants.{Unknown}
 
 -- A command without all its lines is cut off.
 pub request_of-cut : (command : Command) (lines : Text) → nat_le (line_count command) (length lines) ≡ false

@@ -8,10 +8,10 @@ ghost use Rattle.abc2midi_live.specs.Building.{answer_line, answer_of, entry_aft
 ghost use Rattle.abc2midi_live.specs.Building.{IsIdle, StopsAtOnce, StoresBy, StoresOne, StoresOneAtMost};
 ghost use Rattle.abc2midi_live.specs.Storing.{file_name, Follows};
 
-use crate::answer::{put_failed, put_stored};
 use crate::streams::{Store, StoreFault};
 use abc_live::Session;
 use abc_publish::{Job, Publisher};
+use abc2midi_live_protocol::{put_failed, put_stored};
 use std::alloc::{AllocError, Global};
 
 /// Returns the name of the file of a number.

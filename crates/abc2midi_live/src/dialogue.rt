@@ -2,7 +2,7 @@
 
 ghost use Rattle.std.specs.Prelude.{◌≡◌, ◌<◌, ◌≤◌, nat_le, false, Option, None, [], length, IfOk, IsErr, OnErr, OnOk};
 ghost use Rattle.std.specs.Result.{result_unwrap_or};
-ghost use Rattle.abc2midi_live.specs.Command.{line_count};
+ghost use Rattle.abc2midi_live_protocol.specs.Command.{line_count};
 ghost use Rattle.abc_lines.specs.Text.{text_of};
 ghost use Rattle.abc_lines.specs.Edits.{edited, insertion};
 ghost use Rattle.abc_live.specs.Edit.{splice_of};
@@ -11,15 +11,14 @@ ghost use Rattle.abc2midi_live.specs.Building.{IsIdle};
 ghost use Rattle.abc2midi_live.specs.Transcript.{book_lines, edit_answer, no_directory, request_of};
 ghost use Rattle.abc2midi_live.specs.Dialogue.{CommandStops, RequestStops, RespondsBy, with_first_lines, is_taken};
 
-use crate::answer::{fault_list, hex_line, refusal, report_line, title_list};
 use crate::book_lines::book_lines;
 use crate::build_command::build;
-use crate::command::Command;
 use crate::machine::{Machine, Reply};
 use crate::streams::Store;
 use abc_fold::Work;
 use abc_live::{Edit, Session};
 use abc_publish::Publisher;
+use abc2midi_live_protocol::{Command, fault_list, hex_line, refusal, report_line, title_list};
 use std::alloc::{AllocError, Global};
 
 /// A command whose lines have not all come.

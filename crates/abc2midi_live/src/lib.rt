@@ -1,12 +1,9 @@
 //! Commands from a byte stream on a tune book that is edited, and the answers to a byte stream.
 #![tactic(auto)]
 
-mod answer;
 mod book_fault;
 mod book_lines;
 mod build_command;
-mod command;
-mod cut;
 mod dialogue;
 mod listener;
 mod machine;
@@ -17,8 +14,8 @@ mod transcript;
 
 pub use abc_fold::Work;
 pub use abc_lines::EditError;
+pub use abc2midi_live_protocol::Command;
 pub use book_fault::fault_of_book;
-pub use command::Command;
 pub use run_fault::RunFault;
 pub use run_loop::MOST_READS;
 pub use streams::{Piped, Sink, Source, Store, StoreFault, StreamFault};

@@ -17,12 +17,12 @@ ghost use Rattle.abc2midi_live.specs.Outcome.{
 ghost use Rattle.abc2midi_live.specs.Transcript.{most_kept};
 ghost use Rattle.abc_fold.specs.Work.{raised};
 
-use crate::cut::cut;
 use crate::machine::{Machine, Reply};
 use crate::run_fault::RunFault;
 use crate::streams::{Sink, Source, Store};
 use abc_fold::Work;
 use abc_lines::LONGEST_LINE;
+use abc2midi_live_protocol::cut;
 use std::alloc::{AllocError, Global};
 use std::mem;
 

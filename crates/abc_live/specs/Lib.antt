@@ -1,11 +1,11 @@
-pub mod Counting
-pub mod Edit
-pub mod Limits
-pub mod Prepared
-pub mod Session
--- The definitions of the crates below that public clauses cite: a caller needs only this crate.
+-- The definitions that public clauses of a session cite: a caller needs only this crate.
 pub use Rattle.abc_lines.specs.EditError
 pub use Rattle.abc_lines.specs.Edits
+pub use Rattle.abc_live_session.specs.Counting
+pub use Rattle.abc_live_session.specs.Edit
+pub use Rattle.abc_live_session.specs.Limits
+pub use Rattle.abc_live_session.specs.Prepared
+pub use Rattle.abc_live_session.specs.Session
 pub use Rattle.abc_tune_compiler.specs.Book
 pub use Rattle.abc_tune_compiler.specs.Fault
 pub use Rattle.abc_tune_compiler.specs.Files

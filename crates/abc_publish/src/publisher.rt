@@ -3,14 +3,14 @@
 ghost use Rattle.std.specs.Prelude.{◌≡◌, ◌↔◌, ℕ, ◌==◌, ◌≤◌, ◌<◌, ⊤, true, false, None, Some, IfSome, All, is_some, option_copied};
 ghost use Rattle.std.specs.Prelude.{IfOk, IsOk, IsTrue, MatchOption, OnErr, OnOk};
 ghost use Rattle.std.specs.List.Sorted.{IsStrictlyIncreasing};
-ghost use Rattle.abc_live.specs.Session.{book_in};
+ghost use Rattle.abc_live_session.specs.Session.{book_in};
 ghost use Rattle.abc_publish.specs.Publisher.{with_job, without_job, is_pending, is_wanted, maps_of, publishing_of, slot_at};
 ghost use Rattle.abc_publish.specs.Publisher.{stored_as, HasBegun, HasNone, IsNext, IsNextJob, IsSettled};
 ghost use Rattle.abc_publish.specs.declared.slot.Stored.TheVariants.{Unknown};
 
 use crate::job::Job;
 use crate::slot::{Slot, Stored};
-use abc_live::LiveSession;
+use abc_live_session::LiveSession;
 use abc_text::Sequence;
 use abc_tune_compiler::Compiler;
 use std::alloc::{AllocError, Global};

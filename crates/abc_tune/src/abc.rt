@@ -18,7 +18,7 @@ use abc_tune_compiler::{Built, Compiler};
 use std::alloc::{AllocError, Global};
 
 /// The compiler of tunes in ABC.
-#[derive(Clone, Copy, Debug, Drop)]
+#[derive(Clone, Copy, Debug, Default, Drop)]
 pub struct Abc;
 
 impl Fold for Abc {

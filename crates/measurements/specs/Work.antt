@@ -2,12 +2,12 @@
 use Rattle.std.specs.Prelude.{◌≡◌, ℕ, List, [], ◌∷◌, ◌++◌, Option, Some, None}
 use Rattle.std.specs.Global.{Vec}
 use Rattle.abc_lines.specs.Text.{text_of}
-use Rattle.abc_live.specs.declared.edit.Edit.{Edit}
-use Rattle.abc_live.specs.declared.edit.Edit.TheVariants as edits
+use Rattle.abc_live.specs.declared.Edit.{Edit}
+use Rattle.abc_live.specs.declared.Edit.TheVariants as edits
 use Rattle.abc2midi_live.specs.Command.{command_of}
-use Rattle.abc2midi_live.specs.declared.command.Command.{Command}
-use Rattle.abc2midi_live.specs.declared.command.Command.TheVariants.{Insert, Replace, Delete, Faults, Titles, Hex, Build, Quit}
-use Rattle.abc2midi_live.specs.declared.command.Command.TheVariants.{Unknown}
+use Rattle.abc2midi_live.specs.declared.Command.{Command}
+use Rattle.abc2midi_live.specs.declared.Command.TheVariants.{Insert, Replace, Delete, Faults, Titles, Hex, Build, Quit}
+use Rattle.abc2midi_live.specs.declared.Command.TheVariants.{Unknown}
 use Rattle.measurements.specs.declared.work.PartialCommand.{PartialCommand}
 
 -- The edit of a command with its lines, if it is one.

@@ -10,7 +10,7 @@ ghost use Rattle.abc2midi_live.specs.Answer.{unknown_line};
 ghost use Rattle.abc2midi_live.specs.Command.{command_of};
 ghost use Rattle.abc2midi_live.specs.Transcript.{input_lines, requests, transcript};
 ghost use Rattle.abc2midi_live.specs.Transcript.{Edits, CutOff, Ends};
-ghost use Rattle.abc2midi_live.specs.declared.command.Command.TheVariants as commands;
+ghost use Rattle.abc2midi_live.specs.declared.Command.TheVariants as commands;
 
 /// The commands. Leading zeros are allowed, and one carriage return at the end of a line is dropped.
 #[tactic(auto, unfolding(crate::specs::Opened::commands))]

@@ -9,7 +9,7 @@ ghost use Rattle.abc_lines.specs.Edits.{Refuses, deletion, edited, insertion, re
 ghost use Rattle.abc_lines.specs.Text.{Text, is_line};
 ghost use Rattle.abc_lines.specs.declared.edit_error.EditError.TheVariants.{BadLine, BadRange, OutOfMemory, TooLarge};
 ghost use Rattle.abc_live.specs.Edit.{line_at, splice_of};
-ghost use Rattle.abc_live.specs.declared.edit.Edit.TheVariants.{Delete, Insert, Replace};
+ghost use Rattle.abc_live.specs.declared.Edit.TheVariants.{Delete, Insert, Replace};
 ghost use Rattle.abc_tune_compiler.specs.Files.{file_at, removed_numbers, written_numbers};
 ghost use Rattle.live_examples.specs.Values.{four_lines};
 

@@ -1,6 +1,6 @@
 use Rattle.std.proofs.Common.{ℕ, List, Option, Some, sym, subst, arith}
 use Rattle.abc_publish.specs.Publisher.{maps_of}
-use Rattle.abc2midi_live.specs.Answer.{end_line}
+use Rattle.abc2midi_live_protocol.specs.Answer.{end_line}
 use Rattle.abc2midi_live.specs.Building.{stage}
 use Rattle.abc2midi_live.proofs.Pending.{build_seen, StoresSoFar, so_far_none, so_far_more, so_far_all, so_far_stops, stops_first}
 use Rattle.abc2midi_live.proofs.Pending.{left_fewer, left_small}

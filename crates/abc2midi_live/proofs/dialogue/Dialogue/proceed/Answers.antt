@@ -3,7 +3,7 @@ use Rattle.std.proofs.lemmas.Result.{IfOk-weaker, on_err_weaker}
 use Rattle.std.proofs.lemmas.List.{length-map}
 use Rattle.abc_lines.specs.Text.{text_of}
 use Rattle.abc_publish.specs.Publisher.{maps_of}
-use Rattle.abc2midi_live.specs.Command.{line_count}
+use Rattle.abc2midi_live_protocol.specs.Command.{line_count}
 use Rattle.abc2midi_live.specs.Dialogue.{Says, with_first_lines, dialogue_change}
 use Rattle.abc2midi_live.specs.PendingCommand.{begun_command}
 use Rattle.abc2midi_live.specs.RunOutput.{dialogue_view}

@@ -2,7 +2,7 @@ use Rattle.std.proofs.Common.{[]}
 use Rattle.abc_lines.specs.Text.{text_of}
 use Rattle.abc_publish.specs.Publisher.{maps_of}
 use Rattle.abc2midi_live.specs.Book.{faults_of, files_of, titles_of}
-use Rattle.abc2midi_live.specs.Answer.{unknown_line}
+use Rattle.abc2midi_live_protocol.specs.Answer.{unknown_line}
 use Rattle.abc2midi_live.specs.DialogueState.{view_of}
 use Rattle.abc2midi_live.specs.Transcript.{request_of}
 use Rattle.abc2midi_live.proofs.Requests.{untaken, replies_change, insert_request, replace_request, delete_request}

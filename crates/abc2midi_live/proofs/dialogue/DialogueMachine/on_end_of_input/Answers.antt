@@ -1,6 +1,6 @@
 use Rattle.std.proofs.Common.{[], ◌∙◌, ap}
 use Rattle.abc_publish.specs.Publisher.{maps_of}
-use Rattle.abc2midi_live.specs.Answer.{truncated_line}
+use Rattle.abc2midi_live_protocol.specs.Answer.{truncated_line}
 use Rattle.abc2midi_live.specs.Dialogue.{dialogue_future}
 use Rattle.abc2midi_live.specs.PendingCommand.{begun_command}
 use Rattle.abc2midi_live.specs.Waiting.{request_of-pending}

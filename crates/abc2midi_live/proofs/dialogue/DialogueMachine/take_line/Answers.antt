@@ -3,7 +3,7 @@ use Rattle.std.proofs.Common.{◌≡◌, false, map, [], ◌∷◌, ◌++◌, So
 use Rattle.std.proofs.lemmas.Result.{IfOk-weaker, on_err_weaker}
 use Rattle.abc_lines.specs.Text.{text_of}
 use Rattle.abc_publish.specs.Publisher.{maps_of}
-use Rattle.abc2midi_live.specs.Command.{command_of}
+use Rattle.abc2midi_live_protocol.specs.Command.{command_of}
 use Rattle.abc2midi_live.specs.Machine.{CarriesOut, Replies, future_change}
 use Rattle.abc2midi_live.specs.RunOutput.{Stopped, dialogue_view}
 use Rattle.abc2midi_live.specs.Transcript.{request_of}

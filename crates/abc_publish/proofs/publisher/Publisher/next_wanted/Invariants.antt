@@ -1,5 +1,5 @@
 use Rattle.std.proofs.Common.{◌≡◌, ℕ, ◌≤◌, ◌<◌, ◌^◌, ◌-◌, false}
-use Rattle.abc_live.specs.Session.{book_in}
+use Rattle.abc_live_session.specs.Session.{book_in}
 use Rattle.abc_publish.specs.Publisher.{is_wanted, maps_of}
 use Rattle.abc_publish.proofs.publisher.Publisher.next_wanted.Given as goal
 
