@@ -1,6 +1,6 @@
 //! The accidentals of all octaves, group by group.
 
-ghost use Rattle.std.specs.Prelude.{◌≡◌, [], IfOk};
+ghost use Rattle.std.specs.Prelude.{◌≡◌, [], length, IfOk};
 ghost use Rattle.std.specs.Option.{option_copied};
 ghost use Rattle.std.specs.BTreeMap.{insert_entry, is_at};
 ghost use Rattle.std.specs.Map.{lookup};
@@ -64,7 +64,9 @@ impl OctaveGroups {
     }
 
     /// How many groups there are.
-    pub(crate) fn len(&self) -> usize {
+    pub(crate) fn len(&self) -> usize
+        ensures { result ≡ length self.now }
+    {
         match &self.groups {
             Some(groups) => groups.get().len(),
             None => 0,

@@ -4,10 +4,8 @@
 mod abc;
 
 pub use abc::Session;
-pub use abc_fields::FaultCode;
-pub use abc_fold::Work;
-pub use abc_lines::{EditError, MOST_LINES};
-pub use abc_live_session::{Edit, EditPatch, LiveSession};
-pub use abc_text::Sequence;
+pub use abc_live_session::{
+    Compiler, Edit, EditError, EditPatch, Fault, FaultCode, LiveSession, MOST_LINES, Report,
+    Sequence, Title, Work,
+};
 pub use abc_tune::Abc;
-pub use abc_tune_compiler::{Compiler, Fault, Report, Title};

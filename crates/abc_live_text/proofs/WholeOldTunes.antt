@@ -147,14 +147,31 @@ taken_items steps old rows source was chain laws carried folded there some along
     let own : flat_map cells_in rows ≡ was.cells = cells_along old was.cells source 0 rows (cells_there old source was there) carried along in
     (was, one_less old source was some there, same_items steps opening was chain laws (all_at (IsFolded steps) old source was folded there) folds (cells ∙ own) alike)
 
+-- There is one old chain that lines go along.
+old_along : {State Cell Items : Type 0} (steps : Steps State Cell Items) (old : List (ChainView State Cell Items))
+    (rows : List (CarriedRow Cell)) (source : ℕ) (was : ChainView State Cell Items)
+    → first_source rows ≡ Some source → slice_get old source ≡ Some was → (opening : State) → (goes : GoesAlong steps old opening rows) → was ≡ goes.was
+old_along steps old rows source was from there opening goes =
+    let number : source ≡ suc goes.number = (let both : Some source ≡ Some (suc goes.number) = sym from ∙ goes.source in cc) in
+    let both : Some was ≡ Some goes.was = sym there ∙ (ap (slice_get old) number ∙ goes.there) in cc
+
+-- The old chain that lines go along began in a state equivalent to theirs.
+pub begins_alike : {State Cell Items : Type 0} (steps : Steps State Cell Items) (old : List (ChainView State Cell Items))
+    (rows : List (CarriedRow Cell)) (source : ℕ) (was : ChainView State Cell Items)
+    → first_source rows ≡ Some source → slice_get old source ≡ Some was → (opening : State) → GoesAlong steps old opening rows
+    → are_alike_both steps.alike (slice_get was.entries 0) (Some opening) ≡ true
+begins_alike steps old rows source was from there opening goes =
+    let own = old_along steps old rows source was from there opening goes in
+    (λ i. are_alike_both steps.alike (slice_get (own i).entries 0) (Some opening))
+    ∙ ((λ i. are_alike_both steps.alike (goes.entry i) (Some opening)) ∙ goes.alike)
+
 -- A tune that goes along an old one begins as that does.
 pub begins_so : {State Cell Items : Type 0} (steps : Steps State Cell Items) (old : List (ChainView State Cell Items))
     (rows : List (CarriedRow Cell)) (source : ℕ) (was chain : ChainView State Cell Items) → IsResumable steps
     → first_source rows ≡ Some source → slice_get old source ≡ Some was → (opening : State) → Folds steps opening chain → GoesAlong steps old opening rows
     → are_alike_both steps.alike (slice_get was.entries 0) (slice_get chain.entries 0) ≡ true
 begins_so {State = State} {Cell = Cell} {Items = Items} steps old rows source was chain laws from there opening folds goes =
-    let number : source ≡ suc goes.number = (let both : Some source ≡ Some (suc goes.number) = sym from ∙ goes.source in cc) in
-    let own : was ≡ goes.was = (let both : Some was ≡ Some goes.was = sym there ∙ (ap (slice_get old) number ∙ goes.there) in cc) in
+    let own = old_along steps old rows source was from there opening goes in
     let new = new_first steps chain.entries opening chain.cells folds.entries in
     (λ i. are_alike_both steps.alike (slice_get (own i).entries 0) (slice_get chain.entries 0))
     ∙ ((λ i. are_alike_both steps.alike (goes.entry i) (new.1 i)) ∙ laws.transitive goes.begun opening new.0 goes.alike (laws.symmetric new.0 opening new.2))

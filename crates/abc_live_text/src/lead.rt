@@ -93,8 +93,10 @@ impl<C: Compiler> KeptText<C> {
 
     /// Whether the tunes from `following` on stay the same if tunes begin in this state.
     fn may_go_on(&self, following: usize, opening: &C::State) -> bool
-        ensures { let c = self.now.compiler in
+        ensures sound { let c = self.now.compiler in
             result ≡ true → MayGoOn (C.steps c) (C.rules c) self.now following opening.now }
+        ensures found { let c = self.now.compiler in
+            MayGoOn (C.steps c) (C.rules c) self.now following opening.now → result ≡ true }
     {
         if self.tunes.len() <= following {
             return true;

@@ -1,6 +1,6 @@
 //! Where the cells of a line are: the chain that holds them, and the place of the first in it.
 
-ghost use Rattle.std.specs.Prelude.{◌≡◌, ◌+◌, ◌<◌, ◌≤◌, ◌++◌, IfOk, IfSome, IsSome, None, OnOk, Some, get_or, length, map, true};
+ghost use Rattle.std.specs.Prelude.{◌≡◌, ◌+◌, ◌<◌, ◌≤◌, ◌++◌, IfOk, IfSome, IsSome, None, OnOk, Some, get_or, is_some, length, map, true};
 ghost use Rattle.abc_live_text.specs.Origin.{BlocksRise, rows_along, rows_between, rows_until};
 ghost use Rattle.abc_live_text.specs.Pieces.{address_from};
 ghost use Rattle.abc_live_text.specs.Row.{at_origin, carried_row};
@@ -63,7 +63,7 @@ impl<K: Drop> CarriedRow<K> {
 
     /// Whether a chain holds the cells of the line.
     pub(crate) fn has_origin(&self) -> bool
-        ensures { result ≡ true → IsSome self.now.origin }
+        ensures { result ≡ is_some self.now.origin }
     {
         self.origin.is_some()
     }
@@ -72,6 +72,7 @@ impl<K: Drop> CarriedRow<K> {
     pub(crate) fn goes_on(&self, end: &Option<Origin>) -> bool
         ensures held { result ≡ true → IsSome self.now.origin }
         ensures same { result ≡ true → end.now ≡ self.now.origin }
+        ensures found { IsSome self.now.origin → end.now ≡ self.now.origin → result ≡ true }
     {
         match (&self.origin, end) {
             (Some(origin), Some(end)) => origin.source == end.source && origin.first == end.first,
@@ -81,7 +82,8 @@ impl<K: Drop> CarriedRow<K> {
 
     /// Where the cells of the line end in the chain that holds them.
     pub(crate) fn end(&self) -> Option<Origin>
-        ensures { IfSome result (λ end. address_from (length self.now.cells) self.now.origin ≡ Some (end.source, end.first)) }
+        ensures place { IfSome result (λ end. address_from (length self.now.cells) self.now.origin ≡ Some (end.source, end.first)) }
+        ensures found { IfSome (address_from (length self.now.cells) self.now.origin) (λ end. end.1 ≤ usize.MAX → IsSome result) }
     {
         let count = self.cells().len();
         match &self.origin {

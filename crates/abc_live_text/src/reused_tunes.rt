@@ -89,6 +89,7 @@ pub(crate) fn whole_chain<'a, F: Fold>(
     requires folded { All (IsFolded (F.steps fold.now)) old.now.items }
     ensures folds { IfSome result (λ chain. Folds (F.steps fold.now) opening.now chain.now) }
     ensures cells { IfSome result (λ chain. chain.now.cells ≡ flat_map cells_in rows.now) }
+    ensures along { GoesAlong (F.steps fold.now) old.now.items opening.now rows.now → IsSome result }
 {
     let source = first_source(rows)?;
     let known = old.get(source)?;

@@ -1,6 +1,6 @@
 //! The stretch of a text that an edit may change.
 
-ghost use Rattle.std.specs.Prelude.{◌≡◌, ◌+◌, ◌-◌, ◌<◌, ◌≤◌, IfSome, drop, length};
+ghost use Rattle.std.specs.Prelude.{◌≡◌, ◌+◌, ◌-◌, ◌<◌, ◌≤◌, IfSome, None, drop, length};
 ghost use Rattle.abc_live_text.specs.NewParts.{IsLead, IsSpan, span_stretch, span_to, start_of};
 
 use abc_book::Block;
@@ -79,7 +79,8 @@ fn start_at(tunes: &[Block], i: usize, end: usize) -> usize
 #[tactic(auto, using(crate::proofs::Spans::starts_late))]
 pub(crate) fn span_of(tunes: &[Block], count: usize, at: usize, removed: usize) -> Option<Span>
     requires { at + removed ≤ count }
-    ensures { IfSome result (λ span. IsSpan tunes.now count at removed span) }
+    ensures span { IfSome result (λ span. IsSpan tunes.now count at removed span) }
+    ensures none { result ≡ None → at ≤ start_of tunes.now at }
 {
     let begun = begun_before(tunes, 0, at);
     if begun == 0 {

@@ -1,6 +1,6 @@
 -- What a directory of files is known to hold, the jobs that are under way, and how both differ from a book. Not in ABC 2.1.
-use Rattle.std.specs.Prelude.{◌≡◌, ℕ, ◌<◌, ◌≤◌, ◌^◌, ◌==◌, ◌&&◌, Bool, true, false, not, if◌then◌else◌, List, Option, Some, None}
-use Rattle.std.specs.Prelude.{MatchOption, is_none}
+use Rattle.std.specs.Prelude.{◌≡◌, ℕ, ◌<◌, ◌≤◌, ◌^◌, ◌==◌, ◌&&◌, ◌||◌, Bool, true, false, not, if◌then◌else◌, List, Option, Some, None}
+use Rattle.std.specs.Prelude.{MatchOption, is_none, is_some}
 use Rattle.std.specs.Str.{bytes_eq}
 use Rattle.std.specs.BTreeMap.{is_at}
 use Rattle.std.specs.Map.{lookup}
@@ -41,6 +41,10 @@ Slots = List (ℕ × SlotView)
 -- What a publisher holds for a number, if it has a slot.
 abbrev pub slot_at : Slots → ℕ → Option SlotView
 slot_at slots n = lookup (is_at (nat_cmp n)) slots
+
+-- Whether a number has a slot or a file.
+abbrev pub has_slot_or_file : Slots → Files → ℕ → Bool
+has_slot_or_file slots files n = is_some (slot_at slots n) || is_some (file_at files n)
 
 -- The entry of the directory that a slot has; without a slot there is no file.
 abbrev pub stored_of : Option SlotView → Option Stored

@@ -1,11 +1,11 @@
 //! A directory of MIDI files that is brought up to date.
 
 ghost use Rattle.std.specs.Prelude.{◌≡◌, ◌↔◌, ℕ, ◌==◌, ◌≤◌, ◌<◌, ⊤, true, false, None, Some, IfSome, All, is_some, option_copied};
-ghost use Rattle.std.specs.Prelude.{IfOk, IsOk, IsTrue, MatchOption, OnErr, OnOk};
+ghost use Rattle.std.specs.Prelude.{Contains, IfOk, IsOk, IsTrue, MatchOption, OnErr, OnOk};
 ghost use Rattle.std.specs.List.Sorted.{IsStrictlyIncreasing};
 ghost use Rattle.abc_live_session.specs.Session.{book_in};
 ghost use Rattle.abc_publish.specs.Publisher.{with_job, without_job, is_pending, is_wanted, maps_of, publishing_of, slot_at};
-ghost use Rattle.abc_publish.specs.Publisher.{stored_as, HasBegun, HasNone, IsNext, IsNextJob, IsSettled};
+ghost use Rattle.abc_publish.specs.Publisher.{has_slot_or_file, stored_as, HasBegun, HasNone, IsNext, IsNextJob, IsSettled};
 ghost use Rattle.abc_publish.specs.declared.slot.Stored.TheVariants.{Unknown};
 
 use crate::job::Job;
@@ -154,6 +154,8 @@ impl Publisher {
     /// Returns the least number from another one on that has a slot or a file.
     fn next_number<C: Compiler>(&self, session: &LiveSession<C>, at: u32) -> Option<u32>
         ensures from { IfSome result (λ number. at ≤ number) }
+        ensures held { let files = (book_in C.steps C.rules session.now).files in
+            IfSome result (λ number. has_slot_or_file self.now files number ≡ true) }
         ensures none { let files = (book_in C.steps C.rules session.now).files in (n : ℕ) → at ≤ n
             → MatchOption result ⊤ (λ number. n < number) → is_wanted (maps_of self.now) files n ≡ false }
     {
@@ -167,6 +169,7 @@ impl Publisher {
     /// Returns the least number from another one on that has a slot.
     fn next_slot(&self, at: u32) -> Option<u32>
         ensures from { IfSome result (λ number. at ≤ number) }
+        ensures held { IfSome result (λ number. is_some (slot_at self.now number) ≡ true) }
         ensures none { (n : ℕ) → at ≤ n → MatchOption result ⊤ (λ number. n < number) → slot_at self.now n ≡ None }
     {
         let (number, _) = self.slots.range(at..).next()?;
@@ -213,6 +216,7 @@ impl Publisher {
 fn next_in(numbers: &[u32], at: u32) -> Option<u32>
     requires { IsStrictlyIncreasing numbers.now }
     ensures from { IfSome result (λ number. at ≤ number) }
+    ensures held { IfSome result (λ number. Contains numbers.now number) }
     ensures none { (n : ℕ) → at ≤ n → MatchOption result ⊤ (λ number. n < number) → All (λ m. (m == n) ≡ false) numbers.now }
 {
     let from = numbers.partition_point(|number| *number < at);

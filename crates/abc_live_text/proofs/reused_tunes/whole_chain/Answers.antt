@@ -1,8 +1,18 @@
-use Rattle.std.proofs.Common.{◌≡◌, Some, true, length, slice_get, sym, ◌∙◌, ap, subst, rules}
+use Rattle.std.proofs.Common.{◌≡◌, Some, true, false, length, slice_get, sym, ◌∙◌, ap, subst, rules}
 use Rattle.abc_fold.specs.Chain.{ChainView, Folds}
-use Rattle.abc_live_text.specs.ReusedTunes.{are_alike_both, is_along}
-use Rattle.abc_live_text.proofs.WholeOldTunes.{whole_cells, whole_folds}
+use Rattle.abc_live_text.specs.ReusedTunes.{are_alike_both, first_source, is_along}
+use Rattle.abc_live_text.proofs.WholeOldTunes.{begins_alike, whole_cells, whole_folds}
 use Rattle.abc_live_text.proofs.reused_tunes.whole_chain.Goals as goal
+
+pub returns-then-not-begins_in-clause-along : goal.returns-then-not-begins_in-clause-along
+returns-then-not-begins_in-clause-along g c =
+    let steps = g.F.Fold.steps c.args.fold.now in
+    let old_chain = c.get-old_chain.result.now in
+    let from : first_source c.args.rows.now ≡ Some c.in_ok-source.source = search rules in
+    let there : slice_get c.args.old.now.items c.in_ok-source.source ≡ Some old_chain = sym c.in_ok-known.ensures ∙ ap Some (sym c.get-old_chain.ensures) in
+    let not_alike : are_alike_both steps.alike (slice_get old_chain.entries 0) (Some c.args.opening.now) ≡ false =
+    sym (c.begins_in.ensures c.args.fold.now) ∙ c.if-not-begins_in.true in
+    λ goes. absurd (let so = begins_alike steps c.args.old.now.items c.args.rows.now c.in_ok-source.source old_chain from there c.args.opening.now goes in cc)
 
 pub returns-clause-folds : goal.returns-clause-folds
 returns-clause-folds g c =

@@ -20,7 +20,7 @@ returns-then-may_go_on-clause-new_parts g c = λ lines new.
     let kept = kept_of g.C.Fold.steps g.C.Compiler.rules c.args.self.now c.lines.ensures.stands g.met.C.Fold.resumable g.met.C.Compiler.lawful in
     let first = lead_edit _ c.args.self.now c.lead-lead.result c.args.at c.args.removed lines _ _ _ c.requires c.lead-lead.ensures c.deref.ensures.value c.in_ok-rows.ensures.value new in
     let led = lead_edit _ c.args.self.now c.lead-lead.result c.args.at c.args.removed lines _ _ _ c.requires c.lead-lead.ensures c.deref-then-may_go_on.ensures.value c.in_ok-rows.ensures.value new in
-    c.refold_lead.ensures.new_parts (splice_at c.args.at c.args.removed lines) led (lead_opening kept first c.in_ok-header.ensures.value) (c.may_go_on.ensures c.if-may_go_on.true)
+    c.refold_lead.ensures.new_parts (splice_at c.args.at c.args.removed lines) led (lead_opening kept first c.in_ok-header.ensures.value) (c.may_go_on.ensures.sound c.if-may_go_on.true)
 
 pub returns-then-may_go_on-clause-counted : goal.returns-then-may_go_on-clause-counted
 returns-then-may_go_on-clause-counted g c = λ lines new.

@@ -1,4 +1,4 @@
-use Rattle.std.proofs.Common.{◌+◌}
+use Rattle.std.proofs.Common.{◌+◌, sym, ◌∙◌}
 use Rattle.std.proofs.lemmas.List.Elements.{All-push}
 use Rattle.abc_fold.specs.Piece.{IsKept}
 use Rattle.abc_live_text.specs.Pieces.{address_from}
@@ -20,6 +20,6 @@ loop-k-preserved g c =
           (helds_next c.args.self.now.chains.now.items c.args.row.now.origin c.args.pieces.now c.loop-k.pieces c.args.row.now.cells
           c.loop-k.k c.in_ok-piece.piece c.loop-k.invariant.kept_states cell c.in_ok-piece.ensures.held);
       kept = rw c.in_ok-append.ensures.ok (All-push (IsKept (g.F.Fold.steps c.args.self.now.fold.now)) c.loop-k.pieces c.in_ok-piece.piece c.loop-k.invariant.kept c.in_ok-piece.ensures.kept);
-      known = λ held. ends_there c.args.self.now.chains.now.items c.append.new.pieces c.args.row.now.origin (c.loop-k.k + 1) (c.has_origin-known.ensures held) (rw c.in_ok-append.ensures.ok ends);
+      known = λ held. ends_there c.args.self.now.chains.now.items c.append.new.pieces c.args.row.now.origin (c.loop-k.k + 1) (sym c.has_origin-known.ensures ∙ held) (rw c.in_ok-append.ensures.ok ends);
       ends = λ more. rw c.in_ok-append.ensures.ok ends;
     }
