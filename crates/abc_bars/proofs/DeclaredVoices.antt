@@ -12,10 +12,10 @@ use Rattle.abc_fields.specs.Shift.{no_shift}
 use Rattle.abc_bars_header.specs.Header.{declare, declare_at, with_shift_at, with_shift_of, merge_shift}
 use Rattle.abc_bars_header.specs.HeaderLine.{HeaderLine}
 use Rattle.abc_bars_header.specs.Voices.{place_of, with_voice_at}
-use Rattle.abc_bars_items.specs.declared.item.TheConstants.{MOST_VOICES}
+use Rattle.abc_text.specs.declared.limits.TheConstants.{MOST_VOICES}
 use Rattle.abc_bars.specs.LookBack.Header.{declared_names, declared_shift, last_part, part_said, voice_on, voices_at, with_name, with_named}
-use Rattle.abc_bars.proofs.Names.{among_at, differs, distinct_on, each_at, each_with, few_on, full_names, keys_each, known_name, length_each, mentioned_name, name_there, new_name, others_each}
-use Rattle.abc_bars.proofs.Names.{push_each, set_each, still_apart, still_room, unplaced}
+use Rattle.abc_bars.proofs.Names.{list_any-at, bytes_eq-differs, distinct_on, voice_at-each_with, each_with, few_on, with_name-full, keys_of-each_with, with_name-known, length_each, mentioned_name, slice_get-name_there, with_name-new, each_with-others}
+use Rattle.abc_bars.proofs.Names.{each_with-push, each_with-set, list_any-apart, still_room, list_any-unplaced}
 
 -- The properties of a voice, if one more line sets these for it or for another.
 abbrev pub said_if : Bool → Shift → Shift → Shift
@@ -53,16 +53,16 @@ module _ (names : List (List ℕ)) (name : List ℕ) (shift : Shift) (said : Lis
   said_again : (at : ℕ) → IsDistinct bytes_eq names → position (bytes_eq name) names ≡ Some at
       → each_with (said_on name shift said) names ≡ with_shift_at (each_with said names) at shift
   said_again at distinct found =
-      let there = name_there name names at found in
-      set_each said (said_on name shift said) name others_stay names at distinct there
+      let there = slice_get-name_there name names at found in
+      each_with-set said (said_on name shift said) name others_stay names at distinct there
       ∙ ap (with_voice_at (each_with said names) at) said_here
-      ∙ sym (ap (with_shift_of (each_with said names) at shift) (each_at said names at name there))
+      ∙ sym (ap (with_shift_of (each_with said names) at shift) (voice_at-each_with said names at name there))
 
   -- A new voice, of which nothing was said, comes after the others.
   said_new : list_any (bytes_eq name) names ≡ false → said name ≡ no_shift
       → each_with (said_on name shift said) (names ++ name ∷ []) ≡ each_with said names ++ (name, shift) ∷ []
   said_new new nothing =
-      push_each said (said_on name shift said) name others_stay names new
+      each_with-push said (said_on name shift said) name others_stay names new
       ∙ ap (λ s. each_with said names ++ (name, s) ∷ []) (said_here ∙ said_first shift (said name) nothing)
 
   -- The voices, by whether there is room.
@@ -77,14 +77,14 @@ module _ (names : List (List ℕ)) (name : List ℕ) (shift : Shift) (said : Lis
       → (place : Option ℕ) → position (bytes_eq name) names ≡ place
       → each_with (said_on name shift said) (with_name names name) ≡ (declare_at (each_with said names) name shift place).0
   named_at distinct nothing (Some at) found =
-      ap (each_with (said_on name shift said)) (known_name names name (among_at name names at found)) ∙ said_again at distinct found
+      ap (each_with (said_on name shift said)) (with_name-known names name (list_any-at name names at found)) ∙ said_again at distinct found
   named_at distinct nothing None none =
-      let new : list_any (bytes_eq name) names ≡ false = unplaced name names none in
+      let new : list_any (bytes_eq name) names ≡ false = list_any-unplaced name names none in
       ⊎_elim
-      (λ free. ap (each_with (said_on name shift said)) (new_name names name new free) ∙ said_new new (nothing new free)
+      (λ free. ap (each_with (said_on name shift said)) (with_name-new names name new free) ∙ said_new new (nothing new free)
       ∙ by_room true (lt-ltb (length names) MOST_VOICES free))
-      (λ full. ap (each_with (said_on name shift said)) (full_names names name full)
-      ∙ others_each said (said_on name shift said) name others_stay names new
+      (λ full. ap (each_with (said_on name shift said)) (with_name-full names name full)
+      ∙ each_with-others said (said_on name shift said) name others_stay names new
       ∙ by_room false (le-ltb (length names) MOST_VOICES full))
       (cases_lt (length names) MOST_VOICES)
 
@@ -108,8 +108,8 @@ few_names [] = lit≤ tt
 few_names (line ∷ before) = few_with (declared_names before) (voice_on line) (few_names before)
 
 -- The names of what is known of voices.
-pub declared_keys : (before : List HeaderLine) → keys_of (voices_at before) ≡ declared_names before
-declared_keys before = keys_each (declared_shift before) (declared_names before)
+pub keys_of-declared : (before : List HeaderLine) → keys_of (voices_at before) ≡ declared_names before
+keys_of-declared before = keys_of-each_with (declared_shift before) (declared_names before)
 
 -- Nothing is said for a voice that one more line does not declare, though there is room.
 unsaid_on : (part : Shift → Option ℤ) (name : List ℕ) (names : List (List ℕ)) (voice : Option (List ℕ × Shift)) (rest : Option ℤ)
@@ -118,8 +118,8 @@ unsaid_on : (part : Shift → Option ℤ) (name : List ℕ) (names : List (List 
     → option_or (part_said part name voice) rest ≡ None
 unsaid_on part name names None rest before new free = before new free
 unsaid_on part name names (Some voice) rest before new free =
-    ap (λ b. option_or (cond b (part voice.1) None) rest) (differs (with_name names voice.0) name voice.0 (mentioned_name names voice.0 free) new)
-    ∙ before (still_apart names voice.0 name new) (still_room names voice.0 free)
+    ap (λ b. option_or (cond b (part voice.1) None) rest) (bytes_eq-differs (with_name names voice.0) name voice.0 (mentioned_name names voice.0 free) new)
+    ∙ before (list_any-apart names voice.0 name new) (still_room names voice.0 free)
 
 -- Nothing was said for a voice that is not declared, though there is room.
 unsaid : (part : Shift → Option ℤ) (name : List ℕ) (before : List HeaderLine)
@@ -129,9 +129,9 @@ unsaid part name (line ∷ before) new free =
     unsaid_on part name (declared_names before) (voice_on line) (last_part part name before) (unsaid part name before) new free
 
 -- The voices after a V: that names one are those that it declares.
-pub voices_named : (before : List HeaderLine) (name : List ℕ) (shift : Shift)
+pub each_with-declared : (before : List HeaderLine) (name : List ℕ) (shift : Shift)
     → each_with (said_on name shift (declared_shift before)) (with_name (declared_names before) name) ≡ (declare (voices_at before) name shift).0
-voices_named before name shift =
+each_with-declared before name shift =
     let names = declared_names before in
     named_at names name shift (declared_shift before) (distinct_names before)
     (λ new free. λ i. record {
@@ -139,4 +139,4 @@ voices_named before name shift =
       octave = unsaid (λ s. s.octave) name before new free i;
       transpose = unsaid (λ s. s.transpose) name before new free i;
     })
-    (place_of name (voices_at before)) (sym (ap (position (bytes_eq name)) (declared_keys before)))
+    (place_of name (voices_at before)) (sym (ap (position (bytes_eq name)) (keys_of-declared before)))

@@ -1,7 +1,7 @@
 -- Places of different kinds.
 use Rattle.std.proofs.Common.{◌≡◌, ◌∙◌, ◌↔◌, ℕ, Bool, true, [], ◌∷◌, refl, sym, ap}
 use Rattle.std.proofs.lemmas.Bool.Decides.{same_from_decides}
-use Rattle.abc_bars_body.specs.SameEntry.{same_entry, same_entry_tells}
+use Rattle.abc_bars_body.specs.SameEntry.{same_entry, same_entry_decides}
 use Rattle.abc_bars_body.specs.declared.entry.Entry.{Entry}
 use Rattle.abc_bars_body.specs.declared.entry.Entry.TheVariants as entries
 use Rattle.abc_bars.specs.LookBack.Place.{InBody, InFileHeader, InHeader, KindsApart, Place, kind_of_place, view}
@@ -24,9 +24,9 @@ pub kinds_apart : KindsApart
 kinds_apart here there same = kind-seen here ∙ ap kind_held same ∙ sym (kind-seen there)
 
 -- What decides exactly whether the state at two places is equal is the test of it.
-pub told_by : (told : Bool) (a b : Entry) → (told ≡ true → a ≡ b) × (a ≡ b → told ≡ true) → told ≡ same_entry a b
-told_by told a b tells = same_from_decides told (same_entry a b) tells (same_entry_tells a b)
+pub test_by : (result : Bool) (a b : Entry) → (result ≡ true → a ≡ b) × (a ≡ b → result ≡ true) → result ≡ same_entry a b
+test_by result a b decides = same_from_decides result (same_entry a b) decides (same_entry_decides a b)
 
 -- Two places are equivalent exactly if their states are equal.
 pub alike_where_equal : (here there : Entry) → (same_entry here there ≡ true) ↔ (here ≡ there)
-alike_where_equal here there = same_entry_tells here there
+alike_where_equal here there = same_entry_decides here there

@@ -16,13 +16,13 @@ use Rattle.abc_bars_header.specs.HeaderLine.{HeaderLine, FieldLine, DirectiveLin
 use Rattle.abc_bars.specs.LookBack.Header.{declared_names, declared_shift, header_at, named_in, part_said, voice_said, voices_at, with_named}
 use Rattle.abc_bars_header.specs.Reference.{reference_of}
 use Rattle.abc_bars_header.specs.Voices.{place_of}
-use Rattle.abc_bars_items.specs.declared.item.TheConstants.{MOST_VOICES}
+use Rattle.abc_text.specs.declared.limits.TheConstants.{MOST_VOICES}
 use Rattle.abc_bars_header.specs.declared.defaults.Defaults.{Defaults}
 use Rattle.abc_bars_header.specs.declared.field_kind.FieldKind.{FieldKind}
 use Rattle.abc_bars_header.specs.declared.field_kind.FieldKind.TheVariants as kinds
 use Rattle.abc_bars_header.specs.declared.header.Header.{Header}
 use Rattle.abc_bars.specs.LookBack.Defaults.{defaults_at}
-use Rattle.abc_bars.proofs.DeclaredVoices.{voices_named}
+use Rattle.abc_bars.proofs.DeclaredVoices.{each_with-declared}
 use Rattle.abc_bars.proofs.Names.{each_with}
 use Rattle.abc_bars.proofs.HeaderViews.{defaults_after, said, setting_said}
 
@@ -80,7 +80,7 @@ voice_declares opening before value (Err fault) = refl
 voice_declares opening before value (Ok voice) =
     let header = header_at opening before in
     let named = named_in value voice in
-    let voices = voices_named before named.0 named.1 in
+    let voices = each_with-declared before named.0 named.1 in
     (λ i. record { defaults = defaults_at opening before; voices = voices i })
     ∙ declares header named.0 named.1 (place_of named.0 header.voices)
 
@@ -94,8 +94,8 @@ following_kind opening before kinds.Key value = key_keeps (header_at opening bef
 following_kind opening before kind value = let set = setting_said (defaults_at opening before) kind value in λ i. record { defaults = set i; voices = voices_at before }
 
 -- The state after one more line of a header is what the line gives from the state before it.
-pub header_following : (opening : Defaults) (before : List HeaderLine) (line : HeaderLine) →
+pub header_at_following : (opening : Defaults) (before : List HeaderLine) (line : HeaderLine) →
     header_at opening (line ∷ before) ≡ (header_result (header_at opening before) line).header
-header_following opening before (FieldLine field) = following_kind opening before (kind_of field.letter) field.value
-header_following opening before (DirectiveLine directive) =
+header_at_following opening before (FieldLine field) = following_kind opening before (kind_of field.letter) field.value
+header_at_following opening before (DirectiveLine directive) =
     let set = defaults_after opening before (DirectiveLine directive) in λ i. record { defaults = set i; voices = voices_at before }

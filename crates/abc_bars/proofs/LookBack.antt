@@ -1,3 +1,4 @@
+-- Looking back gives what the fold over the cells gives.
 pub mod Accidentals
 pub mod Along
 pub mod BodyItems
@@ -14,6 +15,7 @@ pub mod Flags
 pub mod BodyState
 pub mod Keys
 pub mod Lengths
+pub mod LineFaults
 pub mod LineLengths
 pub mod Marks
 pub mod Mentions

@@ -19,7 +19,6 @@ pub use Rattle.abc_bars_header.specs.Header
 pub use Rattle.abc_bars_header.specs.HeaderLine
 pub use Rattle.abc_bars_header.specs.SameDefaults
 pub use Rattle.abc_bars_header.specs.Voices
-pub use Rattle.abc_bars_header.specs.VoicesLent
 pub use Rattle.abc_bars_items.specs.Item
 pub use Rattle.abc_bars_items.specs.TonesView
 pub use Rattle.abc_bars_notes.specs.Broken

@@ -1,3 +1,4 @@
+-- What a place of a tune is by looking back: the state, the keys, the ties and the faults there.
 pub mod After
 pub mod AfterBody
 pub mod Along
@@ -14,6 +15,7 @@ pub mod Flags
 pub mod Header
 pub mod Keys
 pub mod Lengths
+pub mod LineFaults
 pub mod LineLengths
 pub mod Mentions
 pub mod Openings

@@ -33,7 +33,7 @@ pub use items::{openings_of_items, titles_of_items, voices_of_items};
 pub use key_fields::{listed_accidentals, modes_of_keys};
 pub use keys::{alterations_of_notes, keys_at_places};
 pub use lengths::lengths_at_places;
-pub use line_lengths::lengths_in_lines;
+pub use line_lengths::{length_faults_in_lines, lengths_in_lines};
 pub use mentions::voices_by_mention;
 pub use names::named_voices;
 pub use openings::openings_of_voices;

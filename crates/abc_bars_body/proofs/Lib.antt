@@ -3,4 +3,4 @@ pub mod FieldLaws
 pub mod HereLaws
 pub mod Mentions
 pub mod SilentChords
-pub mod VoicesLemmas
+pub mod Voices

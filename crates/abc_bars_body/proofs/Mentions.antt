@@ -74,7 +74,7 @@ use Rattle.abc_bars_notes.specs.declared.sound.ChordBuilder.{ChordBuilder}
 use Rattle.abc_bars_items.specs.Item.{Items}
 use Rattle.abc_bars_items.specs.declared.item.Item.{Item}
 use Rattle.abc_bars_items.specs.declared.item.Item.TheVariants as items
-use Rattle.abc_bars_items.specs.declared.item.TheConstants.{MOST_VOICES}
+use Rattle.abc_text.specs.declared.limits.TheConstants.{MOST_VOICES}
 use Rattle.abc_bars_voice.specs.declared.voice_state.VoiceState.{VoiceState}
 use Rattle.abc_text.proofs.Words.{first_word_is}
 use Rattle.abc_text.specs.Word.{bytes_before_blank, first_word, leading_blanks, words_of}
@@ -97,34 +97,34 @@ abbrev pub known_of : Body → MentionedVoices
 known_of body = (keys_of body.voices, is_placed body.current)
 
 -- what is mentioned after items, which name their voices, is no more than before or than may be
-record Tells (before after : MentionedVoices) (given : List Item) : Type 0 where
+record Follows (before after : MentionedVoices) (given : List Item) : Type 0 where
   value : after ≡ after_items before given
   named : AreNamed given
   few : length before.0 ≤ MOST_VOICES → length after.0 ≤ MOST_VOICES
 
-nothing_told : (before after : MentionedVoices) → after ≡ before → Tells before after []
-nothing_told before after same = record { value = same; named = tt; few = subst (λ (k : MentionedVoices). length k.0 ≤ MOST_VOICES) (sym same) }
+nothing_follows : (before after : MentionedVoices) → after ≡ before → Follows before after []
+nothing_follows before after same = record { value = same; named = tt; few = subst (λ (k : MentionedVoices). length k.0 ≤ MOST_VOICES) (sym same) }
 
-one_told : (before after : MentionedVoices) (item : Item) → after ≡ after_item before item → IsNamed item
-    → (length before.0 ≤ MOST_VOICES → length after.0 ≤ MOST_VOICES) → Tells before after (item ∷ [])
-one_told before after item value named few = record { value = value; named = (named, tt); few = few }
+one_follows : (before after : MentionedVoices) (item : Item) → after ≡ after_item before item → IsNamed item
+    → (length before.0 ≤ MOST_VOICES → length after.0 ≤ MOST_VOICES) → Follows before after (item ∷ [])
+one_follows before after item value named few = record { value = value; named = (named, tt); few = few }
 
-both_told : (a b c : MentionedVoices) (xs ys : List Item) → Tells a b xs → Tells b c ys → Tells a c (xs ++ ys)
-both_told a b c xs ys first then = record {
+both_follows : (a b c : MentionedVoices) (xs ys : List Item) → Follows a b xs → Follows b c ys → Follows a c (xs ++ ys)
+both_follows a b c xs ys first then = record {
   value = then.value ∙ ap (λ k. after_items k ys) first.value ∙ sym (past_append a xs ys);
   named = named_append xs ys first.named then.named;
   few = λ h. then.few (first.few h);
 }
 
 -- an item that mentions none
-silent_told : (before after : MentionedVoices) (item : Item) → after ≡ before → after_item before item ≡ before → IsNamed item → Tells before after (item ∷ [])
-silent_told before after item same quiet named =
-    one_told before after item (same ∙ sym quiet) named (subst (λ (k : MentionedVoices). length k.0 ≤ MOST_VOICES) (sym same))
+silent_follows : (before after : MentionedVoices) (item : Item) → after ≡ before → after_item before item ≡ before → IsNamed item → Follows before after (item ∷ [])
+silent_follows before after item same quiet named =
+    one_follows before after item (same ∙ sym quiet) named (subst (λ (k : MentionedVoices). length k.0 ≤ MOST_VOICES) (sym same))
 
 -- there are as many names as voices
-pub keys_long : {S : Type 0} (voices : List (List ℕ × S)) → length (keys_of voices) ≡ length voices
-keys_long [] = refl
-keys_long (voice ∷ voices) = ap suc (keys_long voices)
+pub length-keys_of : {S : Type 0} (voices : List (List ℕ × S)) → length (keys_of voices) ≡ length voices
+length-keys_of [] = refl
+length-keys_of (voice ∷ voices) = ap suc (length-keys_of voices)
 
 -- the state of the current voice leaves who is mentioned
 here_in_known : (body : Body) (current : Current) (state : VoiceState) → current ≡ body.current → known_of (with_here_in body current state) ≡ known_of body
@@ -151,17 +151,17 @@ note_few (names, true) few = few
 note_few (names, false) few = lit≤ tt
 
 -- a note or rest, after which this holds for its voice
-note_told : (body : Body) (state : VoiceState) (item : Item) → after_item (known_of body) item ≡ after_time (known_of body) → IsNamed item
-    → Tells (known_of body) (known_of (with_here (after_mention body) state)) (item ∷ [])
-note_told body state item heard named =
+note_follows : (body : Body) (state : VoiceState) (item : Item) → after_item (known_of body) item ≡ after_time (known_of body) → IsNamed item
+    → Follows (known_of body) (known_of (with_here (after_mention body) state)) (item ∷ [])
+note_follows body state item heard named =
     let same = here_known (after_mention body) state ∙ mentioned_known body in
-    one_told (known_of body) _ item (same ∙ sym heard) named (λ few. subst (λ (k : MentionedVoices). length k.0 ≤ MOST_VOICES) (sym same) (note_few (known_of body) few))
+    one_follows (known_of body) _ item (same ∙ sym heard) named (λ few. subst (λ (k : MentionedVoices). length k.0 ≤ MOST_VOICES) (sym same) (note_few (known_of body) few))
 
-rest_told : (body : Body) (item : Item) → after_item (known_of body) item ≡ after_time (known_of body) → IsNamed item
-    → Tells (known_of body) (known_of (after_mention body)) (item ∷ [])
-rest_told body item heard named =
+rest_follows : (body : Body) (item : Item) → after_item (known_of body) item ≡ after_time (known_of body) → IsNamed item
+    → Follows (known_of body) (known_of (after_mention body)) (item ∷ [])
+rest_follows body item heard named =
     let same = mentioned_known body in
-    one_told (known_of body) _ item (same ∙ sym heard) named (λ few. subst (λ (k : MentionedVoices). length k.0 ≤ MOST_VOICES) (sym same) (note_few (known_of body) few))
+    one_follows (known_of body) _ item (same ∙ sym heard) named (λ few. subst (λ (k : MentionedVoices). length k.0 ≤ MOST_VOICES) (sym same) (note_few (known_of body) few))
 
 -- a name of a V: is a word
 some_bytes : (name : List ℕ) → 0 < length name → bytes_eq name [] ≡ false
@@ -230,33 +230,33 @@ name_new : (name : List ℕ) (names : List (List ℕ)) → position (bytes_eq na
 name_new name names none = ap (λ b. cond b names (names ++ name ∷ [])) (apart name names none)
 
 -- a V: of the body
-made_told : (body : Body) (place : ℕ) (name : List ℕ) (said : Shift) → bytes_eq name [] ≡ false → (found : Option ℕ) → place_of name body.voices ≡ found
-    → Tells (known_of body) (known_of (named_voice_by body place name (with_current_at body name said found)).body) (named_voice_by body place name (with_current_at body name said found)).items
-made_told body place name said named (Some at) found =
+made_follows : (body : Body) (place : ℕ) (name : List ℕ) (said : Shift) → bytes_eq name [] ≡ false → (found : Option ℕ) → place_of name body.voices ≡ found
+    → Follows (known_of body) (known_of (named_voice_by body place name (with_current_at body name said found)).body) (named_voice_by body place name (with_current_at body name said found)).items
+made_follows body place name said named (Some at) found =
     let moved : Body = record body { current = At at } in
     let same : known_of (after_move body at said) ≡ (keys_of body.voices, true) = here_known moved (record (here moved) { shift = with_properties (here moved).shift said }) in
-    one_told (known_of body) (known_of (after_move body at said)) (items.Voice false name)
+    one_follows (known_of body) (known_of (after_move body at said)) (items.Voice false name)
     (same ∙ ap (λ (names : List (List ℕ)). (names, true)) (sym (name_known name (keys_of body.voices) at found))) named
     (subst (λ (k : MentionedVoices). length k.0 ≤ MOST_VOICES) (sym same))
-made_told body place name said named None found = by (nat_lt (length body.voices) MOST_VOICES) refl
+made_follows body place name said named None found = by (nat_lt (length body.voices) MOST_VOICES) refl
   where
     by : (b : Bool) → nat_lt (length body.voices) MOST_VOICES ≡ b
-        → Tells (known_of body) (known_of (named_voice_by body place name (cond b (Some (after_join body name said)) None)).body) (named_voice_by body place name
+        → Follows (known_of body) (known_of (named_voice_by body place name (cond b (Some (after_join body name said)) None)).body) (named_voice_by body place name
         (cond b (Some (after_join body name said)) None)).items
     by true room =
         let new = record body.another { shift = with_properties body.another.shift said } in
         let names : keys_of (body.voices ++ (name, new) ∷ []) ≡ keys_of body.voices ++ name ∷ [] = keys_push body.voices (name, new) in
-        one_told (known_of body) (known_of (after_join body name said)) (items.Voice false name)
+        one_follows (known_of body) (known_of (after_join body name said)) (items.Voice false name)
         (λ i. ((names ∙ sym (name_new name (keys_of body.voices) found)) i, true)) named
-        (λ few. omega (arith, ltb-true _ _ room, ap length names, length-append (keys_of body.voices) (name ∷ []), keys_long body.voices))
-    by false room = nothing_told (known_of body) (known_of body) refl
+        (λ few. omega (arith, ltb-true _ _ room, ap length names, length-append (keys_of body.voices) (name ∷ []), length-keys_of body.voices))
+    by false room = nothing_follows (known_of body) (known_of body) refl
 
-voice_told : (body : Body) (place : ℕ) (value : List ℕ) (said : Result Voice FaultCode) → voice_of value ≡ said
-    → Tells (known_of body) (known_of (voice_by body place value said).body) (voice_by body place value said).items
-voice_told body place value (Ok voice) said =
+voice_follows : (body : Body) (place : ℕ) (value : List ℕ) (said : Result Voice FaultCode) → voice_of value ≡ said
+    → Follows (known_of body) (known_of (voice_by body place value said).body) (voice_by body place value said).items
+voice_follows body place value (Ok voice) said =
     let name = slice_range value voice.from voice.to in
-    made_told body place name voice.shift (voice_named value voice said) (place_of name body.voices) refl
-voice_told body place value (Err fault) said = nothing_told (known_of body) (known_of body) refl
+    made_follows body place name voice.shift (voice_named value voice said) (place_of name body.voices) refl
+voice_follows body place value (Err fault) said = nothing_follows (known_of body) (known_of body) refl
 
 -- the other fields of the body
 each_known : (voices : List (List ℕ × VoiceState)) → keys_of (all_without_accidentals voices) ≡ keys_of voices
@@ -267,75 +267,75 @@ current_kept : (current : Current) → is_placed (current_without_accidentals cu
 current_kept (Unnamed state) = refl
 current_kept (At at) = refl
 
-part_told : (body : Body) (place : ℕ) (part : Option ℕ) → Tells (known_of body) (known_of (part_by body place part).body) (part_by body place part).items
-part_told body place None = nothing_told (known_of body) (known_of body) refl
-part_told body place (Some letter) =
-    silent_told (known_of body) (known_of (after_part body)) (items.Section letter) (λ i. (each_known body.voices i, current_kept body.current i)) refl tt
+part_follows : (body : Body) (place : ℕ) (part : Option ℕ) → Follows (known_of body) (known_of (part_by body place part).body) (part_by body place part).items
+part_follows body place None = nothing_follows (known_of body) (known_of body) refl
+part_follows body place (Some letter) =
+    silent_follows (known_of body) (known_of (after_part body)) (items.Section letter) (λ i. (each_known body.voices i, current_kept body.current i)) refl tt
 
-meter_told : (body : Body) (place : ℕ) (meter : Result Meter FaultCode) → Tells (known_of body) (known_of (meter_by body place meter).body) (meter_by body place meter).items
-meter_told body place (Ok meter) = silent_told (known_of body) _ (items.Meter false (Some meter)) (here_known body (record (here body) { meter = meter })) refl tt
-meter_told body place (Err fault) = silent_told (known_of body) (known_of body) (items.Meter false None) refl refl tt
+meter_follows : (body : Body) (place : ℕ) (meter : Result Meter FaultCode) → Follows (known_of body) (known_of (meter_by body place meter).body) (meter_by body place meter).items
+meter_follows body place (Ok meter) = silent_follows (known_of body) _ (items.Meter false (Some meter)) (here_known body (record (here body) { meter = meter })) refl tt
+meter_follows body place (Err fault) = silent_follows (known_of body) (known_of body) (items.Meter false None) refl refl tt
 
-unit_told : (body : Body) (place : ℕ) (unit : Result Ratio FaultCode) → Tells (known_of body) (known_of (unit_by body place unit).body) (unit_by body place unit).items
-unit_told body place (Ok unit) = nothing_told (known_of body) _ (here_known body (record (here body) { unit = unit }))
-unit_told body place (Err fault) = nothing_told (known_of body) (known_of body) refl
+unit_follows : (body : Body) (place : ℕ) (unit : Result Ratio FaultCode) → Follows (known_of body) (known_of (unit_by body place unit).body) (unit_by body place unit).items
+unit_follows body place (Ok unit) = nothing_follows (known_of body) _ (here_known body (record (here body) { unit = unit }))
+unit_follows body place (Err fault) = nothing_follows (known_of body) (known_of body) refl
 
-tempo_told : (body : Body) (place : ℕ) (tempo : Result Tempo FaultCode) → Tells (known_of body) (known_of (tempo_by body place tempo).body) (tempo_by body place tempo).items
-tempo_told body place (Ok tempo) = by (is_out_of_range (here body).unit tempo)
+tempo_follows : (body : Body) (place : ℕ) (tempo : Result Tempo FaultCode) → Follows (known_of body) (known_of (tempo_by body place tempo).body) (tempo_by body place tempo).items
+tempo_follows body place (Ok tempo) = by (is_out_of_range (here body).unit tempo)
   where
     item : Item
     item = tempo_item false (here body).unit tempo
 
-    by : (b : Bool) → Tells (known_of body) (known_of (cond b (accept_with_fault body place item TempoRange) (accept body item)).body) (cond b (accept_with_fault body place item TempoRange)
+    by : (b : Bool) → Follows (known_of body) (known_of (cond b (accept_with_fault body place item TempoRange) (accept body item)).body) (cond b (accept_with_fault body place item TempoRange)
         (accept body item)).items
-    by true = silent_told (known_of body) (known_of body) item refl refl tt
-    by false = silent_told (known_of body) (known_of body) item refl refl tt
-tempo_told body place (Err fault) = silent_told (known_of body) (known_of body) (items.Tempo false None false) refl refl tt
+    by true = silent_follows (known_of body) (known_of body) item refl refl tt
+    by false = silent_follows (known_of body) (known_of body) item refl refl tt
+tempo_follows body place (Err fault) = silent_follows (known_of body) (known_of body) (items.Tempo false None false) refl refl tt
 
-key_told : (body : Body) (place : ℕ) (key : Result Key FaultCode) → Tells (known_of body) (known_of (key_by body place key).body) (key_by body place key).items
-key_told body place (Ok key) = silent_told (known_of body) _ (key_item key) (here_known body (in_key (here body) key)) refl tt
-key_told body place (Err fault) = silent_told (known_of body) _ (key_item (key_or_empty (Err fault))) (here_known body (in_key (here body) (key_or_empty (Err fault)))) refl tt
+key_follows : (body : Body) (place : ℕ) (key : Result Key FaultCode) → Follows (known_of body) (known_of (key_by body place key).body) (key_by body place key).items
+key_follows body place (Ok key) = silent_follows (known_of body) _ (key_item key) (here_known body (in_key (here body) key)) refl tt
+key_follows body place (Err fault) = silent_follows (known_of body) _ (key_item (key_or_empty (Err fault))) (here_known body (in_key (here body) (key_or_empty (Err fault)))) refl tt
 
-kind_told : (body : Body) (kind : FieldKind) (value : List ℕ) (place : ℕ)
-    → Tells (known_of body) (known_of (kind_result body kind value place).body) (kind_result body kind value place).items
-kind_told body fields.Parts value place = part_told body place (part_of value)
-kind_told body fields.Meter value place = meter_told body place (meter_of value)
-kind_told body fields.UnitLength value place = unit_told body place (unit_of value)
-kind_told body fields.Tempo value place = tempo_told body place (tempo_of value)
-kind_told body fields.Key value place = key_told body place (key_of value)
-kind_told body fields.Voice value place = voice_told body place value (voice_of value) refl
-kind_told body _ value place = nothing_told (known_of body) (known_of body) refl
+kind_follows : (body : Body) (kind : FieldKind) (value : List ℕ) (place : ℕ)
+    → Follows (known_of body) (known_of (kind_result body kind value place).body) (kind_result body kind value place).items
+kind_follows body fields.Parts value place = part_follows body place (part_of value)
+kind_follows body fields.Meter value place = meter_follows body place (meter_of value)
+kind_follows body fields.UnitLength value place = unit_follows body place (unit_of value)
+kind_follows body fields.Tempo value place = tempo_follows body place (tempo_of value)
+kind_follows body fields.Key value place = key_follows body place (key_of value)
+kind_follows body fields.Voice value place = voice_follows body place value (voice_of value) refl
+kind_follows body _ value place = nothing_follows (known_of body) (known_of body) refl
 
 -- what a token gives after what was given
 record Adds (before after : CellResult) : Type 0 where
   given : List Item
   items : after.items.items ≡ before.items.items ++ given
-  tells : Tells (known_of before.body) (known_of after.body) given
+  follows : Follows (known_of before.body) (known_of after.body) given
 
 adds_nothing : (before after : CellResult) → after.items.items ≡ before.items.items → known_of after.body ≡ known_of before.body → Adds before after
 adds_nothing before after same known = record {
   given = [];
   items = same ∙ sym (append-nil before.items.items);
-  tells = nothing_told (known_of before.body) (known_of after.body) known;
+  follows = nothing_follows (known_of before.body) (known_of after.body) known;
 }
 
 adds_both : (a b c : CellResult) → Adds a b → Adds b c → Adds a c
 adds_both a b c first then = record {
   given = first.given ++ then.given;
   items = then.items ∙ ap (λ xs. xs ++ then.given) first.items ∙ append_assoc a.items.items first.given then.given;
-  tells = both_told (known_of a.body) (known_of b.body) (known_of c.body) first.given then.given first.tells then.tells;
+  follows = both_follows (known_of a.body) (known_of b.body) (known_of c.body) first.given then.given first.follows then.follows;
 }
 
 field_adds : (given : CellResult) (place : ℕ) (field : Field) → Adds given (with_field given place field)
 field_adds given place field = record {
   given = (field_result given.body field.letter field.value place).items;
   items = refl;
-  tells = kind_told given.body (kind_of field.letter) field.value place;
+  follows = kind_follows given.body (kind_of field.letter) field.value place;
 }
 
 fault_adds : (before given : CellResult) (place : ℕ) (fault : Option FaultCode) → Adds before given → Adds before (with_some_fault given place fault)
 fault_adds before given place None adds = adds
-fault_adds before given place (Some fault) adds = record { given = adds.given; items = adds.items; tells = adds.tells }
+fault_adds before given place (Some fault) adds = record { given = adds.given; items = adds.items; follows = adds.follows }
 
 fault_if_adds : (given : CellResult) (bad : Bool) (place : ℕ) (fault : FaultCode) → Adds given (with_fault_if given bad place fault)
 fault_if_adds given true place fault = adds_nothing given _ refl refl
@@ -347,7 +347,7 @@ program_adds given place number =
     (record {
       given = items.Program false number ∷ [];
       items = refl;
-      tells = silent_told (known_of given.body) (known_of given.body) (items.Program false number) refl refl tt;
+      follows = silent_follows (known_of given.body) (known_of given.body) (items.Program false number) refl refl tt;
     })
     (fault_if_adds (with_item given (items.Program false number)) (is_none number) place BadProgram)
 
@@ -364,7 +364,7 @@ ending_adds given place None = adds_nothing given _ refl refl
 ending_adds given place (Some passes) = record {
   given = items.Ending passes ∷ [];
   items = refl;
-  tells = silent_told (known_of given.body) (known_of given.body) (items.Ending passes) refl refl tt;
+  follows = silent_follows (known_of given.body) (known_of given.body) (items.Ending passes) refl refl tt;
 }
 
 chord_adds : (given : CellResult) (place : ℕ) (inside : VoiceState → ChordBuilder) (b : Bool)
@@ -372,28 +372,28 @@ chord_adds : (given : CellResult) (place : ℕ) (inside : VoiceState → ChordBu
 chord_adds given place inside true = record {
   given = (sound_notes (here (after_mention given.body)) (inside (here (after_mention given.body)))).items;
   items = refl;
-  tells = note_told given.body (sound_notes (here (after_mention given.body)) (inside (here (after_mention given.body)))).state _ refl tt;
+  follows = note_follows given.body (sound_notes (here (after_mention given.body)) (inside (here (after_mention given.body)))).state _ refl tt;
 }
 chord_adds given place inside false = record {
   given = [];
   items = refl;
-  tells = nothing_told (known_of given.body) _ (here_known given.body (here given.body));
+  follows = nothing_follows (known_of given.body) _ (here_known given.body (here given.body));
 }
 
 kind_adds : (given : CellResult) (place : ℕ) (kind : TokenKind) (ahead : List (Spanned TokenKind)) → Adds given (with_kind given place kind ahead)
 kind_adds given place (kinds.Note note) ahead =
     let body = after_mention given.body in
     let played = play_note (here body) (factors_of given.preceding ahead) (tie_ahead ahead) place note in
-    record { given = played.items; items = refl; tells = note_told given.body played.state _ refl tt }
+    record { given = played.items; items = refl; follows = note_follows given.body played.state _ refl tt }
 kind_adds given place (kinds.Rest long) ahead =
     let body = after_mention given.body in
     let played = play_rest (here body) (factors_of given.preceding ahead) place long in
-    record { given = played.items; items = refl; tells = note_told given.body played.state _ refl tt }
+    record { given = played.items; items = refl; follows = note_follows given.body played.state _ refl tt }
 kind_adds given place (kinds.BarRest bars) ahead =
     let body = after_mention given.body in
     let rest = bar_rest_of (here body).meter bars in
     fault_adds given (with_item (record given { body = body }) rest.0) place rest.1
-    (record { given = rest.0 ∷ []; items = refl; tells = rest_told given.body rest.0 refl tt })
+    (record { given = rest.0 ∷ []; items = refl; follows = rest_follows given.body rest.0 refl tt })
 kind_adds given place (kinds.Chord chord) ahead =
     chord_adds given place
     (λ state. chord_builder_of state (factors_of given.preceding ahead) (record { length = chord.length; tied = tie_ahead ahead; from = place }) chord.parts)
@@ -402,7 +402,7 @@ kind_adds given place (kinds.InlineField field) ahead = field_adds given place f
 kind_adds given place (kinds.Bar bar) ahead = record {
   given = items.Bar bar ∷ [];
   items = refl;
-  tells = silent_told (known_of given.body) _ (items.Bar bar) (here_known given.body (without_accidentals (here given.body))) refl tt;
+  follows = silent_follows (known_of given.body) _ (items.Bar bar) (here_known given.body (without_accidentals (here given.body))) refl tt;
 }
 kind_adds given place (kinds.Ending passes) ahead = ending_adds given place passes
 kind_adds given place (kinds.Tuplet mark) ahead =
@@ -423,11 +423,11 @@ tokens_add given [] = adds_nothing given given refl refl
 tokens_add given (token ∷ ahead) =
     let one = kind_adds given token.from token.kind ahead in
     adds_both given (with_token given token ahead) (cell_result_from given (token ∷ ahead))
-    (record { given = one.given; items = one.items; tells = one.tells }) (tokens_add (with_token given token ahead) ahead)
+    (record { given = one.given; items = one.items; follows = one.follows }) (tokens_add (with_token given token ahead) ahead)
 
 -- What a cell of a body mentions is what its items mention.
 pub cell_mentions : (body : Body) (cell : List (Spanned TokenKind)) → (given : List Item) × (known_of (cell_result body cell).body ≡ after_items (known_of body) given)
-cell_mentions body cell = let added = tokens_add (empty_cell_result body) cell in (added.given, added.tells.value)
+cell_mentions body cell = let added = tokens_add (empty_cell_result body) cell in (added.given, added.follows.value)
 
 -- the header
 abbrev is_some_name : List (List ℕ) → Bool
@@ -457,19 +457,19 @@ tempo_named : (unit : Ratio) (tempo : Option Tempo) → IsNamed (opening_tempo_b
 tempo_named unit None = tt
 tempo_named unit (Some tempo) = tt
 
-opening_told : (known : MentionedVoices) (defaults : Defaults) → Tells known known (opening_tempo defaults ∷ opening_meter defaults ∷ [])
-opening_told known defaults = record {
+opening_follows : (known : MentionedVoices) (defaults : Defaults) → Follows known known (opening_tempo defaults ∷ opening_meter defaults ∷ [])
+opening_follows known defaults = record {
   value = sym (quiet_tempo known (unit_in defaults) defaults.tempo);
   named = (tempo_named (unit_in defaults) defaults.tempo, (tt, tt));
   few = λ few. few;
 }
 
-items_told : (before after : MentionedVoices) (item : Option Item) (defaults : Defaults) → Tells before after (option_items item) → Tells before after (items_with item defaults)
-items_told before after None defaults own = both_told before after after [] _ own (opening_told after defaults)
-items_told before after (Some item) defaults own = both_told before after after (item ∷ []) _ own (opening_told after defaults)
+items_follows : (before after : MentionedVoices) (item : Option Item) (defaults : Defaults) → Follows before after (option_items item) → Follows before after (items_with item defaults)
+items_follows before after None defaults own = both_follows before after after [] _ own (opening_follows after defaults)
+items_follows before after (Some item) defaults own = both_follows before after after (item ∷ []) _ own (opening_follows after defaults)
 
 abbrev OwnTells : Header → OwnResult → Type 0
-OwnTells header own = Tells (known_in_header header) (known_in_header own.header) (option_items own.item)
+OwnTells header own = Follows (known_in_header header) (known_in_header own.header) (option_items own.item)
 
 abbrev with_some : List (List ℕ) → MentionedVoices
 with_some names = (names, is_some_name names)
@@ -485,78 +485,78 @@ said_keys voices at shift = by (header_voice_at voices at)
     by None = refl
     by (Some before) = keys_set_value_at voices at (merge_shift shift before)
 
-declared_told : (header : Header) (name : List ℕ) (shift : Shift) → bytes_eq name [] ≡ false → (found : Option ℕ) → place_of name header.voices ≡ found
+declared_follows : (header : Header) (name : List ℕ) (shift : Shift) → bytes_eq name [] ≡ false → (found : Option ℕ) → place_of name header.voices ≡ found
     → OwnTells header (declare_result header name (declare_at header.voices name shift found))
-declared_told header name shift named (Some at) found =
+declared_follows header name shift named (Some at) found =
     let before = keys_of header.voices in
     let keys = said_keys header.voices at shift in
     let some = some_among name before (among name before at found) in
-    one_told (known_in_header header) _ (items.Voice true name)
+    one_follows (known_in_header header) _ (items.Voice true name)
     (same_keys header.voices (with_shift_at header.voices at shift) keys ∙ (λ i. (sym (name_known name before at found) i, some i))) named
     (λ few. omega (arith, few, ap length keys))
-declared_told header name shift named None found = by (nat_lt (length header.voices) MOST_VOICES) refl
+declared_follows header name shift named None found = by (nat_lt (length header.voices) MOST_VOICES) refl
   where
     by : (b : Bool) → nat_lt (length header.voices) MOST_VOICES ≡ b
         → OwnTells header (declare_result header name (cond b (header.voices ++ (name, shift) ∷ [], None) (header.voices, Some TooManyVoices)))
     by true room =
         let before = keys_of header.voices in
         let keys = keys_push header.voices (name, shift) in
-        one_told (known_in_header header) _ (items.Voice true name)
+        one_follows (known_in_header header) _ (items.Voice true name)
         (ap with_some keys ∙ (λ i. (sym (name_new name before found) i, some_pushed before name i))) named
-        (λ few. omega (arith, ltb-true _ _ room, ap length keys, length-append before (name ∷ []), keys_long header.voices))
-    by false room = nothing_told (known_in_header header) (known_in_header header) refl
+        (λ few. omega (arith, ltb-true _ _ room, ap length keys, length-append before (name ∷ []), length-keys_of header.voices))
+    by false room = nothing_follows (known_in_header header) (known_in_header header) refl
 
 own_silent : (header : Header) (item : Item) → after_item (known_in_header header) item ≡ known_in_header header → IsNamed item
-    → Tells (known_in_header header) (known_in_header header) (item ∷ [])
-own_silent header item quiet named = silent_told (known_in_header header) (known_in_header header) item refl quiet named
+    → Follows (known_in_header header) (known_in_header header) (item ∷ [])
+own_silent header item quiet named = silent_follows (known_in_header header) (known_in_header header) item refl quiet named
 
-own_nothing : (header : Header) → Tells (known_in_header header) (known_in_header header) []
-own_nothing header = nothing_told (known_in_header header) (known_in_header header) refl
+own_nothing : (header : Header) → Follows (known_in_header header) (known_in_header header) []
+own_nothing header = nothing_follows (known_in_header header) (known_in_header header) refl
 
-reference_told : (header : Header) (number : Result ℕ FaultCode) → OwnTells header (reference_by header number)
-reference_told header (Ok number) = own_silent header (items.Number number) refl tt
-reference_told header (Err fault) = own_silent header (items.Number 0) refl tt
+reference_follows : (header : Header) (number : Result ℕ FaultCode) → OwnTells header (reference_by header number)
+reference_follows header (Ok number) = own_silent header (items.Number number) refl tt
+reference_follows header (Err fault) = own_silent header (items.Number 0) refl tt
 
-order_told : (header : Header) (value : List ℕ) (order : Result (Unit {0}) FaultCode) → OwnTells header (order_by header value order)
-order_told header value (Ok reading) = own_silent header (items.Order value) refl tt
-order_told header value (Err fault) = own_nothing header
+order_follows : (header : Header) (value : List ℕ) (order : Result (Unit {0}) FaultCode) → OwnTells header (order_by header value order)
+order_follows header value (Ok reading) = own_silent header (items.Order value) refl tt
+order_follows header value (Err fault) = own_nothing header
 
-header_voice_told : (header : Header) (value : List ℕ) (said : Result Voice FaultCode) → voice_of value ≡ said → OwnTells header (header_voice_by header value said)
-header_voice_told header value (Ok voice) said =
+header_voice_follows : (header : Header) (value : List ℕ) (said : Result Voice FaultCode) → voice_of value ≡ said → OwnTells header (header_voice_by header value said)
+header_voice_follows header value (Ok voice) said =
     let name = slice_range value voice.from voice.to in
-    declared_told header name voice.shift (voice_named value voice said) (place_of name header.voices) refl
-header_voice_told header value (Err fault) said = own_nothing header
+    declared_follows header name voice.shift (voice_named value voice said) (place_of name header.voices) refl
+header_voice_follows header value (Err fault) said = own_nothing header
 
-header_key_told : (header : Header) (key : Result Key FaultCode) → OwnTells header (header_key_by header key)
-header_key_told header (Ok key) = own_silent header (header_key_item key) refl tt
-header_key_told header (Err fault) = own_silent header (header_key_item empty_key) refl tt
+header_key_follows : (header : Header) (key : Result Key FaultCode) → OwnTells header (header_key_by header key)
+header_key_follows header (Ok key) = own_silent header (header_key_item key) refl tt
+header_key_follows header (Err fault) = own_silent header (header_key_item empty_key) refl tt
 
-own_told : (header : Header) (kind : FieldKind) (value : List ℕ) → OwnTells header (own_result header kind value)
-own_told header fields.Reference value = reference_told header (reference_of value)
-own_told header fields.Title value = own_silent header (items.Title value) refl tt
-own_told header fields.Parts value = order_told header value (parts_of value)
-own_told header fields.Voice value = header_voice_told header value (voice_of value) refl
-own_told header fields.Key value = header_key_told header (key_of value)
-own_told header _ value = own_nothing header
+own_follows : (header : Header) (kind : FieldKind) (value : List ℕ) → OwnTells header (own_result header kind value)
+own_follows header fields.Reference value = reference_follows header (reference_of value)
+own_follows header fields.Title value = own_silent header (items.Title value) refl tt
+own_follows header fields.Parts value = order_follows header value (parts_of value)
+own_follows header fields.Voice value = header_voice_follows header value (voice_of value) refl
+own_follows header fields.Key value = header_key_follows header (key_of value)
+own_follows header _ value = own_nothing header
 
-directed_told : (header : Header) (directive : Directive) → OwnTells header (own_directive_result header directive)
-directed_told header (directives.Program written) = program_told (program_of written)
+directed_follows : (header : Header) (directive : Directive) → OwnTells header (own_directive_result header directive)
+directed_follows header (directives.Program written) = program_follows (program_of written)
   where
-    program_told : (program : Option ℕ)
-        → Tells (known_in_header header) (known_in_header (record header { defaults = (set_program header.defaults program).defaults })) (items.Program true program ∷ [])
-    program_told (Some program) = own_silent header (items.Program true (Some program)) refl tt
-    program_told None = own_silent header (items.Program true None) refl tt
-directed_told header (directives.Reach reach) = own_nothing header
+    program_follows : (program : Option ℕ)
+        → Follows (known_in_header header) (known_in_header (record header { defaults = (set_program header.defaults program).defaults })) (items.Program true program ∷ [])
+    program_follows (Some program) = own_silent header (items.Program true (Some program)) refl tt
+    program_follows None = own_silent header (items.Program true None) refl tt
+directed_follows header (directives.Reach reach) = own_nothing header
 
-line_told : (header : Header) (line : HeaderLine) → OwnTells header (own_line_result header line)
-line_told header (FieldLine field) = own_told header (kind_of field.letter) field.value
-line_told header (DirectiveLine directive) = directed_told header directive
+line_follows : (header : Header) (line : HeaderLine) → OwnTells header (own_line_result header line)
+line_follows header (FieldLine field) = own_follows header (kind_of field.letter) field.value
+line_follows header (DirectiveLine directive) = directed_follows header directive
 
--- a program tells of no voice
-program_told : (before after : MentionedVoices) (given : List Item) (program : Option ℕ) → Tells before after given → Tells before after (append_program given program)
-program_told before after given None told = told
-program_told before after given (Some program) told =
-    both_told before after after given (items.Program true (Some program) ∷ []) told (silent_told after after (items.Program true (Some program)) refl refl tt)
+-- a program mentions no voice
+program_follows : (before after : MentionedVoices) (given : List Item) (program : Option ℕ) → Follows before after given → Follows before after (append_program given program)
+program_follows before after given None all_follows = all_follows
+program_follows before after given (Some program) all_follows =
+    both_follows before after after given (items.Program true (Some program) ∷ []) all_follows (silent_follows after after (items.Program true (Some program)) refl refl tt)
 
 -- the voices with which a body begins
 placed_in : (voices : List (List ℕ × Shift)) (state : VoiceState) → is_placed (current_in voices state) ≡ is_some_name (keys_of voices)
@@ -582,49 +582,49 @@ after_line_known header (FieldLine field) = after_known header (kind_of field.le
 after_line_known header (DirectiveLine directive) = refl
 
 abbrev StepTells : MentionedVoices → Entry × Items → Type 0
-StepTells before step = Tells before (known_in step.0) step.1.items
+StepTells before step = Follows before (known_in step.0) step.1.items
 
-body_told : (body : Body) (cell : List (Spanned TokenKind)) → StepTells (known_of body) (body_step body cell)
-body_told body cell =
+body_follows : (body : Body) (cell : List (Spanned TokenKind)) → StepTells (known_of body) (body_step body cell)
+body_follows body cell =
     let added = tokens_add (empty_cell_result body) cell in
-    subst (λ given. Tells (known_of body) (known_of (cell_result body cell).body) given) (sym added.items) added.tells
+    subst (λ given. Follows (known_of body) (known_of (cell_result body cell).body) given) (sym added.items) added.follows
 
-header_told : (header : Header) (cell : List (Spanned TokenKind)) (line : Option HeaderLine) → StepTells (known_in_header header) (header_step header cell line)
-header_told header cell None =
+header_follows : (header : Header) (cell : List (Spanned TokenKind)) (line : Option HeaderLine) → StepTells (known_in_header header) (header_step header cell line)
+header_follows header cell None =
     subst (λ (known : MentionedVoices). StepTells known (body_step (body_from header empty_key) cell)) (body_known header empty_key)
-    (body_told (body_from header empty_key) cell)
-header_told header cell (Some line) =
+    (body_follows (body_from header empty_key) cell)
+header_follows header cell (Some line) =
     let own = own_line_result header line in
     let program = line_program line header.defaults in
     let given = items_with own.item own.header.defaults in
-    subst (λ (known : MentionedVoices). Tells (known_in_header header) known (append_program given program)) (sym (after_line_known own.header line))
-    (program_told (known_in_header header) (known_in_header own.header) given program
-    (items_told (known_in_header header) (known_in_header own.header) own.item own.header.defaults (line_told header line)))
+    subst (λ (known : MentionedVoices). Follows (known_in_header header) known (append_program given program)) (sym (after_line_known own.header line))
+    (program_follows (known_in_header header) (known_in_header own.header) given program
+    (items_follows (known_in_header header) (known_in_header own.header) own.item own.header.defaults (line_follows header line)))
 
-file_told : (defaults : Defaults) (line : Option HeaderLine) → StepTells ([], false) (file_header_step defaults line)
-file_told defaults None = nothing_told ([], false) ([], false) refl
-file_told defaults (Some line) = nothing_told ([], false) ([], false) refl
+file_follows : (defaults : Defaults) (line : Option HeaderLine) → StepTells ([], false) (file_header_step defaults line)
+file_follows defaults None = nothing_follows ([], false) ([], false) refl
+file_follows defaults (Some line) = nothing_follows ([], false) ([], false) refl
 
-step_told : (entry : Entry) (cell : List (Spanned TokenKind)) → StepTells (known_in entry) (entry_step entry cell)
+step_follows : (entry : Entry) (cell : List (Spanned TokenKind)) → StepTells (known_in entry) (entry_step entry cell)
 unfolding entry_step
-step_told (entries.FileHeader defaults) cell = file_told defaults (line_in cell)
-step_told (entries.Opening defaults) cell = header_told (opening_header defaults) cell (line_in cell)
-step_told (entries.Header header) cell = header_told header cell (line_in cell)
-step_told (entries.Body body) cell = body_told body cell
+step_follows (entries.FileHeader defaults) cell = file_follows defaults (line_in cell)
+step_follows (entries.Opening defaults) cell = header_follows (opening_header defaults) cell (line_in cell)
+step_follows (entries.Header header) cell = header_follows header cell (line_in cell)
+step_follows (entries.Body body) cell = body_follows body cell
 
-cells_told : (entry : Entry) (cells : List (List (Spanned TokenKind))) → (after : MentionedVoices) × Tells (known_in entry) after (flat_map (λ given. given.items) (items_from bar_steps entry cells))
-cells_told entry [] = (known_in entry, nothing_told (known_in entry) (known_in entry) refl)
-cells_told entry (cell ∷ cells) =
-    let rest = cells_told (entry_step entry cell).0 cells in
-    (rest.0, both_told (known_in entry) (known_in (entry_step entry cell).0) rest.0 (entry_step entry cell).1.items _ (step_told entry cell) rest.1)
+cells_follows : (entry : Entry) (cells : List (List (Spanned TokenKind))) → (after : MentionedVoices) × Follows (known_in entry) after (flat_map (λ given. given.items) (items_from bar_steps entry cells))
+cells_follows entry [] = (known_in entry, nothing_follows (known_in entry) (known_in entry) refl)
+cells_follows entry (cell ∷ cells) =
+    let rest = cells_follows (entry_step entry cell).0 cells in
+    (rest.0, both_follows (known_in entry) (known_in (entry_step entry cell).0) rest.0 (entry_step entry cell).1.items _ (step_follows entry cell) rest.1)
 
-tune_told : (opening : Defaults) (cells : List (List (Spanned TokenKind))) → (after : MentionedVoices) × Tells ([], false) after (items_of_cells opening cells)
-tune_told opening cells = cells_told (entries.Opening opening) cells
+tune_follows : (opening : Defaults) (cells : List (List (Spanned TokenKind))) → (after : MentionedVoices) × Follows ([], false) after (items_of_cells opening cells)
+tune_follows opening cells = cells_follows (entries.Opening opening) cells
 
 pub names_voices : NamesVoices
-names_voices opening cells = (tune_told opening cells).1.named
+names_voices opening cells = (tune_follows opening cells).1.named
 
 pub mentions_few : MentionsFew
 mentions_few opening cells =
-    let told = tune_told opening cells in
-    omega (arith, ap (λ (k : MentionedVoices). length k.0) told.1.value, told.1.few (lit≤ tt))
+    let all_follows = tune_follows opening cells in
+    omega (arith, ap (λ (k : MentionedVoices). length k.0) all_follows.1.value, all_follows.1.few (lit≤ tt))

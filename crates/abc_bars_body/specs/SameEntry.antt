@@ -18,9 +18,9 @@ unfoldable pub same_entry : Entry → Entry → Bool
 same_entry = entry_equality.same
 
 -- It decides exactly whether they are equal.
-pub same_entry_tells : (a b : Entry) → (same_entry a b ≡ true → a ≡ b) × (a ≡ b → same_entry a b ≡ true)
+pub same_entry_decides : (a b : Entry) → (same_entry a b ≡ true → a ≡ b) × (a ≡ b → same_entry a b ≡ true)
 unfolding same_entry
-same_entry_tells a b = entry_equality.exact a b
+same_entry_decides a b = entry_equality.exact a b
 
 -- The fold over bars: the state after a cell, its items, and which states are equivalent.
 abbrev pub bar_steps : Steps Entry (List (Spanned TokenKind)) Items
@@ -32,4 +32,4 @@ bar_steps = record {
 
 -- Equivalent entries may replace each other: they are equal.
 pub bars_resumable : IsResumable bar_steps
-bars_resumable = resumable_where_equal bar_steps (λ a b. (same_entry_tells a b).0) (λ a. (same_entry_tells a a).1 refl)
+bars_resumable = resumable_where_equal bar_steps (λ a b. (same_entry_decides a b).0) (λ a. (same_entry_decides a a).1 refl)

@@ -196,7 +196,7 @@ impl Clone for Body {
 }
 
 /// A copy of the voices and their states.
-#[tactic(auto, using(crate::proofs::VoicesLemmas::copies_same))]
+#[tactic(auto, using(crate::proofs::Voices::copies_same))]
 fn copy_voices(voices: &Voices<VoiceState>) -> Result<Voices<VoiceState>, AllocError>
     ensures { IfOk result (λ copy. copy ≡ voices.now) }
 {

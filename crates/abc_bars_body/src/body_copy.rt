@@ -17,8 +17,8 @@ use crate::body_fields::{FieldItem, has_effect, kind_result};
 use crate::entry::Entry;
 use abc_bars_header::kind_of;
 use abc_bars_voice::{Accidentals, Same, VoiceState};
-use abc_fold::Shared;
 use abc_scan::{Field, Reach};
+use abc_text::Shared;
 use std::alloc::{AllocError, Global};
 use std::marker::Model;
 

@@ -82,7 +82,7 @@ impl CellResult {
     fn new(alloc: Global, body: BodyCopy, room: usize) -> Result<CellResult, AllocError>
         ensures { IfOk result (λ given. given ≡ empty_cell_result body) }
     {
-        let items = ItemsBuilder::with_room(alloc, room)?;
+        let items = ItemsBuilder::with_capacity(alloc, room)?;
         Ok(CellResult {
             body,
             items,

@@ -7,7 +7,7 @@ ghost use Rattle.abc_bars_header.specs.Defaults.{no_defaults};
 
 use crate::body::Body;
 use abc_bars_header::{Defaults, Header, NO_DEFAULTS};
-use abc_fold::Shared;
+use abc_text::Shared;
 use std::alloc::{AllocError, Global};
 
 /// The state of the fold before a cell, or after the last: all that later cells of a file header or of a tune can depend

@@ -14,9 +14,9 @@ unfoldable pub same_defaults : Defaults → Defaults → Bool
 same_defaults = defaults_equality.same
 
 -- It decides exactly whether they are equal.
-pub same_defaults_tells : (a b : Defaults) → (same_defaults a b ≡ true → a ≡ b) × (a ≡ b → same_defaults a b ≡ true)
+pub same_defaults_decides : (a b : Defaults) → (same_defaults a b ≡ true → a ≡ b) × (a ≡ b → same_defaults a b ≡ true)
 unfolding same_defaults
-same_defaults_tells a b = defaults_equality.exact a b
+same_defaults_decides a b = defaults_equality.exact a b
 
 pub defaults_equivalence : IsEquivalence same_defaults
 unfolding same_defaults

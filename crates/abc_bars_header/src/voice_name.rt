@@ -8,8 +8,7 @@ ghost use Rattle.std.specs.Hash as fed;
 ghost use Rattle.std.proofs.Common.{rules};
 
 use abc_bars_voice::Same;
-use abc_fold::Shared;
-use abc_text::Sequence;
+use abc_text::{Sequence, Shared};
 use std::alloc::{AllocError, Global};
 use std::hash::{Hash, Hasher};
 use std::marker::Model;

@@ -7,15 +7,6 @@ use abc_fields::{FaultCode, Meter};
 use abc_scan::BarLine;
 use abc_time::Grains;
 
-/// The highest key (MIDI 1.0).
-pub const HIGHEST_KEY: u8 = 127;
-
-/// The most notes of a chord that count. Not in ABC 2.1.
-pub const MOST_CHORD_NOTES: usize = 16;
-
-/// The most voices of a tune. Not in ABC 2.1.
-pub const MOST_VOICES: usize = 15;
-
 /// One note of a note or chord that takes time.
 #[derive(Clone, Copy)]
 pub struct Tone {

@@ -2,8 +2,7 @@
 
 ghost use Rattle.std.specs.Prelude.{◌≡◌, IfOk};
 
-use abc_fold::Shared;
-use abc_text::Sequence;
+use abc_text::{Sequence, Shared};
 use std::alloc::{AllocError, Global};
 use std::marker::Model;
 

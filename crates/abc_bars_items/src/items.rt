@@ -5,7 +5,7 @@ ghost use Rattle.abc_bars_items.specs.Item.{IsItem};
 
 use crate::item::{Item, LocalFault};
 use crate::items_builder::ItemsBuilder;
-use abc_fold::Shared;
+use abc_text::Shared;
 use std::alloc::{AllocError, Global};
 use std::marker::Model;
 

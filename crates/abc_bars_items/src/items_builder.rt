@@ -28,7 +28,7 @@ impl Model for ItemsBuilder {
 
 impl ItemsBuilder {
     /// A builder without items and faults, with room for `items` items.
-    pub fn with_room(alloc: Global, items: usize) -> Result<ItemsBuilder, AllocError>
+    pub fn with_capacity(alloc: Global, items: usize) -> Result<ItemsBuilder, AllocError>
         ensures { IfOk result (λ builder. builder ≡ no_items) }
     {
         Ok(ItemsBuilder {

@@ -11,8 +11,9 @@ mod program;
 mod tones;
 mod velocity;
 
+pub use abc_text::{HIGHEST_KEY, MOST_CHORD_NOTES, MOST_VOICES};
 pub use column::{FIRST_COLUMN, column_inside, column_of};
-pub use item::{HIGHEST_KEY, Item, LocalFault, MOST_CHORD_NOTES, MOST_VOICES, Tone};
+pub use item::{Item, LocalFault, Tone};
 pub use item_text::ItemText;
 pub use items::Items;
 pub use items_builder::ItemsBuilder;

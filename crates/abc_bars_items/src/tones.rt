@@ -4,8 +4,7 @@ ghost use Rattle.std.specs.Prelude.{◌≡◌, [], ◌∷◌, IfOk};
 ghost use Rattle.abc_bars_items.specs.TonesView.{viewed_tones};
 
 use crate::item::Tone;
-use abc_fold::Shared;
-use abc_text::ShortSequence;
+use abc_text::{Shared, ShortSequence};
 use abc_time::Grains;
 use std::alloc::{AllocError, Global};
 use std::marker::Model;

@@ -21,7 +21,7 @@ use Rattle.abc_bars_voice.specs.Reaching.{after_notes}
 use Rattle.abc_bars_notes.specs.Sound.{key_in, tone_in}
 use Rattle.abc_bars_notes.specs.TimeTokens.{chord_by, first_length}
 use Rattle.abc_bars_items.specs.Velocity.{velocity_of}
-use Rattle.abc_bars_notes.proofs.ChordTones.{accidentals_after, chord_tone_at, chord_tones, tone_of, tones_of}
+use Rattle.abc_bars_notes.proofs.ChordTones.{accidentals_after, slice_get-chord_tones, chord_builder_of-tones, tone_of, tones_of}
 use Rattle.abc_bars_notes.proofs.NoteKeys.{altered_by}
 
 abbrev key_of_tone : Tone → Option ℕ
@@ -82,7 +82,7 @@ module _ (state : VoiceState) (broken : List Ratio) (from : ℕ) (chord : Chord)
       → IsSomeAnd (slice_get builder.tones (length before)) (SoundsKey state (after_notes state.accidentals before) note)
   at_note before following note is few =
       with_key state (after_notes state.accidentals before) note (slice_get builder.tones (length before))
-      (ap (option_map key_of_tone) (chord_tone_at state broken outside_of chord.parts (length before) few)
+      (ap (option_map key_of_tone) (slice_get-chord_tones state broken outside_of chord.parts (length before) few)
       ∙ sym (slice_get-map key_of_tone (tones_of state broken outside_of state.accidentals chord.parts) (length before))
       ∙ ap (λ l. slice_get l (length before)) (tone_keys state broken outside_of chord.parts state.accidentals)
       ∙ ap (λ l. slice_get (keys_of state state.accidentals l) (length before)) is
@@ -99,7 +99,7 @@ chords_are_as_loud state broken from chord tied some =
       given.tones,
       first_length given.tones,
       ap (λ b. (chord_by b state from given).items) some,
-      subst (AreAsLoud state) (sym (chord_tones state broken (outside_of state broken from chord tied) chord.parts))
+      subst (AreAsLoud state) (sym (chord_builder_of-tones state broken (outside_of state broken from chord tied) chord.parts))
           (All-take (λ tone. tone.velocity ≡ velocity_of state.dynamic) 16 _ (tones_loud state broken (outside_of state broken from chord tied) chord.parts state.accidentals)),
     )
 

@@ -16,7 +16,7 @@ use Rattle.abc_scan.specs.declared.spanned.Spanned.{Spanned}
 use Rattle.abc_time.specs.declared.grains.Grains.{Grains}
 use Rattle.abc_time.specs.declared.ratio.Ratio.{Ratio}
 use Rattle.abc_bars_notes.specs.declared.chords.ChordContext.{ChordContext}
-use Rattle.abc_bars_items.specs.declared.item.TheConstants.{MOST_CHORD_NOTES}
+use Rattle.abc_text.specs.declared.limits.TheConstants.{MOST_CHORD_NOTES}
 use Rattle.abc_bars_items.specs.declared.item.Tone.{Tone}
 use Rattle.abc_bars_voice.specs.declared.accidentals.Accidentals.{Accidentals}
 use Rattle.abc_bars_voice.specs.declared.voice_state.VoiceState.{VoiceState}
@@ -33,7 +33,7 @@ use Rattle.abc_bars_notes.proofs.Lasting.{given_by, length_lasts}
 use Rattle.abc_bars_items.specs.Column.{column_of}
 use Rattle.abc_bars_notes.specs.Sound.{length_in, no_notes, note_faults, tone_in}
 use Rattle.abc_bars_notes.proofs.ChordParts.{either, filter_chord, filter_more, filter_note, notes}
-use Rattle.abc_bars_notes.proofs.ChordTones.{accidentals_after, chord_tone_at, chord_tones, tone_of, tones_of}
+use Rattle.abc_bars_notes.proofs.ChordTones.{accidentals_after, slice_get-chord_tones, chord_builder_of-tones, tone_of, tones_of}
 
 abbrev length_of_tone : Tone → Grains
 length_of_tone tone = tone.length
@@ -162,7 +162,7 @@ module _ (state : VoiceState) (cell : List (Spanned TokenKind)) (place from : �
   tone_at : (k : ℕ) (note : Note) → IsNoteOf chord k note → k < 16 → IsSomeAnd (slice_get builder.tones k) (λ tone. tone.length ≡ length_of note)
   tone_at k note is few =
       some_length (slice_get builder.tones k) (length_of note)
-      (ap (option_map length_of_tone) (chord_tone_at state (factors_at cell place) outside_of chord.parts k few)
+      (ap (option_map length_of_tone) (slice_get-chord_tones state (factors_at cell place) outside_of chord.parts k few)
       ∙ sym (slice_get-map length_of_tone (tones_of state (factors_at cell place) outside_of state.accidentals chord.parts) k)
       ∙ ap (λ l. slice_get l k) lengths_are
       ∙ slice_get-map (λ part. own_length state (factors_at cell place) outside_of part.kind) (notes chord.parts) k
@@ -170,7 +170,7 @@ module _ (state : VoiceState) (cell : List (Spanned TokenKind)) (place from : �
 
   sounds : IsPlace state cell place → SoundsTogether state cell place chord builder.tones (first_length builder.tones)
   sounds h = record {
-    count = ap length (chord_tones state (factors_at cell place) outside_of chord.parts) ∙ length-take 16 _
+    count = ap length (chord_builder_of-tones state (factors_at cell place) outside_of chord.parts) ∙ length-take 16 _
         ∙ ap (λ n. min 16 n) (sym (length-map _ length_of_tone) ∙ ap length lengths_are ∙ length-map (notes chord.parts) _);
     each = λ k note is few. holds_of (slice_get builder.tones k) (length_of note) (IsLengthOf state cell place chord note) (tone_at k note is few) (given note h);
     first = λ note is. subst (IsLengthOf state cell place chord note) (sym (first_is builder.tones (length_of note) (tone_at 0 note is (lit≤ tt)))) (given note h);

@@ -9,7 +9,7 @@ use Rattle.abc_scan.specs.declared.chord_part.ChordPartKind.{ChordPartKind}
 use Rattle.abc_scan.specs.declared.chord_part.ChordPartKind.TheVariants as kinds
 use Rattle.abc_scan.specs.declared.spanned.Spanned.{Spanned}
 use Rattle.abc_time.specs.declared.ratio.Ratio.{Ratio}
-use Rattle.abc_bars_items.specs.declared.item.TheConstants.{MOST_CHORD_NOTES}
+use Rattle.abc_text.specs.declared.limits.TheConstants.{MOST_CHORD_NOTES}
 use Rattle.abc_bars_items.specs.declared.item.Tone.{Tone}
 use Rattle.abc_bars_voice.specs.declared.accidentals.Accidentals.{Accidentals}
 use Rattle.abc_bars_voice.specs.declared.voice_state.VoiceState.{VoiceState}
@@ -87,13 +87,13 @@ module _ (state : VoiceState) (broken : List Ratio) (chord_context : ChordContex
       tones_from parts (with_part state broken chord_context part (tie_follows parts) builder)
       ∙ kind_tones part.kind part.from (tie_follows parts) builder parts
 
-  pub chord_tones : (parts : List (Spanned ChordPartKind)) → (chord_builder_of state broken chord_context parts).tones ≡ take 16 (tones_of state.accidentals parts)
-  chord_tones parts = tones_from parts (no_notes state)
+  pub chord_builder_of-tones : (parts : List (Spanned ChordPartKind)) → (chord_builder_of state broken chord_context parts).tones ≡ take 16 (tones_of state.accidentals parts)
+  chord_builder_of-tones parts = tones_from parts (no_notes state)
 
   -- the tone at a place
-  pub chord_tone_at : (parts : List (Spanned ChordPartKind)) (k : ℕ) → k < 16
+  pub slice_get-chord_tones : (parts : List (Spanned ChordPartKind)) (k : ℕ) → k < 16
       → slice_get (chord_builder_of state broken chord_context parts).tones k ≡ slice_get (tones_of state.accidentals parts) k
-  chord_tone_at parts k few = ap (λ l. slice_get l k) (chord_tones parts) ∙ take_place (tones_of state.accidentals parts) 16 k few
+  slice_get-chord_tones parts k few = ap (λ l. slice_get l k) (chord_builder_of-tones parts) ∙ take_place (tones_of state.accidentals parts) 16 k few
 
   -- a note somewhere among parts gives a tone
   some_by : (kind : ChordPartKind) (accidentals : Accidentals) (tied : Bool) (parts : List (Spanned ChordPartKind)) (later : List Tone)
@@ -110,5 +110,5 @@ module _ (state : VoiceState) (broken : List Ratio) (chord_context : ChordContex
   pub chord-tone : (parts : List (Spanned ChordPartKind)) (builder : ChordBuilder)
       → builder ≡ chord_builder_of state broken chord_context parts → has_note parts ≡ true → 1 ≤ length builder.tones
   chord-tone parts builder e h =
-      let tones = ap (λ (b : ChordBuilder). length b.tones) e ∙ ap length (chord_tones parts) in
+      let tones = ap (λ (b : ChordBuilder). length b.tones) e ∙ ap length (chord_builder_of-tones parts) in
       omega (arith, tones, length-take 16 (tones_of state.accidentals parts), some_tone parts state.accidentals h)

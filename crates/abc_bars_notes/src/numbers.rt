@@ -1,4 +1,5 @@
-//! The values of the constants that clauses cite by their names.
+//! For the prover: the numbers that the constants' names mean. A proof that counts with one cites
+//! its line here.
 
 use crate::broken::MOST_MARKS;
 use crate::lengths::MOST_UNITS;

@@ -68,12 +68,12 @@ module _ {A : Type 0} (each : Equality A) where
   }
 
   -- A value that decides whether two are equal is the test.
-  pub told_by : (r : Bool) (a b : A) → Decides r (a ≡ b) → r ≡ each.same a b
-  told_by r a b told = same_from_decides {P = a ≡ b} r (each.same a b) told (each.exact a b)
+  pub test_by : (r : Bool) (a b : A) → Decides r (a ≡ b) → r ≡ each.same a b
+  test_by r a b decides = same_from_decides {P = a ≡ b} r (each.same a b) decides (each.exact a b)
 
   -- The result of the test decides whether two are equal.
-  pub tells : (r : Bool) (a b : A) → r ≡ each.same a b → Decides r (a ≡ b)
-  tells r a b e = subst (λ t. Decides t (a ≡ b)) (sym e) (each.exact a b)
+  pub test_decides : (r : Bool) (a b : A) → r ≡ each.same a b → Decides r (a ≡ b)
+  test_decides r a b e = subst (λ t. Decides t (a ≡ b)) (sym e) (each.exact a b)
 
 module _ {A B : Type 0} (parts : Equality B) (to : A → B) (from : B → A) (back : (a : A) → from (to a) ≡ a) where
   pub exact_by : (a b : A) → Decides (parts.same (to a) (to b)) (a ≡ b)
@@ -114,6 +114,6 @@ module _ {A : Type 0} (codes : Coded A) where
       let same = exact_code (codes.code a) (codes.code b) in
       (λ e. codes.inj a b (same.0 e), λ e. same.1 (ap codes.code e))
 
-  -- The values of a type, by the code that tells them apart.
+  -- The values of a type, by the code that test_decides them apart.
   abbrev pub by_code : Equality A
   by_code = record { same = λ a b. same_code (codes.code a) (codes.code b); exact = exact_by_code }

@@ -9,7 +9,7 @@ ghost use Rattle.abc_bars_voice.specs.Equality.{equivalence};
 ghost use Rattle.abc_bars_voice.specs.OctaveGroups.{octaves_equality};
 
 use crate::accidentals::{LetterAccidentals, NO_LETTERS};
-use abc_fold::Shared;
+use abc_text::Shared;
 use std::alloc::{AllocError, Global};
 use std::collections::BTreeMap;
 use std::marker::Model;

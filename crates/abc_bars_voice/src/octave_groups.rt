@@ -11,7 +11,7 @@ ghost use Rattle.abc_bars_voice.specs.OctaveGroups.{group_at, group_of, with_val
 use crate::accidentals::{LetterAccidentals, NO_LETTERS};
 use crate::octave_group::OctaveGroup;
 use crate::same::Same;
-use abc_fold::Shared;
+use abc_text::Shared;
 use std::alloc::{AllocError, Global};
 use std::collections::BTreeMap;
 use std::marker::Model;

@@ -12,7 +12,6 @@ use Rattle.abc_book.specs.declared.pass.OpenBlock.TheVariants.{Nothing, Inside, 
 use Rattle.abc_book.specs.Block.{letter_x, is_x_line, blocks_of}
 use Rattle.abc_book.specs.Pass.{one_line, with_line, after_line, last_block, block_ended_by, blocks_from}
 use Rattle.abc_book.specs.Laws.{move_block, AnXLineCuts}
-use Rattle.abc_book.specs.Stretch.{blocks_at}
 use Rattle.abc_book.proofs.OnePass.{one_pass}
 
 cut_from : (before : OpenBlock) (at : ℕ) (front following : List LineClass)
@@ -64,19 +63,13 @@ after_moved n at before Directive = ap (λ b. Inside b) (line_moved n at FileHea
 after_moved n at before Music = ap (λ b. Inside b) (line_moved n at Free before)
 
 -- the same lines further down make the same blocks, equally further down
-pub blocks_moved : (n at : ℕ) (before : OpenBlock) (classes : List LineClass) → blocks_from (moved_before n before) (at + n) classes ≡ map (move_block n) (blocks_from before at classes)
-blocks_moved n at before [] = last_moved n before
-blocks_moved n at before (class ∷ classes) =
+pub blocks_from-moved : (n at : ℕ) (before : OpenBlock) (classes : List LineClass) → blocks_from (moved_before n before) (at + n) classes ≡ map (move_block n) (blocks_from before at classes)
+blocks_from-moved n at before [] = last_moved n before
+blocks_from-moved n at before (class ∷ classes) =
     let next : at + n + 1 ≡ at + 1 + n = omega arith in
     (λ i. ended_moved n before class i ++ blocks_from (after_moved n at before class i) (next i) classes)
-    ∙ ap (λ l. map (move_block n) (block_ended_by before class) ++ l) (blocks_moved n (at + 1) (after_line before at class) classes)
+    ∙ ap (λ l. map (move_block n) (block_ended_by before class) ++ l) (blocks_from-moved n (at + 1) (after_line before at class) classes)
     ∙ sym (map-append (move_block n) (block_ended_by before class) (blocks_from (after_line before at class) (at + 1) classes))
-
--- the blocks of lines that begin further down
-pub blocks_there : (first : ℕ) (classes : List LineClass) → blocks_from Nothing first classes ≡ blocks_at first classes
-blocks_there first classes =
-    let here : first ≡ 0 + first = omega arith in
-    ap (λ at. blocks_from Nothing at classes) here ∙ blocks_moved first 0 Nothing classes ∙ ap (map (move_block first)) (sym (one_pass classes))
 
 -- a line that begins a tune is a field X:
 pub is_field_x : (x : LineClass) → IsTrue (is_x_line x) → x ≡ Field letter_x
@@ -87,7 +80,7 @@ cuts_at : (front following : List LineClass) → blocks_of (front ++ Field lette
 cuts_at front following =
     let here : 0 + length front ≡ length front = omega arith in
     one_pass (front ++ Field letter_x ∷ following) ∙ cut_from Nothing 0 front following
-    ∙ (λ i. sym (one_pass front) i ++ (blocks_moved (length front) 0 Nothing (Field letter_x ∷ following)
+    ∙ (λ i. sym (one_pass front) i ++ (blocks_from-moved (length front) 0 Nothing (Field letter_x ∷ following)
     ∙ ap (λ l. map (move_block (length front)) l) (sym (one_pass (Field letter_x ∷ following)))) i)
 
 pub x_line_cuts : AnXLineCuts

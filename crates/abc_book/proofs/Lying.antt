@@ -14,7 +14,7 @@ use Rattle.abc_book.specs.Block.{blocks_of}
 use Rattle.abc_book.specs.Pass.{one_line, with_line, after_blank, last_block, blocks_from}
 use Rattle.abc_book.specs.Laws.{holds, RiseFromTo, EachLineInOneBlock, NoBlankInABlock}
 use Rattle.abc_book.proofs.OnePass.{one_pass}
-use Rattle.abc_book.proofs.Rising.{Stands, later_stands, blank_stands, tune_stands, line_stands, rises}
+use Rattle.abc_book.proofs.Rising.{LiesFrom, later_lies, blank_lies, tune_lies, line_lies, rises}
 use Rattle.abc_book.proofs.Cases.{by_class}
 
 -- the number of blocks that contain a line
@@ -42,7 +42,7 @@ none_before line first last (block ∷ blocks) before h =
     let later = none_before line block.to last blocks (omega (arith, h.0, h.1)) h.2 in
     sum_by-append (λ x. cond (holds line x) 1 0) (block ∷ []) blocks ∙ (λ i. here i + later i)
 
-never : (line at : ℕ) (before : OpenBlock) (classes : List LineClass) → Stands (line + 1) at before → lies line (blocks_from before at classes) ≡ 0
+never : (line at : ℕ) (before : OpenBlock) (classes : List LineClass) → LiesFrom (line + 1) at before → lies line (blocks_from before at classes) ≡ 0
 never line at before classes h = none_before line (line + 1) (at + length classes) (blocks_from before at classes) (omega arith) (rises (line + 1) at (at + length classes) before classes refl h)
 
 once : (line at : ℕ) (block : Block) (classes : List LineClass) → block.from ≤ line → line < block.to → block.to ≤ at → lies line (blocks_from (Inside block) at classes) ≡ 1
@@ -52,15 +52,15 @@ once line at block (class ∷ classes) from to end =
       comment = λ e. once line (at + 1) block classes from to (omega arith);
       blank = λ e. closed line 1 0 (at + 1) (Inside block) Ended classes (held line block from to) (never line (at + 1) Ended classes (omega arith));
       x_line = λ e. closed line 1 0 (at + 1) (Inside block) (Inside (one_line Tune at)) classes (held line block from to)
-          (never line (at + 1) (Inside (one_line Tune at)) classes (tune_stands (line + 1) at (omega arith)));
+          (never line (at + 1) (Inside (one_line Tune at)) classes (tune_lies (line + 1) at (omega arith)));
       other = λ kind k e b. once line (at + 1) (with_line kind (Inside block) at) classes from (omega arith) (omega arith);
     })
 
-past_last : (line at : ℕ) (before : OpenBlock) → Stands 0 at before → at ≤ line → lies line (last_block before) ≡ 0
+past_last : (line at : ℕ) (before : OpenBlock) → LiesFrom 0 at before → at ≤ line → lies line (last_block before) ≡ 0
 past_last line at (Inside block) h past = no_more line block (omega (arith, h.2))
 past_last line at _ h past = refl
 
-line_from : (line at : ℕ) (kind : BlockKind) (before : OpenBlock) → Stands 0 at before → at ≤ line → (with_line kind before at).from ≤ line
+line_from : (line at : ℕ) (kind : BlockKind) (before : OpenBlock) → LiesFrom 0 at before → at ≤ line → (with_line kind before at).from ≤ line
 line_from line at kind (Inside block) h past = omega (arith, h.1, h.2)
 line_from line at kind _ h past = past
 
@@ -79,12 +79,12 @@ due_one Blank b c = absurd (b refl)
 due_one Comment b c = absurd (c refl)
 due_one _ b c = refl
 
-lies_here : (line at : ℕ) (before : OpenBlock) (class : LineClass) (classes : List LineClass) → line ≡ at → (class ≡ Comment → ⊥) → Stands 0 at before
+lies_here : (line at : ℕ) (before : OpenBlock) (class : LineClass) (classes : List LineClass) → line ≡ at → (class ≡ Comment → ⊥) → LiesFrom 0 at before
     → lies line (blocks_from before at (class ∷ classes)) ≡ due class
 lies_here line at before class classes here c h = by_class (λ ended after. lies line (ended ++ blocks_from after (at + 1) classes) ≡ due class) before at class (record {
   comment = λ e. absurd (c e);
   blank = λ e. closed line 0 0 (at + 1) before (after_blank before) classes (past_last line at before h (omega arith)) (never line (at + 1) (after_blank before) classes
-      (blank_stands (line + 1) (at + 1) before (omega arith))) ∙ sym (ap due e);
+      (blank_lies (line + 1) (at + 1) before (omega arith))) ∙ sym (ap due e);
   x_line = λ e. closed line 0 1 (at + 1) before (Inside (one_line Tune at)) classes (past_last line at before h (omega arith)) (once line (at + 1) (one_line Tune at) classes (omega arith)
       (omega arith) (omega arith)) ∙ sym (ap due e);
   other = λ kind k e b.
@@ -92,7 +92,7 @@ lies_here line at before class classes here c h = by_class (λ ended after. lies
       ∙ sym (due_one class b c);
 })
 
-lies_due : (line at k : ℕ) (before : OpenBlock) (class : LineClass) (classes : List LineClass) → slice_get classes k ≡ Some class → line ≡ at + k → (class ≡ Comment → ⊥) → Stands 0 at before
+lies_due : (line at k : ℕ) (before : OpenBlock) (class : LineClass) (classes : List LineClass) → slice_get classes k ≡ Some class → line ≡ at + k → (class ≡ Comment → ⊥) → LiesFrom 0 at before
     → lies line (blocks_from before at classes) ≡ due class
 lies_due line at k before class [] found here c h = cc
 lies_due line at zero before class (first ∷ classes) found here c h =
@@ -102,12 +102,12 @@ lies_due line at (suc k) before class (first ∷ classes) found here c h =
     let next : line ≡ at + 1 + k = omega arith in
     let past : at ≤ line = omega arith in
     by_class (λ ended after. lies line (ended ++ blocks_from after (at + 1) classes) ≡ due class) before at first (record {
-      comment = λ e. lies_due line (at + 1) k before class classes found next c (later_stands 0 at before h);
+      comment = λ e. lies_due line (at + 1) k before class classes found next c (later_lies 0 at before h);
       blank = λ e. closed line 0 (due class) (at + 1) before (after_blank before) classes (past_last line at before h past) (lies_due line (at + 1) k (after_blank before) class classes found next c
-          (blank_stands 0 (at + 1) before (omega arith))) ∙ zero-add (due class);
+          (blank_lies 0 (at + 1) before (omega arith))) ∙ zero-add (due class);
       x_line = λ e. closed line 0 (due class) (at + 1) before (Inside (one_line Tune at)) classes (past_last line at before h past) (lies_due line (at + 1) k (Inside (one_line Tune at)) class classes
-          found next c (tune_stands 0 at (omega arith))) ∙ zero-add (due class);
-      other = λ kind j e b. lies_due line (at + 1) k (Inside (with_line kind before at)) class classes found next c (line_stands 0 at kind before h);
+          found next c (tune_lies 0 at (omega arith))) ∙ zero-add (due class);
+      other = λ kind j e b. lies_due line (at + 1) k (Inside (with_line kind before at)) class classes found next c (line_lies 0 at kind before h);
     })
 
 lies_in : (classes : List LineClass) (line : ℕ) (class : LineClass) → slice_get classes line ≡ Some class → (class ≡ Comment → ⊥) → lies line (blocks_of classes) ≡ due class

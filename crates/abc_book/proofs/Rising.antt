@@ -16,44 +16,44 @@ use Rattle.abc_book.proofs.OnePass.{one_pass}
 use Rattle.abc_book.proofs.Cases.{by_class}
 
 -- the open block before a line begins at `first` at the earliest and ends before the line
-abbrev pub Stands : ℕ → ℕ → OpenBlock → Type 0
-Stands first at Nothing = first ≤ at
-Stands first at (Inside block) = (first ≤ block.from) × (block.from < block.to) × (block.to ≤ at)
-Stands first at Ended = first ≤ at
+abbrev pub LiesFrom : ℕ → ℕ → OpenBlock → Type 0
+LiesFrom first at Nothing = first ≤ at
+LiesFrom first at (Inside block) = (first ≤ block.from) × (block.from < block.to) × (block.to ≤ at)
+LiesFrom first at Ended = first ≤ at
 
-pub later_stands : (first at : ℕ) (before : OpenBlock) → Stands first at before → Stands first (at + 1) before
-later_stands first at (Inside block) h = (h.0, h.1, omega (arith, h.2))
-later_stands first at _ h = omega arith
+pub later_lies : (first at : ℕ) (before : OpenBlock) → LiesFrom first at before → LiesFrom first (at + 1) before
+later_lies first at (Inside block) h = (h.0, h.1, omega (arith, h.2))
+later_lies first at _ h = omega arith
 
-pub blank_stands : (first at : ℕ) (before : OpenBlock) → first ≤ at → Stands first at (after_blank before)
-blank_stands first at Nothing h = h
-blank_stands first at _ h = h
+pub blank_lies : (first at : ℕ) (before : OpenBlock) → first ≤ at → LiesFrom first at (after_blank before)
+blank_lies first at Nothing h = h
+blank_lies first at _ h = h
 
-pub tune_stands : (first at : ℕ) → first ≤ at → Stands first (at + 1) (Inside (one_line Tune at))
-tune_stands first at h = (h, omega arith, omega arith)
+pub tune_lies : (first at : ℕ) → first ≤ at → LiesFrom first (at + 1) (Inside (one_line Tune at))
+tune_lies first at h = (h, omega arith, omega arith)
 
-pub line_stands : (first at : ℕ) (kind : BlockKind) (before : OpenBlock) → Stands first at before → Stands first (at + 1) (Inside (with_line kind before at))
-line_stands first at kind (Inside block) h = (h.0, omega (arith, h.1, h.2), omega arith)
-line_stands first at kind _ h = (h, omega arith, omega arith)
+pub line_lies : (first at : ℕ) (kind : BlockKind) (before : OpenBlock) → LiesFrom first at before → LiesFrom first (at + 1) (Inside (with_line kind before at))
+line_lies first at kind (Inside block) h = (h.0, omega (arith, h.1, h.2), omega arith)
+line_lies first at kind _ h = (h, omega arith, omega arith)
 
-closed_rises : (first at last : ℕ) (before : OpenBlock) (blocks : List Block) → Stands first at before → ((next : ℕ) → next ≤ at → RiseFromTo next blocks last)
+closed_rises : (first at last : ℕ) (before : OpenBlock) (blocks : List Block) → LiesFrom first at before → ((next : ℕ) → next ≤ at → RiseFromTo next blocks last)
     → RiseFromTo first (last_block before ++ blocks) last
 closed_rises first at last (Inside block) blocks h rest = (h.0, h.1, rest block.to h.2)
 closed_rises first at last _ blocks h rest = rest first h
 
-last_rises : (first at : ℕ) (before : OpenBlock) → Stands first at before → RiseFromTo first (last_block before) at
+last_rises : (first at : ℕ) (before : OpenBlock) → LiesFrom first at before → RiseFromTo first (last_block before) at
 last_rises first at Nothing h = h
 last_rises first at _ h = h
 
-pub rises : (first at last : ℕ) (before : OpenBlock) (classes : List LineClass) → at + length classes ≡ last → Stands first at before → RiseFromTo first (blocks_from before at classes) last
+pub rises : (first at last : ℕ) (before : OpenBlock) (classes : List LineClass) → at + length classes ≡ last → LiesFrom first at before → RiseFromTo first (blocks_from before at classes) last
 rises first at last before [] end h = let here : at ≡ last = omega arith in subst (RiseFromTo first (last_block before)) here (last_rises first at before h)
 rises first at last before (class ∷ classes) end h =
     let more : at + 1 + length classes ≡ last = omega arith in
     by_class (λ ended after. RiseFromTo first (ended ++ blocks_from after (at + 1) classes) last) before at class (record {
-      comment = λ e. rises first (at + 1) last before classes more (later_stands first at before h);
-      blank = λ e. closed_rises first at last before _ h (λ next le. rises next (at + 1) last (after_blank before) classes more (blank_stands next (at + 1) before (omega arith)));
-      x_line = λ e. closed_rises first at last before _ h (λ next le. rises next (at + 1) last (Inside (one_line Tune at)) classes more (tune_stands next at le));
-      other = λ kind k e b. rises first (at + 1) last (Inside (with_line kind before at)) classes more (line_stands first at kind before h);
+      comment = λ e. rises first (at + 1) last before classes more (later_lies first at before h);
+      blank = λ e. closed_rises first at last before _ h (λ next le. rises next (at + 1) last (after_blank before) classes more (blank_lies next (at + 1) before (omega arith)));
+      x_line = λ e. closed_rises first at last before _ h (λ next le. rises next (at + 1) last (Inside (one_line Tune at)) classes more (tune_lies next at le));
+      other = λ kind k e b. rises first (at + 1) last (Inside (with_line kind before at)) classes more (line_lies first at kind before h);
     })
 
 pub blocks_rise : BlocksRise

@@ -7,4 +7,4 @@ mod pass;
 
 pub use abc_scan::LineClass;
 pub use block::{Block, BlockKind};
-pub use pass::{blocks, stretch_blocks};
+pub use pass::blocks;

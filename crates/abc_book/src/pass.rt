@@ -1,11 +1,9 @@
 //! The blocks of a text, in one pass over the classes of its lines.
 
-ghost use Rattle.std.specs.Prelude.{◌≡◌, ◌+◌, ◌<◌, ◌≤◌, ◌++◌, length, IfOk, OnOk};
+ghost use Rattle.std.specs.Prelude.{◌≡◌, ◌<◌, ◌++◌, IfOk, OnOk};
 ghost use Rattle.std.specs.Option.{option_to_list};
 ghost use Rattle.abc_book.specs.Block.{blocks_of};
-ghost use Rattle.abc_book.specs.Pass.{one_line, with_line, after_line, block_ended_by, last_block, blocks_from};
-ghost use Rattle.abc_book.specs.Stretch.{blocks_at};
-ghost use Rattle.abc_book.specs.declared.pass.OpenBlock.TheVariants.{Nothing};
+ghost use Rattle.abc_book.specs.Pass.{one_line, with_line, after_line, block_ended_by, last_block};
 
 use crate::block::{Block, BlockKind};
 use abc_scan::LineClass;
@@ -100,40 +98,17 @@ fn append(blocks: &mut Vec<Block>, block: Option<Block>) -> Result<(), AllocErro
     }
 }
 
-/// Returns the blocks of lines from index `first` on, if no earlier block continues there.
-fn blocks_from(alloc: Global, first: usize, classes: &[LineClass]) -> Result<Vec<Block>, AllocError>
-    requires { first + length classes.now ≤ usize.MAX }
-    ensures { IfOk result (λ blocks. blocks.items ≡ blocks_from Nothing first classes.now) }
-{
-    let mut blocks = Vec::new(alloc);
-    let mut before = OpenBlock::Nothing;
-    for (done, class) in classes.iter().enumerate() {
-        append(&mut blocks, block_ended_by(before, *class))?;
-        before = after_line(before, first + done, *class);
-    }
-    append(&mut blocks, last_block(before))?;
-    Ok(blocks)
-}
-
 /// Returns the blocks of a text, in order, by the classes of its lines (ABC 2.1 section 2.2), or an error if an
 /// allocation fails.
-#[tactic(auto, using(crate::proofs::OnePass::one_pass))]
 pub fn blocks(alloc: Global, classes: &[LineClass]) -> Result<Vec<Block>, AllocError>
     ensures value { IfOk result (λ blocks. blocks.items ≡ blocks_of classes.now) }
 {
-    blocks_from(alloc, 0, classes)
-}
-
-/// Returns the blocks of a stretch of a text from line `first` on, by the classes of its own lines.
-/// `a_stretch_is_enough` relates them to the blocks of the whole text.
-#[tactic(auto, using(crate::proofs::Cuts::blocks_there))]
-pub fn stretch_blocks(
-    alloc: Global,
-    first: usize,
-    classes: &[LineClass],
-) -> Result<Vec<Block>, AllocError>
-    requires { first + length classes.now ≤ usize.MAX }
-    ensures value { IfOk result (λ blocks. blocks.items ≡ blocks_at first classes.now) }
-{
-    blocks_from(alloc, first, classes)
+    let mut blocks = Vec::new(alloc);
+    let mut before = OpenBlock::Nothing;
+    for (at, class) in classes.iter().enumerate() {
+        append(&mut blocks, block_ended_by(before, *class))?;
+        before = after_line(before, at, *class);
+    }
+    append(&mut blocks, last_block(before))?;
+    Ok(blocks)
 }

@@ -8,6 +8,7 @@ use Rattle.abc_fields.specs.declared.fault_code.FaultCode.TheVariants.{BadOrder}
 use Rattle.abc_fields.specs.declared.parts.LastItem.{LastItem}
 use Rattle.abc_fields.specs.declared.parts.LastItem.TheVariants.{Nothing, Item}
 use Rattle.abc_fields.specs.declared.parts.OrderState.{OrderState}
+use Rattle.abc_fields.specs.declared.parts.TheConstants.{DEEPEST_GROUP, LONGEST_COUNT}
 use Rattle.abc_text.specs.Byte.{open_parenthesis, close_parenthesis, dot, digit_zero}
 
 -- A dot or a blank, which is ignored anywhere in an order, also inside a count.
@@ -32,7 +33,7 @@ begins_item (Item digits positive) = ends_item (Item digits positive)
 abbrev pub with_digit : LastItem → ℕ → Option LastItem
 with_digit Nothing digit = None
 with_digit (Item digits positive) digit =
-    if nat_lt digits 9 then Some (Item (digits + 1) (positive || not (digit == digit_zero))) else None
+    if nat_lt digits LONGEST_COUNT then Some (Item (digits + 1) (positive || not (digit == digit_zero))) else None
 
 -- The place at this depth after this item.
 abbrev pub place_at : ℕ → LastItem → OrderState
@@ -49,7 +50,7 @@ unfoldable pub next : OrderState → ℕ → Option OrderState
 next place b =
     if is_ascii_uppercase b then (if begins_item place.before then Some (place_at place.depth (Item 0 false)) else None)
     else (if b == open_parenthesis
-    then (if begins_item place.before && nat_lt place.depth 32 then Some (place_at (place.depth + 1) Nothing) else None)
+    then (if begins_item place.before && nat_lt place.depth DEEPEST_GROUP then Some (place_at (place.depth + 1) Nothing) else None)
     else (if b == close_parenthesis
     then (if ends_item place.before && nat_lt 0 place.depth then Some (place_at (place.depth - 1) (Item 0 false)) else None)
     else (if is_ascii_digit b then following_digit place.depth (with_digit place.before b) else None)))

@@ -1,3 +1,4 @@
+-- How the values of fields are spelled.
 pub mod Accidental
 pub mod Clef
 pub mod Key

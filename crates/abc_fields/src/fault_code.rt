@@ -1,4 +1,4 @@
-//! The faults of a tune book.
+//! The faults of a tune book. The clients' file `faults.json` and the documents repeat their names.
 
 ghost use Rattle.std.specs.Prelude.{◌≡◌, ◌≤◌, Some, nat_eq, refl};
 ghost use Rattle.std.specs.Cmp.{nat_cmp_total, nat_eq_equiv, on_equiv, on_per, on_po, on_total, partial_equiv_from_equiv};
@@ -8,63 +8,91 @@ ghost use Rattle.abc_fields.specs.declared.fault_code.FaultCode.{FaultCode};
 ghost use Rattle.abc_fields.specs.Fault.{name_of, number_of};
 
 use std::cmp::Ordering;
+use thiserror::Error;
 
-/// The kind of a fault. Faults at one place are listed in this order.
-#[derive(Clone, Copy, Debug)]
+/// The kind of a fault. Faults at one place are listed in this order. Its text is for logs; clients have sentences for people.
+#[derive(Clone, Copy, Debug, Error)]
 pub enum FaultCode {
     /// An `X:` without a number from 1.
+    #[error("X: has no number from 1")]
     BadReference = 1,
     /// An `M:` without a valid meter.
+    #[error("M: has no valid meter")]
     BadMeter,
     /// An `L:` without a valid unit note length.
+    #[error("L: has no valid unit note length")]
     BadUnit,
     /// A `Q:` without a valid tempo.
+    #[error("Q: has no valid tempo")]
     BadTempo,
     /// A `K:` without a valid key.
+    #[error("K: has no valid key")]
     BadKey,
     /// A `P:` of a header without a valid order of parts.
+    #[error("P: of the header has no valid order of parts")]
     BadOrder,
     /// A `P:` of a body without a part.
+    #[error("P: in the body has no part")]
     BadPart,
     /// A `V:` without a valid voice.
+    #[error("V: has no valid voice")]
     BadVoice,
     /// A voice beyond the limit of a tune.
+    #[error("a voice is beyond the limit of a tune")]
     TooManyVoices,
     /// A byte that begins no token.
+    #[error("a byte begins no token")]
     BadByte,
     /// A `[`, `"`, `!` or `{` that nothing closes.
+    #[error("nothing closes a delimiter")]
     Unclosed,
     /// A length that is refused: 0, too many digits or slashes, not whole in grains, or above 1,024 whole notes.
+    #[error("a length is refused")]
     BadLength,
     /// A tuplet that is out of range.
+    #[error("a tuplet is out of range")]
     BadTuplet,
     /// A tuplet that begins inside another.
+    #[error("a tuplet begins inside another")]
     NestedTuplet,
     /// A broken rhythm without two notes.
+    #[error("a broken rhythm has no two notes")]
     BadBroken,
     /// A tie that does not directly follow a note or chord.
+    #[error("a tie does not directly follow a note or chord")]
     LooseTie,
     /// A chord without notes.
+    #[error("a chord has no notes")]
     EmptyChord,
     /// A note beyond the limit of a chord.
+    #[error("a note is beyond the limit of a chord")]
     BigChord,
     /// An ending that is out of range.
+    #[error("an ending is out of range")]
     BadEnding,
     /// A rest of bars in free meter.
+    #[error("a rest of bars is in free meter")]
     FreeBarRest,
     /// A note without a MIDI key.
+    #[error("a note has no MIDI key")]
     KeyRange,
     /// A header without a key.
+    #[error("a header has no key")]
     MissingKey,
     /// A tempo that is out of range.
+    #[error("a tempo is out of range")]
     TempoRange,
     /// An order with a part that the tune does not have.
+    #[error("an order names a part that the tune does not have")]
     UnknownPart,
     /// Voices of a section that differ in length.
+    #[error("voices of a section differ in length")]
     UnevenVoices,
     /// A tune beyond a limit: of sections played, of items played, or of its end.
+    #[error("a tune is beyond a limit")]
     TuneTooLong,
     /// A program without a MIDI number.
+    #[error("a program has no MIDI number")]
     BadProgram,
 }
 

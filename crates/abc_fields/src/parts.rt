@@ -9,11 +9,15 @@ ghost use Rattle.abc_fields.specs.Spelling.Parts.{IsParts};
 use crate::fault_code::FaultCode;
 use abc_text::is_blank;
 
-/// The greatest number of nested groups of an order. Not in ABC 2.1.
+/// The greatest number of nested groups of an order: a deeper one is `BadOrder`. Not in ABC 2.1.
 pub const DEEPEST_GROUP: u8 = 32;
 
 /// The greatest number of digits of a count.
 const LONGEST_COUNT: u8 = 9;
+
+const _: () = prove!(DEEPEST_GROUP == 32);
+
+const _: () = prove!(LONGEST_COUNT == 9);
 
 /// The last item before a place of an order, in the innermost group.
 #[derive(Clone, Copy)]

@@ -32,8 +32,8 @@ impl<F: Fold> Model for Chain<F> {
     ghost invariant = { λ c. HasShape c.states.items c.cells.items c.items.items };
 }
 
-/// A prepared chain that may replace another. `commit` of the other chain or `drop_patch` must spend it. Contracts see
-/// both chains.
+/// A prepared chain that may replace another, with all the memory that it needs. `prepare` and `prepare_pieces` of the other
+/// chain return it. `commit` of that chain or `drop_patch` must spend it. Contracts see both chains.
 pub struct ChainPatch<F: Fold> {
     on: Snapshot<Chain<F>>,
     next: Chain<F>,
@@ -48,7 +48,7 @@ impl<F: Fold> Model for ChainPatch<F> {
 }
 
 impl<F: Fold> Chain<F> {
-    /// A chain with no cells, and no state.
+    /// Returns a chain with no cells and no state. It allocates nothing and returns no error.
     pub fn new(alloc: Global) -> Result<Chain<F>, AllocError>
         ensures no_cells { IfOk result (λ chain. chain ≡ no_cells) }
         ensures succeeds { IsOk result }
@@ -65,28 +65,30 @@ impl<F: Fold> Chain<F> {
         self.states.allocator()
     }
 
-    /// The number of cells.
+    /// Returns the number of cells.
     pub fn len(&self) -> usize
         ensures { result ≡ length self.now.cells }
     {
         self.cells.len()
     }
 
-    /// The state in which the cell at index `i` is entered, or the last is left.
+    /// Returns the state in which the cell at index `i` is entered; at index `len`, the state in which the last cell is left.
+    /// Returns none for a greater index, and for every index of a chain that was never committed to.
     pub fn entry(&self, i: usize) -> Option<&F::State>
         ensures { option_copied result ≡ slice_get self.now.entries i }
     {
         self.states.get(i)
     }
 
-    /// The items of the cell at index `i`.
+    /// Returns the items of the cell at index `i`, or none if the chain has no such cell.
     pub fn items(&self, i: usize) -> Option<&F::Items>
         ensures { option_copied result ≡ slice_get self.now.items i }
     {
         self.items.get(i)
     }
 
-    /// The cell at index `i` with its states and items. A chain of the same fold may reuse it.
+    /// Returns a copy of the cell at index `i` with its states and items, which a chain of the same fold may reuse. It returns an
+    /// error if an allocation for the copy fails.
     pub fn kept(&self, i: usize) -> Result<Piece<F>, AllocError>
         requires { i < length self.now.cells }
         ensures place { IfOk result (λ piece. IsKeptAt self.now i piece) }
@@ -112,7 +114,9 @@ impl<F: Fold> Chain<F> {
         })
     }
 
-    /// Prepares the chain of a fold over pieces from an opening state. Nothing changes.
+    /// Prepares the chain of a fold over pieces from an opening state: kept pieces come from `kept` of any chain of this fold. The
+    /// chain itself does not change. It returns an error if an allocation fails, its own or one of a step of the fold; only the
+    /// counters may have risen then.
     pub fn prepare(
         &self,
         fold: &F,
@@ -134,8 +138,8 @@ impl<F: Fold> Chain<F> {
         })
     }
 
-    /// Prepares the chain of a fold over marked pieces. Nothing changes. After a reused piece it compares no states at the piece
-    /// that is marked as following it.
+    /// Prepares the chain of a fold over marked pieces, as `prepare` does, with the same errors. After a reused piece it compares
+    /// no states at the piece that is marked as following it.
     pub fn prepare_pieces(
         &self,
         fold: &F,
@@ -176,28 +180,29 @@ impl<F: Fold> Chain<F> {
 }
 
 impl<F: Fold> ChainPatch<F> {
-    /// The number of cells of the prepared chain.
+    /// Returns the number of cells of the prepared chain.
     pub fn len(&self) -> usize
         ensures { result ≡ length self.now.after.cells }
     {
         self.next.len()
     }
 
-    /// The state in which the cell at index `i` of the prepared chain is entered, or the last is left.
+    /// Returns the state in which the cell at index `i` of the prepared chain is entered; at index `len`, the state in which the
+    /// last cell is left. Returns none for a greater index.
     pub fn entry(&self, i: usize) -> Option<&F::State>
         ensures { option_copied result ≡ slice_get self.now.after.entries i }
     {
         self.next.entry(i)
     }
 
-    /// The items of the cell at index `i` of the prepared chain.
+    /// Returns the items of the cell at index `i` of the prepared chain, or none if it has no such cell.
     pub fn items(&self, i: usize) -> Option<&F::Items>
         ensures { option_copied result ≡ slice_get self.now.after.items i }
     {
         self.next.items(i)
     }
 
-    /// Drops the patch.
+    /// Drops the patch. The chain that it was prepared on does not change.
     pub fn drop_patch(self) {
         let ChainPatch { on: _, next: _ } = self;
     }
@@ -212,7 +217,7 @@ fn fold_pieces<F: Fold>(
     marks: &[bool],
     work: &mut F::Work,
 ) -> Result<Chain<F>, AllocError>
-    requires kept { All (IsKept (F.steps fold.now)) pieces.now }
+    requires sound { All (IsKept (F.steps fold.now)) pieces.now }
     requires marked { AreMarked pieces.now marks.now }
     ensures cells { IfOk result (λ chain. chain.cells ≡ cells_of pieces.now) }
     ensures folds { IfOk result (λ chain. Folds (F.steps fold.now) opening.now chain) }

@@ -8,13 +8,12 @@ mod counts;
 mod fold;
 mod piece;
 mod pieces;
-mod shared;
 mod work;
 
+pub use abc_text::Shared;
 pub use chain::{Chain, ChainPatch};
 pub use counts::Counts;
 pub use fold::Fold;
 pub use piece::Piece;
 pub use pieces::Pieces;
-pub use shared::Shared;
 pub use work::Work;

@@ -73,7 +73,7 @@ pub(crate) fn pass_piece<F: Fold>(
     taken: bool,
     work: &mut F::Work,
 ) -> Result<(F::State, F::Items), AllocError>
-    requires kept { IsKept (F.steps fold.now) piece.now }
+    requires sound { IsKept (F.steps fold.now) piece.now }
     requires taken { taken ≡ is_taken (F.steps fold.now) state.now piece.now }
     ensures state_after { IfOk result (λ made. IsAlike (F.steps fold.now) made.0
         ((F.steps fold.now).next state.now (cell_of piece.now))) }

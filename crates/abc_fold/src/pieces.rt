@@ -39,7 +39,7 @@ impl<F: Fold> Pieces<F> {
     }
 
     /// An empty list with room for `room` pieces.
-    pub fn with_room(alloc: Global, room: usize) -> Result<Pieces<F>, AllocError>
+    pub fn with_capacity(alloc: Global, room: usize) -> Result<Pieces<F>, AllocError>
         ensures { IfOk result (λ pieces. pieces ≡ []) }
     {
         Ok(Pieces {

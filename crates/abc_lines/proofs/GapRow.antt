@@ -1,25 +1,18 @@
 -- What an item that comes or goes at an edge of the gap leaves.
 --     somes_laid                      what such places hold
 --     last_of                         a list that is not empty is a list and its last item
---     low_full, low_empty             the place at the lower edge, before and after it
---     high_full, high_empty           the place at the upper edge, after and before it
---     fill_low, clear_low, fill_high, clear_high      what a write or a read there makes
-use Rattle.std.proofs.Common.{◌≡◌, ℕ, suc, zero, ◌+◌, ◌-◌, ◌<◌, ◌≤◌, List, [], ◌∷◌, ◌++◌, map, length, replicate, get_or, set, length-set, Option, Some, None, Bool, true, false, if◌then◌else◌, nat_lt}
-use Rattle.std.proofs.Common.{⊎_elim, refl, sym, ap, ◌∙◌, subst, arith}
+--     get_or-low_full, get_or-low_empty             the place at the lower edge, before and after it
+--     get_or-high_full, get_or-high_empty           the place at the upper edge, after and before it
+--     set-fill_low, set-clear_low, set-fill_high, set-clear_high      what a write or a read there makes
+use Rattle.std.proofs.Common.{◌≡◌, ℕ, suc, zero, ◌+◌, ◌-◌, ◌<◌, ◌≤◌, List, [], ◌∷◌, ◌++◌, map, length, replicate, get_or, set, Option, Some, None, Bool, true, false, if◌then◌else◌, nat_lt}
+use Rattle.std.proofs.Common.{⊎_elim, refl, sym, ap, ◌∙◌, arith}
 use Rattle.std.proofs.lemmas.List.{append-nil, get_or_at, length-append, set_at}
 use Rattle.std.proofs.lemmas.Option.{slice_get_past}
-use Rattle.std.proofs.lemmas.Bool.{cases_Bool, ltb-true, ltb-false, le-ltb}
+use Rattle.std.proofs.lemmas.Bool.{cases_Bool, ltb-true, ltb-false}
 use Rattle.std.specs.List.{insert, remove, slice_get}
 use Rattle.abc_lines.specs.GapRow.{somes, items_of, laid, place_of, IsGapped, Becomes}
-use Rattle.abc_lines.specs.GapRowLends.{with_item}
-use Rattle.abc_lines.specs.PlacesLends.{with_row}
 use Rattle.abc_lines.specs.declared.gap_row.GapRow.{GapRow}
 use Rattle.abc_lines.specs.declared.places.Places.{Places}
-
-set_past : {Y : Type 0} (ys : List Y) (i : ℕ) (y : Y) → length ys ≤ i → set ys i y ≡ ys
-set_past [] i y le = refl
-set_past (z ∷ ys) zero y le = absurd (omega arith)
-set_past (z ∷ ys) (suc i) y le = ap (λ zs. z ∷ zs) (set_past ys i y (omega arith))
 
 module _ {X : Type 0} where
   somes_full : (xs : List X) → somes (map Some xs) ≡ xs
@@ -72,29 +65,29 @@ module _ {X : Type 0} where
   wider front n back = ap (λ cs. map Some front ++ cs) (none_on n (map Some back)) ∙ apart (map Some front) (replicate n None) (None ∷ map Some back)
 
   module _ (front : List X) (x : X) (n : ℕ) (back : List X) where
-    pub low_full : (i : ℕ) → i ≡ length front → get_or (laid (front ++ x ∷ []) n back) i None ≡ Some x
-    low_full i is = ap (λ cs. get_or cs i None) (low front x n back) ∙ get_or_at (map Some front) (Some x) (replicate n None ++ map Some back) None i (length_map front ∙ sym is)
+    pub get_or-low_full : (i : ℕ) → i ≡ length front → get_or (laid (front ++ x ∷ []) n back) i None ≡ Some x
+    get_or-low_full i is = ap (λ cs. get_or cs i None) (low front x n back) ∙ get_or_at (map Some front) (Some x) (replicate n None ++ map Some back) None i (length_map front ∙ sym is)
 
-    pub low_empty : (i : ℕ) → i ≡ length front → get_or (laid front (suc n) back) i None ≡ None
-    low_empty i is = get_or_at (map Some front) None (replicate n None ++ map Some back) None i (length_map front ∙ sym is)
+    pub get_or-low_empty : (i : ℕ) → i ≡ length front → get_or (laid front (suc n) back) i None ≡ None
+    get_or-low_empty i is = get_or_at (map Some front) None (replicate n None ++ map Some back) None i (length_map front ∙ sym is)
 
-    pub clear_low : (i : ℕ) → i ≡ length front → set (laid (front ++ x ∷ []) n back) i None ≡ laid front (suc n) back
-    clear_low i is = ap (λ cs. set cs i None) (low front x n back) ∙ set_at (map Some front) (Some x) (replicate n None ++ map Some back) None i (length_map front ∙ sym is)
+    pub set-clear_low : (i : ℕ) → i ≡ length front → set (laid (front ++ x ∷ []) n back) i None ≡ laid front (suc n) back
+    set-clear_low i is = ap (λ cs. set cs i None) (low front x n back) ∙ set_at (map Some front) (Some x) (replicate n None ++ map Some back) None i (length_map front ∙ sym is)
 
-    pub fill_low : (i : ℕ) → i ≡ length front → set (laid front (suc n) back) i (Some x) ≡ laid (front ++ x ∷ []) n back
-    fill_low i is = set_at (map Some front) None (replicate n None ++ map Some back) (Some x) i (length_map front ∙ sym is) ∙ sym (low front x n back)
+    pub set-fill_low : (i : ℕ) → i ≡ length front → set (laid front (suc n) back) i (Some x) ≡ laid (front ++ x ∷ []) n back
+    set-fill_low i is = set_at (map Some front) None (replicate n None ++ map Some back) (Some x) i (length_map front ∙ sym is) ∙ sym (low front x n back)
 
-    pub high_full : (i : ℕ) → i ≡ length front + n → get_or (laid front n (x ∷ back)) i None ≡ Some x
-    high_full i is = ap (λ cs. get_or cs i None) (high front n x back) ∙ get_or_at (upper front n) (Some x) (map Some back) None i (long front n ∙ sym is)
+    pub get_or-high_full : (i : ℕ) → i ≡ length front + n → get_or (laid front n (x ∷ back)) i None ≡ Some x
+    get_or-high_full i is = ap (λ cs. get_or cs i None) (high front n x back) ∙ get_or_at (upper front n) (Some x) (map Some back) None i (long front n ∙ sym is)
 
-    pub high_empty : (i : ℕ) → i ≡ length front + n → get_or (laid front (suc n) back) i None ≡ None
-    high_empty i is = ap (λ cs. get_or cs i None) (wider front n back) ∙ get_or_at (upper front n) None (map Some back) None i (long front n ∙ sym is)
+    pub get_or-high_empty : (i : ℕ) → i ≡ length front + n → get_or (laid front (suc n) back) i None ≡ None
+    get_or-high_empty i is = ap (λ cs. get_or cs i None) (wider front n back) ∙ get_or_at (upper front n) None (map Some back) None i (long front n ∙ sym is)
 
-    pub clear_high : (i : ℕ) → i ≡ length front + n → set (laid front n (x ∷ back)) i None ≡ laid front (suc n) back
-    clear_high i is = ap (λ cs. set cs i None) (high front n x back) ∙ set_at (upper front n) (Some x) (map Some back) None i (long front n ∙ sym is) ∙ sym (wider front n back)
+    pub set-clear_high : (i : ℕ) → i ≡ length front + n → set (laid front n (x ∷ back)) i None ≡ laid front (suc n) back
+    set-clear_high i is = ap (λ cs. set cs i None) (high front n x back) ∙ set_at (upper front n) (Some x) (map Some back) None i (long front n ∙ sym is) ∙ sym (wider front n back)
 
-    pub fill_high : (i : ℕ) → i ≡ length front + n → set (laid front (suc n) back) i (Some x) ≡ laid front n (x ∷ back)
-    fill_high i is = ap (λ cs. set cs i (Some x)) (wider front n back) ∙ set_at (upper front n) None (map Some back) (Some x) i (long front n ∙ sym is) ∙ sym (high front n x back)
+    pub set-fill_high : (i : ℕ) → i ≡ length front + n → set (laid front (suc n) back) i (Some x) ≡ laid front n (x ∷ back)
+    set-fill_high i is = ap (λ cs. set cs i (Some x)) (wider front n back) ∙ set_at (upper front n) None (map Some back) (Some x) i (long front n ∙ sym is) ∙ sym (high front n x back)
 
 module _ {X : Type 0} where
   -- lists at a seam
@@ -158,43 +151,12 @@ module _ {X : Type 0} where
   seen_back (x ∷ front) n back (suc i) zero le is = absurd (omega arith)
   seen_back (x ∷ front) n back (suc i) (suc j) le is = seen_back front n back i j (omega arith) (omega arith)
 
-  -- an item with another one in its place
-  write_full : (xs : List X) (i : ℕ) (w : X) → set (map Some xs) i (Some w) ≡ map Some (set xs i w)
-  write_full [] i w = refl
-  write_full (x ∷ xs) zero w = refl
-  write_full (x ∷ xs) (suc i) w = ap (λ cs. Some x ∷ cs) (write_full xs i w)
-
-  write_past : (n : ℕ) (back : List X) (i j : ℕ) (w : X) → j ≡ i + n → set (replicate n None ++ map Some back) j (Some w) ≡ replicate n None ++ map Some (set back i w)
-  write_past zero back i j w is = ap (λ k. set (map Some back) k (Some w)) (omega (arith, is)) ∙ write_full back i w
-  write_past (suc n) back i zero w is = absurd (omega arith)
-  write_past (suc n) back i (suc j) w is = ap (λ cs. None ∷ cs) (write_past n back i j w (omega arith))
-
-  write_front : (front : List X) (n : ℕ) (back : List X) (i : ℕ) (w : X) → i < length front → set (laid front n back) i (Some w) ≡ laid (set front i w) n back
-  write_front [] n back i w lt = absurd (omega arith)
-  write_front (x ∷ front) n back zero w lt = refl
-  write_front (x ∷ front) n back (suc i) w lt = ap (λ cs. Some x ∷ cs) (write_front front n back i w (omega arith))
-
-  write_back : (front : List X) (n : ℕ) (back : List X) (i j : ℕ) (w : X) → j ≡ length front + i + n → set (laid front n back) j (Some w) ≡ laid front n (set back i w)
-  write_back [] n back i j w is = write_past n back i j w (omega (arith, is))
-  write_back (x ∷ front) n back i zero w is = absurd (omega arith)
-  write_back (x ∷ front) n back i (suc j) w is = ap (λ cs. Some x ∷ cs) (write_back front n back i j w (omega arith))
-
-  written_front : (front back : List X) (i : ℕ) (w : X) → i < length front → set front i w ++ back ≡ set (front ++ back) i w
-  written_front [] back i w lt = absurd (omega arith)
-  written_front (x ∷ front) back zero w lt = refl
-  written_front (x ∷ front) back (suc i) w lt = ap (λ zs. x ∷ zs) (written_front front back i w (omega arith))
-
-  written_back : (front back : List X) (i j : ℕ) (w : X) → j ≡ length front + i → front ++ set back i w ≡ set (front ++ back) j w
-  written_back [] back i j w is = ap (λ k. set back k w) (omega (arith, is))
-  written_back (x ∷ front) back i zero w is = absurd (omega arith)
-  written_back (x ∷ front) back i (suc j) w is = ap (λ zs. x ∷ zs) (written_back front back i j w (omega arith))
-
 -- a new block is a gap from end to end
 pub all_gap : {X : Type 0} (row : List (Option X)) (room : ℕ) → row ≡ replicate room None → row ≡ laid [] (room - 0) []
 all_gap row room is = is ∙ sym (append-nil (replicate room None)) ∙ ap (λ k. laid [] k []) (omega arith)
 
-pub none_held : {X : Type 0} (row : List (Option X)) (room : ℕ) → row ≡ replicate room None → somes row ≡ []
-none_held row room is = ap somes (all_gap row room is) ∙ somes_laid [] (room - 0) []
+pub somes-none : {X : Type 0} (row : List (Option X)) (room : ℕ) → row ≡ replicate room None → somes row ≡ []
+somes-none row room is = ap somes (all_gap row room is) ∙ somes_laid [] (room - 0) []
 
 module _ {X : Type 0} {r : GapRow X} (g : IsGapped r) where
   abbrev gap : ℕ
@@ -203,20 +165,20 @@ module _ {X : Type 0} {r : GapRow X} (g : IsGapped r) where
   pub held : items_of r ≡ g.front ++ g.back
   held = ap somes g.row ∙ somes_laid g.front gap g.back
 
-  pub held_count : length (items_of r) ≡ r.size
-  held_count = ap length held ∙ length-append g.front g.back ∙ sym g.count
+  pub length-items_of : length (items_of r) ≡ r.size
+  length-items_of = ap length held ∙ length-append g.front g.back ∙ sym g.count
 
-  pub seen_before : (i : ℕ) → i < r.at → get_or r.places.row i None ≡ slice_get (items_of r) i
-  seen_before i lt = ap (λ cs. get_or cs i None) g.row ∙ seen_front g.front gap g.back i (omega (arith, g.before)) ∙ ap (λ xs. slice_get xs i) (sym held)
+  pub get_or-before : (i : ℕ) → i < r.at → get_or r.places.row i None ≡ slice_get (items_of r) i
+  get_or-before i lt = ap (λ cs. get_or cs i None) g.row ∙ seen_front g.front gap g.back i (omega (arith, g.before)) ∙ ap (λ xs. slice_get xs i) (sym held)
 
-  pub seen_after : (i : ℕ) → r.at ≤ i → get_or r.places.row (i + gap) None ≡ slice_get (items_of r) i
-  seen_after i le = ap (λ cs. get_or cs (i + gap) None) g.row ∙ seen_back g.front gap g.back i (i + gap) (omega (arith, g.before)) refl ∙ ap (λ xs. slice_get xs i) (sym held)
+  pub get_or-after : (i : ℕ) → r.at ≤ i → get_or r.places.row (i + gap) None ≡ slice_get (items_of r) i
+  get_or-after i le = ap (λ cs. get_or cs (i + gap) None) g.row ∙ seen_back g.front gap g.back i (i + gap) (omega (arith, g.before)) refl ∙ ap (λ xs. slice_get xs i) (sym held)
 
   pub held_at : (i : ℕ) → i < r.size → (x : X) × (slice_get (items_of r) i ≡ Some x)
-  held_at i lt = some_at (items_of r) i (omega (arith, held_count))
+  held_at i lt = some_at (items_of r) i (omega (arith, length-items_of))
 
   pub held_past : (i : ℕ) → r.size ≤ i → None ≡ slice_get (items_of r) i
-  held_past i le = sym (slice_get_past (items_of r) i (omega (arith, held_count)))
+  held_past i le = sym (slice_get_past (items_of r) i (omega (arith, length-items_of)))
 
   remade : (q : Places X) (s a : ℕ) (front back items : List X) → q.start ≡ r.places.start → q.row ≡ laid front (r.capacity - s) back → a ≡ length front → s ≡ length front + length back
       → s ≤ r.capacity → front ++ back ≡ items
@@ -244,14 +206,14 @@ module _ {X : Type 0} {r : GapRow X} (g : IsGapped r) where
     edge_back = omega (arith, g.before, count_back)
 
     is_last : get_or r.places.row (r.at - 1) None ≡ Some last.1
-    is_last = ap (λ cs. get_or cs (r.at - 1) None) row_back ∙ low_full last.0 last.1 gap g.back (r.at - 1) edge_back
+    is_last = ap (λ cs. get_or cs (r.at - 1) None) row_back ∙ get_or-low_full last.0 last.1 gap g.back (r.at - 1) edge_back
 
     pub full_before : (x : X) × (get_or r.places.row (r.at - 1) None ≡ Some x)
     full_before = (last.1, is_last)
 
     module _ (q : Places X) (item : X) (read : (get_or r.places.row (r.at - 1) None ≡ Some item) × (q.start ≡ r.places.start) × (q.row ≡ set r.places.row (r.at - 1) None)) where
       emptied : q.row ≡ laid last.0 (suc gap) g.back
-      emptied = read.2 ∙ ap (λ cs. set cs (r.at - 1) None) row_back ∙ clear_low last.0 last.1 gap g.back (r.at - 1) edge_back
+      emptied = read.2 ∙ ap (λ cs. set cs (r.at - 1) None) row_back ∙ set-clear_low last.0 last.1 gap g.back (r.at - 1) edge_back
 
       reach_back : r.at - 1 + gap ≡ length last.0 + gap
       reach_back = ap (λ k. k + gap) edge_back
@@ -259,13 +221,13 @@ module _ {X : Type 0} {r : GapRow X} (g : IsGapped r) where
       pub free_after : (r.at - 1 + gap < length q.row) × (get_or q.row (r.at - 1 + gap) None ≡ None)
       free_after = (
         omega (arith, ap length emptied ∙ length_laid last.0 (suc gap) g.back, edge_back),
-        ap (λ cs. get_or cs (r.at - 1 + gap) None) emptied ∙ high_empty last.0 last.1 gap g.back (r.at - 1 + gap) reach_back,
+        ap (λ cs. get_or cs (r.at - 1 + gap) None) emptied ∙ get_or-high_empty last.0 last.1 gap g.back (r.at - 1 + gap) reach_back,
       )
 
       pub stepped_back : (p : Places X) → (p.start ≡ q.start) × (p.row ≡ set q.row (r.at - 1 + gap) (Some item)) → Becomes r (record r { places = p; at = r.at - 1 }) (items_of r) (r.at - 1) r.size
       stepped_back p wrote = remade p r.size (r.at - 1) last.0 (last.1 ∷ g.back) (items_of r) (wrote.0 ∙ read.1)
           (wrote.1 ∙ ap (λ cs. set cs (r.at - 1 + gap) (Some item)) emptied ∙ ap (λ c. set (laid last.0 (suc gap) g.back) (r.at - 1 + gap) c) (sym read.0 ∙ is_last)
-          ∙ fill_high last.0 last.1 gap g.back (r.at - 1 + gap) reach_back)
+          ∙ set-fill_high last.0 last.1 gap g.back (r.at - 1 + gap) reach_back)
           edge_back (omega (arith, g.count, count_back)) g.fits (seam last.0 last.1 g.back ∙ ap (λ (xs : List X). xs ++ g.back) (sym last.2) ∙ sym held)
 
   -- the item after the gap
@@ -286,24 +248,24 @@ module _ {X : Type 0} {r : GapRow X} (g : IsGapped r) where
     held_on = held ∙ ap (λ (xs : List X). g.front ++ xs) next.2
 
     is_next : get_or r.places.row (r.at + gap) None ≡ Some next.0
-    is_next = ap (λ cs. get_or cs (r.at + gap) None) row_on ∙ high_full g.front next.0 gap next.1 (r.at + gap) reach_on
+    is_next = ap (λ cs. get_or cs (r.at + gap) None) row_on ∙ get_or-high_full g.front next.0 gap next.1 (r.at + gap) reach_on
 
     pub full_after : (x : X) × (get_or r.places.row (r.at + gap) None ≡ Some x)
     full_after = (next.0, is_next)
 
     module _ (q : Places X) (item : X) (read : (get_or r.places.row (r.at + gap) None ≡ Some item) × (q.start ≡ r.places.start) × (q.row ≡ set r.places.row (r.at + gap) None)) where
       opened : q.row ≡ laid g.front (suc gap) next.1
-      opened = read.2 ∙ ap (λ cs. set cs (r.at + gap) None) row_on ∙ clear_high g.front next.0 gap next.1 (r.at + gap) reach_on
+      opened = read.2 ∙ ap (λ cs. set cs (r.at + gap) None) row_on ∙ set-clear_high g.front next.0 gap next.1 (r.at + gap) reach_on
 
       same_next : Some item ≡ Some next.0
       same_next = sym read.0 ∙ is_next
 
       pub free_before : (r.at < length q.row) × (get_or q.row r.at None ≡ None)
-      free_before = (omega (arith, ap length opened ∙ length_laid g.front (suc gap) next.1, g.before), ap (λ cs. get_or cs r.at None) opened ∙ low_empty g.front next.0 gap next.1 r.at g.before)
+      free_before = (omega (arith, ap length opened ∙ length_laid g.front (suc gap) next.1, g.before), ap (λ cs. get_or cs r.at None) opened ∙ get_or-low_empty g.front next.0 gap next.1 r.at g.before)
 
       pub stepped_on : (p : Places X) → (p.start ≡ q.start) × (p.row ≡ set q.row r.at (Some item)) → Becomes r (record r { places = p; at = r.at + 1 }) (items_of r) (r.at + 1) r.size
       stepped_on p wrote = remade p r.size (r.at + 1) (g.front ++ next.0 ∷ []) next.1 (items_of r) (wrote.0 ∙ read.1)
-          (wrote.1 ∙ ap (λ cs. set cs r.at (Some item)) opened ∙ ap (λ c. set (laid g.front (suc gap) next.1) r.at c) same_next ∙ fill_low g.front next.0 gap next.1 r.at g.before)
+          (wrote.1 ∙ ap (λ cs. set cs r.at (Some item)) opened ∙ ap (λ c. set (laid g.front (suc gap) next.1) r.at c) same_next ∙ set-fill_low g.front next.0 gap next.1 r.at g.before)
           (omega (arith, g.before, length_push g.front next.0)) (omega (arith, g.count, count_on, length_push g.front next.0)) g.fits (sym (seam g.front next.0 next.1) ∙ sym held_on)
 
       pub taken : slice_get (items_of r) r.at ≡ Some item
@@ -319,62 +281,17 @@ module _ {X : Type 0} {r : GapRow X} (g : IsGapped r) where
   put_in room item p wrote =
       let left = r.capacity - (r.size + 1) in let one_less : gap ≡ suc left = omega (arith, room) in
       remade p (r.size + 1) (r.at + 1) (g.front ++ item ∷ []) g.back (insert (items_of r) r.at item) wrote.0
-      (wrote.1 ∙ ap (λ cs. set cs r.at (Some item)) (g.row ∙ ap (λ k. laid g.front k g.back) one_less) ∙ fill_low g.front item left g.back r.at g.before)
+      (wrote.1 ∙ ap (λ cs. set cs r.at (Some item)) (g.row ∙ ap (λ k. laid g.front k g.back) one_less) ∙ set-fill_low g.front item left g.back r.at g.before)
       (omega (arith, g.before, length_push g.front item)) (omega (arith, g.count, length_push g.front item)) (omega (arith, room))
       (sym (seam g.front item g.back) ∙ sym (inserted g.front g.back item) ∙ ap (λ i. insert (g.front ++ g.back) i item) (sym g.before) ∙ ap (λ xs. insert xs r.at item) (sym held))
 
   -- the item at an index
   module _ (index : ℕ) (inside : index < r.size) where
-    pub seen_at : get_or r.places.row (place_of r index) None ≡ slice_get (items_of r) index
-    seen_at = ⊎_elim
-        (λ (e : nat_lt index r.at ≡ true). ap (λ (b : Bool). get_or r.places.row (if b then index else index + gap) None) e ∙ seen_before index (ltb-true index r.at e))
-        (λ (e : nat_lt index r.at ≡ false). ap (λ (b : Bool). get_or r.places.row (if b then index else index + gap) None) e ∙ seen_after index (ltb-false index r.at e))
+    pub get_or-seen_at : get_or r.places.row (place_of r index) None ≡ slice_get (items_of r) index
+    get_or-seen_at = ⊎_elim
+        (λ (e : nat_lt index r.at ≡ true). ap (λ (b : Bool). get_or r.places.row (if b then index else index + gap) None) e ∙ get_or-before index (ltb-true index r.at e))
+        (λ (e : nat_lt index r.at ≡ false). ap (λ (b : Bool). get_or r.places.row (if b then index else index + gap) None) e ∙ get_or-after index (ltb-false index r.at e))
         (cases_Bool (nat_lt index r.at))
 
     pub full_at : (x : X) × (get_or r.places.row (place_of r index) None ≡ Some x)
-    full_at = let x = held_at index inside in (x.0, seen_at ∙ x.1)
-
-    wrote_before : (w : X) → index < r.at → Becomes r (record r { places = with_row r.places (set r.places.row index (Some w)) }) (set (items_of r) index w) r.at r.size
-    wrote_before w lt =
-        let front = set g.front index w in let within : index < length g.front = omega (arith, g.before) in
-        remade (with_row r.places (set r.places.row index (Some w))) r.size r.at front g.back (set (items_of r) index w) refl
-        (ap (λ cs. set cs index (Some w)) g.row ∙ write_front g.front gap g.back index w within)
-        (g.before ∙ sym (length-set g.front index w)) (omega (arith, g.count, length-set g.front index w)) g.fits
-        (written_front g.front g.back index w within ∙ ap (λ xs. set xs index w) (sym held))
-
-    wrote_after : (w : X) → r.at ≤ index → Becomes r (record r { places = with_row r.places (set r.places.row (index + gap) (Some w)) }) (set (items_of r) index w) r.at r.size
-    wrote_after w le =
-        let k = index - length g.front in let back = set g.back k w in let is : index ≡ length g.front + k = omega (arith, g.before) in
-        remade (with_row r.places (set r.places.row (index + gap) (Some w))) r.size r.at g.front back (set (items_of r) index w) refl
-        (ap (λ cs. set cs (index + gap) (Some w)) g.row ∙ write_back g.front gap g.back k (index + gap) w (ap (λ j. j + gap) is))
-        g.before (omega (arith, g.count, length-set g.back k w)) g.fits
-        (written_back g.front g.back k index w is ∙ ap (λ xs. set xs index w) (sym held))
-
-    pub wrote_at : (w : X) → Becomes r (with_item r index w) (set (items_of r) index w) r.at r.size
-    wrote_at w =
-        let Wrote = λ (b : Bool). Becomes r (record r { places = with_row r.places (set r.places.row (if b then index else index + gap) (Some w)) }) (set (items_of r) index w) r.at r.size in
-        ⊎_elim
-        (λ (e : nat_lt index r.at ≡ true). subst Wrote (sym e) (wrote_before w (ltb-true index r.at e)))
-        (λ (e : nat_lt index r.at ≡ false). subst Wrote (sym e) (wrote_after w (ltb-false index r.at e)))
-        (cases_Bool (nat_lt index r.at))
-
-  -- past the last item nothing is written
-  unwritten : (index : ℕ) (w : X) → r.size ≤ index → with_item r index w ≡ r
-  unwritten index w past =
-      let following : nat_lt index r.at ≡ false = le-ltb index r.at (omega (arith, g.before, g.count)) in
-      ap (λ (b : Bool). record r { places = with_row r.places (set r.places.row (if b then index else index + gap) (Some w)) }) following
-      ∙ ap (λ cs. record r { places = with_row r.places cs }) (set_past r.places.row (index + gap) (Some w) (omega (arith, ap length g.row ∙ length_laid g.front gap g.back, g.count, g.fits)))
-
-  pub sound_at : (index : ℕ) (w : X) → IsGapped (with_item r index w)
-  sound_at index w = ⊎_elim
-      (λ (e : nat_lt index r.size ≡ true). (wrote_at index (ltb-true index r.size e) w).gapped)
-      (λ (e : nat_lt index r.size ≡ false). subst IsGapped (sym (unwritten index w (ltb-false index r.size e))) g)
-      (cases_Bool (nat_lt index r.size))
-
-  pub holds_at : (index : ℕ) (w : X) → items_of (with_item r index w) ≡ set (items_of r) index w
-  holds_at index w = ⊎_elim
-      (λ (e : nat_lt index r.size ≡ true). (wrote_at index (ltb-true index r.size e) w).holds)
-      (λ (e : nat_lt index r.size ≡ false).
-      let past : r.size ≤ index = ltb-false index r.size e in
-      ap items_of (unwritten index w past) ∙ sym (set_past (items_of r) index w (omega (arith, held_count))))
-      (cases_Bool (nat_lt index r.size))
+    full_at = let x = held_at index inside in (x.0, get_or-seen_at ∙ x.1)

@@ -7,4 +7,3 @@ pub mod PlacesSteps
 pub mod Runs
 pub mod Splices
 pub mod TextLines
-pub mod Iterations

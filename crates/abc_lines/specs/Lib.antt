@@ -1,16 +1,12 @@
 pub mod Block
-pub mod BlockLends
 pub mod EditError
 pub mod Edits
 pub mod GapList
-pub mod GapListLends
 pub mod GapRow
-pub mod GapRowLends
 pub mod ItemRange
 pub mod Limits
 pub mod LineBuffer
 pub mod ListSplice
 pub mod Places
-pub mod PlacesLends
 pub mod Text
 pub mod TextLines

@@ -2,10 +2,7 @@
 
 ghost use Rattle.std.specs.Prelude.{◌≡◌, ◌+◌, ◌-◌, ◌<◌, ◌≤◌, ◌^◌, [], length, IfOk, IsOk, option_copied, slice_get, Some};
 ghost use Rattle.std.specs.List.{insert, remove};
-ghost use Rattle.std.specs.Option.{option_copied_mut};
-ghost use Rattle.std.specs.Borrow.{sem};
 ghost use Rattle.abc_lines.specs.Block.{gap_block, block_view, IsSound};
-ghost use Rattle.abc_lines.specs.GapRowLends.{lends_in};
 
 use crate::gap_row::GapRow;
 use std::alloc::{AllocError, Global};
@@ -28,10 +25,8 @@ impl<T> Model for Block<T> {
 }
 
 impl<T> Block<T> {
-    ghost use Rattle.abc_lines.specs.BlockLends.{lends_placed};
-
     /// Returns `room` empty places.
-    pub(crate) fn with_room(alloc: Global, room: usize) -> Result<Block<T>, AllocError>
+    pub(crate) fn with_capacity(alloc: Global, room: usize) -> Result<Block<T>, AllocError>
         ensures empty { IfOk result (λ block. block ≡ gap_block [] 0 room) }
         ensures succeeds { room ≡ 0 → IsOk result }
     {
@@ -39,7 +34,7 @@ impl<T> Block<T> {
             return Ok(Block { row: None });
         }
         Ok(Block {
-            row: Some(GapRow::with_room(alloc, room)?),
+            row: Some(GapRow::with_capacity(alloc, room)?),
         })
     }
 
@@ -86,14 +81,6 @@ impl<T> Block<T> {
         }
     }
 
-    /// The item at index `i`, to be changed in place.
-    pub(crate) fn get_mut(&mut self, i: usize) -> Option<&mut T>
-        ensures* writes_back { sem 𝓛 (lends_placed T.row self.entry i result) }
-        ensures value { option_copied_mut result ≡ slice_get self.old.items i }
-    {
-        item_in(&mut self.row, i)
-    }
-
     /// Moves the gap to a place.
     pub(crate) fn move_gap(&mut self, to: usize)
         requires { to ≤ length self.old.items }
@@ -138,17 +125,5 @@ impl<T> Block<T> {
             None => {}
             Some(row) => row.destroy_empty(),
         }
-    }
-}
-
-/// The item at index `i` of a row, if there is one, to be changed in place.
-fn item_in<T>(row: &mut Option<GapRow<T>>, i: usize) -> Option<&mut T>
-    requires { IsSound row.old }
-    ensures* writes_back { sem 𝓛 (lends_in T.row row.entry i result) }
-    ensures value { option_copied_mut result ≡ slice_get (block_view row.old).items i }
-{
-    match row {
-        None => None,
-        Some(row) => row.get_mut(i),
     }
 }

@@ -3,8 +3,6 @@
 ghost use Rattle.std.specs.Prelude.{◌≡◌, ◌+◌, ◌-◌, ◌<◌, ◌≤◌, ◌^◌, ◌++◌, ◌∷◌, [], length, IfOk, IsOk, option_copied, slice_get};
 ghost use Rattle.std.specs.Prelude.{Some};
 ghost use Rattle.std.specs.List.{insert, remove};
-ghost use Rattle.std.specs.Option.{option_copied_mut};
-ghost use Rattle.std.specs.Borrow.{sem};
 ghost use Rattle.abc_lines.specs.Block.{gap_block};
 ghost use Rattle.abc_lines.specs.GapList.{gapped_list, distance, add_to_tally, replaced_run};
 
@@ -31,15 +29,14 @@ impl<T> Model for GapList<T> {
 }
 
 impl<T> GapList<T> {
-    ghost use Rattle.abc_lines.specs.GapListLends.{lends_item};
-
-    /// A list with no items, and room for `room` items.
+    /// Returns a list with no items, and room for `room` items. It returns an error if the allocation of that room fails;
+    /// without room it allocates nothing.
     pub fn with_room(alloc: Global, room: usize) -> Result<GapList<T>, AllocError>
         ensures empty { IfOk result (λ list. list ≡ gapped_list [] 0 room 0) }
         ensures succeeds { room ≡ 0 → IsOk result }
     {
         Ok(GapList {
-            block: Block::with_room(alloc, room)?,
+            block: Block::with_capacity(alloc, room)?,
             alloc,
             moved: 0,
         })
@@ -80,19 +77,11 @@ impl<T> GapList<T> {
         self.moved
     }
 
-    /// The item at index `i`.
+    /// Returns the item at index `i`, or none if the list has no such item.
     pub fn get(&self, i: usize) -> Option<&T>
         ensures { option_copied result ≡ slice_get self.now.items i }
     {
         self.block.get(i)
-    }
-
-    /// The item at index `i`, to be changed in place.
-    pub fn get_mut(&mut self, i: usize) -> Option<&mut T>
-        ensures* writes_back { sem 𝓛 (lends_item T.row self.entry i result) }
-        ensures value { option_copied_mut result ≡ slice_get self.old.items i }
-    {
-        self.block.get_mut(i)
     }
 
     /// Puts an item before the one at index `i`, or at the end. The gap follows it then.

@@ -2,10 +2,7 @@
 
 ghost use Rattle.std.specs.Prelude.{◌≡◌, ◌+◌, ◌-◌, ◌<◌, ◌≤◌, ◌^◌, [], length, Some, IfOk, option_copied, slice_get};
 ghost use Rattle.std.specs.List.{insert, remove};
-ghost use Rattle.std.specs.Option.{option_copied_mut};
-ghost use Rattle.std.specs.Borrow.{sem};
 ghost use Rattle.abc_lines.specs.GapRow.{IsGapped, Becomes, items_of, place_of};
-ghost use Rattle.abc_lines.specs.GapRowLends.{lends_at};
 
 use crate::places::{Claim, Places, allocate, deallocate};
 use std::alloc::{AllocError, Global};
@@ -24,7 +21,7 @@ pub(crate) struct GapRow<T> {
 
 impl<T> GapRow<T> {
     /// An empty list with room for `room` items.
-    pub(crate) fn with_room(alloc: Global, room: usize) -> Result<GapRow<T>, AllocError>
+    pub(crate) fn with_capacity(alloc: Global, room: usize) -> Result<GapRow<T>, AllocError>
         ensures { IfOk result (λ row. IsGapped row × (items_of row ≡ []) × (row.size ≡ 0) × (row.capacity ≡ room)) }
     {
         if !may_hold::<T>(room) {
@@ -89,19 +86,6 @@ impl<T> GapRow<T> {
             return index;
         }
         index + (self.capacity - self.size)
-    }
-
-    /// The item at index `index`, to be changed in place.
-    pub(crate) fn get_mut(&mut self, index: usize) -> Option<&mut T>
-        requires { IsGapped self.old }
-        ensures* writes_back { sem 𝓛 (lends_at T.row self.entry index result) }
-        ensures value { option_copied_mut result ≡ slice_get (items_of self.old) index }
-    {
-        if self.size <= index {
-            return None;
-        }
-        let place = self.place(index);
-        Some(self.places.get_mut(place))
     }
 
     /// Moves the last item before the gap to its other side.

@@ -1,4 +1,5 @@
-//! How large a text may be. Not in ABC 2.1.
+//! How large a text may be. Not in ABC 2.1. The header of C, the packages of Python
+//! and JavaScript, and the documents repeat these numbers.
 
 ghost use Rattle.std.specs.Prelude.{◌≡◌, ◌≤◌, ◌<◌, ◌+◌, ◌^◌, true, [], ◌∷◌, length};
 ghost use Rattle.std.specs.List.{list_all};
@@ -10,10 +11,10 @@ ghost use Rattle.abc_lines.specs.TextLines.{lines_in, whole_lines};
 use crate::edit_error::EditError;
 use abc_text::cut_at;
 
-/// How many bytes a line has at most.
+/// The most bytes of a line: a longer one is refused as `BadLine`. Not in ABC 2.1.
 pub const LONGEST_LINE: usize = 65_535;
 
-/// How many lines a text has at most.
+/// The most lines of a text: an edit that would leave more is refused as `TooLarge`. Not in ABC 2.1.
 pub const MOST_LINES: usize = 1_048_576;
 
 const _: () = prove!(LONGEST_LINE == (1 << 16) - 1);

@@ -48,7 +48,7 @@ impl Model for LinePatch {
 }
 
 impl LineBuffer {
-    /// A text with no lines.
+    /// Returns a text with no lines. It allocates nothing and returns no error.
     pub fn new(alloc: Global) -> Result<LineBuffer, AllocError>
         ensures empty { IfOk result (λ lines. lines.text ≡ []) }
         ensures succeeds { IsOk result }
@@ -63,7 +63,7 @@ impl LineBuffer {
         self.lines.allocator()
     }
 
-    /// How many lines there are.
+    /// Returns the number of lines.
     pub fn len(&self) -> usize
         ensures value { result ≡ length self.now.text }
         ensures limits { IsText self.now.text }
@@ -71,7 +71,7 @@ impl LineBuffer {
         self.lines.len()
     }
 
-    /// The line at index `i`.
+    /// Returns the line at index `i`, counted from 0, or none if the text has no such line.
     pub fn line(&self, i: usize) -> Option<&[u8]>
         ensures { option_copied result ≡ slice_get self.now.text i }
     {

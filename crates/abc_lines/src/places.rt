@@ -6,7 +6,6 @@
 ghost use Rattle.std.specs.Prelude.{◌≡◌, ℕ, ◌<◌, List, Option, Some, None, length, replicate, get_or, slice_set, IfOk};
 ghost use Rattle.std.specs.Vec.Ownership.{FitsInBlock};
 ghost use denote.RawPtr.{Ptr};
-ghost use Rattle.std.specs.Borrow.{sem};
 ghost use Rattle.abc_lines.specs.Places.{row_owned, row_lent, claim_owned};
 
 use std::alloc::{AllocError, Allocator};
@@ -75,8 +74,6 @@ pub(crate) fn deallocate<T, A: Allocator>(
 }
 
 impl<T> Places<T> {
-    ghost use Rattle.abc_lines.specs.PlacesLends.{lends_place};
-
     /// Puts an item into an empty place.
     pub(crate) fn write(&mut self, index: usize, item: T)
         requires { (index < length self.old.row) × (get_or self.old.row index None ≡ None) }
@@ -100,14 +97,5 @@ impl<T> Places<T> {
         ensures { get_or self.now.row index None ≡ Some result.now }
     {
         unsafe { &*self.start.add(index) }
-    }
-
-    /// The item in a place that holds one, to be changed in place.
-    pub(crate) fn get_mut(&mut self, index: usize) -> &mut T
-        requires { (x : T) × (get_or self.old.row index None ≡ Some x) }
-        ensures* writes_back { sem 𝓛 (lends_place T.row self.entry index result) }
-        ensures value { get_or self.old.row index None ≡ Some result.now }
-    {
-        unsafe { &mut *self.start.add(index) }
     }
 }

@@ -31,7 +31,8 @@ impl<T> Model for SplicePatch<T> {
 
 impl<T: Drop> GapList<T> {
     /// Prepares to replace the `removed` items from index `at` on by others. Nothing changes. The list after the splice
-    /// has as many places as before if these are enough, and otherwise twice as many as it has items.
+    /// has as many places as before if these are enough, and otherwise twice as many as it has items. It returns an error if
+    /// the allocation of these fails; the new items are dropped then.
     pub fn splice_prepare(
         &self,
         alloc: Global,
@@ -94,7 +95,7 @@ fn apply_splice<T: Drop>(
 }
 
 impl<T> SplicePatch<T> {
-    /// How many items the list has after the splice. The patch belongs to the list as it is now.
+    /// Returns how many items the list has after the splice. The patch belongs to the list as it is now.
     pub fn len(&self, list: &GapList<T>) -> usize
         requires { self.now.on ≡ list.now }
         ensures { result ≡ length self.now.after.items }
@@ -102,7 +103,8 @@ impl<T> SplicePatch<T> {
         list.len() - self.removed + self.new.len()
     }
 
-    /// The item at index `i` after the splice. The patch belongs to the list as it is now.
+    /// Returns the item at index `i` after the splice, or none if there is no such item then. The patch belongs to the list as
+    /// it is now.
     pub fn get<'a>(&'a self, list: &'a GapList<T>, i: usize) -> Option<&'a T>
         requires { self.now.on ≡ list.now }
         ensures { option_copied result ≡ slice_get self.now.after.items i }

@@ -20,6 +20,6 @@ pub mod RulePasses
 pub mod RulePlays
 pub mod Runs
 pub mod Sizes
+pub mod StrainParts
 pub mod Tables
-pub mod Told
 pub mod Whole

@@ -23,10 +23,10 @@ list_any-agree p q agree [] = refl
 list_any-agree p q agree (x ∷ xs) = ap (λ b. b || list_any p xs) (agree x) ∙ ap (λ b. q x || b) (list_any-agree p q agree xs)
 
 -- a letter without a section is found in the text
-pub unknown_found : (f : ℕ → Option ℕ) (order letters : List ℕ) → parts_of order ≡ Ok tt → ((x : ℕ) → f x ≡ first_section letters x)
+pub list_any-unknown : (f : ℕ → Option ℕ) (order letters : List ℕ) → parts_of order ≡ Ok tt → ((x : ℕ) → f x ≡ first_section letters x)
     → list_any (λ b. is_ascii_uppercase b && is_none (f b)) order ≡ has_unknown (Some order) letters
 unfolding has_unknown
-unknown_found f order letters accepted agree =
+list_any-unknown f order letters accepted agree =
     sym (any_capital (λ b. is_none (f b)) order accepted) ∙ list_any-agree (λ b. is_none (f b)) (λ b. is_none (first_section letters b)) (λ x. ap is_none (agree x)) (letters_of order)
 
 -- the sections of an order
@@ -34,21 +34,21 @@ pub order_sections : (f : ℕ → Option ℕ) (order letters : List ℕ) → ((x
 unfolding sections_of
 order_sections f order letters agree = ap (λ l. 0 ∷ l) (filter_map-agree f (first_section letters) agree (letters_of order))
 
-pub order_length : (f : ℕ → Option ℕ) (order letters : List ℕ) → ((x : ℕ) → f x ≡ first_section letters x) → length (sections_of (Some order) letters) ≡ suc (length (filter_map f (letters_of order)))
-order_length f order letters agree = ap length (sym (order_sections f order letters agree))
+pub length-sections_of : (f : ℕ → Option ℕ) (order letters : List ℕ) → ((x : ℕ) → f x ≡ first_section letters x) → length (sections_of (Some order) letters) ≡ suc (length (filter_map f (letters_of order)))
+length-sections_of f order letters agree = ap length (sym (order_sections f order letters agree))
 
 -- the sections of a text without an order
-pub all_of : (letters : List ℕ) → range_with_len 0 (length letters + 1) ≡ sections_of None letters
+pub range_with_len-all : (letters : List ℕ) → range_with_len 0 (length letters + 1) ≡ sections_of None letters
 unfolding sections_of
-all_of letters = let e : length letters + 1 ≡ 1 + length letters = omega arith in ap (range_with_len 0) e
+range_with_len-all letters = let e : length letters + 1 ≡ 1 + length letters = omega arith in ap (range_with_len 0) e
 
-pub all_length : (letters : List ℕ) → length (sections_of None letters) ≡ length letters + 1
-all_length letters = ap length (sym (all_of letters)) ∙ length-range_with_len 0 (length letters + 1)
+pub length-sections_of_none : (letters : List ℕ) → length (sections_of None letters) ≡ length letters + 1
+length-sections_of_none letters = ap length (sym (range_with_len-all letters)) ∙ length-range_with_len 0 (length letters + 1)
 
 -- an answer that it is too long
-pub told_too_long : (most : ℕ) (order : Option (List ℕ)) (letters : List ℕ) (said : Bool) → most < length (sections_of order letters) → said ≡ has_unknown order letters
+pub too_long_by_test : (most : ℕ) (order : Option (List ℕ)) (letters : List ℕ) (said : Bool) → most < length (sections_of order letters) → said ≡ has_unknown order letters
     → (unknown : Bool) → ◌↔◌ (◌≡◌ {A = Result Played OrderFault} (Err (TooLong said)) (Err (TooLong unknown))) (IsTooLong most order letters unknown)
-told_too_long most order letters said long is unknown = (λ e. (long, (let same : said ≡ unknown = cc in sym same ∙ is)), λ h. ap (λ u. Err (TooLong u)) (is ∙ sym h.1))
+too_long_by_test most order letters said long is unknown = (λ e. (long, (let same : said ≡ unknown = cc in sym same ∙ is)), λ h. ap (λ u. Err (TooLong u)) (is ∙ sym h.1))
 
 -- another answer
 pub not_too_long : (most : ℕ) (order : Option (List ℕ)) (letters : List ℕ) (result : Result Played OrderFault)

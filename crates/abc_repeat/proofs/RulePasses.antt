@@ -22,15 +22,15 @@ number_tested numbers i h =
     let few : leb i 32 ≡ true = let bound : i ≤ 32 = h.1 in grind (arith, nat_tests) in
     ap (λ b. b && eqb (bit_at numbers (i - 1)) 1) few ∙ ap (λ k. eqb k 1) h.2
 
-pub number_told : (numbers i : ℕ) → 0 < i → has_number numbers i ≡ true → HasNumber numbers i
+pub number_by_test : (numbers i : ℕ) → 0 < i → has_number numbers i ≡ true → HasNumber numbers i
 unfolding has_number
-number_told numbers i some e =
+number_by_test numbers i some e =
     let parts = and_parts (leb i 32) (eqb (bit_at numbers (i - 1)) 1) e in
     let few : i ≤ 32 = let test : leb i 32 ≡ true = parts.0 in grind (arith, nat_tests) in
     (some, few, eqb-true (bit_at numbers (i - 1)) 1 parts.1)
 
 unnamed : (numbers i : ℕ) → ¬ HasNumber numbers i → 0 < i → has_number numbers i ≡ false
-unnamed numbers i h some = ⊎_elim (λ k. absurd (h (number_told numbers i some k))) (λ k. k) (cases_Bool (has_number numbers i))
+unnamed numbers i h some = ⊎_elim (λ k. absurd (h (number_by_test numbers i some k))) (λ k. k) (cases_Bool (has_number numbers i))
 
 unnumbered : (numbers i : ℕ) → has_number numbers i ≡ false → ¬ HasNumber numbers i
 unnumbered numbers i e h = let yes = number_tested numbers i h in cc
@@ -67,7 +67,7 @@ greatest-had : (numbers : ℕ) → 0 < greatest_number numbers → HasNumber num
 unfolding greatest_number
 greatest-had numbers some = ⊎_elim
     (λ none. absurd (omega arith))
-    (λ named. number_told numbers (greatest_number numbers) some named)
+    (λ named. number_by_test numbers (greatest_number numbers) some named)
     (greatest_number_to-named numbers 32)
 
 -- no mark asks for more passes than there are
@@ -118,11 +118,11 @@ pub count_is_most : (ms : List Mark) (n : ℕ) → IsPassCount ms n → n ≡ mo
 count_is_most ms n h = let low = asked_below ms n h.0 in let high = h.1 (most_passes ms) (most_asked ms) in omega arith
 
 -- the played items
-pub turns_are : (at : ℕ) (ms : List Mark) → turns_from at ms ≡ places_from at ms
-turns_are at [] = refl
-turns_are at (marks.Play ∷ ms) = ap (λ l. at ∷ l) (turns_are (at + 1) ms)
-turns_are at (marks.Bar closes opens double ∷ ms) = turns_are (at + 1) ms
-turns_are at (marks.Ending numbers ∷ ms) = turns_are (at + 1) ms
+pub turns_from-places : (at : ℕ) (ms : List Mark) → turns_from at ms ≡ places_from at ms
+turns_from-places at [] = refl
+turns_from-places at (marks.Play ∷ ms) = ap (λ l. at ∷ l) (turns_from-places (at + 1) ms)
+turns_from-places at (marks.Bar closes opens double ∷ ms) = turns_from-places (at + 1) ms
+turns_from-places at (marks.Ending numbers ∷ ms) = turns_from-places (at + 1) ms
 
 -- endings with their places
 abbrev pub all_placed : ℕ → List Ending → List PlacedEnding
@@ -133,8 +133,8 @@ ending_played : (pass at : ℕ) (endings : List Ending) → 0 < pass → PlaysEn
 ending_played pass at [] some = none
 ending_played pass at (ending ∷ endings) some = ⊎_elim
     (λ named. subst (PlaysEnding pass (all_placed at (ending ∷ endings)))
-    (turns_are (at + 1) ending.run ∙ sym (cond-true (has_number ending.numbers pass) _ _ named))
-    (first (placed_ending at ending.numbers ending.run) (all_placed (at + 1 + length ending.run) endings) (number_told ending.numbers pass some named)))
+    (turns_from-places (at + 1) ending.run ∙ sym (cond-true (has_number ending.numbers pass) _ _ named))
+    (first (placed_ending at ending.numbers ending.run) (all_placed (at + 1 + length ending.run) endings) (number_by_test ending.numbers pass some named)))
     (λ unnamed. subst (PlaysEnding pass (all_placed at (ending ∷ endings)))
     (sym (cond-false (has_number ending.numbers pass) _ _ unnamed))
     (later (placed_ending at ending.numbers ending.run) (all_placed (at + 1 + length ending.run) endings) _
@@ -151,7 +151,7 @@ ending_one pass at (own ∷ rest) _ _ some is none = cc
 ending_one pass at (own ∷ rest) _ _ some is (first ending endings has) =
     let same : ending ≡ placed_ending at own.numbers own.run = cc in
     ap (λ (e : PlacedEnding). turns_from e.from e.run) same
-    ∙ turns_are (at + 1) own.run
+    ∙ turns_from-places (at + 1) own.run
     ∙ sym (cond-true (has_number own.numbers pass) _ _ (number_tested own.numbers pass (subst (λ (e : PlacedEnding). HasNumber e.numbers pass) same has)))
 ending_one pass at (own ∷ rest) _ _ some is (later ending endings play not following) =
     let same : ending ≡ placed_ending at own.numbers own.run = cc in
@@ -167,7 +167,7 @@ passes_played at strain (suc n) =
     let ending = first_ending (suc n) (at + length strain.common) strain.endings in
     let Played : ℕ → List ℕ → Type 0 = PlaysPasses (turns_from at strain.common) (all_placed (at + length strain.common) strain.endings) in
     subst (Played (suc n))
-    (ap (λ l. passes_to at strain n ++ (l ++ ending)) (turns_are at strain.common) ∙ sym (passes_more at strain n))
+    (ap (λ l. passes_to at strain n ++ (l ++ ending)) (turns_from-places at strain.common) ∙ sym (passes_more at strain n))
     (subst (λ k. Played k (passes_to at strain n ++ (turns_from at strain.common ++ ending))) next
     (once_more n (passes_to at strain n) ending (passes_played at strain n)
     (subst (λ k. PlaysEnding k (all_placed (at + length strain.common) strain.endings) ending) (sym next)
@@ -181,7 +181,7 @@ passes_one at strain _ _ (once_more n before ending earlier now) =
     let first : before ≡ passes_to at strain n = passes_one at strain n before earlier in
     let second : ending ≡ first_ending (n + 1) (at + length strain.common) strain.endings =
     ending_one (n + 1) (at + length strain.common) strain.endings (all_placed (at + length strain.common) strain.endings) ending (omega arith) refl now in
-    (λ i. first i ++ (turns_are at strain.common i ++ second i))
+    (λ i. first i ++ (turns_from-places at strain.common i ++ second i))
     ∙ ap (λ k. passes_to at strain n ++ (places_from at strain.common ++ first_ending k (at + length strain.common) strain.endings)) next
     ∙ sym (passes_more at strain n)
     ∙ ap (passes_to at strain) (sym next)

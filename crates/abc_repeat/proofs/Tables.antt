@@ -46,28 +46,28 @@ differs_upper : (x letter : ℕ) → is_ascii_uppercase x ≡ false → is_ascii
 differs_upper x letter other upper = grind (arith, nat_tests)
 
 -- no section so far
-pub table_none : (letter : ℕ) (rest : Option ℕ) → is_ascii_uppercase letter ≡ true → option_or (get_or (replicate 26 None) (letter - 65) None) rest ≡ rest
-table_none letter rest upper =
+pub option_or-none : (letter : ℕ) (rest : Option ℕ) → is_ascii_uppercase letter ≡ true → option_or (get_or (replicate 26 None) (letter - 65) None) rest ≡ rest
+option_or-none letter rest upper =
     let range = upper_range letter upper in
     ap (λ entry. option_or entry rest) (get_or-replicate 26 (letter - 65) None None (omega (arith, range)))
 
 -- a section without a letter A to Z
-pub table_kept : (table : List (Option ℕ)) (letters : List ℕ) (at letter : ℕ) → at < length letters → is_ascii_uppercase (get_or letters at 0) ≡ false → is_ascii_uppercase letter ≡ true
+pub option_or-kept : (table : List (Option ℕ)) (letters : List ℕ) (at letter : ℕ) → at < length letters → is_ascii_uppercase (get_or letters at 0) ≡ false → is_ascii_uppercase letter ≡ true
     → option_or (get_or table (letter - 65) None) (first_from letter ((at + 1) + 1) (drop (at + 1) letters))
     ≡ option_or (get_or table (letter - 65) None) (first_from letter (at + 1) (drop at letters))
-table_kept table letters at letter inside other upper =
+option_or-kept table letters at letter inside other upper =
     other_kept (get_or table (letter - 65) None) letters at letter inside (differs_upper (get_or letters at 0) letter other upper)
 
 -- one section more
 places_differ : (x letter : ℕ) → (x == letter) ≡ false → 65 ≤ x → 65 ≤ letter → letter - 65 ≢ x - 65
 places_differ x letter differs low high = grind (arith, nat_tests)
 
-pub table_set : (table : List (Option ℕ)) (letters : List ℕ) (at letter : ℕ) → length table ≡ 26 → at < length letters
+pub option_or-set : (table : List (Option ℕ)) (letters : List ℕ) (at letter : ℕ) → length table ≡ 26 → at < length letters
     → is_ascii_uppercase (get_or letters at 0) ≡ true → is_ascii_uppercase letter ≡ true
     → option_or (get_or (set table (get_or letters at 0 - 65)
     (option_or (get_or table (get_or letters at 0 - 65) None) (Some (at + 1)))) (letter - 65) None) (first_from letter ((at + 1) + 1) (drop (at + 1) letters))
     ≡ option_or (get_or table (letter - 65) None) (first_from letter (at + 1) (drop at letters))
-table_set table letters at letter wide inside upper_x upper =
+option_or-set table letters at letter wide inside upper_x upper =
     let x = get_or letters at 0 in
     let range = upper_range letter upper in
     let range_x = upper_range x upper_x in
@@ -89,12 +89,12 @@ table_set table letters at letter wide inside upper_x upper =
     ] refl
 
 -- the whole table
-pub table_whole : (table : List (Option ℕ)) (letters : List ℕ) (at letter : ℕ) → length letters ≤ at
+pub section_of-table : (table : List (Option ℕ)) (letters : List ℕ) (at letter : ℕ) → length letters ≤ at
     → (is_ascii_uppercase letter ≡ true → option_or (get_or table (letter - 65) None) (first_from letter (at + 1) (drop at letters)) ≡ first_from letter 1 letters)
     → section_of (record { by_letter = table }) letter ≡ first_section letters letter
-table_whole table letters at letter past told =
+section_of-table table letters at letter past known =
     elim (is_ascii_uppercase letter) as (λ t. is_ascii_uppercase letter ≡ t → cond t (get_or table (letter - 65) None) None ≡ cond t (first_from letter 1 letters) None) [
       | true ↦ λ upper. sym (or_none (get_or table (letter - 65) None))
-          ∙ ap (λ l. option_or (get_or table (letter - 65) None) (first_from letter (at + 1) l)) (sym (drop_all at letters past)) ∙ told upper
+          ∙ ap (λ l. option_or (get_or table (letter - 65) None) (first_from letter (at + 1) l)) (sym (drop_all at letters past)) ∙ known upper
       | false ↦ λ other. refl
     ] refl

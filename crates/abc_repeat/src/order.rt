@@ -14,7 +14,7 @@ use crate::order_size::order_size;
 use crate::section::FirstSections;
 use std::alloc::{AllocError, Global};
 
-/// The greatest number of sections that are played, the opening section among them.
+/// The greatest number of sections that are played, the opening section among them. Not in ABC 2.1.
 pub const MOST_SECTIONS: u64 = 4096;
 
 const _: () = prove!(MOST_SECTIONS == 1 << 12);
@@ -79,7 +79,8 @@ fn play_parts(alloc: Global, order: &[u8], letters: &[u8]) -> Result<Played, Ord
 }
 
 /// Returns the sections that are played, in order (ABC 2.1 section 3.1.9). `letters` are those of the parts of the body. The
-/// opening section is first; then come the sections of `order`, the order in the header, or all of them if there is none.
+/// opening section is first; then come the sections of `order`, the order in the header, or all of them if there is none. The
+/// errors are those of `OrderFault`: more than `MOST_SECTIONS` sections, or a failed allocation.
 ///
 /// No contract bounds its time. The body goes through the order, the letters and the sections that are played.
 pub fn play_order(alloc: Global, order: Option<&[u8]>, letters: &[u8]) -> Result<Played, OrderFault>

@@ -12,7 +12,7 @@ use crate::strain::{first_strain, opens_after, up_to_ending};
 use abc_text::LAST_PASS;
 use std::alloc::{AllocError, Global};
 
-/// The greatest number of places that are played.
+/// The greatest number of places that are played. Not in ABC 2.1.
 pub const MOST_PLACES: u64 = 1_000_000;
 
 const _: () = prove!(MOST_PLACES == 1000 * 1000);

@@ -1,7 +1,7 @@
 //! The number of places of a play, counted without an allocation.
 
 ghost use Rattle.std.specs.Prelude.{◌≡◌, ◌<◌, ◌≤◌, ◌-◌, ◌^◌, length, min};
-ghost use Rattle.abc_text.specs.declared.passes.TheConstants.{LAST_PASS};
+ghost use Rattle.abc_text.specs.declared.limits.TheConstants.{LAST_PASS};
 ghost use Rattle.abc_repeat.specs.declared.play.TheConstants.{MOST_PLACES};
 ghost use Rattle.abc_repeat.specs.Play.{endings_size, strain_play, play_of};
 ghost use Rattle.abc_repeat.specs.Strain.{strain_of};

@@ -19,16 +19,16 @@ abbrev pub is_other : ℕ → ℕ → Bool
 is_other closing b = not (b == closing)
 
 -- a text without such a byte has no place of it
-pub place_none : (closing : ℕ) (text : List ℕ) → HasNoByte closing text → place_of closing text ≡ None
-place_none closing text lacks =
+pub place_of_none : (closing : ℕ) (text : List ℕ) → HasNoByte closing text → place_of closing text ≡ None
+place_of_none closing text lacks =
     let whole : prefix_len (is_other closing) text ≡ length text =
     sym (ap (prefix_len (is_other closing)) (append-nil text)) ∙ (let e = front_append (is_other closing) text [] lacks in omega (arith, e)) in
     let past : length text ≤ prefix_len (is_other closing) text = omega (arith, whole) in
     cond-false _ _ _ (le-ltb _ _ past)
 
 -- the first such byte after others
-pub place-first : (closing : ℕ) (inside rest : List ℕ) → HasNoByte closing inside → place_of closing (inside ++ closing ∷ rest) ≡ Some (length inside)
-place-first closing inside rest lacks =
+pub place_of-first : (closing : ℕ) (inside rest : List ℕ) → HasNoByte closing inside → place_of closing (inside ++ closing ∷ rest) ≡ Some (length inside)
+place_of-first closing inside rest lacks =
     let closes : is_other closing closing ≡ false = not_from_true _ (eq-eqb closing closing refl) in
     let size : prefix_len (is_other closing) (inside ++ closing ∷ rest) ≡ length inside =
     front_exact (is_other closing) inside (closing ∷ rest) lacks (front_none (is_other closing) closing rest closes) in
@@ -80,7 +80,7 @@ place_lacks closing text None e none =
     (cases_lt size (length text))
 
 -- a byte that a text lacks is missing in every later part of it
-lacks-drop : (n closing : ℕ) (text : List ℕ) → HasNoByte closing text → HasNoByte closing (drop n text)
+pub lacks-drop : (n closing : ℕ) (text : List ℕ) → HasNoByte closing text → HasNoByte closing (drop n text)
 lacks-drop n closing text lacks = All-drop (λ b. is_other closing b ≡ true) n text lacks
 
 pub absent-drop : (n : ℕ) (absent : KnownAbsent) (text : List ℕ) → IsKnownAbsent absent text → IsKnownAbsent absent (drop n text)

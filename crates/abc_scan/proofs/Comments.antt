@@ -1,9 +1,11 @@
 -- The text read of a line has no carriage return at its end, and no comment.
-use Rattle.std.proofs.Common.{◌≡◌, ℕ, true, false, List, [], ◌∷◌, ◌++◌, refl, sym, ap, ◌∙◌, inl, inr, ⊎_elim}
+use Rattle.std.proofs.Common.{◌≡◌, ℕ, true, false, List, [], ◌∷◌, ◌++◌, None, refl, sym, ap, ◌∙◌, inl, inr, ⊎_elim, arith}
 use Rattle.std.specs.Prelude.{◌==◌, ◌&&◌, not}
-use Rattle.std.proofs.lemmas.Bool.{cond-false, cond_both, eqb-true, eqb-false, and_parts, and_cases, or_parts, not-true, not-false}
-use Rattle.std.specs.List.{list_any}
+use Rattle.std.proofs.lemmas.Bool.{cond-false, cond_both, eqb-true, eqb-false, and_parts, and_cases, not-true, not-false}
+use Rattle.abc_text.specs.Cut.{HasNoByte}
+use Rattle.abc_scan.specs.KnownAbsent.{place_of}
 use Rattle.abc_scan.specs.Text.{before_comment, last_or, IsRead, CutsComments}
+use Rattle.abc_scan.proofs.Closings.{lacks-drop, place_lacks}
 
 -- a comment begins here
 nothing_escaped : (before : ℕ) (front rest : List ℕ) → [] ≡ front ++ 37 ∷ rest → last_or before front ≡ 92
@@ -48,9 +50,12 @@ pub cuts_comments : CutsComments
 cuts_comments text = reads 32 text
 
 -- a text without `%` has no comment
-pub no_comment : (before : ℕ) (text : List ℕ) → list_any (λ b. b == 37) text ≡ false → before_comment before text ≡ text
-no_comment before [] none = refl
-no_comment before (b ∷ bs) none =
-    let parts = or_parts (b == 37) (list_any (λ x. x == 37) bs) none in
-    cond-false ((b == 37) && not (before == 92)) [] (b ∷ before_comment b bs) (ap (λ t. t && not (before == 92)) parts.0)
-    ∙ ap (λ l. b ∷ l) (no_comment b bs parts.1)
+lacks-comment : (before : ℕ) (text : List ℕ) → HasNoByte 37 text → before_comment before text ≡ text
+lacks-comment before [] lacks = refl
+lacks-comment before (b ∷ bs) lacks =
+    cond-false ((b == 37) && not (before == 92)) [] (b ∷ before_comment b bs) (ap (λ t. t && not (before == 92)) (not-true (b == 37) (lacks 0 0 (omega arith))))
+    ∙ ap (λ l. b ∷ l) (lacks-comment b bs (lacks-drop 1 37 (b ∷ bs) lacks))
+
+-- and so has a text in which no `%` is found
+pub before_comment_none : (before : ℕ) (text : List ℕ) → None ≡ place_of 37 text → before_comment before text ≡ text
+before_comment_none before text none = lacks-comment before text (place_lacks 37 text None none refl)

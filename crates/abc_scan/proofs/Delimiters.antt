@@ -6,7 +6,7 @@ use Rattle.abc_text.specs.Cut.{HasNoByte}
 use Rattle.abc_scan.specs.Byte.{quote, exclamation, opening_brace, closing_brace, opening_bracket, closing_bracket, colon}
 use Rattle.abc_scan.specs.KnownAbsent.{place_of}
 use Rattle.abc_scan.specs.Delimited.{AreDelimiters, IsDelimited, closed_by, delimited_at}
-use Rattle.abc_scan.proofs.Closings.{IsFirst, place-first, place-sound, closed_front, is_other}
+use Rattle.abc_scan.proofs.Closings.{IsFirst, place_of-first, place-sound, closed_front, is_other}
 use Rattle.abc_scan.proofs.Readings.{IsSized, mapped, byte_first, Finds, IsSpelled, byte_and}
 use Rattle.std.specs.Char.{is_ascii_alphabetic}
 use Rattle.std.proofs.lemmas.Bool.{cond-true, eqb-true, ne_eqb, and_parts, and_from, not_from_false, false≢true}
@@ -17,7 +17,7 @@ use Rattle.abc_scan.specs.InlineField.{IsInlineField, closed_field, inline_field
 use Rattle.abc_text.proofs.Fronts.{take_exact}
 
 closed_read : (closing : ℕ) (inside rest : List ℕ) → HasNoByte closing inside → closed_by closing (inside ++ closing ∷ rest) ≡ Some (length inside + 2)
-closed_read closing inside rest lacks = ap (option_map (λ place. place + 2)) (place-first closing inside rest lacks)
+closed_read closing inside rest lacks = ap (option_map (λ place. place + 2)) (place_of-first closing inside rest lacks)
 
 opened_read : (opening closing : ℕ) (rest : List ℕ) → AreDelimiters opening closing → delimited_at (opening ∷ rest) ≡ closed_by closing rest
 unfolding delimited_at
@@ -81,7 +81,7 @@ inline_read : (letter : ℕ) (following rest : List ℕ) → is_ascii_alphabetic
 unfolding inline_field_at
 inline_read letter following rest h lacks =
     let own = letter ∷ colon ∷ following in
-    let found : place_of closing_bracket (own ++ closing_bracket ∷ rest) ≡ Some (length own) = place-first closing_bracket own rest (field_lacks letter following h lacks) in
+    let found : place_of closing_bracket (own ++ closing_bracket ∷ rest) ≡ Some (length own) = place_of-first closing_bracket own rest (field_lacks letter following h lacks) in
     let text : take (length own) (own ++ closing_bracket ∷ rest) ≡ own = take_exact (length own) own (closing_bracket ∷ rest) refl in
     let size : length own + 2 ≡ length following + 4 = omega arith in
     cond-true _ _ _ (and_from _ _ refl (and_from _ _ h refl))

@@ -9,6 +9,7 @@ use Rattle.std.proofs.lemmas.List.Elements.{All-nil, All-cons}
 use Rattle.abc_scan.specs.declared.line_class.LineClass.{LineClass}
 use Rattle.abc_scan.specs.declared.line_class.LineClass.TheVariants as classes
 use Rattle.abc_scan.specs.declared.chord.Chord.{Chord}
+use Rattle.abc_scan.specs.declared.length.TheConstants.{MOST_SLASHES}
 use Rattle.abc_scan.specs.declared.length.WrittenLength.{WrittenLength}
 use Rattle.abc_scan.specs.declared.chord_part.ChordPartKind.{ChordPartKind}
 use Rattle.abc_scan.specs.declared.chord_part.ChordPartKind.TheVariants as parts
@@ -50,14 +51,14 @@ factor-range None den m n = tt
 factor-range (Some num) None m n = tt
 factor-range (Some num) (Some den) m n = record { num_least = m.0; num_most = m.1; den_least = n.0; den_most = n.1 }
 
-halves-range : (k : ℕ) → k ≤ 29 → InRange (Some (2 ^ k))
+halves-range : (k : ℕ) → k ≤ MOST_SLASHES → InRange (Some (2 ^ k))
 halves-range k few = let most : 2 ^ k ≤ 2 ^ 29 = pow-le-pow_right (omega arith) few in let least = pow_pos k in (omega (arith, least), omega (arith, most))
 
 written-range : (over : List ℕ) (slashes : ℕ) (under : List ℕ) → AllPass is_digit over → AllPass is_digit under → HasFactor (written_length over slashes under)
 written-range over slashes under over_digits under_digits =
-    cond_both (nat_lt 29 slashes) _ _ HasFactor (λ _. tt)
+    cond_both (nat_lt MOST_SLASHES slashes) _ _ HasFactor (λ _. tt)
     (λ few. factor-range (number_or over 1) (number_or under (2 ^ slashes)) (number_or-range over 1 over_digits (omega arith, omega arith))
-    (number_or-range under (2 ^ slashes) under_digits (halves-range slashes (ltb-false 29 slashes few))))
+    (number_or-range under (2 ^ slashes) under_digits (halves-range slashes (ltb-false MOST_SLASHES slashes few))))
 
 length-range : (text : List ℕ) (value : WrittenLength) → IsLength text value → HasFactor value
 length-range text value is = subst HasFactor (sym is.value_is) (written-range is.over is.slashes is.under is.over_digits is.under_digits)

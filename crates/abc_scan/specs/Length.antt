@@ -5,6 +5,7 @@ use Rattle.std.specs.List.{prefix_len, AllPass}
 use Rattle.abc_text.specs.declared.digit.TheConstants.{LONGEST_NUMBER, LARGEST_NUMBER}
 use Rattle.abc_text.specs.Digit.{is_digit, decimal}
 use Rattle.abc_scan.specs.Byte.{slash}
+use Rattle.abc_scan.specs.declared.length.TheConstants.{MOST_SLASHES}
 use Rattle.abc_scan.specs.declared.length.WrittenLength.{WrittenLength}
 use Rattle.abc_scan.specs.declared.length.WrittenLength.TheVariants.{Factor, Refused}
 
@@ -32,10 +33,10 @@ factor (Some num) None = Refused
 factor (Some num) (Some den) = Factor num den
 
 -- The value of digits, slashes and digits. Without digits it is 1 over the slashes, and under them a
--- half for each. More than 29 slashes are refused, which is not in ABC 2.1.
+-- half for each. More than `MOST_SLASHES` are refused, which is not in ABC 2.1.
 abbrev pub written_length : List ℕ → ℕ → List ℕ → WrittenLength
 written_length over slashes under =
-    if nat_lt 29 slashes then Refused else factor (number_or over 1) (number_or under (2 ^ slashes))
+    if nat_lt MOST_SLASHES slashes then Refused else factor (number_or over 1) (number_or under (2 ^ slashes))
 
 -- A length text: digits, then nothing, one slash with digits, or one or more slashes.
 pub record IsLength (text : List ℕ) (value : WrittenLength) : Type 0 where

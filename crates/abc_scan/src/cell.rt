@@ -4,8 +4,7 @@ ghost use Rattle.std.specs.Prelude.{◌≡◌, ◌≤◌, ◌<◌, ◌^◌, [], 
 ghost use Rattle.abc_scan.specs.Cell.{AreCells, cells_of, first_size};
 
 use crate::token::{Token, is_bar};
-use abc_fold::Shared;
-use abc_text::Sequence;
+use abc_text::{Sequence, Shared};
 use std::alloc::{AllocError, Global};
 use std::marker::Model;
 
@@ -126,7 +125,7 @@ fn share_cells(
 }
 
 /// The cells of a line of these tokens, in a list with room for `room` cells at first. A line without tokens has none.
-pub(crate) fn cells_with_room(
+pub(crate) fn cells_with_capacity(
     alloc: Global,
     tokens: Vec<Token>,
     room: usize,
@@ -142,12 +141,13 @@ pub(crate) fn cells_with_room(
     share_cells(alloc, &line, count, room)
 }
 
-/// The cells of a line, by its tokens: a line without tokens has none.
+/// Returns the cells of a line, by its tokens as `scan` returns them (ABC 2.1 section 4.8). Each cell but the last ends with a
+/// bar line; a line without tokens has none. It returns an error if an allocation fails; the cells have copies of the tokens.
 pub fn cells(alloc: Global, tokens: &[Token]) -> Result<Vec<Cell>, AllocError>
     ensures value { IfOk result (λ cells. cells.items ≡ cells_of tokens.now) }
     ensures cells { IfOk result (λ cells. AreCells tokens.now cells.items) }
 {
     let copies = copies_of(alloc, tokens)?;
-    let cells = cells_with_room(alloc, copies, 1)?;
+    let cells = cells_with_capacity(alloc, copies, 1)?;
     Ok(cells)
 }

@@ -34,7 +34,7 @@ fn part_reading_at(text: &[u8], absent: &mut KnownAbsent) -> Option<(ChordPartKi
     requires short { length text.now < 2 ^ 31 }
     ensures value { result ≡ part_reading_at false text.now }
     ensures front { IfSome result (λ r. IsFront text.now r.1) }
-    ensures kept { IsKnownAbsent absent.new (drop 1 text.now) }
+    ensures absent { IsKnownAbsent absent.new (drop 1 text.now) }
 {
     match start_of(text) {
         Start::Note => {
@@ -62,7 +62,7 @@ fn next_part(text: &[u8], absent: &mut KnownAbsent) -> (ChordPartKind, usize)
     requires short { length text.now < 2 ^ 31 }
     ensures value { result ≡ next part_reader false text.now }
     ensures front { IsFront text.now result.1 }
-    ensures kept { IsKnownAbsent absent.new (drop 1 text.now) }
+    ensures absent { IsKnownAbsent absent.new (drop 1 text.now) }
 {
     part_reading_at(text, absent).unwrap_or((ChordPartKind::BadByte, 1))
 }

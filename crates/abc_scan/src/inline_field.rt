@@ -20,7 +20,7 @@ pub(crate) fn inline_field_at(
     requires { IsKnownAbsent absent.old (drop 1 text.now) }
     ensures value { IfOk result (λ reading. reading ≡ inline_field_at text.now) }
     ensures front { IfOk result (λ reading. IfSome reading (λ r. IsFront text.now r.1)) }
-    ensures kept { IsKnownAbsent absent.new (drop 1 text.now) }
+    ensures absent { IsKnownAbsent absent.new (drop 1 text.now) }
     ensures remembered { IfOk result (λ reading. reading ≡ None → opens_field text.now ≡ true → absent.new.bracket ≡ true) }
 {
     match text {

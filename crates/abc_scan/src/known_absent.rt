@@ -4,6 +4,8 @@ ghost use Rattle.std.specs.Prelude.{◌≡◌, ◌<◌, ℕ, List, IfSome, is_no
 ghost use Rattle.abc_text.specs.Cut.{HasNoByte};
 ghost use Rattle.abc_scan.specs.KnownAbsent.{place_of, IsKnownAbsent};
 
+use abc_text::find_byte;
+
 /// The closing bytes that are known to be absent from the rest of a text. They save a second search. A `"` or `!` needs
 /// no flag: if it finds no other, it is the last one.
 #[derive(Clone, Copy)]
@@ -24,28 +26,20 @@ impl KnownAbsent {
     }
 }
 
-/// Returns the place of the first closing byte in a text.
-pub(crate) fn place_of(closing: u8, text: &[u8]) -> Option<usize>
-    ensures value { result ≡ place_of closing text.now }
-    ensures inside { IfSome result (λ place. place < length text.now) }
-{
-    text.iter().position(|byte| *byte == closing)
-}
-
 /// Returns the place of the first closing byte in a text, without a search if the byte is known to be absent. Remembers
 /// a search that fails.
-#[tactic(auto, using(crate::proofs::Closings::place_none, crate::proofs::Closings::place_lacks))]
+#[tactic(auto, using(crate::proofs::Closings::place_of_none, crate::proofs::Closings::place_lacks))]
 pub(crate) fn find(absent: &mut bool, closing: u8, text: &[u8]) -> Option<usize>
     requires { absent.old ≡ true → HasNoByte closing text.now }
     ensures value { result ≡ place_of closing text.now }
     ensures inside { IfSome result (λ place. place < length text.now) }
-    ensures kept { absent.new ≡ true → HasNoByte closing text.now }
+    ensures absent { absent.new ≡ true → HasNoByte closing text.now }
     ensures remembered { absent.new ≡ is_none result }
 {
     if *absent {
         return None;
     }
-    let place = place_of(closing, text);
+    let place = find_byte(text, closing);
     *absent = place.is_none();
     place
 }

@@ -8,12 +8,17 @@ ghost use Rattle.abc_scan.specs.Length.{begins_length, is_slash, number_or, writ
 use crate::run::run_of;
 use abc_text::{LONGEST_NUMBER, decimal, digits, is_digit};
 
+/// The most slashes of a length. The power of two that they write then has at most nine digits. Not in ABC 2.1.
+pub(crate) const MOST_SLASHES: usize = 29;
+
+const _: () = prove!(MOST_SLASHES == 29);
+
 /// The value of a length text: the factor of the unit note length (ABC 2.1 section 4.3).
 #[derive(Clone, Copy)]
 pub enum WrittenLength {
     /// `num / den`, each from 1 to 999,999,999.
     Factor { num: u32, den: u32 },
-    /// A number that is 0 or has more than nine digits, or more than 29 slashes.
+    /// A number that is 0 or has more than nine digits, or more than `MOST_SLASHES` slashes.
     Refused,
 }
 
@@ -57,7 +62,7 @@ fn written_length(over: &[u8], slashes: usize, under: &[u8]) -> WrittenLength
     requires under { AllPass is_digit under.now }
     ensures { result ≡ written_length over.now slashes under.now }
 {
-    if slashes > 29 {
+    if slashes > MOST_SLASHES {
         return WrittenLength::Refused;
     }
     match (number_or(over, 1), number_or(under, 1 << slashes)) {

@@ -30,8 +30,8 @@ mod text;
 mod token;
 mod tuplet;
 
-pub use abc_fold::{Shared, Work};
-pub use abc_text::{Accidental, Letter, Sequence};
+pub use abc_fold::Work;
+pub use abc_text::{Accidental, Letter, Sequence, Shared};
 pub use bar_line::BarLine;
 pub use broken::{BrokenRhythm, Direction};
 pub use cell::{Cell, cells};

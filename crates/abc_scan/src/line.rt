@@ -16,8 +16,8 @@ use crate::line_class::{LineClass, class_of};
 use crate::spanned::Spanned;
 use crate::text::without_comment;
 use crate::token::{Token, TokenKind, is_bar, next_token, short_token_at};
-use abc_fold::{Shared, Work};
-use abc_text::without_return;
+use abc_fold::Work;
+use abc_text::{Shared, without_return};
 use std::alloc::{AllocError, Global};
 
 /// The longest text that `scan` cuts. The places in it, and the octaves of its notes, fit small numbers.

@@ -6,7 +6,7 @@ ghost use Rattle.abc_scan.specs.Cell.{cells_of};
 ghost use Rattle.abc_scan.specs.Class.{class_of};
 ghost use Rattle.abc_scan.specs.Line.{has_tokens, tokens_in, tokens_of};
 
-use crate::cell::{Cell, cells_with_room};
+use crate::cell::{Cell, cells_with_capacity};
 use crate::line::tokens_in;
 use crate::line_class::{LineClass, class_of};
 use crate::token::{Token, is_bar};
@@ -29,7 +29,7 @@ fn cells_of_music(alloc: Global, mut tokens: Vec<Token>) -> Result<Vec<Cell>, Al
 {
     let own = tokens.split_off(0)?;
     let room = count_cells(own.as_slice());
-    cells_with_room(alloc, own, room)
+    cells_with_capacity(alloc, own, room)
 }
 
 /// The cells of a text of this class, which has no carriage return at its end.
@@ -42,7 +42,7 @@ fn cells_in(alloc: Global, class: LineClass, text: &[u8]) -> Result<Vec<Cell>, A
     match class {
         LineClass::Music => cells_of_music(alloc, tokens),
         LineClass::Blank | LineClass::Comment | LineClass::Field(_) | LineClass::Directive => {
-            cells_with_room(alloc, tokens, 1)
+            cells_with_capacity(alloc, tokens, 1)
         }
     }
 }

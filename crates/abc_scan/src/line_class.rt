@@ -11,7 +11,7 @@ use crate::directive::is_directive;
 use abc_text::{is_blank, without_return};
 
 /// The class of a line of an ABC text, by its own bytes (ABC 2.1 sections 2.2 and 11).
-#[derive(Clone, Copy)]
+#[derive(Clone, Copy, Debug, PartialEq, Eq)]
 pub enum LineClass {
     /// Nothing but blanks.
     Blank,

@@ -23,7 +23,7 @@ use crate::note::{Note, note_at, rest_at, short_note_at};
 use crate::spanned::Spanned;
 use crate::start::{Start, start_of};
 use crate::tuplet::{Tuplet, tuplet_at};
-use abc_fold::Shared;
+use abc_text::Shared;
 use std::alloc::{AllocError, Global};
 
 /// A part of a line, with its value read.
@@ -117,7 +117,7 @@ fn field_at(
     requires { IsKnownAbsent absent.old (drop 1 text.now) }
     ensures value { IfOk result (λ token. token ≡ reading_by Start.InlineField false text.now) }
     ensures front { IfOk result (λ token. IfSome token (λ r. IsFront text.now r.1)) }
-    ensures kept { IsKnownAbsent absent.new (drop 1 text.now) }
+    ensures absent { IsKnownAbsent absent.new (drop 1 text.now) }
 {
     match inline_field_at(alloc, text, absent)? {
         Some((field, size)) => {
@@ -143,7 +143,7 @@ fn enclosed_at(text: &[u8], absent: &mut KnownAbsent) -> Option<(TokenKind, usiz
     requires { IsKnownAbsent absent.old (drop 1 text.now) }
     ensures value { result ≡ reading_by Start.Delimited false text.now }
     ensures front { IfSome result (λ r. IsFront text.now r.1) }
-    ensures kept { IsKnownAbsent absent.new (drop 1 text.now) }
+    ensures absent { IsKnownAbsent absent.new (drop 1 text.now) }
 {
     let size = delimited_at(text, absent)?;
     Some((dynamic_or_ignored(&text[..size]), size))
@@ -233,7 +233,7 @@ pub(crate) fn next_token(
     requires short { length text.now < 2 ^ 31 }
     ensures value { IfOk result (λ r. r ≡ next_token after_bar text.now) }
     ensures front { IfOk result (λ r. IsFront text.now r.1) }
-    ensures kept { IsKnownAbsent absent.new (drop 1 text.now) }
+    ensures absent { IsKnownAbsent absent.new (drop 1 text.now) }
 {
     let found = match start_of(text) {
         Start::InlineField => field_at(alloc, text, absent)?,

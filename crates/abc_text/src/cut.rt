@@ -1,4 +1,4 @@
-//! A text cut at a byte.
+//! The first byte of a value in a text, and a text cut at it.
 
 ghost use Rattle.std.specs.Prelude.{◌≡◌, ◌<◌, ◌==◌, IfSome, MatchOption, length, option_map};
 ghost use Rattle.std.specs.List.{position};
@@ -6,9 +6,9 @@ ghost use Rattle.abc_text.specs.Cut.{HasNoByte, IsCut, cut_at};
 
 use bstr::ByteSlice;
 
-/// Returns the index of the first byte of this value in a text.
+/// Returns the index of the first byte of this value in a text, or none if the text has no such byte.
 #[tactic(auto, using(crate::proofs::Positions::position_of))]
-fn find_byte(text: &[u8], byte: u8) -> Option<usize>
+pub fn find_byte(text: &[u8], byte: u8) -> Option<usize>
     ensures value { result ≡ position (λ b. b == byte) text.now }
     ensures inside { IfSome result (λ at. at < length text.now) }
 {

@@ -4,7 +4,7 @@ ghost use Rattle.std.specs.Prelude.{◌≡◌, ◌≤◌, length, take};
 ghost use Rattle.std.specs.List.{prefix_len, AllPass};
 ghost use Rattle.abc_text.specs.Digit.{is_digit, decimal};
 
-/// The greatest number of digits of a number. Not in ABC 2.1.
+/// The greatest number of digits of a number: a longer one is refused. Not in ABC 2.1.
 pub const LONGEST_NUMBER: usize = 9;
 
 /// The largest number of `LONGEST_NUMBER` digits.

@@ -6,7 +6,7 @@ use Rattle.std.specs.Option.{option_to_list}
 use Rattle.std.proofs.lemmas.Bool.{eqb-true, false≢true}
 use Rattle.std.proofs.lemmas.Bool.Decides.{nat_tests}
 use Rattle.std.proofs.lemmas.List.Folds.{list_any-append}
-use Rattle.abc_bars.proofs.HeaderLaws.{header_following}
+use Rattle.abc_bars.proofs.HeaderLaws.{header_at_following}
 use Rattle.abc_bars.proofs.LookBack.Along.{from_view}
 use Rattle.abc_bars.proofs.LookBack.Flags.{bodies_say_so}
 use Rattle.abc_bars.specs.LookBack.Along.{CellTokens, results_along, items_along}
@@ -298,7 +298,7 @@ line_sets opening before line out =
     let own = own_line_result header line in
     program_says out (items_with own.item own.header.defaults) (line_program line header.defaults)
     ∙ items_say out own.item own.header.defaults
-    ∙ ap (λ (h : Header). sets_out_of_range h.defaults) (sym (header_following opening before line))
+    ∙ ap (λ (h : Header). sets_out_of_range h.defaults) (sym (header_at_following opening before line))
 
 -- the tempo with which a tune begins
 abbrev sets_at : Defaults → List HeaderLine → Bool

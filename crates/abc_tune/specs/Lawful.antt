@@ -4,8 +4,8 @@ use Rattle.std.specs.Prelude.{Option, Some, None, is_some, refl, IsTrue}
 use Rattle.std.proofs.Common.{inl, inr, sym, ap, ◌∙◌}
 use Rattle.std.proofs.lemmas.Bool.{eqb-true, false≢true}
 use Rattle.abc_bars_body.specs.Entry.{defaults_of, opening_after}
-use Rattle.abc_bars_header.specs.SameDefaults.{same_defaults, same_defaults_tells}
-use Rattle.abc_bars_body.specs.SameEntry.{bar_steps, same_entry_tells}
+use Rattle.abc_bars_header.specs.SameDefaults.{same_defaults, same_defaults_decides}
+use Rattle.abc_bars_body.specs.SameEntry.{bar_steps, same_entry_decides}
 use Rattle.abc_bars_header.specs.declared.defaults.Defaults.{Defaults}
 use Rattle.abc_bars_body.specs.declared.entry.Entry.TheVariants as entries
 use Rattle.abc_tune_compiler.specs.Lawful.{AreLawful}
@@ -123,12 +123,12 @@ without_cells line = (
 -- What a session relies on of the compiler of ABC.
 pub abc_lawful : AreLawful bar_steps rules_of_abc
 abc_lawful = record {
-  equal_defaults = λ a b alike. ap defaults_of ((same_entry_tells a b).0 alike);
-  alike_openings = λ a b same. (same_entry_tells (opening_after (Some a)) (opening_after (Some b))).1 (ap entries.Opening same);
-  without_header = (same_entry_tells (opening_after None) (opening_after (Some rules_of_abc.header))).1 refl;
+  equal_defaults = λ a b alike. ap defaults_of ((same_entry_decides a b).0 alike);
+  alike_openings = λ a b same. (same_entry_decides (opening_after (Some a)) (opening_after (Some b))).1 (ap entries.Opening same);
+  without_header = (same_entry_decides (opening_after None) (opening_after (Some rules_of_abc.header))).1 refl;
   without_cells = without_cells;
 }
 
 -- Two values that file headers set compare equal only if they are equal.
 pub abc_eq_is_sound : (a b : Defaults) → IsTrue (same_defaults a b) → a ≡ b
-abc_eq_is_sound a b same = (same_defaults_tells a b).0 same
+abc_eq_is_sound a b same = (same_defaults_decides a b).0 same

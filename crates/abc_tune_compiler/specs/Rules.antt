@@ -1,4 +1,4 @@
--- The definitions of a compiler of tunes, whatever language its tunes are written in. Not in ABC 2.1.
+-- The definitions of any compiler over ABC's lines. Not in ABC 2.1.
 use Rattle.std.specs.Prelude.{ℕ, List, Option}
 use Rattle.abc_fields.specs.declared.fault_code.FaultCode.{FaultCode}
 use Rattle.abc_scan.specs.declared.line_class.LineClass.{LineClass}

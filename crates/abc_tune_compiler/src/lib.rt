@@ -1,5 +1,5 @@
-//! The interface of a compiler of tunes, in whatever language they are written. And the book of a text by the definitions
-//! of a compiler: the files by their reference numbers, the titles and the faults.
+//! The interface of any compiler over ABC's lines, with its classes of lines, blocks and codes of faults. And the book of a text
+//! by the definitions of a compiler: the files by their reference numbers, the titles and the faults.
 #![tactic(auto)]
 
 mod built;

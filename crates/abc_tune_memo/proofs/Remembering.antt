@@ -14,7 +14,7 @@ use Rattle.abc_fold.specs.Steps.{Steps, IsResumable, items_from}
 use Rattle.abc_fold.proofs.Alike.{equal_items}
 use Rattle.abc_tune_compiler.specs.Rules.{Rules}
 use Rattle.abc_tune_memo.specs.declared.key.TuneKey.{TuneKey}
-use Rattle.abc_tune_memo.specs.Memo.{AreItemsOf, IsBuiltOf, IsEntryFirst, Remembers}
+use Rattle.abc_tune_memo.specs.Memo.{AreItemsOf, IsBuiltOf, IsFirstOrForgotten, Remembers}
 use Rattle.abc_tune_memo.proofs.Tunes.{same_cells}
 
 -- Whether code finds two keys equal.
@@ -23,9 +23,9 @@ is_same test a b = test a.defaults b.defaults && pointwise nat_eq a.bytes b.byte
 
 -- Keys that code finds equal are equal.
 same_key : {Defaults : Type 0} (test : Defaults → Defaults → Bool) → ((a b : Defaults) → IsTrue (test a b) → a ≡ b) → (a b : TuneKey Defaults) → is_same test a b ≡ true → a ≡ b
-same_key test told a b is =
+same_key test sound a b is =
     let parts = and_parts (test a.defaults b.defaults) (pointwise nat_eq a.bytes b.bytes) is in
-    let one = told a.defaults b.defaults parts.0 in
+    let one = sound a.defaults b.defaults parts.0 in
     let other = same_text a.bytes b.bytes (sym parts.1) in
     ap (λ defaults. record { defaults = defaults; bytes = a.bytes }) one ∙ ap (λ bytes. record { defaults = b.defaults; bytes = bytes }) other
 
@@ -57,7 +57,7 @@ done_or_refused (Err e) done refused = inl refused
 pub kept_after : {Defaults : Type 0} (test : Defaults → Defaults → Bool) (key : TuneKey Defaults) (known : Option Built) (built : Built) (old asked now : List (TuneKey Defaults × Built))
     → known ≡ lookup (is_same test key) old → ((one : Built) → known ≡ Some one → ⊥)
     → asked ≡ promoted (is_same test key) old → (now ≡ asked) ⊎ (now ≡ put_entries (is_same test) (lru_cache asked 64) key built)
-    → IsEntryFirst (is_same test) key built old now
+    → IsFirstOrForgotten (is_same test) key built old now
 kept_after test key known built old asked now found never is cases =
     let none = sym found ∙ not_some known never in
     ⊎_elim
@@ -71,7 +71,7 @@ pub after_asking : {State Cell Items Defaults : Type 0} (steps : Steps State Cel
 after_asking steps rules same entries now is remembers entry in_now = remembers entry (Contains-promoted same entries entry (subst (λ l. Contains l entry) is in_now))
 
 module _ {State Cell Items Defaults : Type 0} (steps : Steps State Cell Items) (rules : Rules State Cell Items Defaults)
-    (laws : IsResumable steps) (lawful : AreLawful steps rules) (test : Defaults → Defaults → Bool) (told : (a b : Defaults) → IsTrue (test a b) → a ≡ b) where
+    (laws : IsResumable steps) (lawful : AreLawful steps rules) (test : Defaults → Defaults → Bool) (sound : (a b : Defaults) → IsTrue (test a b) → a ≡ b) where
   -- A key has one list of items.
   same_items : (key : TuneKey Defaults) (some other : List Items) → AreItemsOf steps rules key some → AreItemsOf steps rules key other → some ≡ other
   same_items key some other one two =
@@ -88,7 +88,7 @@ module _ {State Cell Items Defaults : Type 0} (steps : Steps State Cell Items) (
     found built is =
         let at = Contains-lookup (is_same test key) entries built is in
         let own = remembers (at.0, built) at.1 in
-        subst (λ k. IsBuiltOf steps rules k built) (sym (same_key test told key at.0 at.2)) own
+        subst (λ k. IsBuiltOf steps rules k built) (sym (same_key test sound key at.0 at.2)) own
 
     -- And so it is what is built of any list of items of the key.
     pub found_values : (items : List Items) (built : Built) → AreItemsOf steps rules key items → lookup (is_same test key) entries ≡ Some built
@@ -108,7 +108,7 @@ module _ {State Cell Items Defaults : Type 0} (steps : Steps State Cell Items) (
         (λ was. remembers entry was)
         (λ new. ⊎_elim
         (λ (here : entry.0 ≡ key). subst (λ b. IsBuiltOf steps rules entry.0 b) (sym new.0) (subst (λ k. IsBuiltOf steps rules k built) (sym here) own))
-        (λ there. subst (λ b. IsBuiltOf steps rules entry.0 b) (sym new.0) (subst (λ k. IsBuiltOf steps rules k built) (same_key test told key entry.0 there.2) own))
+        (λ there. subst (λ b. IsBuiltOf steps rules entry.0 b) (sym new.0) (subst (λ k. IsBuiltOf steps rules k built) (same_key test sound key entry.0 there.2) own))
         new.1)
         (Contains-put_entries (is_same test) (lru_cache entries 64) key built entry (subst (λ l. Contains l entry) put in_now)))
         cases

@@ -40,7 +40,7 @@ abbrev pub counts_after : Option Built → Counters → Counters
 counts_after known before = if is_some known then before else record before { built = raised before.built 1 }
 
 -- The entries after a key was asked for. If it was there, it goes first and nothing else changes. If it was not, it comes
--- first with what was built, and of 64 others the last goes.
-abbrev pub IsEntryFirst : {Defaults : Type 0} → (TuneKey Defaults → TuneKey Defaults → Bool) → TuneKey Defaults → Built
+-- first with what was built, and of 64 others the last goes; or it is forgotten, and nothing changes.
+abbrev pub IsFirstOrForgotten : {Defaults : Type 0} → (TuneKey Defaults → TuneKey Defaults → Bool) → TuneKey Defaults → Built
     → List (TuneKey Defaults × Built) → List (TuneKey Defaults × Built) → Type 0
-IsEntryFirst same key built old new = (new ≡ promoted (same key) old) ⊎ (new ≡ put_entries same (lru_cache old 64) key built)
+IsFirstOrForgotten same key built old new = (new ≡ promoted (same key) old) ⊎ (new ≡ put_entries same (lru_cache old 64) key built)

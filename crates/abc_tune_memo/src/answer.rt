@@ -3,7 +3,7 @@
 ghost use Rattle.std.specs.Prelude.{◌≡◌, IfOk, OnErr};
 ghost use Rattle.std.specs.Map.{lookup};
 ghost use Rattle.lru.specs.LruCache.{promoted};
-ghost use Rattle.abc_tune_memo.specs.Memo.{Remembers, AreItemsOf, IsEntryFirst, counts_after};
+ghost use Rattle.abc_tune_memo.specs.Memo.{Remembers, AreItemsOf, IsFirstOrForgotten, counts_after};
 
 use crate::key::TuneKey;
 use crate::memo::TuneMemo;
@@ -11,9 +11,9 @@ use abc_tune_compiler::{Built, Compiler};
 use std::alloc::AllocError;
 
 impl<C: Compiler> TuneMemo<C> {
-    /// Returns the remembered tune of a key, or builds it from its items and remembers it if no allocation fails. The key
-    /// is then the one asked for last. Other entries do not change, but the one asked for longest ago goes if there would
-    /// be 65.
+    /// Returns the remembered tune of a key, or builds it from its items and remembers it if no allocation fails. A key
+    /// that is remembered is then the one asked for last. Other entries do not change, but the one asked for longest ago
+    /// goes if there would be 65. It returns an error if an allocation for the answer fails.
     pub fn built(
         &mut self,
         compiler: &C,
@@ -26,7 +26,7 @@ impl<C: Compiler> TuneMemo<C> {
         ensures bytes { IfOk result (λ built. built.bytes ≡ (C.rules compiler.now).bytes items.now) }
         ensures faults { IfOk result (λ built. built.faults ≡ (C.rules compiler.now).build_faults items.now) }
         ensures remembers { Remembers (C.steps compiler.now) (C.rules compiler.now) self.new }
-        ensures first { IfOk result (λ built. IsEntryFirst (⟦<TuneKey<C::Defaults> as PartialEq>⟧.eq) key built self.old self.new) }
+        ensures entries { IfOk result (λ built. IsFirstOrForgotten (⟦<TuneKey<C::Defaults> as PartialEq>⟧.eq) key built self.old self.new) }
         ensures unchanged { OnErr result (self.new ≡ promoted (⟦<TuneKey<C::Defaults> as PartialEq>⟧.eq key) self.old) }
         ensures counted { C.Work.counts work.new
             ≡ counts_after (lookup (⟦<TuneKey<C::Defaults> as PartialEq>⟧.eq key) self.old) (C.Work.counts work.old) }

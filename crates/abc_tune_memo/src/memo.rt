@@ -11,8 +11,11 @@ use std::alloc::{AllocError, Global};
 use std::marker::Model;
 use std::num::NonZeroUsize;
 
-/// The tunes that a compiler built and that were asked for last, at most 64. Contracts see the keys and the built tunes,
-/// the one asked for last first.
+/// The most tunes that a memo remembers.
+const MOST_TUNES: usize = 64;
+
+/// The tunes that a compiler built and that were asked for last, at most `MOST_TUNES`. Contracts see the keys and the built
+/// tunes, the one asked for last first.
 #[derive(Drop)]
 pub struct TuneMemo<C: Compiler> {
     entries: LruCache<TuneKey<C::Defaults>, Built>,
@@ -31,11 +34,11 @@ impl<C: Compiler> Model for TuneMemo<C> {
 }
 
 impl<C: Compiler> TuneMemo<C> {
-    /// Returns an empty memo.
+    /// Returns an empty memo, or `AllocError` if an allocation fails.
     pub fn new(alloc: Global) -> Result<TuneMemo<C>, AllocError>
         ensures { IfOk result (λ memo. memo ≡ []) }
     {
-        let most = NonZeroUsize::new(64).unwrap();
+        let most = NonZeroUsize::new(MOST_TUNES).unwrap();
         let entries = LruCache::new(alloc, most)?;
         Ok(TuneMemo { entries })
     }

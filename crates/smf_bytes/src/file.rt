@@ -1,7 +1,7 @@
 //! The file of a score.
 ghost use Rattle.std.specs.Prelude.{◌≡◌, ◌≤◌, ◌<◌, ◌+◌, ◌++◌, IfOk, OnOk};
 ghost use Rattle.abc_time.specs.Grains.{grains_of_the_latest_end, tick_at};
-ghost use Rattle.abc_bars_items.specs.declared.item.TheConstants.{MOST_VOICES};
+ghost use Rattle.abc_text.specs.declared.limits.TheConstants.{MOST_VOICES};
 ghost use Rattle.smf_bytes.specs.File.{header_chunk, file_bytes};
 ghost use Rattle.abc_voices_score.specs.Limits.{AreProgramsWithin, IsWithinLimits, IsVoiceWithin};
 ghost use Rattle.smf_bytes.specs.Track.{track, voice_events, channel_of};
@@ -19,8 +19,11 @@ use std::alloc::{AllocError, Global};
 /// About how many bytes come before the notes of the first voice: the header and the first track.
 const USUAL_OPENING: usize = 128;
 
+/// The ticks of a quarter note: the division of a file. Not in ABC 2.1.
+const TICKS_PER_QUARTER: u16 = 480;
+
 /// Returns the Standard MIDI File of a score, of format 1, with 480 ticks to a quarter note. The title and the changes are in
-/// the first track; each voice has a track after it.
+/// the first track; each voice has a track after it. It returns `AllocError` if an allocation fails.
 pub fn file_of(alloc: Global, score: &Score) -> Result<Vec<u8>, AllocError>
     requires { IsWithinLimits score.now }
     ensures { IfOk result (λ file. file.items ≡ file_bytes score.now) }
@@ -52,7 +55,7 @@ fn put_header(out: &mut Vec<u8>, tracks: usize) -> Result<(), AllocError>
     put_u32(out, 6)?;
     put_u16(out, 1)?;
     put_u16(out, tracks as u16)?;
-    put_u16(out, 480)?;
+    put_u16(out, TICKS_PER_QUARTER)?;
     Ok(())
 }
 

@@ -5,7 +5,7 @@ ghost use Rattle.smf_bytes.specs.Order.{event_cmp, in_order};
 use crate::event::Event;
 use std::alloc::AllocError;
 
-/// Sorts events by tick, then class, then key, then bytes.
+/// Sorts events by tick, then class, then key, then bytes. It returns `AllocError` if an allocation fails.
 pub fn order_events(events: Vec<Event>) -> Result<Vec<Event>, AllocError>
     ensures permutation { IfOk result (λ ordered. IsPermutation events.items ordered.items) }
     ensures sorted { IfOk result (λ ordered. IsSorted event_cmp ordered.items) }

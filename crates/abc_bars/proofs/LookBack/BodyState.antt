@@ -30,7 +30,7 @@ use Rattle.abc_bars_header.specs.FieldKind.{kind_of}
 use Rattle.abc_bars_header.specs.HeaderLine.{HeaderLine}
 use Rattle.abc_bars_header.specs.Voices.{voice_at, with_voice_at}
 use Rattle.abc_bars_header.proofs.NamePlaces.{find_place, place_here}
-use Rattle.abc_bars_items.specs.declared.item.TheConstants.{MOST_VOICES}
+use Rattle.abc_text.specs.declared.limits.TheConstants.{MOST_VOICES}
 use Rattle.abc_bars_voice.specs.declared.accidentals.Accidentals.{Accidentals}
 use Rattle.abc_bars_voice.specs.declared.voice_state.VoiceState.{VoiceState}
 use Rattle.abc_bars_voice.specs.Accidentals.{no_accidentals}
@@ -52,14 +52,14 @@ use Rattle.abc_bars.specs.LookBack.Header.{declared_names, declared_shift, heade
 use Rattle.abc_bars.specs.LookBack.BodyState.{IsPlaced, body_at, body_by, current_by, each_named, place_of_current, voice_list_of}
 use Rattle.abc_bars.specs.LookBack.Place.{opening_at}
 use Rattle.abc_bars.specs.LookBack.Voice.{accidentals_at, dynamic_at, meter_at, voice_state_at, shift_at, signature_at, tuplet_at, unit_at}
-use Rattle.abc_bars.proofs.DeclaredVoices.{declared_keys, distinct_names, few_names}
+use Rattle.abc_bars.proofs.DeclaredVoices.{keys_of-declared, distinct_names, few_names}
 use Rattle.abc_bars.proofs.LookBack.Accidentals.{reach_kept}
 use Rattle.abc_bars.proofs.LookBack.Fields.{name_filled}
 use Rattle.abc_bars.proofs.LookBack.Openings.{declared_opening, opening_state, opening_voices_are}
-use Rattle.abc_bars.proofs.LookBack.Voice.{voice_state_after}
-use Rattle.abc_bars.proofs.Names.{among_at, differs, distinct_on, each_at, each_with, few_on, full_names, keys_each, known_name, last_place}
-use Rattle.abc_bars.proofs.Names.{length_each, mentioned_name, name_there, new_name, no_place, others_each}
-use Rattle.abc_bars.proofs.Names.{push_each, refused_name, same_each, set_each, still_apart, still_room, unplaced}
+use Rattle.abc_bars.proofs.LookBack.Voice.{voice_state_at_cons}
+use Rattle.abc_bars.proofs.Names.{list_any-at, bytes_eq-differs, distinct_on, voice_at-each_with, each_with, few_on, with_name-full, keys_of-each_with, with_name-known, position-last}
+use Rattle.abc_bars.proofs.Names.{length_each, mentioned_name, slice_get-name_there, with_name-new, position-none, each_with-others}
+use Rattle.abc_bars.proofs.Names.{each_with-push, with_name-refused, each_with-same, each_with-set, list_any-apart, still_room, list_any-unplaced}
 
 -- The current voice is mentioned, or it is the one without a name and none is mentioned.
 pub data IsCurrent (naming : NamedVoices) : Type 0 where
@@ -97,9 +97,9 @@ module _ (naming : NamedVoices) (by : List ℕ → VoiceState) (another : VoiceS
       let inside : nat_lt at (length (each_named by naming.names)) ≡ true =
       ap (nat_lt at) (length_each by naming.names) ∙ lt-ltb at (length naming.names) (slice_get_within naming.names at name there) in
       ap (λ (voices : List (List ℕ × VoiceState)). record { voices = voices; current = At at; another = another })
-      (set_each by (changed name change by) name (other-same name change by) naming.names at distinct there
+      (each_with-set by (changed name change by) name (other-same name change by) naming.names at distinct there
       ∙ ap (with_voice_at (each_named by naming.names) at)
-      (this-changed name change by ∙ sym (ap (λ (o : Option VoiceState). change (unwrap_or o another)) (each_at by naming.names at name there))))
+      (this-changed name change by ∙ sym (ap (λ (o : Option VoiceState). change (unwrap_or o another)) (voice_at-each_with by naming.names at name there))))
       ∙ sym (cond-true _ _ _ inside)
 
   -- The current voice changes.
@@ -110,7 +110,7 @@ module _ (naming : NamedVoices) (by : List ℕ → VoiceState) (another : VoiceS
   to-current distinct (of_place at is) change =
       subst (λ (place : Option ℕ). with_place naming.names place (changed naming.current change by) another
       ≡ with_here (with_place naming.names place by another) (change (here (with_place naming.names place by another)))) (sym is)
-      (to-place distinct change at naming.current (name_there naming.current naming.names at is))
+      (to-place distinct change at naming.current (slice_get-name_there naming.current naming.names at is))
 
   -- It is mentioned, and changes.
   to-mentioned : IsDistinct bytes_eq naming.names → IsCurrent naming → (change : VoiceState → VoiceState)
@@ -121,10 +121,10 @@ module _ (naming : NamedVoices) (by : List ℕ → VoiceState) (another : VoiceS
       ≡ with_here (after_mention (body_by n by another)) (change (here (after_mention (body_by n by another))))) (sym is) refl
   to-mentioned distinct (of_place at is) change =
       ap (λ (names : List (List ℕ)). body_by (record { names = names; current = naming.current }) (changed naming.current change by) another)
-      (known_name naming.names naming.current (among_at naming.current naming.names at is))
+      (with_name-known naming.names naming.current (list_any-at naming.current naming.names at is))
       ∙ subst (λ (place : Option ℕ). with_place naming.names place (changed naming.current change by) another
       ≡ with_here (after_mention (with_place naming.names place by another)) (change (here (after_mention (with_place naming.names place by another))))) (sym is)
-      (to-place distinct change at naming.current (name_there naming.current naming.names at is))
+      (to-place distinct change at naming.current (slice_get-name_there naming.current naming.names at is))
 
   -- Nothing changes.
   to-none : body_by naming (λ name. cond (bytes_eq name naming.current) (by name) (by name)) another ≡ body_by naming by another
@@ -138,15 +138,15 @@ module _ (naming : NamedVoices) (by : List ℕ → VoiceState) (another : VoiceS
   here-by (of_none is) = subst (λ (n : NamedVoices). here (body_by n by another) ≡ by n.current) (sym is) refl
   here-by (of_place at is) =
       subst (λ (place : Option ℕ). here (with_place naming.names place by another) ≡ by naming.current) (sym is)
-      (ap (λ (o : Option VoiceState). unwrap_or o another) (each_at by naming.names at naming.current (name_there naming.current naming.names at is)))
+      (ap (λ (o : Option VoiceState). unwrap_or o another) (voice_at-each_with by naming.names at naming.current (slice_get-name_there naming.current naming.names at is)))
 
   placed-by : IsCurrent naming → IsPlaced (voice_list_of (body_by naming by another)).names (voice_list_of (body_by naming by another)).current
   placed-by (of_none is) =
       subst (λ (n : NamedVoices). IsPlaced (voice_list_of (body_by n by another)).names (voice_list_of (body_by n by another)).current) (sym is) refl
   placed-by (of_place at is) =
       subst (λ (place : Option ℕ). IsPlaced (keys_of (each_named by naming.names)) (place_of_current (current_by place (by [])))) (sym is)
-      (subst (λ (names : List (List ℕ)). at < length names) (sym (keys_each by naming.names))
-      (slice_get_within naming.names at naming.current (name_there naming.current naming.names at is)))
+      (subst (λ (names : List (List ℕ)). at < length names) (sym (keys_of-each_with by naming.names))
+      (slice_get_within naming.names at naming.current (slice_get-name_there naming.current naming.names at is)))
 
 -- An accepted P: changes each voice.
 each-plain : (by : List ℕ → VoiceState) (names : List (List ℕ)) → each_named (λ name. without_accidentals (by name)) names ≡ all_without_accidentals (each_named by names)
@@ -234,23 +234,23 @@ module _ (naming : NamedVoices) (by : List ℕ → VoiceState) (another : VoiceS
         → Next (Named name) false shifted ≡ (named_voice_by body 0 name (cond room (Some (after_join body name said)) None)).body
     to-other gone true is_room =
         let room : length naming.names < MOST_VOICES = ltb-true (length naming.names) MOST_VOICES is_room in
-        let last : position (bytes_eq name) (naming.names ++ name ∷ []) ≡ Some (length naming.names) = last_place name naming.names gone in
+        let last : position (bytes_eq name) (naming.names ++ name ∷ []) ≡ Some (length naming.names) = position-last name naming.names gone in
         ap (λ (n : NamedVoices). body_by n (changed name shifted by) another)
-        (becomes-current (naming.names ++ name ∷ []) (new_name naming.names name gone room) (among_at name (naming.names ++ name ∷ []) (length naming.names) last))
+        (becomes-current (naming.names ++ name ∷ []) (with_name-new naming.names name gone room) (list_any-at name (naming.names ++ name ∷ []) (length naming.names) last))
         ∙ (λ i. record {
           voices =
-              (push_each by (changed name shifted by) name (other-same name shifted by) naming.names gone
+              (each_with-push by (changed name shifted by) name (other-same name shifted by) naming.names gone
               ∙ ap (λ (state : VoiceState). each_named by naming.names ++ (name, state) ∷ []) (this-changed name shifted by
               ∙ ap shifted (is.absent name filled.0 gone room))) i;
           current = (ap (λ (place : Option ℕ). current_by place (changed name shifted by [])) last ∙ ap At (sym (length_each by naming.names))) i;
           another = another;
         })
     to-other gone false is_full =
-        let keeps : with_name naming.names name ≡ naming.names = full_names naming.names name (ltb-false (length naming.names) MOST_VOICES is_full) in
+        let keeps : with_name naming.names name ≡ naming.names = with_name-full naming.names name (ltb-false (length naming.names) MOST_VOICES is_full) in
         ap (λ (n : NamedVoices). body_by n (changed name shifted by) another)
         (λ i. record { names = keeps i; current = cond-false _ name naming.current (ap (list_any (bytes_eq name)) keeps ∙ gone) i })
         ∙ (λ i. record {
-          voices = others_each by (changed name shifted by) name (other-same name shifted by) naming.names gone i;
+          voices = each_with-others by (changed name shifted by) name (other-same name shifted by) naming.names gone i;
           current = current_by (position (bytes_eq naming.current) naming.names) (other-same name shifted by [] filled.1 i);
           another = another;
         })
@@ -258,12 +258,12 @@ module _ (naming : NamedVoices) (by : List ℕ → VoiceState) (another : VoiceS
     to-named : (place : Option ℕ) → position (bytes_eq name) naming.names ≡ place
         → Next (Named name) false shifted ≡ (named_voice_by body 0 name (with_current_at body name said place)).body
     to-named (Some at) found =
-        let there : list_any (bytes_eq name) naming.names ≡ true = among_at name naming.names at found in
-        ap (λ (n : NamedVoices). body_by n (changed name shifted by) another) (becomes-current naming.names (known_name naming.names name there) there)
+        let there : list_any (bytes_eq name) naming.names ≡ true = list_any-at name naming.names at found in
+        ap (λ (n : NamedVoices). body_by n (changed name shifted by) another) (becomes-current naming.names (with_name-known naming.names name there) there)
         ∙ ap (λ (place : Option ℕ). with_place naming.names place (changed name shifted by) another) found
-        ∙ to-place naming by another is.distinct shifted at name (name_there name naming.names at found)
+        ∙ to-place naming by another is.distinct shifted at name (slice_get-name_there name naming.names at found)
     to-named None none =
-        to-other (unplaced name naming.names none) (nat_lt (length naming.names) MOST_VOICES) refl
+        to-other (list_any-unplaced name naming.names none) (nat_lt (length naming.names) MOST_VOICES) refl
         ∙ ap (λ (n : ℕ). (named_voice_by body 0 name (cond (nat_lt n MOST_VOICES) (Some (after_join body name said)) None)).body) (sym (length_each by naming.names))
 
   by-voice : (value : List ℕ) (r : Result Voice FaultCode) → voice_of value ≡ r
@@ -271,7 +271,7 @@ module _ (naming : NamedVoices) (by : List ℕ → VoiceState) (another : VoiceS
   by-voice value (Ok voice) read =
       let name : List ℕ = slice_range value voice.from voice.to in
       to-named voice.shift name (name_filled value voice read) (position (bytes_eq name) naming.names) refl
-      ∙ ap (λ (keys : List (List ℕ)). (named_voice_by body 0 name (with_current_at body name voice.shift (position (bytes_eq name) keys))).body) (sym (keys_each by naming.names))
+      ∙ ap (λ (keys : List (List ℕ)). (named_voice_by body 0 name (with_current_at body name voice.shift (position (bytes_eq name) keys))).body) (sym (keys_of-each_with by naming.names))
   by-voice value (Err fault) read = to-none naming by another
 
   by-field : (kind : FieldKind) (value : List ℕ) → Next (owner_of_field kind value) false (λ state. after_field state kind value) ≡ (kind_result body kind value 0).body
@@ -308,14 +308,14 @@ module _ (naming : NamedVoices) (by : List ℕ → VoiceState) (another : VoiceS
       → IsCurrent (record { names = with_name naming.names name; current = cond b name naming.current })
   named-current name true there = let place = find_place (bytes_eq name) (with_name naming.names name) there in of_place place.0 place.1
   named-current name false gone =
-      subst (λ (names : List (List ℕ)). IsCurrent (record { names = names; current = naming.current })) (sym (refused_name naming.names name gone)) is.current
+      subst (λ (names : List (List ℕ)). IsCurrent (record { names = names; current = naming.current })) (sym (with_name-refused naming.names name gone)) is.current
 
   sound-current : IsCurrent naming → IsCurrent (record { names = with_name naming.names naming.current; current = naming.current })
   sound-current (of_none none) =
       subst (λ (n : NamedVoices). IsCurrent (record { names = with_name n.names n.current; current = n.current })) (sym none) (of_place 0 refl)
   sound-current (of_place at found) =
       subst (λ (names : List (List ℕ)). IsCurrent (record { names = names; current = naming.current }))
-      (sym (known_name naming.names naming.current (among_at naming.current naming.names at found))) (of_place at found)
+      (sym (with_name-known naming.names naming.current (list_any-at naming.current naming.names at found))) (of_place at found)
 
   current-by : (owner : Owner) (sounds : Bool) → IsCurrent (naming_after naming owner sounds)
   current-by (Named name) sounds = named-current name (list_any (bytes_eq name) (with_name naming.names name)) refl
@@ -326,13 +326,13 @@ module _ (naming : NamedVoices) (by : List ℕ → VoiceState) (another : VoiceS
   -- What holds for another name after it.
   not-current : IsCurrent naming → (name : List ℕ) → bytes_eq name [] ≡ false → list_any (bytes_eq name) naming.names ≡ false → bytes_eq name naming.current ≡ false
   not-current (of_none none) name some gone = ap (λ (n : NamedVoices). bytes_eq name n.current) none ∙ some
-  not-current (of_place at found) name some gone = differs naming.names name naming.current (among_at naming.current naming.names at found) gone
+  not-current (of_place at found) name some gone = bytes_eq-differs naming.names name naming.current (list_any-at naming.current naming.names at found) gone
 
   absent-by : (change : VoiceState → VoiceState) (owner : Owner) (sounds : Bool) → Fits owner change another
       → (name : List ℕ) → bytes_eq name [] ≡ false → list_any (bytes_eq name) (names_following naming owner sounds) ≡ false → length (names_following naming owner sounds) < MOST_VOICES
       → by name ≡ another → list_any (bytes_eq name) naming.names ≡ false → cond (is_owned_by name naming.current owner) (change (by name)) (by name) ≡ another
   absent-by change (Named other) sounds fit name some gone room same before =
-      other-same other change by name (differs (with_name naming.names other) name other (mentioned_name naming.names other room) gone) ∙ same
+      other-same other change by name (bytes_eq-differs (with_name naming.names other) name other (mentioned_name naming.names other room) gone) ∙ same
   absent-by change Everyone sounds fit name some gone room same before = ap change same ∙ fit
   absent-by change Current sounds fit name some gone room same before =
       other-same naming.current change by name (not-current is.current name some before) ∙ same
@@ -345,7 +345,7 @@ module _ (naming : NamedVoices) (by : List ℕ → VoiceState) (another : VoiceS
     current = current-by owner sounds;
     absent = λ name some gone room.
         let before : list_any (bytes_eq name) naming.names ≡ false =
-        names-by (λ names. list_any (bytes_eq name) names ≡ false → list_any (bytes_eq name) naming.names ≡ false) (λ h. h) (λ other. still_apart naming.names other name) owner sounds gone in
+        names-by (λ names. list_any (bytes_eq name) names ≡ false → list_any (bytes_eq name) naming.names ≡ false) (λ h. h) (λ other. list_any-apart naming.names other name) owner sounds gone in
         let less : length naming.names < MOST_VOICES =
         names-by (λ names. length names < MOST_VOICES → length naming.names < MOST_VOICES) (λ h. h) (λ other. still_room naming.names other) owner sounds room in
         absent-by change owner sounds fit name some gone room (is.absent name some before less) before;
@@ -376,7 +376,7 @@ begins-current (first ∷ rest) said state another same =
 
 owned-by : (opening : VoiceState) (element : Element) (tokens : List Element) (b : Bool)
     → voice_state_at opening (cond b (element ∷ tokens) tokens) ≡ cond b (after (voice_state_at opening tokens) element) (voice_state_at opening tokens)
-owned-by opening element tokens true = voice_state_after opening tokens element
+owned-by opening element tokens true = voice_state_at_cons opening tokens element
 owned-by opening element tokens false = refl
 
 module _ (values : Defaults) (fields : List HeaderLine) (key : Key) where
@@ -387,12 +387,12 @@ module _ (values : Defaults) (fields : List HeaderLine) (key : Key) where
   known before name = voice_state_named opening name before
 
   declared : keys_of opening.voices ≡ declared_names fields
-  declared = opening_names (header_at values fields) key ∙ declared_keys fields
+  declared = opening_names (header_at values fields) key ∙ keys_of-declared fields
 
   -- A voice that is not declared.
   undeclared : (name : List ℕ) → list_any (bytes_eq name) (keys_of opening.voices) ≡ false → known [] name ≡ opening.another
   undeclared name gone =
-      ap (λ (place : Option ℕ). voice_state_at (unwrap_or (option_and_then (voice_at opening.voices) place) opening.another) []) (no_place name (keys_of opening.voices) gone)
+      ap (λ (place : Option ℕ). voice_state_at (unwrap_or (option_and_then (voice_at opening.voices) place) opening.another) []) (position-none name (keys_of opening.voices) gone)
       ∙ fresh-state (header_at values fields).defaults key no_shift
 
   known-following : (before : List Element) (element : Element)
@@ -417,20 +417,20 @@ module _ (values : Defaults) (fields : List HeaderLine) (key : Key) where
       (fits opening.another plain element.kind element.tied))
 
   -- What looking back finds after one element more.
-  pub body_after_element : (before : List Element) (element : Element)
+  pub body_at_cons : (before : List Element) (element : Element)
       → body_at (opening_at values fields key) (element ∷ before) ≡ body_after (body_at (opening_at values fields key) before) element
   unfolding body_at
-  body_after_element before element =
+  body_at_cons before element =
       ap (λ (by : List ℕ → VoiceState). body_by (naming_at opening (element ∷ before)) by opening.another) (known-following before element)
       ∙ by-kind (naming_at opening before) (known before) opening.another (naming_there before) element.kind element.tied
 
-  -- A body begins with what looking back finds there.
-  pub begins : body_at (opening_at values fields key) [] ≡ opening_at values fields key
+  -- A body body_at_nil with what looking back finds there.
+  pub body_at_nil : body_at (opening_at values fields key) [] ≡ opening_at values fields key
   unfolding body_at
-  begins = λ i. record {
+  body_at_nil = λ i. record {
     voices =
         (ap (each_named (known [])) declared
-        ∙ same_each (known []) (opening_state values fields key) (declared_names fields) (λ name there.
+        ∙ each_with-same (known []) (opening_state values fields key) (declared_names fields) (λ name there.
         ap (λ (state : VoiceState). voice_state_at state []) (declared_opening values fields key name there)
         ∙ fresh-state (header_at values fields).defaults key (declared_shift fields name))
         ∙ sym (opening_voices_are values fields key)) i;
@@ -442,18 +442,18 @@ module _ (values : Defaults) (fields : List HeaderLine) (key : Key) where
   }
 
   -- The names of the voices that are mentioned.
-  pub names_found : (before : List Element)
+  pub voice_list_of-found : (before : List Element)
       → (voice_list_of (body_at (opening_at values fields key) before)).names ≡ (naming_at (opening_at values fields key) before).names
   unfolding body_at
-  names_found before = keys_each (known before) (naming_at opening before).names
+  voice_list_of-found before = keys_of-each_with (known before) (naming_at opening before).names
 
   -- The state of the voice of each name.
-  pub voices_found : (before : List Element) (at : ℕ) (name : List ℕ) → slice_get (voice_list_of (body_at (opening_at values fields key) before)).names at ≡ Some name
+  pub voice_at-found : (before : List Element) (at : ℕ) (name : List ℕ) → slice_get (voice_list_of (body_at (opening_at values fields key) before)).names at ≡ Some name
       → voice_at (body_at (opening_at values fields key) before).voices at ≡ Some (voice_state_named (opening_at values fields key) name before)
   unfolding body_at
-  voices_found before at name there =
+  voice_at-found before at name there =
       let names : List (List ℕ) = (naming_at opening before).names in
-      each_at (known before) names at name (ap (λ (l : List (List ℕ)). slice_get l at) (sym (keys_each (known before) names)) ∙ there)
+      voice_at-each_with (known before) names at name (ap (λ (l : List (List ℕ)). slice_get l at) (sym (keys_of-each_with (known before) names)) ∙ there)
 
   -- The state of the current voice.
   pub here_found : (before : List Element) → here (body_at (opening_at values fields key) before)
@@ -462,10 +462,10 @@ module _ (values : Defaults) (fields : List HeaderLine) (key : Key) where
   here_found before = here-by (naming_at opening before) (known before) opening.another (naming_there before).current
 
   pub distinct_held : (before : List Element) → IsDistinct bytes_eq (voice_list_of (body_at (opening_at values fields key) before)).names
-  distinct_held before = subst (IsDistinct bytes_eq) (sym (names_found before)) (naming_there before).distinct
+  distinct_held before = subst (IsDistinct bytes_eq) (sym (voice_list_of-found before)) (naming_there before).distinct
 
   pub few_held : (before : List Element) → length (voice_list_of (body_at (opening_at values fields key) before)).names ≤ MOST_VOICES
-  few_held before = subst (λ (names : List (List ℕ)). length names ≤ MOST_VOICES) (sym (names_found before)) (naming_there before).few
+  few_held before = subst (λ (names : List (List ℕ)). length names ≤ MOST_VOICES) (sym (voice_list_of-found before)) (naming_there before).few
 
   pub current_held : (before : List Element)
       → IsPlaced (voice_list_of (body_at (opening_at values fields key) before)).names (voice_list_of (body_at (opening_at values fields key) before)).current

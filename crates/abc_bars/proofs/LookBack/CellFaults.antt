@@ -19,7 +19,7 @@ use Rattle.abc_bars.specs.LookBack.Element.{Element}
 use Rattle.abc_bars.specs.LookBack.BodyState.{body_at}
 use Rattle.abc_bars.specs.LookBack.Place.{opening_at}
 use Rattle.abc_bars.proofs.LookBack.CellPlace.{tie-next}
-use Rattle.abc_bars.proofs.LookBack.TokenFaults.{Told, codes_of, none_told}
+use Rattle.abc_bars.proofs.LookBack.TokenFaults.{Passing, codes_of, Passing-token_faults}
 use Rattle.abc_bars.proofs.LookBack.TokenResults.{faults_added, token_faults}
 
 -- The faults of the tokens of a cell, by what holds before them.
@@ -41,9 +41,9 @@ from-here opening before given (token ∷ ahead) =
     ∙ append_assoc given.items.faults _ _
 
 -- The faults of a cell.
-pub faults_found : (opening : Body) (before : List Element) (cell : List (Spanned TokenKind))
+pub look_back-faults : (opening : Body) (before : List Element) (cell : List (Spanned TokenKind))
     → (look_back opening before (empty_cell_result opening) cell).items.faults ≡ rest_faults opening before Nothing false cell
-faults_found opening before cell = from-here opening before (empty_cell_result opening) cell
+look_back-faults opening before cell = from-here opening before (empty_cell_result opening) cell
 
 -- What precedes the rest of a cell: these tokens of it, and what precedes the cell.
 abbrev after_front : List (Spanned TokenKind) → List (Spanned TokenKind) → List Element → List Element
@@ -64,10 +64,10 @@ no-tie (first ∷ front) ahead token before e =
     ap (λ b. after_front front (token ∷ ahead) (record { kind = first.kind; tied = b } ∷ before)) (tie-next front ahead token e)
     ∙ no-tie front ahead token (record { kind = first.kind; tied = tie_ahead front } ∷ before) e
 
-pub preceding-more : (preceding : Preceding) (front : List (Spanned TokenKind)) (token : Spanned TokenKind)
+pub preceding_from-more : (preceding : Preceding) (front : List (Spanned TokenKind)) (token : Spanned TokenKind)
     → preceding_from preceding (front ++ token ∷ []) ≡ preceding_after (preceding_from preceding front) token.kind
-preceding-more preceding [] token = refl
-preceding-more preceding (first ∷ front) token = preceding-more (preceding_after preceding first.kind) front token
+preceding_from-more preceding [] token = refl
+preceding_from-more preceding (first ∷ front) token = preceding_from-more (preceding_after preceding first.kind) front token
 
 -- The opening of the body of a place.
 abbrev pub opening : CellPlace → Body
@@ -75,21 +75,21 @@ opening place = opening_at place.values place.fields place.key
 
 -- Each token has the faults that a relation says.
 abbrev pub EachHas : (FaultCode → Bool) → (CellPlace → TokenKind → Faults → Type 0) → Type 0
-EachHas told Has =
+EachHas test Has =
     (place : CellPlace) (kind : TokenKind) (now : List Element) (after : Bool) → (is_tie_token kind ≡ false → now ≡ before_place place)
-    → Has place kind (Told told (token_faults (body_at (opening place) now) (preceding_from Nothing place.front) after place.from kind place.ahead))
+    → Has place kind (Passing test (token_faults (body_at (opening place) now) (preceding_from Nothing place.front) after place.from kind place.ahead))
 
 -- A token has none if no code of its faults passes.
-pub none_at : (told : FaultCode → Bool) (place : CellPlace) (kind : TokenKind) (now : List Element) (after : Bool) → list_any told (codes_of kind) ≡ false
-    → Told told (token_faults (body_at (opening place) now) (preceding_from Nothing place.front) after place.from kind place.ahead) ≡ []
-none_at told place kind now after none = none_told told (body_at (opening place) now) (preceding_from Nothing place.front) after place.from kind place.ahead none
+pub Passing-none_at : (test : FaultCode → Bool) (place : CellPlace) (kind : TokenKind) (now : List Element) (after : Bool) → list_any test (codes_of kind) ≡ false
+    → Passing test (token_faults (body_at (opening place) now) (preceding_from Nothing place.front) after place.from kind place.ahead) ≡ []
+Passing-none_at test place kind now after none = Passing-token_faults test (body_at (opening place) now) (preceding_from Nothing place.front) after place.from kind place.ahead none
 
-module _ (told : FaultCode → Bool) (Has : CellPlace → TokenKind → Faults → Type 0) (each : EachHas told Has) (start : CellStart) where
+module _ (test : FaultCode → Bool) (Has : CellPlace → TokenKind → Faults → Type 0) (each : EachHas test Has) (start : CellStart) where
   abbrev begin : Body
   begin = opening_at start.values start.fields start.key
 
   are : (front cell : List (Spanned TokenKind)) (after : Bool)
-      → AreFaultsAfter Has start front cell (Told told (rest_faults begin (after_front front cell start.before) (preceding_from Nothing front) after cell))
+      → AreFaultsAfter Has start front cell (Passing test (rest_faults begin (after_front front cell start.before) (preceding_from Nothing front) after cell))
   unfolding rest_faults
   are front [] after = refl
   are front (token ∷ ahead) after =
@@ -97,18 +97,18 @@ module _ (told : FaultCode → Bool) (Has : CellPlace → TokenKind → Faults �
       let own : Faults = token_faults (body_at begin now) (preceding_from Nothing front) after token.from token.kind ahead in
       let later : Faults =
       rest_faults begin (record { kind = token.kind; tied = tie_ahead ahead } ∷ now) (preceding_after (preceding_from Nothing front) token.kind) (may_be_tied token.kind) ahead in (
-        Told told own,
-        Told told later,
-        filter-append (λ fault. told fault.1) own later,
+        Passing test own,
+        Passing test later,
+        filter-append (λ fault. test fault.1) own later,
         each (place_in start front token ahead) token.kind now after (no-tie front ahead token start.before),
         subst (AreFaultsAfter Has start (front ++ token ∷ []) ahead)
-            (λ i. Told told (rest_faults begin (one-more front ahead token start.before i) (preceding-more Nothing front token i) (may_be_tied token.kind) ahead))
+            (λ i. Passing test (rest_faults begin (one-more front ahead token start.before i) (preceding_from-more Nothing front token i) (may_be_tied token.kind) ahead))
             (are (front ++ token ∷ []) ahead (may_be_tied token.kind)),
       )
 
-  faults_are : (cell : List (Spanned TokenKind)) → AreFaultsAfter Has start [] cell (Told told (look_back begin start.before (empty_cell_result begin) cell).items.faults)
+  faults_are : (cell : List (Spanned TokenKind)) → AreFaultsAfter Has start [] cell (Passing test (look_back begin start.before (empty_cell_result begin) cell).items.faults)
   faults_are cell =
-      subst (λ l. AreFaultsAfter Has start [] cell (Told told l)) (sym (faults_found begin start.before cell)) (are [] cell false)
+      subst (λ l. AreFaultsAfter Has start [] cell (Passing test l)) (sym (look_back-faults begin start.before cell)) (are [] cell false)
 
-pub faults_of_cells : (told : FaultCode → Bool) (Has : CellPlace → TokenKind → Faults → Type 0) → EachHas told Has → AreFaultsOfCells told Has
-faults_of_cells told Has each start cell = faults_are told Has each start cell
+pub faults_of_cells : (test : FaultCode → Bool) (Has : CellPlace → TokenKind → Faults → Type 0) → EachHas test Has → AreFaultsOfCells test Has
+faults_of_cells test Has each start cell = faults_are test Has each start cell

@@ -12,8 +12,8 @@ use Rattle.abc_bars.specs.LookBack.BodyState.{body_at}
 use Rattle.abc_bars.specs.LookBack.Cells.{after_tokens, look_back}
 use Rattle.abc_bars.specs.LookBack.Element.{Element}
 use Rattle.abc_bars.specs.LookBack.Place.{opening_at}
-use Rattle.abc_bars.proofs.LookBack.BodyState.{body_after_element}
-use Rattle.abc_bars.proofs.LookBack.Tokens.{token_leaves}
+use Rattle.abc_bars.proofs.LookBack.BodyState.{body_at_cons}
+use Rattle.abc_bars.proofs.LookBack.Tokens.{with_kind_body}
 
 module _ (values : Defaults) (fields : List HeaderLine) (key : Key) where
   abbrev opening : Body
@@ -24,8 +24,8 @@ module _ (values : Defaults) (fields : List HeaderLine) (key : Key) where
       → body_at opening (record { kind = token.kind; tied = tie_ahead ahead } ∷ before)
       ≡ (with_token (record given { body = body_at opening before }) token ahead).body
   token-following before given token ahead =
-      body_after_element values fields key before (record { kind = token.kind; tied = tie_ahead ahead })
-      ∙ sym (token_leaves given (body_at opening before) token ahead)
+      body_at_cons values fields key before (record { kind = token.kind; tied = tie_ahead ahead })
+      ∙ sym (with_kind_body given (body_at opening before) token ahead)
 
   -- The items of a cell, if looking back finds the state at each of its tokens.
   cells-following : (before : List Element) (given : CellResult) (cell : List (Spanned TokenKind))

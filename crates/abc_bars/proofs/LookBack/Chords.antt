@@ -17,7 +17,7 @@ use Rattle.abc_time.specs.declared.ratio.Ratio.{Ratio}
 use Rattle.abc_bars_voice.specs.declared.accidentals.Accidentals.{Accidentals}
 use Rattle.abc_bars_notes.specs.declared.chords.ChordContext.{ChordContext}
 use Rattle.abc_bars_items.specs.declared.item.Tone.{Tone}
-use Rattle.abc_bars_items.specs.declared.item.TheConstants.{MOST_CHORD_NOTES}
+use Rattle.abc_text.specs.declared.limits.TheConstants.{MOST_CHORD_NOTES}
 use Rattle.abc_bars_voice.specs.declared.voice_state.VoiceState.{VoiceState}
 use Rattle.abc_bars_notes.specs.declared.sound.ChordBuilder.{ChordBuilder}
 use Rattle.abc_bars_voice.specs.declared.tied_note.TiedNote.{TiedNote}
@@ -35,18 +35,18 @@ use Rattle.abc_bars.specs.LookBack.Faults.{is_reported_code, silent_among}
 use Rattle.abc_bars.specs.LookBack.Keys.{heard_of, key_at, keys_from}
 use Rattle.abc_bars.specs.LookBack.Voice.{accidentals_at, accidentals_of, alteration_at, as_tied, counted_notes, notes_among, notes_of_bar, voice_state_at, shift_at, signature_at, tied_among, tied_at}
 use Rattle.abc_bars.proofs.LookBack.Accidentals.{newest_heard, with_each}
-use Rattle.abc_bars.proofs.LookBack.TokenFaults.{Told, more}
+use Rattle.abc_bars.proofs.LookBack.TokenFaults.{Passing, Passing-more}
 
 -- The accidentals are those of these notes of a chord, newest first, and of what is before the chord.
 abbrev pub AreAfter : VoiceState → List Element → Accidentals → List Note → Type 0
 AreAfter opening before accidentals earlier = accidentals ≡ accidentals_of (reach_of opening.accidentals) (earlier ++ notes_of_bar before)
 
 -- A note is altered as looking back says.
-pub alteration-at : (opening : VoiceState) (before : List Element) (accidentals : Accidentals) (earlier : List Note) (note : Note)
+pub alteration_of-at : (opening : VoiceState) (before : List Element) (accidentals : Accidentals) (earlier : List Note) (note : Note)
     → AreAfter opening before accidentals earlier
     → alteration_of (voice_state_at opening before) accidentals note ≡ alteration_at opening (tied_at opening before) before earlier note
 unfolding voice_state_at
-alteration-at opening before accidentals earlier note h =
+alteration_of-at opening before accidentals earlier note h =
     let rest : ℤ = unwrap_or (tied_alteration (tied_at opening before) note) (signature_alteration (signature_at opening.signature before) note.letter) in
     ap (λ (w : Option ℤ). unwrap_or (own_alteration note) (unwrap_or w rest))
     (ap (λ (a : Accidentals). written_on a note) h ∙ newest_heard (reach_of opening.accidentals) (earlier ++ notes_of_bar before) note)
@@ -56,10 +56,10 @@ unfolding voice_state_at
 same-shift opening before = refl
 
 -- Its key is that of its pitch.
-pub key-is : (opening : VoiceState) (before : List Element) (accidentals : Accidentals) (earlier : List Note) (note : Note) → AreAfter opening before accidentals earlier
+pub midi_key-is : (opening : VoiceState) (before : List Element) (accidentals : Accidentals) (earlier : List Note) (note : Note) → AreAfter opening before accidentals earlier
     → midi_key (pitch_of (voice_state_at opening before).shift note (alteration_of (voice_state_at opening before) accidentals note))
     ≡ key_at (record { opening = opening; before = before }) earlier note
-key-is opening before accidentals earlier note h = λ i. midi_key (pitch_of (same-shift opening before i) note (alteration-at opening before accidentals earlier note h i))
+midi_key-is opening before accidentals earlier note h = λ i. midi_key (pitch_of (same-shift opening before i) note (alteration_of-at opening before accidentals earlier note h i))
 
 tied-step : (b : Bool) (xs : List TiedNote) (x y : TiedNote) (rest : List TiedNote) → x ≡ y
     → (cond b (xs ++ x ∷ []) xs) ++ rest ≡ xs ++ cond b (y ∷ rest) rest
@@ -77,13 +77,13 @@ one-more xs x room h = simp length-append (omega arith)
 
 -- The faults that looking back finds.
 abbrev pub Ours : List (ℕ × FaultCode) → List (ℕ × FaultCode)
-Ours faults = Told is_reported_code faults
+Ours faults = Passing is_reported_code faults
 
-pub of-note : (refused silent : Bool) (column : ℕ) → Ours (fault_if refused column BadLength ++ fault_if silent column KeyRange) ≡ fault_if silent column KeyRange
-of-note true true column = refl
-of-note true false column = refl
-of-note false true column = refl
-of-note false false column = refl
+pub Ours-note : (refused silent : Bool) (column : ℕ) → Ours (fault_if refused column BadLength ++ fault_if silent column KeyRange) ≡ fault_if silent column KeyRange
+Ours-note true true column = refl
+Ours-note true false column = refl
+Ours-note false true column = refl
+Ours-note false false column = refl
 
 module _ (opening : VoiceState) (before : List Element) (broken : List Ratio) (outside : ChordContext) where
   abbrev here_at : VoicePlace
@@ -107,15 +107,15 @@ module _ (opening : VoiceState) (before : List Element) (broken : List Ratio) (o
   -- A fault of another kind changes nothing of it.
   beside : (end inside : ChordBuilder) (earlier : List Note) (counted : List (Note × Bool)) (parts : List (Spanned ChordPartKind)) (column : ℕ) (code : FaultCode)
       → is_reported_code code ≡ false → Adds end (with_fault column code inside) earlier counted parts → Adds end inside earlier counted parts
-  beside end inside earlier counted parts column code untold adds = (
+  beside end inside earlier counted parts column code untested adds = (
     adds.0,
     adds.1,
     adds.2,
     adds.3 ∙ ap (λ f. f ++ silent_among here_at earlier outside.from parts)
-        (more is_reported_code inside.faults ((column, code) ∷ []) [] (ap (λ b. cond b ((column, code) ∷ []) []) untold) ∙ append-nil _),
+        (Passing-more is_reported_code inside.faults ((column, code) ∷ []) [] (ap (λ b. cond b ((column, code) ∷ []) []) untested) ∙ append-nil _),
   )
 
-  -- So it is of these parts, if `room` more notes of the chord count.
+  -- So it is of these parts, if `room` Passing-more notes of the chord count.
   abbrev AddsFrom : List (Spanned ChordPartKind) → Type 0
   AddsFrom rest =
       (room : ℕ) (inside : ChordBuilder) (earlier : List Note) → length inside.tones + room ≡ MOST_CHORD_NOTES → AreAfter opening before inside.accidentals earlier
@@ -148,12 +148,12 @@ module _ (opening : VoiceState) (before : List Element) (broken : List Ratio) (o
       subst Q (sym (room-left (length inside.tones) room size)) (
         r.0,
         r.1 ∙ tied-step tied inside.tied _ _ (tied_among opening (tied_at opening before) before outside.tied (note ∷ earlier) counted)
-            (ap (as_tied note) (alteration-at opening before inside.accidentals earlier note h)),
+            (ap (as_tied note) (alteration_of-at opening before inside.accidentals earlier note h)),
         r.2 ∙ ap (λ l. l ++ keys) (map-append heard_of inside.tones _) ∙ append_assoc (map heard_of inside.tones) _ keys
-            ∙ ap (λ k. map heard_of inside.tones ++ ((k, tied) ∷ keys)) (key-is opening before inside.accidentals earlier note h),
-        r.3 ∙ ap (λ l. l ++ silent) (more is_reported_code inside.faults (note_faults state inside.accidentals broken (Some outside.length) column note) _ (of-note _ _ column))
+            ∙ ap (λ k. map heard_of inside.tones ++ ((k, tied) ∷ keys)) (midi_key-is opening before inside.accidentals earlier note h),
+        r.3 ∙ ap (λ l. l ++ silent) (Passing-more is_reported_code inside.faults (note_faults state inside.accidentals broken (Some outside.length) column note) _ (Ours-note _ _ column))
             ∙ append_assoc (Ours inside.faults) _ silent
-            ∙ ap (λ k. Ours inside.faults ++ (fault_if (is_none k) column KeyRange ++ silent)) (key-is opening before inside.accidentals earlier note h),
+            ∙ ap (λ k. Ours inside.faults ++ (fault_if (is_none k) column KeyRange ++ silent)) (midi_key-is opening before inside.accidentals earlier note h),
       )
   step parts.Tie from to rest ih room inside earlier size h =
       let loose : ChordBuilder = with_fault (column_of (outside.from + from)) LooseTie inside in
@@ -193,8 +193,8 @@ module _ (opening : VoiceState) (before : List Element) (broken : List Ratio) (o
   unfolding voice_state_at
   chord-leaves = (adds.0, adds.1)
 
-  pub chord-keys : map heard_of whole.tones ≡ keys_from (record { opening = opening; before = before }) outside.tied [] (counted_notes chord)
-  chord-keys = adds.2
+  pub map-heard_of : map heard_of whole.tones ≡ keys_from (record { opening = opening; before = before }) outside.tied [] (counted_notes chord)
+  map-heard_of = adds.2
 
-  pub chord-silent : Ours whole.faults ≡ silent_among (record { opening = opening; before = before }) [] outside.from (take MOST_CHORD_NOTES (notes_of chord))
-  chord-silent = adds.3
+  pub Ours-chord : Ours whole.faults ≡ silent_among (record { opening = opening; before = before }) [] outside.from (take MOST_CHORD_NOTES (notes_of chord))
+  Ours-chord = adds.3

@@ -37,19 +37,19 @@ use Rattle.abc_bars.specs.LookBack.BodyState.{body_at}
 use Rattle.abc_bars.specs.LookBack.Keys.{key_at}
 use Rattle.abc_bars.specs.LookBack.Place.{opening_at}
 use Rattle.abc_bars.specs.LookBack.Voice.{meter_at, voice_state_at, tuplet_at}
-use Rattle.abc_bars.proofs.LookBack.CellFaults.{faults_found, rest_faults}
+use Rattle.abc_bars.proofs.LookBack.CellFaults.{look_back-faults, rest_faults}
 use Rattle.abc_bars.proofs.LookBack.CellPlace.{here_chord, here_mentioned}
-use Rattle.abc_bars.proofs.LookBack.Chords.{Ours, chord-silent, of-note}
+use Rattle.abc_bars.proofs.LookBack.Chords.{Ours, Ours-chord, Ours-note}
 use Rattle.abc_bars.proofs.LookBack.BodyState.{here_found}
 use Rattle.abc_bars.proofs.LookBack.Keys.{note-key}
-use Rattle.abc_bars.proofs.LookBack.TokenFaults.{none_told}
+use Rattle.abc_bars.proofs.LookBack.TokenFaults.{Passing-token_faults}
 use Rattle.abc_bars.proofs.LookBack.TokenResults.{some_fault, token_faults}
 
 -- The faults of a note.
 of-single : (at : VoicePlace) (broken : List Ratio) (tied : Bool) (from : ℕ) (note : Note)
     → Ours (play_note (voice_state_at at.opening at.before) broken tied from note).faults ≡ fault_if (is_none (key_at at [] note)) (column_of from) KeyRange
 of-single at broken tied from note =
-    of-note _ _ (column_of from) ∙ ap (λ k. fault_if (is_none k) (column_of from) KeyRange) (note-key at note)
+    Ours-note _ _ (column_of from) ∙ ap (λ k. fault_if (is_none k) (column_of from) KeyRange) (note-key at note)
 
 -- The faults of a chord.
 of-chord-by : (b : Bool) (state : VoiceState) (from : ℕ) (inside : ChordBuilder) (l : List (ℕ × FaultCode)) → Ours inside.faults ≡ l
@@ -62,7 +62,7 @@ of-chord : (at : VoicePlace) (broken : List Ratio) (tied : Bool) (from : ℕ) (c
 of-chord at broken tied from chord =
     let outside : ChordContext = record { length = chord.length; tied = tied; from = from } in
     of-chord-by (has_note chord.parts) (voice_state_at at.opening at.before) from (chord_builder_of (voice_state_at at.opening at.before) broken outside chord.parts) _
-    (chord-silent at.opening at.before broken outside chord)
+    (Ours-chord at.opening at.before broken outside chord)
 
 -- The faults of a rest of bars and of a tuplet mark.
 of-bars : (from num den : ℕ) (o : Option Grains) → Ours (some_fault from (or_one_bar num den o).1) ≡ []
@@ -107,7 +107,7 @@ module _ (values : Defaults) (fields : List HeaderLine) (key : Key) where
       ∙ (λ i. Ours (some_fault from (tuplet_after_mark (same-tuplet at i) (tuplet_by (same-meter at i) mark)).1))
       ∙ of-tuplet from (tuplet_at at.opening.meter at.before) (tuplet_by (meter_at at.opening.meter at.before) mark)
   of-kind before preceding after from kind ahead =
-      none_told is_reported_code (body_at (opening_at values fields key) before) preceding after from kind ahead refl
+      Passing-token_faults is_reported_code (body_at (opening_at values fields key) before) preceding after from kind ahead refl
 
   of-rest : (before : List Element) (preceding : Preceding) (after : Bool) (cell : List (Spanned TokenKind))
       → Ours (rest_faults (opening_at values fields key) before preceding after cell) ≡ faults_from values fields key before cell
@@ -120,4 +120,4 @@ module _ (values : Defaults) (fields : List HeaderLine) (key : Key) where
 
 pub faults_looked_back : FaultsLookedBack
 faults_looked_back values fields key before cell =
-    ap Ours (faults_found (opening_at values fields key) before cell) ∙ of-rest values fields key before Nothing false cell
+    ap Ours (look_back-faults (opening_at values fields key) before cell) ∙ of-rest values fields key before Nothing false cell

@@ -37,7 +37,7 @@ use Rattle.abc_bars_header.specs.FieldKind.{kind_of}
 use Rattle.abc_bars_header.specs.declared.field_kind.FieldKind.{FieldKind}
 use Rattle.abc_bars_header.specs.declared.field_kind.FieldKind.TheVariants as fields
 use Rattle.abc_bars_items.specs.Column.{column_of}
-use Rattle.abc_bars_items.specs.declared.item.TheConstants.{MOST_VOICES}
+use Rattle.abc_text.specs.declared.limits.TheConstants.{MOST_VOICES}
 use Rattle.abc_bars_voice.specs.declared.voice_state.VoiceState.{VoiceState}
 use Rattle.abc_bars_voice.specs.TempoItem.{is_out_of_range, tempo_item}
 use Rattle.abc_bars_body.specs.declared.body.Body.{Body}
@@ -48,13 +48,13 @@ use Rattle.abc_bars.specs.LookBack.CellPlace.{CellPlace, before_place}
 use Rattle.abc_bars.specs.LookBack.Element.{Element}
 use Rattle.abc_bars.specs.LookBack.BodyState.{body_at, voice_list_of}
 use Rattle.abc_bars.specs.LookBack.Voice.{voice_state_at}
-use Rattle.abc_bars.proofs.LookBack.CellFaults.{EachHas, faults_of_cells, none_at, opening}
-use Rattle.abc_bars.proofs.LookBack.TokenFaults.{Told}
-use Rattle.abc_bars.proofs.LookBack.BodyState.{here_found, names_found}
-use Rattle.abc_bars.proofs.Names.{among_at, is_among, is_apart, unplaced}
+use Rattle.abc_bars.proofs.LookBack.CellFaults.{EachHas, faults_of_cells, Passing-none_at, opening}
+use Rattle.abc_bars.proofs.LookBack.TokenFaults.{Passing}
+use Rattle.abc_bars.proofs.LookBack.BodyState.{here_found, voice_list_of-found}
+use Rattle.abc_bars.proofs.Names.{list_any-at, is_among, is_apart, list_any-unplaced}
 
 abbrev Ours : Faults → Faults
-Ours faults = Told is_of_field faults
+Ours faults = Passing is_of_field faults
 
 -- The faults of a field that is read or refused.
 by_reader : {V : Type 0} (Says InRange : V → Type 0) (fault : FaultCode) (r : Result V FaultCode) → Reads Says InRange fault r
@@ -136,15 +136,15 @@ some_is : (o : Option ℕ) → is_none o ≡ false → o ≡ None → ⊥
 some_is None e none = cc
 some_is (Some n) e none = cc
 
-out_told : (unit : Ratio) (tempo : Tempo) → is_out_of_range unit tempo ≡ true → IsOutOfRange unit tempo
-out_told unit Unset e = cc
-out_told unit (Units n) e = (no_quarter unit n).0 (none_is (quarter_micros_of unit n) e)
-out_told unit (Beat beat n) e = (no_quarter beat n).0 (none_is (quarter_micros_of beat n) e)
+out_by_test : (unit : Ratio) (tempo : Tempo) → is_out_of_range unit tempo ≡ true → IsOutOfRange unit tempo
+out_by_test unit Unset e = cc
+out_by_test unit (Units n) e = (no_quarter unit n).0 (none_is (quarter_micros_of unit n) e)
+out_by_test unit (Beat beat n) e = (no_quarter beat n).0 (none_is (quarter_micros_of beat n) e)
 
-in_told : (unit : Ratio) (tempo : Tempo) → is_out_of_range unit tempo ≡ false → IsOutOfRange unit tempo → ⊥
-in_told unit Unset e out = out
-in_told unit (Units n) e out = some_is (quarter_micros_of unit n) e ((no_quarter unit n).1 out)
-in_told unit (Beat beat n) e out = some_is (quarter_micros_of beat n) e ((no_quarter beat n).1 out)
+in_by_test : (unit : Ratio) (tempo : Tempo) → is_out_of_range unit tempo ≡ false → IsOutOfRange unit tempo → ⊥
+in_by_test unit Unset e out = out
+in_by_test unit (Units n) e out = some_is (quarter_micros_of unit n) e ((no_quarter unit n).1 out)
+in_by_test unit (Beat beat n) e out = some_is (quarter_micros_of beat n) e ((no_quarter beat n).1 out)
 
 -- Of a Q:.
 abbrev ranged : Body → ℕ → Tempo → Bool → FieldResult
@@ -156,8 +156,8 @@ of_tempo body from value =
     by_two (IsTempo value) (IsOutOfRange (here body).unit) _ BadTempo TempoRange (tempo_of value) (tempo_read value (tempo_of value) refl) (column_of from)
     (λ r. (tempo_by body from r).faults)
     (λ tempo. ⊎_elim
-    (λ out. inl (out_told (here body).unit tempo out, ap (λ b. Ours (ranged body from tempo b).faults) out))
-    (λ within. inr (in_told (here body).unit tempo within, ap (λ b. Ours (ranged body from tempo b).faults) within))
+    (λ out. inl (out_by_test (here body).unit tempo out, ap (λ b. Ours (ranged body from tempo b).faults) out))
+    (λ within. inr (in_by_test (here body).unit tempo within, ap (λ b. Ours (ranged body from tempo b).faults) within))
     (cases_Bool (is_out_of_range (here body).unit tempo)))
     refl
 
@@ -185,7 +185,7 @@ of_part body from (byte ∷ rest) = ⊎_elim
 one_too_many : (body : Body) (from : ℕ) (name : List ℕ) (said : Shift) (at : Option ℕ) → position (bytes_eq name) (keys_of body.voices) ≡ at
     → (let faults = Ours (named_voice_by body from name (with_current_at body name said at)).faults in
     (IsOneTooMany (keys_of body.voices) name × (faults ≡ (column_of from, TooManyVoices) ∷ [])) ⊎ ((¬ IsOneTooMany (keys_of body.voices) name) × (faults ≡ [])))
-one_too_many body from name said (Some at) e = inr (λ many. many.1 (is_among name (keys_of body.voices) (among_at name (keys_of body.voices) at e)), refl)
+one_too_many body from name said (Some at) e = inr (λ many. many.1 (is_among name (keys_of body.voices) (list_any-at name (keys_of body.voices) at e)), refl)
 one_too_many body from name said None e =
     let count : length (keys_of body.voices) ≡ length body.voices = length-keys_of body.voices in
     ⊎_elim
@@ -194,7 +194,7 @@ one_too_many body from name said None e =
       ap (λ b. Ours (named_voice_by body from name (cond b (Some (after_join body name said)) None)).faults) (lt-ltb (length body.voices) MOST_VOICES room),
     ))
     (λ full. inl (
-      (omega arith, is_apart name (keys_of body.voices) (unplaced name (keys_of body.voices) e)),
+      (omega arith, is_apart name (keys_of body.voices) (list_any-unplaced name (keys_of body.voices) e)),
       ap (λ b. Ours (named_voice_by body from name (cond b (Some (after_join body name said)) None)).faults) (le-ltb (length body.voices) MOST_VOICES full),
     ))
     (cases_lt (length body.voices) MOST_VOICES)
@@ -220,7 +220,7 @@ module _ (place : CellPlace) (now : List Element) (is : now ≡ before_place pla
   unit-there = ap (λ l. (here (body_at (opening place) l)).unit) is ∙ ap (λ (s : VoiceState). s.unit) (here_found place.values place.fields place.key (before_place place))
 
   names-there : keys_of body.voices ≡ names_there place
-  names-there = ap (λ l. (voice_list_of (body_at (opening place) l)).names) is ∙ names_found place.values place.fields place.key (before_place place)
+  names-there = ap (λ l. (voice_list_of (body_at (opening place) l)).names) is ∙ voice_list_of-found place.values place.fields place.key (before_place place)
 
   of_kind : (kind : FieldKind) (value : List ℕ) → IsOnlyFault (IsFaultOfField place kind value) (column_of place.from) (Ours (kind_result body kind value place.from).faults)
   of_kind fields.Meter value =
@@ -242,7 +242,7 @@ module _ (place : CellPlace) (now : List Element) (is : now ≡ before_place pla
 each : EachHas is_of_field HasFieldFaults
 each place (kinds.InlineField field) now after is = of_kind place now (is refl) (kind_of field.letter) field.value
 each place (kinds.Field field) now after is = of_kind place now (is refl) (kind_of field.letter) field.value
-each place kind now after is = none_at is_of_field place kind now after refl
+each place kind now after is = Passing-none_at is_of_field place kind now after refl
 
 pub field_faults : AreFaultsOfCells is_of_field HasFieldFaults
 field_faults = faults_of_cells is_of_field HasFieldFaults each

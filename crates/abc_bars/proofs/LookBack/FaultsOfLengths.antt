@@ -37,9 +37,9 @@ use Rattle.abc_bars.specs.LookBack.Element.{Element}
 use Rattle.abc_bars.specs.LookBack.BodyState.{body_at}
 use Rattle.abc_bars.specs.LookBack.Lengths.{state_there}
 use Rattle.abc_bars.specs.LookBack.Voice.{meter_at, voice_state_at}
-use Rattle.abc_bars.proofs.LookBack.CellFaults.{EachHas, faults_of_cells, none_at, opening}
+use Rattle.abc_bars.proofs.LookBack.CellFaults.{EachHas, faults_of_cells, Passing-none_at, opening}
 use Rattle.abc_bars.proofs.LookBack.CellPlace.{body-at, factors-there, here-in-chord, here-is}
-use Rattle.abc_bars.proofs.LookBack.TokenFaults.{Told, bytes_of_chord, more, none_bytes, none_if}
+use Rattle.abc_bars.proofs.LookBack.TokenFaults.{Passing, Passing-play_chord, Passing-more, Passing-byte_faults, Passing-fault_if}
 use Rattle.abc_bars.proofs.LookBack.TokenResults.{some_fault, token_faults}
 
 -- The factors of broken rhythm at a place, as they are read.
@@ -51,16 +51,16 @@ factors-at place kind =
 each-big : EachHas is_big_chord HasBigChord
 each-big place (kinds.Chord chord) now after is =
     let state : VoiceState = here (after_chord_mention (has_note chord.parts) (body_at (opening place) now)) in
-    ap (λ (factors : List Ratio). Told is_big_chord (play_chord state factors (tie_ahead place.ahead) place.from chord).faults) (factors-at place (kinds.Chord chord))
+    ap (λ (factors : List Ratio). Passing is_big_chord (play_chord state factors (tie_ahead place.ahead) place.from chord).faults) (factors-at place (kinds.Chord chord))
     ∙ big_at_the_seventeenth state (cell_with place (kinds.Chord chord)) (length place.front) place.from chord (tie_ahead place.ahead)
-each-big place kind now after is = none_at is_big_chord place kind now after refl
+each-big place kind now after is = Passing-none_at is_big_chord place kind now after refl
 
 pub big_chords : AreFaultsOfCells is_big_chord HasBigChord
 big_chords = faults_of_cells is_big_chord HasBigChord each-big
 
 -- BadLength of a note or a rest, by whether its length is refused.
 abbrev Ours : Faults → Faults
-Ours faults = Told is_bad_length_code faults
+Ours faults = Passing is_bad_length_code faults
 
 abbrev fault : ℕ → FaultCode → ℕ × FaultCode
 fault column code = (column, code)
@@ -82,10 +82,10 @@ length-fault : (refused silent : Bool) (column : ℕ) (Lasting : ℕ → Type 0)
     → IsLengthFault Lasting column (Ours (fault_if refused column BadLength ++ fault_if silent column KeyRange))
 length-fault true silent column Lasting h = record {
   accepted = λ g lasts. absurd (h.0 (0, omega arith, refl) g lasts);
-  refused = λ none. more is_bad_length_code ((column, BadLength) ∷ []) (fault_if silent column KeyRange) [] (none_if is_bad_length_code KeyRange refl silent column);
+  refused = λ none. Passing-more is_bad_length_code ((column, BadLength) ∷ []) (fault_if silent column KeyRange) [] (Passing-fault_if is_bad_length_code KeyRange refl silent column);
 }
 length-fault false silent column Lasting h = record {
-  accepted = λ g lasts. none_if is_bad_length_code KeyRange refl silent column;
+  accepted = λ g lasts. Passing-fault_if is_bad_length_code KeyRange refl silent column;
   refused = λ none. absurd (not-silent silent column (h.1 none));
 }
 
@@ -119,8 +119,8 @@ plain-parts (part ∷ rest) none = let plain = plain-by (is_note_part part.kind)
 plain-chord : (state : VoiceState) (broken : List Ratio) (tied : Bool) (from : ℕ) (chord : Chord) → notes_of chord ≡ []
     → Ours (play_chord state broken tied from chord).faults ≡ []
 plain-chord state broken tied from chord none =
-    bytes_of_chord is_bad_length_code refl refl (λ kind. is_note_part kind ≡ false) (λ note e. absurd (cc)) state broken tied from chord (plain-parts chord.parts none)
-    ∙ none_bytes is_bad_length_code refl from chord.parts
+    Passing-play_chord is_bad_length_code refl refl (λ kind. is_note_part kind ≡ false) (λ note e. absurd (cc)) state broken tied from chord (plain-parts chord.parts none)
+    ∙ Passing-byte_faults is_bad_length_code refl from chord.parts
 
 -- At a place, by the state of the current voice there.
 module _ (place : CellPlace) where
@@ -184,7 +184,7 @@ each-length place (kinds.Note note) now after is = at-place place (kinds.Note no
 each-length place (kinds.Rest written) now after is = at-place place (kinds.Rest written) now after (is refl) (rest-there place written)
 each-length place (kinds.BarRest bars) now after is = at-place place (kinds.BarRest bars) now after (is refl) (bars-there place bars)
 each-length place (kinds.Chord chord) now after is = at-place place (kinds.Chord chord) now after (is refl) (chord-there place chord)
-each-length place kind now after is = none_at is_bad_length_code place kind now after refl
+each-length place kind now after is = Passing-none_at is_bad_length_code place kind now after refl
 
 pub bad_lengths : AreFaultsOfCells is_bad_length_code HasLengthFaults
 bad_lengths = faults_of_cells is_bad_length_code HasLengthFaults each-length

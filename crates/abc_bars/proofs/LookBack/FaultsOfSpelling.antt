@@ -17,29 +17,29 @@ use Rattle.abc_fields.specs.declared.fault_code.FaultCode.TheVariants.{BadProgra
 use Rattle.abc_bars_notes.specs.Sound.{fault_if}
 use Rattle.abc_bars_notes.specs.TimeTokens.{play_chord}
 use Rattle.abc_bars.specs.LookBack.CellFaults.{AreFaultsOfCells, Faults, HasSpellingFaults, IsProgramFault, byte_fault, byte_faults, is_of_spelling}
-use Rattle.abc_bars.proofs.LookBack.CellFaults.{EachHas, faults_of_cells, none_at}
-use Rattle.abc_bars.proofs.LookBack.TokenFaults.{Told, all_parts, bytes_of_chord}
+use Rattle.abc_bars.proofs.LookBack.CellFaults.{EachHas, faults_of_cells, Passing-none_at}
+use Rattle.abc_bars.proofs.LookBack.TokenFaults.{Passing, all_parts, Passing-play_chord}
 use Rattle.abc_bars.proofs.LookBack.TokenResults.{directive_faults}
 
 abbrev Ours : Faults → Faults
-Ours faults = Told is_of_spelling faults
+Ours faults = Passing is_of_spelling faults
 
 -- Each byte that begins no part of a chord has one.
-byte-told : (from : ℕ) (kind : ChordPartKind) → Ours (byte_fault from kind) ≡ byte_fault from kind
-byte-told from parts.BadByte = refl
-byte-told from _ = refl
+byte-passes : (from : ℕ) (kind : ChordPartKind) → Ours (byte_fault from kind) ≡ byte_fault from kind
+byte-passes from parts.BadByte = refl
+byte-passes from _ = refl
 
-bytes-told : (from : ℕ) (rest : List (Spanned ChordPartKind)) → Ours (byte_faults from rest) ≡ byte_faults from rest
-bytes-told from [] = refl
-bytes-told from (part ∷ rest) =
+bytes-pass : (from : ℕ) (rest : List (Spanned ChordPartKind)) → Ours (byte_faults from rest) ≡ byte_faults from rest
+bytes-pass from [] = refl
+bytes-pass from (part ∷ rest) =
     filter-append (λ fault. is_of_spelling fault.1) (byte_fault (from + part.from) part.kind) (byte_faults from rest)
-    ∙ (λ i. byte-told (from + part.from) part.kind i ++ bytes-told from rest i)
+    ∙ (λ i. byte-passes (from + part.from) part.kind i ++ bytes-pass from rest i)
 
 of-chord : (state : VoiceState) (broken : List Ratio) (tied : Bool) (from : ℕ) (chord : Chord)
     → Ours (play_chord state broken tied from chord).faults ≡ byte_faults from chord.parts
 of-chord state broken tied from chord =
-    bytes_of_chord is_of_spelling refl refl (λ _. Unit {0}) (λ _ _. (refl, (refl, (refl, tt)))) state broken tied from chord (all_parts chord.parts)
-    ∙ bytes-told from chord.parts
+    Passing-play_chord is_of_spelling refl refl (λ _. Unit {0}) (λ _ _. (refl, (refl, (refl, tt)))) state broken tied from chord (all_parts chord.parts)
+    ∙ bytes-pass from chord.parts
 
 of-program : (from number : ℕ) → IsProgramFault from (directives.Program number) (Ours (directive_faults from (directives.Program number)))
 of-program from number = ⊎_elim
@@ -57,7 +57,7 @@ each place (kinds.Directive (directives.Program number)) now after is = of-progr
 each place (kinds.Directive (directives.Reach reach)) now after is = refl
 each place kinds.Unclosed now after is = refl
 each place kinds.BadByte now after is = refl
-each place kind now after is = none_at is_of_spelling place kind now after refl
+each place kind now after is = Passing-none_at is_of_spelling place kind now after refl
 
 pub spelling_faults : AreFaultsOfCells is_of_spelling HasSpellingFaults
 spelling_faults = faults_of_cells is_of_spelling HasSpellingFaults each

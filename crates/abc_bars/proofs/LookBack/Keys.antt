@@ -36,8 +36,8 @@ use Rattle.abc_bars.specs.LookBack.Voice.{written_by}
 use Rattle.abc_bars.proofs.LookBack.Accidentals.{newest_heard}
 use Rattle.abc_bars.proofs.LookBack.CellPlace.{between, body-at, chord-items, here-in-chord, here-is}
 use Rattle.abc_bars.proofs.LookBack.Since.{Heard, heard-since}
-use Rattle.abc_bars.proofs.LookBack.Chords.{alteration-at, following-none, chord-keys, key-is}
-use Rattle.abc_bars.proofs.LookBack.Ties.{Passed, left-by, passed-over, tied-last}
+use Rattle.abc_bars.proofs.LookBack.Chords.{alteration_of-at, following-none, map-heard_of, midi_key-is}
+use Rattle.abc_bars.proofs.LookBack.Ties.{Passed, tied_said-by, tied_said-over, tied_at-last}
 
 -- The last accidental among notes is the one that is found.
 last-among : (reach : Reach) (note : Note) (nearer further : List Note) (other : Note) (by : ℤ)
@@ -64,11 +64,11 @@ apart-by : (opening : VoiceState) (note : Note) (element : Element) (before : Li
     → All (Apart note) (tied_at opening before))
     → All (Apart note) (tied_at opening (element ∷ before))
 apart-by opening note element before true is h rest =
-    All-same (Apart note) (tied_at opening (element ∷ before)) (map (altered_note opening before) (tied_notes element.kind element.tied)) (left-by opening before element.kind element.tied is)
+    All-same (Apart note) (tied_at opening (element ∷ before)) (map (altered_note opening before) (tied_notes element.kind element.tied)) (tied_said-by opening before element.kind element.tied is)
     (All-map (Apart note) (altered_note opening before) (tied_notes element.kind element.tied)
     (h element before (record { nearer = []; split = refl; time = is; none = All-nil Passed })))
 apart-by opening note element before false is h rest =
-    All-same (Apart note) (tied_at opening (element ∷ before)) (tied_at opening before) (passed-over opening (tied_at opening before) before element.kind element.tied is)
+    All-same (Apart note) (tied_at opening (element ∷ before)) (tied_at opening before) (tied_said-over opening (tied_at opening before) before element.kind element.tied is)
     (rest (λ token further t. h token further (record {
       nearer = element ∷ t.nearer;
       split = ap (λ l. element ∷ l) t.split;
@@ -104,7 +104,7 @@ module _ (opening : VoiceState) (before : List Element) (earlier : List Note) (n
   found = altered_by (voice_state_at opening before) (accidentals_of reach others) note
 
   is-altered : alteration_of (voice_state_at opening before) (accidentals_of reach others) note ≡ alteration_at opening (tied_at opening before) before earlier note
-  is-altered = alteration-at opening before (accidentals_of reach others) earlier note refl
+  is-altered = alteration_of-at opening before (accidentals_of reach others) earlier note refl
 
   written-last : (by : ℤ) → IsLastAmong reach note others by → written_on (accidentals_of reach others) note ≡ Some by
   written-last by last =
@@ -135,7 +135,7 @@ module _ (opening : VoiceState) (before : List Element) (earlier : List Note) (n
     tied = λ token further front back last e none time is alike apart.
         sym is-altered
         ∙ found.tied (map (altered_note opening further) front) (map (altered_note opening further) back) (altered_note opening further last) e (not-written (none-heard none))
-        (tied-is ∙ tied-last opening before further token time ∙ ap (map (altered_note opening further)) is ∙ map-append (altered_note opening further) front (last ∷ back))
+        (tied-is ∙ tied_at-last opening before further token time ∙ ap (map (altered_note opening further)) is ∙ map-append (altered_note opening further) front (last ∷ back))
         alike (All-map (Apart note) (altered_note opening further) back apart);
     signature = λ e none h.
         sym is-altered
@@ -155,7 +155,7 @@ pub note-key : (at : VoicePlace) (note : Note)
     ≡ key_at at [] note
 note-key at note =
     let accidentals : Accidentals = (voice_state_at at.opening at.before).accidentals in
-    key-is at.opening at.before accidentals [] note (same-accidentals at.opening at.before ∙ following-none at.opening at.before)
+    midi_key-is at.opening at.before accidentals [] note (same-accidentals at.opening at.before ∙ following-none at.opening at.before)
 
 pub notes_have_keys : NotesHaveKeys
 notes_have_keys place note =
@@ -189,6 +189,6 @@ chords_have_keys place chord some =
         first_length inside.tones,
         refl,
         ap (λ (s : VoiceState). map heard_of (chord_builder_of s broken outside chord.parts).tones) (here-in-chord place (has_note chord.parts))
-            ∙ chord-keys at.opening at.before broken outside chord,
+            ∙ map-heard_of at.opening at.before broken outside chord,
       ),
     ))

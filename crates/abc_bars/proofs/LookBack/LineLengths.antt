@@ -188,7 +188,7 @@ unfolding voice_state_at unit_at
 unit-there opening before is = body-unit opening.unit before is
 
 -- A time token of a line is at a place of which the rule speaks.
-is-place : (place : CellPlace) (kind : TokenKind) → is_time_token kind ≡ true → IsInLine place kind
+pub is-place : (place : CellPlace) (kind : TokenKind) → is_time_token kind ≡ true → IsInLine place kind
     → IsPlace (state_there place) (cell_with place kind) (length place.front)
 is-place place kind time within =
     let name : List ℕ = (naming_at (opening_at place.values place.fields place.key) (before_place place)).current in

@@ -33,14 +33,14 @@ use Rattle.abc_bars.specs.LookBack.Faults.{AreFaultsOfMarks, BadMarksDoNotAct, E
 use Rattle.abc_bars.specs.LookBack.BodyState.{body_at}
 use Rattle.abc_bars.specs.LookBack.Place.{opening_at}
 use Rattle.abc_bars.proofs.LookBack.CellPlace.{body-at, drop-front, split-following, take-front}
-use Rattle.abc_bars.proofs.LookBack.TokenFaults.{Told, none_told}
+use Rattle.abc_bars.proofs.LookBack.TokenFaults.{Passing, Passing-token_faults}
 use Rattle.abc_bars.proofs.LookBack.TokenResults.{token_faults}
-use Rattle.abc_bars.proofs.LookBack.CellFaults.{preceding-more, faults_found, rest_faults}
-use Rattle.abc_bars.proofs.LookBack.BodyState.{body_after_element}
+use Rattle.abc_bars.proofs.LookBack.CellFaults.{preceding_from-more, look_back-faults, rest_faults}
+use Rattle.abc_bars.proofs.LookBack.BodyState.{body_at_cons}
 
 -- the faults BadBroken
 abbrev Bad : List (ℕ × FaultCode) → List (ℕ × FaultCode)
-Bad faults = Told is_bad_broken_code faults
+Bad faults = Passing is_bad_broken_code faults
 
 of-mark : (b : Bool) (column : ℕ) → Bad (fault_if b column BadBroken) ≡ fault_if b column BadBroken
 of-mark true column = refl
@@ -54,7 +54,7 @@ bad_in preceding from _ ahead = []
 of-kind : (body : Body) (preceding : Preceding) (after : Bool) (from : ℕ) (kind : TokenKind) (ahead : List (Spanned TokenKind))
     → Bad (token_faults body preceding after from kind ahead) ≡ bad_in preceding from kind ahead
 of-kind body preceding after from (kinds.Broken mark) ahead = of-mark (is_bad_mark preceding ahead) (column_of from)
-of-kind body preceding after from kind ahead = none_told is_bad_broken_code body preceding after from kind ahead refl
+of-kind body preceding after from kind ahead = Passing-token_faults is_bad_broken_code body preceding after from kind ahead refl
 
 token-there : (front ahead : List (Spanned TokenKind)) (token : Spanned TokenKind) → slice_get (front ++ token ∷ ahead) (length front) ≡ Some token
 token-there [] ahead token = refl
@@ -106,14 +106,14 @@ are-faults front (token ∷ ahead) =
     let preceding : Preceding = preceding_from Nothing front in
     let others : List (ℕ × FaultCode) = bad_from (preceding_after preceding token.kind) ahead in (
       others,
-      subst (λ (b : Preceding). AreFaultsOfMarks (front ++ token ∷ []) ahead (bad_from b ahead)) (preceding-more Nothing front token) (are-faults (front ++ token ∷ []) ahead),
+      subst (λ (b : Preceding). AreFaultsOfMarks (front ++ token ∷ []) ahead (bad_from b ahead)) (preceding_from-more Nothing front token) (are-faults (front ++ token ∷ []) ahead),
       of-broken front ahead token others token.kind refl,
     )
 
 pub bad_marks_do_not_act : BadMarksDoNotAct
 bad_marks_do_not_act values fields key before cell =
     let opening : Body = opening_at values fields key in
-    subst (AreFaultsOfMarks [] cell) (sym (ap Bad (faults_found opening before cell) ∙ of-rest opening before Nothing false cell)) (are-faults [] cell)
+    subst (AreFaultsOfMarks [] cell) (sym (ap Bad (look_back-faults opening before cell) ∙ of-rest opening before Nothing false cell)) (are-faults [] cell)
 
 -- A chord without a note gives no item.
 no-item : (b : Bool) (state : VoiceState) (from : ℕ) (inside : ChordBuilder) → b ≡ false → (chord_by b state from inside).items ≡ []
@@ -144,5 +144,5 @@ pub empty_chords_leave_all : EmptyChordsLeaveAll
 empty_chords_leave_all values fields key before chord tied empty =
     let body : Body = body_at (opening_at values fields key) before in
     let outside : ChordContext = record { length = chord.length; tied = tied; from = 0 } in
-    body_after_element values fields key before (record { kind = kinds.Chord chord; tied = tied })
+    body_at_cons values fields key before (record { kind = kinds.Chord chord; tied = tied })
     ∙ left-by (has_note chord.parts) body (λ state. chord_builder_of state [] outside chord.parts) empty

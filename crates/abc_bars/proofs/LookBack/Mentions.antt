@@ -22,12 +22,12 @@ use Rattle.abc_bars.specs.LookBack.Mentions.{Mentions, MentionsVoice, TokensMent
 use Rattle.abc_bars.specs.LookBack.Fields.{IsVoiceField, NamesVoice}
 use Rattle.abc_bars.proofs.LookBack.Fields.{names-voice, voice-owner}
 use Rattle.abc_bars.specs.LookBack.Place.{opening_at}
-use Rattle.abc_bars.proofs.LookBack.BodyState.{IsCurrent, names_found, naming_there, of_none, of_place}
-use Rattle.abc_bars.proofs.Names.{among_at, finds_name, full_names, is_missing, known_name, new_name}
+use Rattle.abc_bars.proofs.LookBack.BodyState.{IsCurrent, voice_list_of-found, naming_there, of_none, of_place}
+use Rattle.abc_bars.proofs.Names.{list_any-at, list_any-finds, with_name-full, list_any-missing, with_name-known, with_name-new}
 
 -- A name that is known, or one too many, adds none.
 more-again : (names : List (List ℕ)) (name : List ℕ) → Contains names name ⊎ (15 ≤ length names) → with_name names name ≡ names
-more-again names name h = ⊎_elim (λ has. known_name names name (finds_name name names has)) (λ full. full_names names name full) h
+more-again names name h = ⊎_elim (λ has. with_name-known names name (list_any-finds name names has)) (λ full. with_name-full names name full) h
 
 -- The current voice is heard: it is one of those that are mentioned, or there is none, and it is the one without a name.
 heard-first : (naming : NamedVoices) → IsCurrent naming → naming.names ≡ [] → with_name naming.names naming.current ≡ [] ∷ []
@@ -36,7 +36,7 @@ heard-first naming (of_place at is) none = let e : None ≡ Some at = ap (positi
 
 heard-again : (naming : NamedVoices) → IsCurrent naming → ¬ (naming.names ≡ []) → with_name naming.names naming.current ≡ naming.names
 heard-again naming (of_none is) some = absurd (some (ap (λ (n : NamedVoices). n.names) is))
-heard-again naming (of_place at is) some = known_name naming.names naming.current (among_at naming.current naming.names at is)
+heard-again naming (of_place at is) some = with_name-known naming.names naming.current (list_any-at naming.current naming.names at is)
 
 -- What is heard is of the current voice, and mentions it.
 pub heard-chord : (inside : List (Spanned ChordPartKind)) → ¬ (filter (λ part. is_note_part part.kind) inside ≡ []) → has_note inside ≡ true
@@ -94,7 +94,7 @@ others-keep naming _ none silent = refl
 steps : (naming : NamedVoices) (kind : TokenKind) → IsCurrent naming → Mentions naming.names kind (names_following naming (owner_of kind) (mentions kind))
 steps naming kind is = record {
   named_new = λ name h gone room. ap (λ o. names_following naming o (mentions kind)) (voice-owner kind name h)
-      ∙ new_name naming.names name (is_missing name naming.names gone) room;
+      ∙ with_name-new naming.names name (list_any-missing name naming.names gone) room;
   named_again = λ name h again. ap (λ o. names_following naming o (mentions kind)) (voice-owner kind name h) ∙ more-again naming.names name again;
   unnamed = λ heard none. let of = heard-current kind heard in (λ i. names_following naming (of.0 i) (of.1 i)) ∙ heard-first naming is none;
   known = λ heard some. let of = heard-current kind heard in (λ i. names_following naming (of.0 i) (of.1 i)) ∙ heard-again naming is some;
@@ -104,6 +104,6 @@ steps naming kind is = record {
 pub tokens_mention : TokensMention
 tokens_mention values lines key before element =
     let naming : NamedVoices = naming_at (opening_at values lines key) before in
-    subst (λ (l : List (List ℕ)). Mentions l element.kind (mentioned_at values lines key (element ∷ before))) (sym (names_found values lines key before))
-    (subst (λ (l : List (List ℕ)). Mentions naming.names element.kind l) (sym (names_found values lines key (element ∷ before)))
+    subst (λ (l : List (List ℕ)). Mentions l element.kind (mentioned_at values lines key (element ∷ before))) (sym (voice_list_of-found values lines key before))
+    (subst (λ (l : List (List ℕ)). Mentions naming.names element.kind l) (sym (voice_list_of-found values lines key (element ∷ before)))
     (steps naming element.kind (naming_there values lines key before).current))

@@ -19,7 +19,7 @@ use Rattle.abc_bars.specs.LookBack.Header.{declared_names, declared_shift, heade
 use Rattle.abc_bars.specs.LookBack.Openings.{DeclaredVoicesOpen, OpensWith, OtherVoicesOpen, VoiceOpens}
 use Rattle.abc_bars.specs.LookBack.Place.{opening_at}
 use Rattle.abc_bars.proofs.LookBack.Accidentals.{reach_kept}
-use Rattle.abc_bars.proofs.Names.{each_at, each_with, finds_name, is_missing, keys_each, name_there, no_place}
+use Rattle.abc_bars.proofs.Names.{voice_at-each_with, each_with, list_any-finds, list_any-missing, keys_of-each_with, slice_get-name_there, position-none}
 
 opens : (set : Defaults) (key : Key) (said : Shift) → OpensWith set key said (opening_voice_state set key said)
 opens set key said = record {
@@ -54,24 +54,24 @@ module _ (values : Defaults) (fields : List HeaderLine) (key : Key) where
   by-place name place is =
       ap (λ (voices : List (List ℕ × VoiceState)). unwrap_or (option_and_then (voice_at voices) (place_of name voices)) opening.another) opening_voices_are
       ∙ ap (λ (p : Option ℕ). unwrap_or (option_and_then (voice_at (each_with opening_state (declared_names fields))) p) opening.another)
-      (ap (position (bytes_eq name)) (keys_each opening_state (declared_names fields)) ∙ is)
+      (ap (position (bytes_eq name)) (keys_of-each_with opening_state (declared_names fields)) ∙ is)
 
   pub declared_opening : (name : List ℕ) → list_any (bytes_eq name) (declared_names fields) ≡ true → opening_of (opening_at values fields key) name ≡ opening_state name
   declared_opening name there =
       let place = find_place (bytes_eq name) (declared_names fields) there in
       by-place name (Some place.0) place.1
       ∙ ap (λ (o : Option VoiceState). unwrap_or o opening.another)
-      (each_at opening_state (declared_names fields) place.0 name (name_there name (declared_names fields) place.0 place.1))
+      (voice_at-each_with opening_state (declared_names fields) place.0 name (slice_get-name_there name (declared_names fields) place.0 place.1))
 
   declared-opens : (name : List ℕ) → Contains (declared_names fields) name → VoiceOpens values fields key (declared_shift fields name) name
   declared-opens name there =
-      subst (OpensWith (defaults_at values fields) key (declared_shift fields name)) (sym (declared_opening name (finds_name name (declared_names fields) there)))
+      subst (OpensWith (defaults_at values fields) key (declared_shift fields name)) (sym (declared_opening name (list_any-finds name (declared_names fields) there)))
       (opens (defaults_at values fields) key (declared_shift fields name))
 
   other-opens : (name : List ℕ) → ¬ Contains (declared_names fields) name → VoiceOpens values fields key no_shift name
   other-opens name none =
       subst (OpensWith (defaults_at values fields) key no_shift)
-      (sym (by-place name None (no_place name (declared_names fields) (is_missing name (declared_names fields) none))))
+      (sym (by-place name None (position-none name (declared_names fields) (list_any-missing name (declared_names fields) none))))
       (opens (defaults_at values fields) key no_shift)
 
 pub declared_voices_open : DeclaredVoicesOpen

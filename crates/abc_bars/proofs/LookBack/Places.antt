@@ -24,10 +24,10 @@ use Rattle.abc_bars.specs.LookBack.Element.{Element}
 use Rattle.abc_bars.specs.LookBack.Header.{header_at}
 use Rattle.abc_bars.specs.LookBack.Place.{Place, InFileHeader, InHeader, InBody, following_field, after_file_header, after_header, after_header_line, result_at, result_in_body, result_in_file_header}
 use Rattle.abc_bars.specs.LookBack.Place.{result_in_header, opening_at, place_following, view}
-use Rattle.abc_bars.proofs.HeaderLaws.{header_following}
+use Rattle.abc_bars.proofs.HeaderLaws.{header_at_following}
 use Rattle.abc_bars.proofs.HeaderViews.{defaults_after}
 use Rattle.abc_bars.proofs.LookBack.Cells.{after_cell, given_by_cell}
-use Rattle.abc_bars.proofs.LookBack.BodyState.{begins}
+use Rattle.abc_bars.proofs.LookBack.BodyState.{body_at_nil}
 
 -- A cell of a file header.
 in-file-header : (before : List HeaderLine) (line : Option HeaderLine)
@@ -47,22 +47,22 @@ following-kind : (opening : Defaults) (before : List HeaderLine) (field : Field)
     → following_kind (header_result (header_at opening before) (FieldLine field)).header kind field.value ≡ view (following_field opening before field kind)
 following-kind opening before field fields.Key =
     let key : Key = key_or_empty (key_of field.value) in
-    ap (λ (header : Header). entries.Body (body_from header key)) (sym (header_following opening before (FieldLine field)))
-    ∙ ap entries.Body (sym (begins opening (FieldLine field ∷ before) key))
-following-kind opening before field _ = ap entries.Header (sym (header_following opening before (FieldLine field)))
+    ap (λ (header : Header). entries.Body (body_from header key)) (sym (header_at_following opening before (FieldLine field)))
+    ∙ ap entries.Body (sym (body_at_nil opening (FieldLine field ∷ before) key))
+following-kind opening before field _ = ap entries.Header (sym (header_at_following opening before (FieldLine field)))
 
 -- After a line of a header.
 following-line : (opening : Defaults) (before : List HeaderLine) (line : HeaderLine)
     → following_line (header_result (header_at opening before) line).header line ≡ view (after_header_line opening before line)
 following-line opening before (FieldLine field) = following-kind opening before field (kind_of field.letter)
-following-line opening before (DirectiveLine directive) = ap entries.Header (sym (header_following opening before (DirectiveLine directive)))
+following-line opening before (DirectiveLine directive) = ap entries.Header (sym (header_at_following opening before (DirectiveLine directive)))
 
 -- A cell of a header.
 in-header : (opening : Defaults) (before : List HeaderLine) (cell : List (Spanned TokenKind)) (line : Option HeaderLine)
     → header_step (header_at opening before) cell line ≡ (view (after_header opening before cell line), result_in_header opening before cell line)
 in-header opening before cell (Some line) = λ i. (following-line opening before line i, result_in_header opening before cell (Some line))
 in-header opening before cell None =
-    ap (λ (body : Body). body_step body cell) (sym (begins opening before empty_key))
+    ap (λ (body : Body). body_step body cell) (sym (body_at_nil opening before empty_key))
     ∙ in-body opening before empty_key [] cell
 
 -- A cell gives at a place what looking back says, and the view after it is that of the place after it.

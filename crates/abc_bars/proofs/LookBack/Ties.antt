@@ -29,9 +29,9 @@ use Rattle.abc_bars.specs.LookBack.BodyState.{body_at}
 use Rattle.abc_bars.specs.LookBack.Place.{result_in_body, opening_at}
 use Rattle.abc_bars.specs.LookBack.Ties.{IsTimeBefore, altered_note, is_after_note, loose_from, loose_in, loose_ties, tied_in_chord, tied_notes}
 use Rattle.abc_bars.specs.LookBack.Voice.{counted_notes, voice_state_at, tied_among, tied_at, tied_said}
-use Rattle.abc_bars.proofs.LookBack.TokenFaults.{Told, none_told}
+use Rattle.abc_bars.proofs.LookBack.TokenFaults.{Passing, Passing-token_faults}
 use Rattle.abc_bars.proofs.LookBack.TokenResults.{token_faults}
-use Rattle.abc_bars.proofs.LookBack.CellFaults.{faults_found, rest_faults}
+use Rattle.abc_bars.proofs.LookBack.CellFaults.{look_back-faults, rest_faults}
 
 -- Whether a fault of this code is LooseTie.
 abbrev is_loose_code : FaultCode → Bool
@@ -39,7 +39,7 @@ is_loose_code code = number_of code == number_of LooseTie
 
 -- the loose ties among faults
 abbrev Ties : List (ℕ × FaultCode) → List (ℕ × FaultCode)
-Ties faults = Told is_loose_code faults
+Ties faults = Passing is_loose_code faults
 
 of-tie : (b : Bool) (column : ℕ) → Ties (cond b [] ((column, LooseTie) ∷ [])) ≡ cond b [] ((column, LooseTie) ∷ [])
 of-tie true column = refl
@@ -51,7 +51,7 @@ of-kind : (body : Body) (preceding : Preceding) (after : Bool) (before : Option 
 of-kind body preceding after before from (kinds.Chord chord) ahead e =
     ties_after_notes (here (after_chord_mention (has_note chord.parts) body)) (factors_of preceding ahead) from chord (tie_ahead ahead)
 of-kind body preceding after before from kinds.Tie ahead e = of-tie after (column_of from) ∙ ap (λ b. cond b [] ((column_of from, LooseTie) ∷ [])) e
-of-kind body preceding after before from kind ahead e = none_told is_loose_code body preceding after from kind ahead refl
+of-kind body preceding after before from kind ahead e = Passing-token_faults is_loose_code body preceding after from kind ahead refl
 
 of-rest : (opening : Body) (elements : List Element) (preceding : Preceding) (after : Bool) (before : Option TokenKind) (cell : List (Spanned TokenKind)) → after ≡ is_after_note before
     → Ties (rest_faults opening elements preceding after cell) ≡ loose_from before cell
@@ -62,20 +62,20 @@ of-rest opening elements preceding after before (token ∷ ahead) e =
     ∙ (λ i. of-kind (body_at opening elements) preceding after before token.from token.kind ahead e i
     ++ of-rest opening (record { kind = token.kind; tied = tie_ahead ahead } ∷ elements) (preceding_after preceding token.kind) (may_be_tied token.kind) (Some token.kind) ahead refl i)
 
-pub ties_loose : (values : Defaults) (fields : List HeaderLine) (key : Key) (before : List Element) (cell : List (Spanned TokenKind))
+pub filter-loose_ties : (values : Defaults) (fields : List HeaderLine) (key : Key) (before : List Element) (cell : List (Spanned TokenKind))
     → filter is_loose_tie (result_in_body values fields key before cell).faults ≡ loose_ties cell
-ties_loose values fields key before cell =
+filter-loose_ties values fields key before cell =
     let opening : Body = opening_at values fields key in
-    ap Ties (faults_found opening before cell) ∙ of-rest opening before Nothing false None cell refl
+    ap Ties (look_back-faults opening before cell) ∙ of-rest opening before Nothing false None cell refl
 
 -- A token that takes no time leaves the tied notes.
-pub passed-over : (opening : VoiceState) (tied : List TiedNote) (before : List Element) (kind : TokenKind) (follows : Bool) → is_time_token kind ≡ false → tied_said opening tied before kind follows
+pub tied_said-over : (opening : VoiceState) (tied : List TiedNote) (before : List Element) (kind : TokenKind) (follows : Bool) → is_time_token kind ≡ false → tied_said opening tied before kind follows
     ≡ tied
-passed-over opening tied before (kinds.Note note) true e = cc
-passed-over opening tied before (kinds.Note note) false e = cc
-passed-over opening tied before (kinds.Rest length) follows e = cc
-passed-over opening tied before (kinds.Chord chord) follows e = rw e refl
-passed-over opening tied before _ follows e = refl
+tied_said-over opening tied before (kinds.Note note) true e = cc
+tied_said-over opening tied before (kinds.Note note) false e = cc
+tied_said-over opening tied before (kinds.Rest length) follows e = cc
+tied_said-over opening tied before (kinds.Chord chord) follows e = rw e refl
+tied_said-over opening tied before _ follows e = refl
 
 one-of : (opening : VoiceState) (before : List Element) (b : Bool) (x : List Note × Note) (xs : List TiedNote) (ys : List (List Note × Note)) → xs ≡ map (altered_note opening before) ys
     → cond b (altered_note opening before x ∷ xs) xs ≡ map (altered_note opening before) (cond b (x ∷ ys) ys)
@@ -89,37 +89,37 @@ in-chord opening before follows earlier (note ∷ later) =
     one-of opening before (follows || note.1) (earlier, note.0) _ _ (in-chord opening before follows (note.0 ∷ earlier) later)
 
 -- A time token leaves the notes from which a tie leads on.
-pub left-by : (opening : VoiceState) (before : List Element) (kind : TokenKind) (follows : Bool) → is_time_token kind ≡ true
+pub tied_said-by : (opening : VoiceState) (before : List Element) (kind : TokenKind) (follows : Bool) → is_time_token kind ≡ true
     → tied_said opening (tied_at opening before) before kind follows ≡ map (altered_note opening before) (tied_notes kind follows)
-left-by opening before (kinds.Note note) true e = refl
-left-by opening before (kinds.Note note) false e = refl
-left-by opening before (kinds.Rest length) follows e = refl
-left-by opening before (kinds.Chord chord) follows e = rw e (in-chord opening before follows [] (counted_notes chord))
-left-by opening before _ follows e = cc
+tied_said-by opening before (kinds.Note note) true e = refl
+tied_said-by opening before (kinds.Note note) false e = refl
+tied_said-by opening before (kinds.Rest length) follows e = refl
+tied_said-by opening before (kinds.Chord chord) follows e = rw e (in-chord opening before follows [] (counted_notes chord))
+tied_said-by opening before _ follows e = cc
 
 -- No time token.
 abbrev pub Passed : Element → Type 0
 Passed other = is_time_token other.kind ≡ false
 
-pub tied-following : (opening : VoiceState) (nearer rest : List Element) → All Passed nearer → tied_at opening (nearer ++ rest) ≡ tied_at opening rest
-tied-following opening [] rest none = refl
-tied-following opening (other ∷ nearer) rest none =
-    passed-over opening (tied_at opening (nearer ++ rest)) (nearer ++ rest) other.kind other.tied (All-head Passed other nearer none)
-    ∙ tied-following opening nearer rest (All-tail Passed other nearer none)
+pub tied_at-following : (opening : VoiceState) (nearer rest : List Element) → All Passed nearer → tied_at opening (nearer ++ rest) ≡ tied_at opening rest
+tied_at-following opening [] rest none = refl
+tied_at-following opening (other ∷ nearer) rest none =
+    tied_said-over opening (tied_at opening (nearer ++ rest)) (nearer ++ rest) other.kind other.tied (All-head Passed other nearer none)
+    ∙ tied_at-following opening nearer rest (All-tail Passed other nearer none)
 
-pub tied-last : (opening : VoiceState) (before earlier : List Element) (token : Element) → IsTimeBefore before token earlier
+pub tied_at-last : (opening : VoiceState) (before earlier : List Element) (token : Element) → IsTimeBefore before token earlier
     → tied_at opening before ≡ map (altered_note opening earlier) (tied_notes token.kind token.tied)
-tied-last opening before earlier token is =
-    ap (tied_at opening) is.split ∙ tied-following opening is.nearer (token ∷ earlier) is.none ∙ left-by opening earlier token.kind token.tied is.time
+tied_at-last opening before earlier token is =
+    ap (tied_at opening) is.split ∙ tied_at-following opening is.nearer (token ∷ earlier) is.none ∙ tied_said-by opening earlier token.kind token.tied is.time
 
-pub tied-none : (opening : VoiceState) (before : List Element) → All Passed before → tied_at opening before ≡ []
-tied-none opening before none = ap (tied_at opening) (sym (append-nil before)) ∙ tied-following opening before [] none
+pub tied_at-none : (opening : VoiceState) (before : List Element) → All Passed before → tied_at opening before ≡ []
+tied_at-none opening before none = ap (tied_at opening) (sym (append-nil before)) ∙ tied_at-following opening before [] none
 
-pub ties_lead : (opening : VoiceState) (before earlier : List Element) (token : Element) → IsTimeBefore before token earlier
+pub voice_state_at_ties : (opening : VoiceState) (before earlier : List Element) (token : Element) → IsTimeBefore before token earlier
     → (voice_state_at opening before).tied ≡ map (altered_note opening earlier) (tied_notes token.kind token.tied)
 unfolding voice_state_at
-ties_lead opening before earlier token is = tied-last opening before earlier token is
+voice_state_at_ties opening before earlier token is = tied_at-last opening before earlier token is
 
-pub no_ties_lead : (opening : VoiceState) (before : List Element) → All Passed before → (voice_state_at opening before).tied ≡ []
+pub voice_state_at_no_ties : (opening : VoiceState) (before : List Element) → All Passed before → (voice_state_at opening before).tied ≡ []
 unfolding voice_state_at
-no_ties_lead opening before none = tied-none opening before none
+voice_state_at_no_ties opening before none = tied_at-none opening before none

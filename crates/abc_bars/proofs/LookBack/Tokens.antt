@@ -31,7 +31,7 @@ use Rattle.abc_bars_header.specs.declared.field_kind.FieldKind.{FieldKind}
 use Rattle.abc_bars_header.specs.declared.field_kind.FieldKind.TheVariants as fields
 use Rattle.abc_bars_items.specs.declared.item.Item.{Item}
 use Rattle.abc_bars_items.specs.declared.item.Item.TheVariants as items
-use Rattle.abc_bars_items.specs.declared.item.TheConstants.{MOST_CHORD_NOTES}
+use Rattle.abc_text.specs.declared.limits.TheConstants.{MOST_CHORD_NOTES}
 use Rattle.abc_bars_items.specs.declared.item.Tone.{Tone}
 use Rattle.abc_bars_voice.specs.declared.voice_state.VoiceState.{VoiceState}
 use Rattle.abc_bars_notes.specs.declared.sound.ChordBuilder.{ChordBuilder}
@@ -215,6 +215,6 @@ by-kind given body line (kinds.Directive directive) ahead = body-directive (reco
 by-kind given body line _ ahead = same_here body
 
 -- What a token of a cell leaves is what the element leaves that it is.
-pub token_leaves : (given : CellResult) (body : Body) (token : Spanned TokenKind) (ahead : List (Spanned TokenKind))
+pub with_kind_body : (given : CellResult) (body : Body) (token : Spanned TokenKind) (ahead : List (Spanned TokenKind))
     → (with_kind (record given { body = body }) token.from token.kind ahead).body ≡ body_after body (record { kind = token.kind; tied = tie_ahead ahead })
-token_leaves given body token ahead = by-kind given body token.from token.kind ahead
+with_kind_body given body token ahead = by-kind given body token.from token.kind ahead

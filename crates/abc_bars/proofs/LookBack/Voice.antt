@@ -33,7 +33,7 @@ use Rattle.abc_bars_voice.specs.Accidentals.{no_accidentals, reach_of}
 use Rattle.abc_bars_voice.specs.Alteration.{alteration_of}
 use Rattle.abc_bars_notes.specs.declared.chords.ChordContext.{ChordContext}
 use Rattle.abc_bars_notes.specs.declared.sound.ChordBuilder.{ChordBuilder}
-use Rattle.abc_bars_items.specs.declared.item.TheConstants.{MOST_CHORD_NOTES}
+use Rattle.abc_text.specs.declared.limits.TheConstants.{MOST_CHORD_NOTES}
 use Rattle.abc_bars_voice.specs.Tuplet.{OpenTuplet, count_down, begin_tuplet}
 use Rattle.abc_bars_notes.specs.Chords.{chord_builder_of, tie_follows}
 use Rattle.abc_bars_notes.specs.TimeTokens.{chord_by, play_chord, play_note, play_rest}
@@ -56,14 +56,14 @@ use Rattle.abc_bars.specs.LookBack.Voice.{
   unit_at,
 }
 use Rattle.abc_bars.proofs.LookBack.Accidentals.{each_put, reach_kept}
-use Rattle.abc_bars.proofs.LookBack.Chords.{alteration-at, following-none, chord-leaves}
+use Rattle.abc_bars.proofs.LookBack.Chords.{alteration_of-at, following-none, chord-leaves}
 use Rattle.abc_bars.proofs.LookBack.Tuplets.{at-mark, tuplet_from-suc}
 
 tied-note : (opening : VoiceState) (before : List Element) (tied : Bool) (note : Note)
     → tied_said opening (tied_at opening before) before (kinds.Note note) tied
     ≡ cond tied (as_tied note (alteration_of (voice_state_at opening before) (accidentals_at (reach_of opening.accidentals) before) note) ∷ []) []
 tied-note opening before true note =
-    ap (λ (by : ℤ). as_tied note by ∷ []) (sym (alteration-at opening before (accidentals_at (reach_of opening.accidentals) before) [] note (following-none opening before)))
+    ap (λ (by : ℤ). as_tied note by ∷ []) (sym (alteration_of-at opening before (accidentals_at (reach_of opening.accidentals) before) [] note (following-none opening before)))
 tied-note opening before false note = refl
 
 -- The state at a place but for these parts of it.
@@ -217,6 +217,6 @@ by-kind opening before (kinds.Bar bar) tied =
 by-kind opening before _ tied = refl
 
 -- What looking back finds after one element more.
-pub voice_state_after : (opening : VoiceState) (before : List Element) (element : Element)
+pub voice_state_at_cons : (opening : VoiceState) (before : List Element) (element : Element)
     → voice_state_at opening (element ∷ before) ≡ after (voice_state_at opening before) element
-voice_state_after opening before element = by-kind opening before element.kind element.tied
+voice_state_at_cons opening before element = by-kind opening before element.kind element.tied

@@ -22,7 +22,7 @@ use Rattle.abc_bars_header.specs.HeaderLine.{HeaderLine, FieldLine, DirectiveLin
 use Rattle.abc_scan.specs.declared.field.Field.{Field}
 use Rattle.abc_scan.specs.declared.token.TokenKind.{TokenKind}
 use Rattle.abc_scan.specs.declared.token.TokenKind.TheVariants as kinds
-use Rattle.abc_bars_items.specs.declared.item.TheConstants.{MOST_VOICES}
+use Rattle.abc_text.specs.declared.limits.TheConstants.{MOST_VOICES}
 use Rattle.abc_bars_body.specs.declared.body.Body.{Body}
 use Rattle.abc_bars_body.specs.BodyFields.{part_of}
 use Rattle.abc_bars_body.proofs.BodyOpenings.{opening_names}
@@ -36,11 +36,11 @@ use Rattle.abc_bars.specs.LookBack.Mentions.{MentionsVoice}
 use Rattle.abc_bars.specs.LookBack.Place.{opening_at}
 use Rattle.abc_bars.specs.LookBack.VoicePlaces.{AreDeclared, AreMentioned, AreTokensOf, DeclaresNone, DeclaresVoice, HasNoVoice, IsAfterLine, IsFirstDeclared, IsNoVoiceField, IsTooMany}
 use Rattle.abc_bars.specs.LookBack.VoicePlaces.{IsVoiceAt, IsWithMention, PlacesHoldOfVoices, VoicesAreMentioned, VoicesHoldOfTokens, of_field, of_first, of_last, of_none, of_part, of_place}
-use Rattle.abc_bars.proofs.DeclaredVoices.{declared_keys}
+use Rattle.abc_bars.proofs.DeclaredVoices.{keys_of-declared}
 use Rattle.abc_bars.proofs.LookBack.Fields.{begins-part, names-voice, part-of, voice-accepted, voice-owner}
-use Rattle.abc_bars.proofs.LookBack.BodyState.{here_found, names_found, voices_found}
+use Rattle.abc_bars.proofs.LookBack.BodyState.{here_found, voice_list_of-found, voice_at-found}
 use Rattle.abc_bars.proofs.LookBack.Mentions.{heard-chord, silent-chord}
-use Rattle.abc_bars.proofs.Names.{by_name, finds_name, full_names, is_among, is_apart, is_missing, known_name, mentioned_name, new_name, refused_name, still_apart}
+use Rattle.abc_bars.proofs.Names.{by_name, list_any-finds, with_name-full, is_among, is_apart, list_any-missing, with_name-known, mentioned_name, with_name-new, with_name-refused, list_any-apart}
 
 -- A V: as it is read and as it is said.
 read-names : (field : Field) (r : Result Voice FaultCode) (said : List ℕ × Shift) → kind_of field.letter ≡ fields.Voice → voice_of field.value ≡ r
@@ -72,9 +72,9 @@ line-said (DirectiveLine directive) name names = absurd names
 -- One mention more.
 mention : (names : List (List ℕ)) (name : List ℕ) → IsWithMention names name (with_name names name)
 mention names name = record {
-  known = λ there. known_name names name (finds_name name names there);
-  full = full_names names name;
-  new = λ gone room. new_name names name (is_missing name names gone) room;
+  known = λ there. with_name-known names name (list_any-finds name names there);
+  full = with_name-full names name;
+  new = λ gone room. with_name-new names name (list_any-missing name names gone) room;
 }
 
 -- The names that lines declare.
@@ -143,35 +143,35 @@ part-owner (kinds.InlineField field) is = part-owned field is
 part-owner _ is = absurd is
 
 -- What the owner of a token says of it: which voice an accepted V: names, and whether it is an accepted P:.
-record Tells (Names : List ℕ → Type 0) (Part : Type 0) (owner : Owner) : Type 0 where
+record OwnerMeans (Names : List ℕ → Type 0) (Part : Type 0) (owner : Owner) : Type 0 where
   named : (name : List ℕ) → owner ≡ Named name → Names name
   each : owner ≡ Everyone → Part
 
-tells-voice : (field : Field) (r : Result Voice FaultCode) → kind_of field.letter ≡ fields.Voice → voice_of field.value ≡ r
-    → Tells (λ name. NamesVoice name field) (BeginsPart field) (owner_of_voice field.value r)
-tells-voice field (Ok voice) is read = record {
+voice-means : (field : Field) (r : Result Voice FaultCode) → kind_of field.letter ≡ fields.Voice → voice_of field.value ≡ r
+    → OwnerMeans (λ name. NamesVoice name field) (BeginsPart field) (owner_of_voice field.value r)
+voice-means field (Ok voice) is read = record {
   named = λ name e.
       let same : slice_range field.value voice.from voice.to ≡ name = cc in
       subst (λ (n : List ℕ). NamesVoice n field) same (names-voice field voice is read);
   each = λ e. absurd (cc);
 }
-tells-voice field (Err fault) is read = record { named = λ name e. absurd (cc); each = λ e. absurd (cc) }
+voice-means field (Err fault) is read = record { named = λ name e. absurd (cc); each = λ e. absurd (cc) }
 
-tells-part : (field : Field) (o : Option ℕ) → kind_of field.letter ≡ fields.Parts → part_of field.value ≡ o
-    → Tells (λ name. NamesVoice name field) (BeginsPart field) (owner_of_part o)
-tells-part field (Some letter) is read = record { named = λ name e. absurd (cc); each = λ e. begins-part field letter is read }
-tells-part field None is read = record { named = λ name e. absurd (cc); each = λ e. absurd (cc) }
+part-means : (field : Field) (o : Option ℕ) → kind_of field.letter ≡ fields.Parts → part_of field.value ≡ o
+    → OwnerMeans (λ name. NamesVoice name field) (BeginsPart field) (owner_of_part o)
+part-means field (Some letter) is read = record { named = λ name e. absurd (cc); each = λ e. begins-part field letter is read }
+part-means field None is read = record { named = λ name e. absurd (cc); each = λ e. absurd (cc) }
 
-tells-field : (field : Field) (kind : FieldKind) → kind_of field.letter ≡ kind
-    → Tells (λ name. NamesVoice name field) (BeginsPart field) (owner_of_field kind field.value)
-tells-field field fields.Voice is = tells-voice field (voice_of field.value) is refl
-tells-field field fields.Parts is = tells-part field (part_of field.value) is refl
-tells-field field _ is = record { named = λ name e. absurd (cc); each = λ e. absurd (cc) }
+field-means : (field : Field) (kind : FieldKind) → kind_of field.letter ≡ kind
+    → OwnerMeans (λ name. NamesVoice name field) (BeginsPart field) (owner_of_field kind field.value)
+field-means field fields.Voice is = voice-means field (voice_of field.value) is refl
+field-means field fields.Parts is = part-means field (part_of field.value) is refl
+field-means field _ is = record { named = λ name e. absurd (cc); each = λ e. absurd (cc) }
 
-tells : (kind : TokenKind) → Tells (λ name. IsVoiceField name kind) (IsField BeginsPart kind) (owner_of kind)
-tells (kinds.Field field) = tells-field field (kind_of field.letter) refl
-tells (kinds.InlineField field) = tells-field field (kind_of field.letter) refl
-tells _ = record { named = λ name e. absurd (cc); each = λ e. absurd (cc) }
+owner-means : (kind : TokenKind) → OwnerMeans (λ name. IsVoiceField name kind) (IsField BeginsPart kind) (owner_of kind)
+owner-means (kinds.Field field) = field-means field (kind_of field.letter) refl
+owner-means (kinds.InlineField field) = field-means field (kind_of field.letter) refl
+owner-means _ = record { named = λ name e. absurd (cc); each = λ e. absurd (cc) }
 
 -- A token that mentions its voice is no field.
 played-mentions : (kind : TokenKind) → MentionsVoice kind → mentions kind ≡ true
@@ -258,7 +258,7 @@ module _ (fields : List HeaderLine) (token : Element) (before : List Element) (n
       record {
         voice = λ other voice. subst (λ (n : List ℕ). IsWithMention naming.names n (with_name naming.names name)) (same-name other voice) (mention naming.names name);
         unnamed = λ played none. let no : Named name ≡ Current = sym is ∙ played-current token.kind played in absurd (cc);
-        other = λ none quiet. absurd (none name ((tells token.kind).named name is));
+        other = λ none quiet. absurd (none name ((owner-means token.kind).named name is));
       },
     )
 
@@ -268,11 +268,11 @@ module _ (fields : List HeaderLine) (token : Element) (before : List Element) (n
         (λ there. inl (is_among name naming.names there)) (λ _ less _. inr less)
 
     not-known : list_any (bytes_eq name) (with_name naming.names name) ≡ false → ¬ Contains naming.names name
-    not-known gone = is_apart name naming.names (still_apart naming.names name name gone)
+    not-known gone = is_apart name naming.names (list_any-apart naming.names name name gone)
 
     not-new : list_any (bytes_eq name) (with_name naming.names name) ≡ false → MOST_VOICES ≤ length naming.names
     not-new gone = ⊎_elim
-        (λ less. let there = mentioned_name naming.names name (subst (λ (l : List (List ℕ)). length l < MOST_VOICES) (sym (refused_name naming.names name gone)) less) in
+        (λ less. let there = mentioned_name naming.names name (subst (λ (l : List (List ℕ)). length l < MOST_VOICES) (sym (with_name-refused naming.names name gone)) less) in
         absurd (cc))
         (λ full. full)
         (cases_lt (length naming.names) MOST_VOICES)
@@ -282,7 +282,7 @@ module _ (fields : List HeaderLine) (token : Element) (before : List Element) (n
     still-known full (not_yet none current short) = let less = short-room naming.names short in absurd (omega (arith, less, full))
     still-known full (since_then some there) =
         since_then (λ none. some (less-voiced fields token before none))
-        (subst (λ (l : List (List ℕ)). Contains l naming.current) (sym (full_names naming.names name full)) there)
+        (subst (λ (l : List (List ℕ)). Contains l naming.current) (sym (with_name-full naming.names name full)) there)
 
     said-voice : (b : Bool) → list_any (bytes_eq name) (with_name naming.names name) ≡ b
         → IsSaid fields (token ∷ before) (record { names = with_name naming.names name; current = cond b name naming.current })
@@ -293,11 +293,11 @@ module _ (fields : List HeaderLine) (token : Element) (before : List Element) (n
         token = token;
         earlier = before;
         split = refl;
-        voice = (tells token.kind).named name is;
+        voice = (owner-means token.kind).named name is;
         counts = (naming.names, said.names, room there);
         none = tt;
       });
-      known = since_then (λ none. All-head Unvoiced token before none.body name ((tells token.kind).named name is))
+      known = since_then (λ none. All-head Unvoiced token before none.body name ((owner-means token.kind).named name is))
           (is_among name (with_name naming.names name) there);
     }
     said-voice false gone = record {
@@ -349,7 +349,7 @@ module _ (fields : List HeaderLine) (token : Element) (before : List Element) (n
     }
     said-played played (since_then some there) =
         let same : with_name naming.names naming.current ≡ naming.names =
-        known_name naming.names naming.current (finds_name naming.current naming.names there) in
+        with_name-known naming.names naming.current (list_any-finds naming.current naming.names there) in
         record {
           names = (
             naming.names,
@@ -404,7 +404,7 @@ module _ (values : Defaults) (fields : List HeaderLine) (key : Key) where
   start = opening_at values fields key
 
   declared : keys_of start.voices ≡ declared_names fields
-  declared = opening_names (header_at values fields) key ∙ declared_keys fields
+  declared = opening_names (header_at values fields) key ∙ keys_of-declared fields
 
   said-at : (before : List Element) → IsSaid fields before (naming_at start before)
   said-at [] = subst (λ (l : List (List ℕ)). IsSaid fields [] (record { names = l; current = first_name l })) (sym declared) (opened-by fields (begins fields))
@@ -416,18 +416,18 @@ module _ (values : Defaults) (fields : List HeaderLine) (key : Key) where
       → AreTokensOf fields name (token ∷ before) (cond b (token ∷ others) others)
   tokens-by name token before others (Named other) is true same rest =
       let this : name ≡ other = (bytes_eq-Decides name other).0 same in
-      inl (others, of_field ((tells token.kind).named name (is ∙ ap Named (sym this))), refl, rest)
+      inl (others, of_field ((owner-means token.kind).named name (is ∙ ap Named (sym this))), refl, rest)
   tokens-by name token before others (Named other) is false differ rest =
       inr (
         (
           other,
-          of_field ((tells token.kind).named other is),
+          of_field ((owner-means token.kind).named other is),
           (λ this. let no : false ≡ true = sym differ ∙ (bytes_eq-Decides name other).1 (sym this) in absurd (cc)),
           (λ part. let no : Named other ≡ Everyone = sym is ∙ part-owner token.kind part in absurd (cc)),
         ),
         rest,
       )
-  tokens-by name token before others Everyone is true same rest = inl (others, of_part ((tells token.kind).each is), refl, rest)
+  tokens-by name token before others Everyone is true same rest = inl (others, of_part ((owner-means token.kind).each is), refl, rest)
   tokens-by name token before others Everyone is false differ rest = absurd (cc)
   tokens-by name token before others Current is true same rest =
       let this : name ≡ (naming_at start before).current = (bytes_eq-Decides name (naming_at start before).current).0 same in
@@ -458,7 +458,7 @@ module _ (values : Defaults) (fields : List HeaderLine) (key : Key) where
 
 pub voices_are_mentioned : VoicesAreMentioned
 voices_are_mentioned values fields key before =
-    subst (AreMentioned fields before) (sym (names_found values fields key before)) (said-at values fields key before).names
+    subst (AreMentioned fields before) (sym (voice_list_of-found values fields key before)) (said-at values fields key before).names
 
 pub places_hold_of_voices : PlacesHoldOfVoices
 places_hold_of_voices values fields key before =
@@ -476,5 +476,5 @@ pub voices_hold_of_tokens : VoicesHoldOfTokens
 voices_hold_of_tokens values fields key before at name there = (
   tokens_of (opening_at values fields key) name before,
   tokens-are values fields key name before,
-  voices_found values fields key before at name there,
+  voice_at-found values fields key before at name there,
 )

@@ -28,7 +28,7 @@ pub fn views_along()
 /// cells follow, these give the same items and faults, and the views after them are the same.
 #[tactic(auto, using(crate::proofs::LookBack::Along::same_given, crate::proofs::LookBack::Along::same_after))]
 pub fn views_decide()
-    ensures given { (here there : Place) (cells : List CellTokens) → view here ≡ view there →
+    ensures items { (here there : Place) (cells : List CellTokens) → view here ≡ view there →
         results_along here cells ≡ results_along there cells }
     ensures after { (here there : Place) (cells : List CellTokens) → view here ≡ view there →
         view (place_after here cells) ≡ view (place_after there cells) }

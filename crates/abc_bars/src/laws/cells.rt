@@ -20,7 +20,7 @@ pub fn cell_views()
 {}
 
 /// A token of a cell leaves the state that its element leaves, wherever it is in its line and in any broken rhythm.
-#[tactic(auto, using(crate::proofs::LookBack::Tokens::token_leaves))]
+#[tactic(auto, using(crate::proofs::LookBack::Tokens::with_kind_body))]
 pub fn left_by_tokens()
     ensures { (was : CellResult) (body : Body) (token : Spanned TokenKind) (ahead : List (Spanned TokenKind)) →
         (with_token (record was { body = body }) token ahead).body ≡ body_after body (element_of token ahead) }

@@ -7,7 +7,7 @@ ghost use Rattle.abc_fields.specs.declared.key.Key.{Key};
 ghost use Rattle.abc_bars_header.specs.declared.defaults.Defaults.{Defaults};
 ghost use Rattle.abc_bars_body.specs.declared.entry.Entry.TheVariants as entries;
 ghost use Rattle.abc_bars_header.specs.declared.header.Header.{Header};
-ghost use Rattle.abc_bars_items.specs.declared.item.TheConstants.{MOST_VOICES};
+ghost use Rattle.abc_text.specs.declared.limits.TheConstants.{MOST_VOICES};
 ghost use Rattle.abc_bars_body.specs.BodyOpening.{body_from};
 ghost use Rattle.abc_bars_header.specs.Defaults.{no_defaults};
 ghost use Rattle.abc_bars_header.specs.FileHeader.{file_header_result};
@@ -20,7 +20,7 @@ ghost use Rattle.abc_bars.specs.LookBack.Place.{KindsApart};
 /// Looking back finds the state at a place of a header. Before the first line it is the opening values; each line then changes
 /// it as `file_header_result` or `header_result` says. The view there is this state and no more. A tune begins with the file
 /// header's values and no voices. After its first line it is in its header.
-#[tactic(auto, using(crate::proofs::HeaderViews::defaults_after, crate::proofs::HeaderLaws::header_following))]
+#[tactic(auto, using(crate::proofs::HeaderViews::defaults_after, crate::proofs::HeaderLaws::header_at_following))]
 pub fn header_views()
     ensures values_open { (opening : Defaults) → defaults_at opening [] ≡ opening }
     ensures values { (opening : Defaults) (before : List HeaderLine) (line : HeaderLine) →

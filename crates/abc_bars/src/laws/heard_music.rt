@@ -11,7 +11,7 @@ ghost use Rattle.abc_fields.specs.declared.key.Key.{Key};
 
 /// Looking back finds the state of all voices at a place of a body. At the beginning it is the opening state; each element then
 /// changes it as `body_after` says.
-#[tactic(auto, using(crate::proofs::LookBack::BodyState::begins, crate::proofs::LookBack::BodyState::body_after_element))]
+#[tactic(auto, using(crate::proofs::LookBack::BodyState::body_at_nil, crate::proofs::LookBack::BodyState::body_at_cons))]
 pub fn body_views()
     ensures begins { (opening : Defaults) (fields : List HeaderLine) (key : Key) →
         body_at (opening_at opening fields key) [] ≡ opening_at opening fields key }

@@ -9,7 +9,7 @@ ghost use Rattle.abc_bars.specs.Titles.{SaysTitlesOfHeader};
 #[tactic(auto, using(abc_bars_body::proofs::Mentions::mentions_few, abc_bars_body::proofs::Mentions::names_voices))]
 pub fn voices_of_items()
     ensures few { MentionsFew }
-    ensures named { NamesVoices }
+    ensures names { NamesVoices }
 {}
 
 /// The titles of a tune are the values of the T: lines of its header, in order. Music ends a header without a K:.

@@ -12,7 +12,7 @@ pub fn listed_accidentals()
 /// 3.1.14). A mode adds its sharps to those of the major key. Without such a run the key is major, or the value is refused if
 /// another run of letters directly follows the tonic.
 pub fn modes_of_keys()
-    ensures named { NamedModesAdd }
+    ensures modes { NamedModesAdd }
     ensures major { OthersAreMajor }
     ensures refused { OtherRunsAreRefused }
 {}

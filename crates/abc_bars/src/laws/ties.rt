@@ -24,7 +24,7 @@ pub fn loose_ties_of_cells()
 
 /// The tied notes of a voice are those of its last note, chord or rest from which a tie leads on, each as it was altered at its
 /// own place. Before the first note, chord or rest there are none.
-#[tactic(auto, using(crate::proofs::LookBack::Ties::ties_lead, crate::proofs::LookBack::Ties::no_ties_lead))]
+#[tactic(auto, using(crate::proofs::LookBack::Ties::voice_state_at_ties, crate::proofs::LookBack::Ties::voice_state_at_no_ties))]
 pub fn ties_of_voices()
     ensures last { (opening : VoiceState) (before earlier : List Element) (token : Element) → IsTimeBefore before token earlier →
         (voice_state_at opening before).tied ≡ tied_after opening earlier token }

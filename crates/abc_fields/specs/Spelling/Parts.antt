@@ -4,6 +4,7 @@ use Rattle.std.specs.List.{concat}
 use Rattle.std.specs.Char.{is_ascii_uppercase}
 use Rattle.abc_text.specs.Number.{IsNumber}
 use Rattle.abc_fields.specs.Parts.{order_bytes}
+use Rattle.abc_fields.specs.declared.parts.TheConstants.{DEEPEST_GROUP}
 use Rattle.abc_text.specs.Byte.{open_parenthesis, close_parenthesis}
 
 -- The count of an item: the number after it, or 1 if there is none.
@@ -11,12 +12,12 @@ pub data IsCount : List ℕ → ℕ → Type 0 where
   once : IsCount [] 1
   times : {text : List ℕ} {n : ℕ} → IsNumber text n → 0 < n → IsCount text n
 
--- An order inside this number of groups, at most 32, and the letters of the parts that it plays. It is a letter and its
+-- An order inside this number of groups, at most `DEEPEST_GROUP`, and the letters of the parts that it plays. It is a letter and its
 -- count; a group, which is an order in parentheses, and its count; or two orders, one after the other.
 pub data IsOrder : ℕ → List ℕ → List ℕ → Type 0 where
   part : {depth letter n : ℕ} {count : List ℕ} → is_ascii_uppercase letter ≡ true → IsCount count n
       → IsOrder depth (letter ∷ count) (replicate n letter)
-  group : {depth n : ℕ} {inner count letters : List ℕ} → depth < 32 → IsOrder (depth + 1) inner letters → IsCount count n
+  group : {depth n : ℕ} {inner count letters : List ℕ} → depth < DEEPEST_GROUP → IsOrder (depth + 1) inner letters → IsCount count n
       → IsOrder depth (open_parenthesis ∷ (inner ++ close_parenthesis ∷ count)) (concat (replicate n letters))
   following : {depth : ℕ} {front back first second : List ℕ} → IsOrder depth front first → IsOrder depth back second
       → IsOrder depth (front ++ back) (first ++ second)

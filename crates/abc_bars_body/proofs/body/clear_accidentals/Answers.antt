@@ -1,6 +1,6 @@
 use Rattle.std.proofs.Common.{◌≡◌, ap, arith, length, ◌∙◌}
 use Rattle.abc_bars_voice.specs.VoiceState.{without_accidentals}
-use Rattle.abc_bars_body.proofs.VoicesLemmas.{changed_more, changed_to, changed_to-length, length-changed_to}
+use Rattle.abc_bars_body.proofs.Voices.{changed_more, changed_to, changed_to-length, length-changed_to}
 use Rattle.abc_bars_body.proofs.body.clear_accidentals.Goals as goal
 
 pub known_mut-requires : goal.known_mut-requires

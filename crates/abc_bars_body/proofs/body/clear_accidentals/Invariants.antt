@@ -1,6 +1,6 @@
 use Rattle.std.proofs.Common.{◌≡◌, length}
 use Rattle.abc_bars_voice.specs.VoiceState.{without_accidentals}
-use Rattle.abc_bars_body.proofs.VoicesLemmas.{changed_to}
+use Rattle.abc_bars_body.proofs.Voices.{changed_to}
 use Rattle.abc_bars_body.proofs.body.clear_accidentals.Given as goal
 
 abbrev pub invariant-loop-at : goal.invariant-loop-at

@@ -14,7 +14,7 @@ loop-at-preserved c =
     let sum : 1 + (at + part.1) ≡ 1 + at + part.1 = omega arith in
     record {
       inside = front_inside text at part.1 c.loop-at.invariant.inside told.front;
-      known = absent_after c.next_part-kind.new.absent text at part.1 told.front told.kept;
+      known = absent_after c.next_part-kind.new.absent text at part.1 told.front told.absent;
       cut = cut_more part_reader false text c.loop-at.parts.items _ _ (1 + at) (1 + (at + part.1)) at part sum c.loop-at-test.true told.front
           told.value c.in_ok-push.ensures.items c.loop-at.invariant.cut;
     }

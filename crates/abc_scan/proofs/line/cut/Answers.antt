@@ -16,7 +16,7 @@ loop-at-preserved c =
     told.value pushed c.loop-at.invariant.cut in
     record {
       inside = front_inside text at size c.loop-at.invariant.inside told.front;
-      known = absent_after c.next_token.new.absent text at size told.front told.kept;
+      known = absent_after c.next_token.new.absent text at size told.front told.absent;
       cut = ap (λ b. c.push-in-None.new.self.items ++ cutting_from line_reader b (at + size) 0 (drop (at + size) text)) c.is_bar-after_bar.ensures ∙ more;
     }
 

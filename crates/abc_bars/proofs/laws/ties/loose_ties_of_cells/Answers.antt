@@ -1,5 +1,5 @@
-use Rattle.abc_bars.proofs.LookBack.Ties.{ties_loose}
+use Rattle.abc_bars.proofs.LookBack.Ties.{filter-loose_ties}
 use Rattle.abc_bars.proofs.laws.ties.loose_ties_of_cells.Goals as goal
 
 pub returns : goal.returns
-returns c = ties_loose
+returns c = filter-loose_ties

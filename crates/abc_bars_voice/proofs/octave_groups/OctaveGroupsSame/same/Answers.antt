@@ -12,12 +12,12 @@ abbrev Group : Type 0
 Group = ℤ × List (ℤ × LetterAccidentals)
 
 -- What the test of two maps of groups says.
-tested : (groups others : BTreeMap ℤ (List (ℤ × LetterAccidentals))) (seen with : List Group) (told : Bool)
+tested : (groups others : BTreeMap ℤ (List (ℤ × LetterAccidentals))) (seen with : List Group) (result : Bool)
     → groups.entries ≡ seen → others.entries ≡ with
-    → told ≡ pointwise (λ (p q : Group). int_eq p.0 q.0 && octaves_equality.same p.1 q.1) groups.entries others.entries
-    → Decides told (seen ≡ with)
-tested groups others seen with told s w t =
-    let found = btree_map_eq-Decides Decides-int_eq octaves_equality.exact groups others told t in
+    → result ≡ pointwise (λ (p q : Group). int_eq p.0 q.0 && octaves_equality.same p.1 q.1) groups.entries others.entries
+    → Decides result (seen ≡ with)
+tested groups others seen with result s w t =
+    let found = btree_map_eq-Decides Decides-int_eq octaves_equality.exact groups others result t in
     (λ e. sym s ∙ found.0 e ∙ w, λ e. found.1 (s ∙ e ∙ sym w))
 
 pub returns-in-Some-Some : goal.returns-in-Some-Some

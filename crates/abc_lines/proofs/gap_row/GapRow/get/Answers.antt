@@ -1,5 +1,5 @@
 use Rattle.std.proofs.Common.{◌<◌, None, get_or, sym, ap, ◌∙◌, arith}
-use Rattle.abc_lines.proofs.GapRow.{seen_at, full_at, held_past}
+use Rattle.abc_lines.proofs.GapRow.{get_or-seen_at, full_at, held_past}
 use Rattle.abc_lines.proofs.gap_row.GapRow.get.Goals as goal
 
 pub returns-then-self-index : goal.returns-then-self-index
@@ -13,4 +13,4 @@ get-requires g c =
 pub returns : goal.returns
 returns g c =
     let r = c.args.self.now in let inside : c.args.index < r.size = omega (arith, c.if-self-index.false) in
-    sym c.get.ensures ∙ ap (λ i. get_or r.places.row i None) c.place.ensures ∙ seen_at c.requires c.args.index inside
+    sym c.get.ensures ∙ ap (λ i. get_or r.places.row i None) c.place.ensures ∙ get_or-seen_at c.requires c.args.index inside

@@ -1,6 +1,6 @@
 use Rattle.std.proofs.Common.{[], refl, arith}
-use Rattle.abc_lines.proofs.GapRow.{all_gap, none_held}
-use Rattle.abc_lines.proofs.gap_row.GapRow.with_room.Goals as goal
+use Rattle.abc_lines.proofs.GapRow.{all_gap, somes-none}
+use Rattle.abc_lines.proofs.gap_row.GapRow.with_capacity.Goals as goal
 
 pub returns : goal.returns
 returns g c =
@@ -15,7 +15,7 @@ returns g c =
         small = (c.if-not-may_hold.ensures refl).1;
         claimed = (made.1, made.2, made.3);
       },
-      none_held _ c.args.room made.0,
+      somes-none _ c.args.room made.0,
       refl,
       refl,
     )

@@ -8,6 +8,6 @@ use Rattle.abc_repeat.proofs.section.FirstSections.of.Given as goal
 abbrev pub invariant-loop-at : goal.invariant-loop-at
 invariant-loop-at l = record {
   wide : length l.by_letter ≡ 26;
-  told : (letter : ℕ) → is_ascii_uppercase letter ≡ true
+  firsts : (letter : ℕ) → is_ascii_uppercase letter ≡ true
       → option_or (get_or l.by_letter (letter - 65) None) (position_from (λ own. own == letter) (l.at + 1) (drop l.at l.letters)) ≡ position_from (λ own. own == letter) 1 l.letters;
 }

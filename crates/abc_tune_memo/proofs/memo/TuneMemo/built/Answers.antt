@@ -33,8 +33,8 @@ returns-clause-remembers g c =
     })
     c.remember.ensures
 
-pub returns-clause-first : goal.returns-clause-first
-returns-clause-first g c =
+pub returns-clause-entries : goal.returns-clause-entries
+returns-clause-entries g c =
     kept_after g.C.Defaults.PartialEq.eq c.args.key c.in_ok-known.field-0 c.in_ok-built.built c.args.self.now c.recall.new.self c.remember.new.self
     c.in_ok-known.ensures.value c.in_default.not-Some c.recall.ensures.entries
     c.remember.ensures
