@@ -22,7 +22,7 @@ use Rattle.abc_voices.specs.OnTicks.{last_value, set_on}
 use Rattle.abc_voices.specs.ScoreChanges.{tempo_change, meter_change, key_change, changes_in_force}
 use Rattle.abc_voices.specs.Ticks.{last_of_each_tick}
 use Rattle.abc_voices.specs.Track.{voice_names, tracks}
-use Rattle.abc_voices.proofs.OnTicks.{last_append, set_if_on, is_on, last_on, last_stands, as_list, play_said}
+use Rattle.abc_voices.proofs.OnTicks.{last_value-append, set_if_on, is_on, last_on, filter-last_of_each_tick, map-option_to_list, last_on-play}
 
 voices_said : {V : Type 0} (value_of : Item → Option V) (those : List (List ℕ)) (tick at : ℕ) (section : List ℕ × List Item)
     → last_on tick (flat_map (λ voice. set_from value_of at (play_in section voice)) those)
@@ -30,9 +30,9 @@ voices_said : {V : Type 0} (value_of : Item → Option V) (those : List (List �
 voices_said value_of [] tick at section = refl
 voices_said value_of (voice ∷ those) tick at section =
     let play : List Item = play_in section voice in
-    last_append (set_if_on tick) (set_from value_of at play)
+    last_value-append (set_if_on tick) (set_from value_of at play)
     (flat_map (λ one. set_from value_of at (play_in section one)) those)
-    ∙ (λ i. option_or (voices_said value_of those tick at section i) (play_said value_of tick at play i))
+    ∙ (λ i. option_or (voices_said value_of those tick at section i) (last_on-play value_of tick at play i))
 
 sections_said : {V : Type 0} (value_of : Item → Option V) (voices those : List (List ℕ)) (tick at : ℕ) (sections : List (List ℕ × List Item))
     → last_on tick (set_in value_of voices those at sections)
@@ -40,7 +40,7 @@ sections_said : {V : Type 0} (value_of : Item → Option V) (voices those : List
 sections_said value_of voices those tick at [] = refl
 sections_said value_of voices those tick at (section ∷ rest) =
     let next : ℕ = at + section_length voices section in
-    last_append (set_if_on tick) (flat_map (λ voice. set_from value_of at (play_in section voice)) those)
+    last_value-append (set_if_on tick) (flat_map (λ voice. set_from value_of at (play_in section voice)) those)
     (set_in value_of voices those next rest)
     ∙ (λ i. option_or (sections_said value_of voices those tick next rest i) (voices_said value_of those tick at section i))
 
@@ -130,36 +130,36 @@ if_changed f (Some x) = one (f x)
 three : (p : Change → Bool) (a b c : List Change) → filter p (a ++ b ++ c) ≡ filter p a ++ filter p b ++ filter p c
 three p a b c = filter-append p (a ++ b) c ∙ ap (λ l. l ++ filter p c) (filter-append p a b)
 
-tempos_stand : (tick : ℕ) (tempos : List (Grains × ℕ)) (meters : List (Grains × Meter)) (keys : List (Grains × (ℤ × Bool)))
+tempos_remain : (tick : ℕ) (tempos : List (Grains × ℕ)) (meters : List (Grains × Meter)) (keys : List (Grains × (ℤ × Bool)))
     → filter (is_there is_tempo tick) (changes_in_force tempos meters keys) ≡ option_to_list (option_map tempo_change (last_on tick tempos))
-tempos_stand tick tempos meters keys =
+tempos_remain tick tempos meters keys =
     let p : Change → Bool = is_there is_tempo tick in
     let own : List Change = map tempo_change (filter (is_on tick) (last_of_each_tick tempos)) in
     three p (map tempo_change (last_of_each_tick tempos)) (filter_map meter_change (last_of_each_tick meters)) (map key_change (last_of_each_tick keys))
     ∙ (λ i. of_own p (is_on tick) tempo_change (λ set. refl) (last_of_each_tick tempos) i ++ no_meters p (λ at num den. refl) (last_of_each_tick meters) i
     ++ of_other p key_change (λ set. refl) (last_of_each_tick keys) i)
     ∙ append-nil (own ++ []) ∙ append-nil own
-    ∙ ap (map tempo_change) (last_stands tick tempos) ∙ as_list tempo_change (last_on tick tempos)
+    ∙ ap (map tempo_change) (filter-last_of_each_tick tick tempos) ∙ map-option_to_list tempo_change (last_on tick tempos)
 
-meters_stand : (tick : ℕ) (tempos : List (Grains × ℕ)) (meters : List (Grains × Meter)) (keys : List (Grains × (ℤ × Bool)))
+meters_remain : (tick : ℕ) (tempos : List (Grains × ℕ)) (meters : List (Grains × Meter)) (keys : List (Grains × (ℤ × Bool)))
     → filter (is_there is_meter tick) (changes_in_force tempos meters keys) ≡ option_to_list (option_and_then meter_change (last_on tick meters))
-meters_stand tick tempos meters keys =
+meters_remain tick tempos meters keys =
     let p : Change → Bool = is_there is_meter tick in
     let own : List Change = filter_map meter_change (filter (is_on tick) (last_of_each_tick meters)) in
     three p (map tempo_change (last_of_each_tick tempos)) (filter_map meter_change (last_of_each_tick meters)) (map key_change (last_of_each_tick keys))
     ∙ (λ i. of_other p tempo_change (λ set. refl) (last_of_each_tick tempos) i ++ own_meters tick (last_of_each_tick meters) i
     ++ of_other p key_change (λ set. refl) (last_of_each_tick keys) i)
     ∙ append-nil own
-    ∙ ap (filter_map meter_change) (last_stands tick meters) ∙ if_changed meter_change (last_on tick meters)
+    ∙ ap (filter_map meter_change) (filter-last_of_each_tick tick meters) ∙ if_changed meter_change (last_on tick meters)
 
-keys_stand : (tick : ℕ) (tempos : List (Grains × ℕ)) (meters : List (Grains × Meter)) (keys : List (Grains × (ℤ × Bool)))
+keys_remain : (tick : ℕ) (tempos : List (Grains × ℕ)) (meters : List (Grains × Meter)) (keys : List (Grains × (ℤ × Bool)))
     → filter (is_there is_key tick) (changes_in_force tempos meters keys) ≡ option_to_list (option_map key_change (last_on tick keys))
-keys_stand tick tempos meters keys =
+keys_remain tick tempos meters keys =
     let p : Change → Bool = is_there is_key tick in
     three p (map tempo_change (last_of_each_tick tempos)) (filter_map meter_change (last_of_each_tick meters)) (map key_change (last_of_each_tick keys))
     ∙ (λ i. of_other p tempo_change (λ set. refl) (last_of_each_tick tempos) i ++ no_meters p (λ at num den. refl) (last_of_each_tick meters) i
     ++ of_own p (is_on tick) key_change (λ set. refl) (last_of_each_tick keys) i)
-    ∙ ap (map key_change) (last_stands tick keys) ∙ as_list key_change (last_on tick keys)
+    ∙ ap (map key_change) (filter-last_of_each_tick tick keys) ∙ map-option_to_list key_change (last_on tick keys)
 
 -- the first voice with a track
 leads : (voices : List (List ℕ)) → first_of voices ≡ take 1 voices
@@ -193,17 +193,17 @@ pub is_conducted : IsConductedOnTicks
 is_conducted tune tick =
     let first : first_of (tracks tune) ≡ leader tune = leads (tracks tune) in
     record {
-      tempo = tempos_stand tick (tempos_in tune) (meters_in tune) (keys_in tune)
+      tempo = tempos_remain tick (tempos_in tune) (meters_in tune) (keys_in tune)
           ∙ ap (λ last. option_to_list (option_map tempo_change last))
           (following_opening tempo_of (voice_names tune) (voice_names tune) tune tick
           (unwrap_or (after_all tempo_after None tune) usual_tempo) (opening_by opening_tempo_of at_120 tune) refl
           (opens tempo_after opening_tempo_of at_120 tempo_said tune));
-      meter = meters_stand tick (tempos_in tune) (meters_in tune) (keys_in tune)
+      meter = meters_remain tick (tempos_in tune) (meters_in tune) (keys_in tune)
           ∙ ap (λ last. option_to_list (option_and_then meter_change last))
           (following_opening meter_of (first_of (tracks tune)) (leader tune) tune tick
           (unwrap_or (after_all meter_after None tune) meters.Free) (opening_by opening_meter_of meters.Free tune) first
           (opens meter_after opening_meter_of meters.Free meter_said tune));
-      key = keys_stand tick (tempos_in tune) (meters_in tune) (keys_in tune)
+      key = keys_remain tick (tempos_in tune) (meters_in tune) (keys_in tune)
           ∙ ap (λ last. option_to_list (option_map key_change last))
           (following_opening key_of (first_of (tracks tune)) (leader tune) tune tick
           (unwrap_or (after_all key_after None tune) (pos 0, false)) (opening_by opening_key_of (pos 0, false) tune) first

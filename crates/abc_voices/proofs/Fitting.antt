@@ -1,3 +1,4 @@
+-- A score from which a file can be written.
 pub mod Notes
 pub mod Count
 pub mod Kept

@@ -28,10 +28,10 @@ or_all : {V : Type 0} (a b c : Option V) → option_or (option_or a b) c ≡ opt
 or_all None b c = refl
 or_all (Some value) b c = refl
 
-pub last_append : {X V : Type 0} (says : X → Option V) (xs ys : List X) → last_value says (xs ++ ys) ≡ option_or (last_value says ys) (last_value says xs)
-last_append says [] ys = or_none (last_value says ys)
-last_append says (x ∷ xs) ys =
-    ap (λ (v : _). option_or v (says x)) (last_append says xs ys) ∙ or_all (last_value says ys) (last_value says xs) (says x)
+pub last_value-append : {X V : Type 0} (says : X → Option V) (xs ys : List X) → last_value says (xs ++ ys) ≡ option_or (last_value says ys) (last_value says xs)
+last_value-append says [] ys = or_none (last_value says ys)
+last_value-append says (x ∷ xs) ys =
+    ap (λ (v : _). option_or v (says x)) (last_value-append says xs ys) ∙ or_all (last_value says ys) (last_value says xs) (says x)
 
 -- a change, if it is on a tick
 abbrev pub set_if_on : {V : Type 0} → ℕ → Grains × V → Option (Grains × V)
@@ -54,26 +54,26 @@ has_last tick (set ∷ later) =
 abbrev pub is_on : {V : Type 0} → ℕ → Grains × V → Bool
 is_on tick set = tick_at set.0.0 == tick
 
-one_stands : {V : Type 0} (tick : ℕ) (changes : List (Grains × V)) (set : Grains × V) (last : Option (Grains × V)) (later here : Bool) → is_on tick set ≡ here
+one_remains : {V : Type 0} (tick : ℕ) (changes : List (Grains × V)) (set : Grains × V) (last : Option (Grains × V)) (later here : Bool) → is_on tick set ≡ here
     → filter (is_on tick) changes ≡ option_to_list last → (here ≡ true → later ≡ is_some last)
     → filter (is_on tick) (cond later changes (changes ++ set ∷ [])) ≡ option_to_list (option_or last (cond here (Some set) None))
-one_stands tick changes set None true true e those same = let h : true ≡ false = same refl in cc
-one_stands tick changes set None true false e those same = those
-one_stands tick changes set None false true e those same =
+one_remains tick changes set None true true e those same = let h : true ≡ false = same refl in cc
+one_remains tick changes set None true false e those same = those
+one_remains tick changes set None false true e those same =
     filter-append (is_on tick) changes (set ∷ []) ∙ (λ i. those i ++ cond (e i) (set ∷ []) [])
-one_stands tick changes set None false false e those same =
+one_remains tick changes set None false false e those same =
     filter-append (is_on tick) changes (set ∷ []) ∙ (λ i. those i ++ cond (e i) (set ∷ []) [])
-one_stands tick changes set (Some value) true true e those same = those
-one_stands tick changes set (Some value) true false e those same = those
-one_stands tick changes set (Some value) false true e those same = let h : false ≡ true = same refl in cc
-one_stands tick changes set (Some value) false false e those same =
+one_remains tick changes set (Some value) true true e those same = those
+one_remains tick changes set (Some value) true false e those same = those
+one_remains tick changes set (Some value) false true e those same = let h : false ≡ true = same refl in cc
+one_remains tick changes set (Some value) false false e those same =
     filter-append (is_on tick) changes (set ∷ []) ∙ (λ i. those i ++ cond (e i) (set ∷ []) [])
 
 -- the last change on a tick is in force
-pub last_stands : {V : Type 0} (tick : ℕ) (sets : List (Grains × V)) → filter (is_on tick) (last_of_each_tick sets) ≡ option_to_list (last_value (set_if_on tick) sets)
-last_stands tick [] = refl
-last_stands tick (set ∷ later) =
-    one_stands tick (last_of_each_tick later) set (last_value (set_if_on tick) later) (has_tick (tick_at set.0.0) later) (is_on tick set) refl (last_stands tick later)
+pub filter-last_of_each_tick : {V : Type 0} (tick : ℕ) (sets : List (Grains × V)) → filter (is_on tick) (last_of_each_tick sets) ≡ option_to_list (last_value (set_if_on tick) sets)
+filter-last_of_each_tick tick [] = refl
+filter-last_of_each_tick tick (set ∷ later) =
+    one_remains tick (last_of_each_tick later) set (last_value (set_if_on tick) later) (has_tick (tick_at set.0.0) later) (is_on tick set) refl (filter-last_of_each_tick tick later)
     (λ here. ap (λ n. has_tick n later) (eqb-true (tick_at set.0.0) tick here) ∙ has_last tick later)
 
 -- the same of programs
@@ -89,9 +89,9 @@ those_there tick [] = refl
 those_there tick ((at, number) ∷ sets) =
     of_either program_change (tick_at at.0 == tick) (at, number) (filter (is_on tick) sets) (filter (is_there tick) (map program_change sets)) (those_there tick sets)
 
-pub as_list : {X Y : Type 0} (f : X → Y) (value : Option X) → map f (option_to_list value) ≡ option_to_list (option_map f value)
-as_list f None = refl
-as_list f (Some value) = refl
+pub map-option_to_list : {X Y : Type 0} (f : X → Y) (value : Option X) → map f (option_to_list value) ≡ option_to_list (option_map f value)
+map-option_to_list f None = refl
+map-option_to_list f (Some value) = refl
 
 -- what is set last on a tick, of changes in order
 abbrev pub last_on : {V : Type 0} → ℕ → List (Grains × V) → Option (Grains × V)
@@ -107,12 +107,12 @@ one_more tick at None sets =
     or_none (last_on tick sets) ∙ ap (option_or (last_on tick sets)) (sym (neither (tick_at at == tick)))
 one_more tick at (Some value) sets = refl
 
-pub play_said : {V : Type 0} (value_of : Item → Option V) (tick at : ℕ) (play : List Item)
+pub last_on-play : {V : Type 0} (value_of : Item → Option V) (tick at : ℕ) (play : List Item)
     → last_on tick (set_from value_of at play) ≡ last_value (set_by value_of tick) (at_moments at play)
-play_said value_of tick at [] = refl
-play_said value_of tick at (item ∷ play) =
+last_on-play value_of tick at [] = refl
+last_on-play value_of tick at (item ∷ play) =
     one_more tick at (value_of item) (set_from value_of (at + length_of item) play)
-    ∙ ap (λ last. option_or last (set_on tick at (value_of item))) (play_said value_of tick (at + length_of item) play)
+    ∙ ap (λ last. option_or last (set_on tick at (value_of item))) (last_on-play value_of tick (at + length_of item) play)
 
 sections_said : (tick : ℕ) (voices : List (List ℕ)) (voice : List ℕ) (at : ℕ) (sections : List (List ℕ × List Item))
     → last_on tick (set_in program_of voices (voice ∷ []) at sections) ≡ last_value (set_by program_of tick) (moments_in voices voice at sections)
@@ -123,11 +123,11 @@ sections_said tick voices voice at (section ∷ rest) =
     let own : List (Grains × ℕ) = set_from program_of at play in
     let others : List (Grains × ℕ) = set_in program_of voices (voice ∷ []) next rest in
     ap (λ sets. last_on tick (sets ++ others)) (append-nil own)
-    ∙ last_append (set_if_on tick) own others
-    ∙ (λ i. option_or (sections_said tick voices voice next rest i) (play_said program_of tick at play i))
-    ∙ sym (last_append (set_by program_of tick) (at_moments at play) (moments_in voices voice next rest))
+    ∙ last_value-append (set_if_on tick) own others
+    ∙ (λ i. option_or (sections_said tick voices voice next rest i) (last_on-play program_of tick at play i))
+    ∙ sym (last_value-append (set_by program_of tick) (at_moments at play) (moments_in voices voice next rest))
 
--- what a tune opens with is the last program of its header
+-- what a tune after_all-opens with is the last program of its header
 one_past : (program : Option ℕ) (item : Item) → program_after program item ≡ option_or (opening_program_of item) program
 one_past program (items.Program true (Some number)) = refl
 one_past program _ = refl
@@ -142,10 +142,10 @@ all_past past says one value (item ∷ tune) =
     ∙ ap (option_or (last_value says tune)) (one value item)
     ∙ sym (or_all (last_value says tune) (says item) value)
 
-pub opens : {V : Type 0} (past : Option V → Item → Option V) (says : Item → Option V)
+pub after_all-opens : {V : Type 0} (past : Option V → Item → Option V) (says : Item → Option V)
     → ((value : Option V) (item : Item) → past value item ≡ option_or (says item) value)
     → (tune : List Item) → after_all past None tune ≡ last_value says tune
-opens past says one tune = all_past past says one None tune ∙ sym (or_none (last_value says tune))
+after_all-opens past says one tune = all_past past says one None tune ∙ sym (or_none (last_value says tune))
 
 -- the program of a voice on a tick
 voice_on : (tune : List Item) (tick : ℕ) (voice : List ℕ)
@@ -155,10 +155,10 @@ voice_on tune tick voice =
     let opening : Option ℕ = after_all program_after None tune in
     let sets : List (Grains × ℕ) = set_in program_of (voice_names tune) (voice ∷ []) 0 (played_sections tune) in
     those_there tick (last_of_each_tick (after_opening opening sets))
-    ∙ ap (map program_change) (last_stands tick (after_opening opening sets))
-    ∙ as_list program_change (last_value (set_if_on tick) (after_opening opening sets))
+    ∙ ap (map program_change) (filter-last_of_each_tick tick (after_opening opening sets))
+    ∙ map-option_to_list program_change (last_value (set_if_on tick) (after_opening opening sets))
     ∙ ap (λ last. option_to_list (option_map program_change last)) (one_more tick 0 opening sets
-    ∙ (λ i. option_or (sections_said tick (voice_names tune) voice 0 (played_sections tune) i) (set_on tick 0 (opens program_after opening_program_of one_past tune i))))
+    ∙ (λ i. option_or (sections_said tick (voice_names tune) voice 0 (played_sections tune) i) (set_on tick 0 (after_all-opens program_after opening_program_of one_past tune i))))
 
 voices_on : {X Y Z : Type 0} (f : Y → Z) (g : X → Y) (h : X → Z) → ((x : X) → f (g x) ≡ h x) → (xs : List X) → map f (map g xs) ≡ map h xs
 voices_on f g h same [] = refl

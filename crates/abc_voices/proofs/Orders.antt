@@ -10,14 +10,14 @@ use Rattle.abc_voices.specs.Layout.{arranged_of}
 use Rattle.abc_voices.specs.OnTicks.{last_value}
 use Rattle.abc_voices.specs.Opening.{order_after, after_all}
 use Rattle.abc_voices.specs.Orders.{order_by, AreInLastOrder}
-use Rattle.abc_voices.proofs.OnTicks.{opens}
+use Rattle.abc_voices.proofs.OnTicks.{after_all-opens}
 
 one_past : (order : Option (List ℕ)) (item : Item) → order_after order item ≡ option_or (order_by item) order
 one_past order (items.Order text) = refl
 one_past order _ = refl
 
 last_order : (tune : List Item) → after_all order_after None tune ≡ last_value order_by tune
-last_order tune = opens order_after order_by one_past tune
+last_order tune = after_all-opens order_after order_by one_past tune
 
 pub in_last_order : AreInLastOrder
 unfolding arranged_of

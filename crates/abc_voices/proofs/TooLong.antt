@@ -7,7 +7,7 @@ use Rattle.std.proofs.lemmas.Bool.Decides.{Decides-like, Decides-ltb, Decides-or
 use Rattle.std.proofs.lemmas.List.{length-map}
 use Rattle.abc_bars_items.specs.Item.{IsItem}
 use Rattle.abc_bars_items.specs.declared.item.Item.{Item}
-use Rattle.abc_bars_items.specs.declared.item.TheConstants.{MOST_VOICES}
+use Rattle.abc_text.specs.declared.limits.TheConstants.{MOST_VOICES}
 use Rattle.abc_repeat.specs.declared.order.TheConstants.{MOST_SECTIONS}
 use Rattle.abc_repeat.specs.declared.play.TheConstants.{MOST_PLACES}
 use Rattle.abc_time.specs.Grains.{grains_of_the_latest_end}
@@ -32,12 +32,12 @@ Passes tune =
 named : (tune : List Item) → Passes tune → PassesALimit tune
 named tune = ⊎_elim (⊎_elim (⊎_elim (⊎_elim of_sections of_places) of_time) of_voices) of_title
 
-told : (tune : List Item) → PassesALimit tune → Passes tune
-told tune (of_sections h) = inl (inl (inl (inl h)))
-told tune (of_places h) = inl (inl (inl (inr h)))
-told tune (of_time h) = inl (inl (inr h))
-told tune (of_voices h) = inl (inr h)
-told tune (of_title h) = inr h
+passes_by_limit : (tune : List Item) → PassesALimit tune → Passes tune
+passes_by_limit tune (of_sections h) = inl (inl (inl (inl h)))
+passes_by_limit tune (of_places h) = inl (inl (inl (inr h)))
+passes_by_limit tune (of_time h) = inl (inl (inr h))
+passes_by_limit tune (of_voices h) = inl (inr h)
+passes_by_limit tune (of_title h) = inr h
 
 past : (a b c d e : ℕ) → Decides (nat_lt MOST_SECTIONS a || nat_lt MOST_PLACES b || nat_lt grains_of_the_latest_end c || nat_lt MOST_VOICES d || nat_lt LONGEST_TITLE e) (Passed a b c d e)
 past a b c d e =
@@ -48,11 +48,11 @@ past a b c d e =
 decides : (tune : List Item) → Decides (is_too_long tune) (PassesALimit tune)
 unfolding is_too_long
 decides tune =
-    Decides-like (is_too_long tune) (named tune) (told tune)
+    Decides-like (is_too_long tune) (named tune) (passes_by_limit tune)
     (past (sections_played tune) (places_played tune) (end_of tune) (length (tracks tune)) (length (title_of tune)))
 
-pub long_by : (tune : List Item) → PassesALimit tune → is_too_long tune ≡ true
-long_by tune h = (decides tune).1 h
+pub is_too_long-by : (tune : List Item) → PassesALimit tune → is_too_long tune ≡ true
+is_too_long-by tune h = (decides tune).1 h
 
 pub by_a_limit : IsTooLongByALimit
 by_a_limit tune = decides tune
@@ -72,8 +72,8 @@ none tune short (of_time h) = omega (arith, short.time, h)
 none tune short (of_voices h) = omega (arith, short.voices, h)
 none tune short (of_title h) = omega (arith, short.title, h)
 
-pub short_enough : (tune : List Item) → IsShort tune → is_too_long tune ≡ false
-short_enough tune short =
+pub is_too_long-short : (tune : List Item) → IsShort tune → is_too_long tune ≡ false
+is_too_long-short tune short =
     false_from_ne_true (is_too_long tune) (λ long. none tune short ((decides tune).0 long))
 
 -- the score of a tune that passes no limit fits a file
@@ -98,9 +98,9 @@ few tune score is h =
       title = subst (λ (s : Score). length s.title ≤ LONGEST_TITLE) is (leb-true (length score.title) LONGEST_TITLE both.1);
     }
 
-pub many : (tune : List Item) (score : Score) → score ≡ score_of tune
+pub is_too_long-many : (tune : List Item) (score : Score) → score ≡ score_of tune
     → (nat_le (length score.voices) MOST_VOICES && nat_le (length score.title) LONGEST_TITLE) ≡ false → is_too_long tune ≡ true
-many tune score is h = long_by tune (⊎_elim
+is_too_long-many tune score is h = is_too_long-by tune (⊎_elim
     (λ e. of_voices (subst (λ (n : ℕ). MOST_VOICES < n) (voices_of tune score is) (leb-false (length score.voices) MOST_VOICES e)))
     (λ e. of_title (subst (λ (s : Score). LONGEST_TITLE < length s.title) is (leb-false (length score.title) LONGEST_TITLE e)))
     (and_cases (nat_le (length score.voices) MOST_VOICES) (nat_le (length score.title) LONGEST_TITLE) h))

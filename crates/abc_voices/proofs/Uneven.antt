@@ -43,8 +43,8 @@ uneven section one other is =
       lengths_differ = eqb-false (length_in section one) (length_in section other) (not-true (length_in section one == length_in section other) both.1);
     }
 
-told : (section : List ℕ × List Item) (one other : List ℕ) → AreUneven section one other → lengths_differ section one other ≡ true
-told section one other are =
+differ_by_length : (section : List ℕ × List Item) (one other : List ℕ) → AreUneven section one other → lengths_differ section one other ≡ true
+differ_by_length section one other are =
     let first : plays_time section one ≡ true = played section one are.one_plays in
     let second : plays_time section other ≡ true = played section other are.other_plays in
     let unequal : (length_in section one == length_in section other) ≡ false = ne_eqb (length_in section one) (length_in section other) are.lengths_differ in
@@ -66,7 +66,7 @@ uneven_by_lengths tune =
           (λ section there. list_any-from_Any (λ one. list_any (lengths_differ section one) voices) voices
           (some (λ one. Any (AreUneven section one) voices) (λ one. list_any (lengths_differ section one) voices ≡ true)
           (λ one those. list_any-from_Any (lengths_differ section one) voices
-          (some (AreUneven section one) (λ other. lengths_differ section one other ≡ true) (told section one) voices those))
+          (some (AreUneven section one) (λ other. lengths_differ section one other ≡ true) (differ_by_length section one) voices those))
           voices there))
           sections has),
     )

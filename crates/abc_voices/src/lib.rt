@@ -29,3 +29,5 @@ pub use abc_voices_score::{
 };
 pub use arranged::{Arranged, BuildFault};
 pub use layout::arrange;
+pub use opening::order_of;
+pub use track::{has_unnamed_track, voice_names};

@@ -77,7 +77,7 @@ pub(crate) fn opening_program(tune: &[&Item]) -> Option<u8>
 }
 
 /// Returns the order of a tune's parts, if its header has one.
-pub(crate) fn order_of<'a>(tune: &[&'a Item]) -> Option<&'a [u8]>
+pub fn order_of<'a>(tune: &[&'a Item]) -> Option<&'a [u8]>
     ensures { option_copied result ≡ after_all order_after None (items_of tune.now) }
 {
     let mut order: Option<&'a [u8]> = None;

@@ -19,10 +19,7 @@ fn put_name<'a>(known: &mut IndexSet<&'a [u8]>, name: &'a [u8]) -> Result<(), Al
 }
 
 /// Returns the names of the voices of a tune, first the empty one for the voice without a name.
-pub(crate) fn voice_names<'a>(
-    alloc: Global,
-    tune: &[&'a Item],
-) -> Result<IndexSet<&'a [u8]>, AllocError>
+pub fn voice_names<'a>(alloc: Global, tune: &[&'a Item]) -> Result<IndexSet<&'a [u8]>, AllocError>
     ensures { IfOk result (λ voices. map (λ voice. voice.now) voices.keys ≡ voice_names (items_of tune.now)) }
 {
     let mut voices = IndexSet::new(alloc);
@@ -51,7 +48,7 @@ fn plays_first(tune: &[&Item]) -> bool
 }
 
 /// Whether the voice without a name has a track, if `opening` is the current voice before the first V: of the body.
-pub(crate) fn has_unnamed_track(tune: &[&Item], opening: &[u8]) -> bool
+pub fn has_unnamed_track(tune: &[&Item], opening: &[u8]) -> bool
     requires { opening.now ≡ opening_voice (items_of tune.now) }
     ensures { result ≡ has_unnamed_track (items_of tune.now) }
 {

@@ -67,8 +67,8 @@ mark_more part found middle next mark begin at x inside within is before put mor
     ∙ before
 
 -- the mark is a run by itself
-pub mark_alone : (part : List (Bor Item)) (at : ℕ) (x : Bor Item) → at < length part → x ≡ get_or part at x → items_of (take (at + 1 - at) (drop at part)) ≡ x.now ∷ []
-mark_alone part at x within is =
+pub items_of-mark_alone : (part : List (Bor Item)) (at : ℕ) (x : Bor Item) → at < length part → x ≡ get_or part at x → items_of (take (at + 1 - at) (drop at part)) ≡ x.now ∷ []
+items_of-mark_alone part at x within is =
     let one : at + 1 - at ≡ 1 = omega arith in
     ap (λ k. items_of (take k (drop at part))) one ∙ ap (λ l. items_of (take 1 l)) (front part at x within is)
 
@@ -98,10 +98,10 @@ found_at (item_run ∷ item_runs) zero s within = refl
 found_at (item_run ∷ item_runs) (suc place) s within = found_at item_runs place s (omega arith)
 
 -- one place more
-pub place_more : (item_runs : List ItemRun) (places : List ℕ) (i : ℕ) (s : ItemRun) → All (λ place. place < length item_runs) places → i < length places
+pub flat_map-place_more : (item_runs : List ItemRun) (places : List ℕ) (i : ℕ) (s : ItemRun) → All (λ place. place < length item_runs) places → i < length places
     → flat_map (items_at (runs_of item_runs)) (take (i + 1) places)
     ≡ flat_map (items_at (runs_of item_runs)) (take i places) ++ items_of (get_or item_runs (get_or places i 0) s).items.now
-place_more item_runs places i s inside within =
+flat_map-place_more item_runs places i s inside within =
     let place = get_or places i 0 in
     let here : place < length item_runs = All-get_or (λ one. one < length item_runs) places i 0 within inside in
     ap (flat_map (items_at (runs_of item_runs))) (take_more places i 0 within)
@@ -115,22 +115,22 @@ pub size_more : (item_runs : List ItemRun) (places : List ℕ) (i : ℕ) (s : It
     → next ≡ min (length (flat_map (items_at (runs_of item_runs)) (take (i + 1) places))) top
 size_more item_runs places i s size next top inside within before added =
     let item_run = get_or item_runs (get_or places i 0) s in
-    let more = ap length (place_more item_runs places i s inside within) in
+    let more = ap length (flat_map-place_more item_runs places i s inside within) in
     let both = length-append (flat_map (items_at (runs_of item_runs)) (take i places)) (items_of item_run.items.now) in
     let same = length-map item_run.items.now (λ (step : Bor Item). step.now) in
     omega arith
 
-pub items_at_more : (item_runs : List ItemRun) (places : List ℕ) (i : ℕ) (s : ItemRun) (items next : List (Bor Item))
+pub items_of-items_at : (item_runs : List ItemRun) (places : List ℕ) (i : ℕ) (s : ItemRun) (items next : List (Bor Item))
     → All (λ place. place < length item_runs) places → i < length places
     → items_of items ≡ flat_map (items_at (runs_of item_runs)) (take i places)
     → next ≡ items ++ (get_or item_runs (get_or places i 0) s).items.now
     → items_of next ≡ flat_map (items_at (runs_of item_runs)) (take (i + 1) places)
-items_at_more item_runs places i s items next inside within before more =
+items_of-items_at item_runs places i s items next inside within before more =
     let own = (get_or item_runs (get_or places i 0) s).items.now in
     ap items_of more
     ∙ map-append (λ (step : Bor Item). step.now) items own
     ∙ ap (λ l. l ++ items_of own) before
-    ∙ sym (place_more item_runs places i s inside within)
+    ∙ sym (flat_map-place_more item_runs places i s inside within)
 
 pub is_run_at : (item_runs : List ItemRun) (i : ℕ) (s : ItemRun) → All IsRun (runs_of item_runs) → i < length item_runs → s ≡ get_or item_runs i s → IsRun (run_of s)
 is_run_at item_runs i s all within is =
@@ -148,24 +148,24 @@ waits_from : (item_runs : List ItemRun) (i : ℕ) (s : ItemRun) (x : Bor Item) (
     → All IsRun (runs_of item_runs) → i < length item_runs → s ≡ get_or item_runs i s → own ≡ waits region (get_or s.items.now 0 x).now
     → nothing_waits region (items_in (runs_of (drop i item_runs)))
     ≡ (not own && nothing_waits (region_after region s.mark) (items_in (runs_of (drop (i + 1) item_runs))))
-waits_from item_runs i s x region own all within is told =
+waits_from item_runs i s x region own all within is agrees =
     let rest = items_in (runs_of (drop (i + 1) item_runs)) in
     ap (λ l. nothing_waits region (items_in (runs_of l))) (front item_runs i s within is)
     ∙ run_goes region (run_of s) (get_or s.items.now 0 x).now rest (is_run_at item_runs i s all within is) (first_alike s.items.now x)
-    ∙ ap (λ b. not b && nothing_waits (region_after region s.mark) rest) (sym told)
+    ∙ ap (λ b. not b && nothing_waits (region_after region s.mark) rest) (sym agrees)
 
 -- it does if the first item of the run does
-pub waits_here : (item_runs : List ItemRun) (i : ℕ) (s : ItemRun) (x : Bor Item) (region : EndingRegion) (own : Bool)
+pub nothing_waits-here : (item_runs : List ItemRun) (i : ℕ) (s : ItemRun) (x : Bor Item) (region : EndingRegion) (own : Bool)
     → All IsRun (runs_of item_runs) → i < length item_runs → s ≡ get_or item_runs i s → own ≡ waits region (get_or s.items.now 0 x).now → own ≡ true
     → nothing_waits region (items_in (runs_of (drop i item_runs))) ≡ false
-waits_here item_runs i s x region own all within is told here =
-    waits_from item_runs i s x region own all within is told
+nothing_waits-here item_runs i s x region own all within is agrees here =
+    waits_from item_runs i s x region own all within is agrees
     ∙ ap (λ b. not b && nothing_waits (region_after region s.mark) (items_in (runs_of (drop (i + 1) item_runs)))) here
 
 -- else the others decide
-pub waits_after : (item_runs : List ItemRun) (i : ℕ) (s : ItemRun) (x : Bor Item) (region : EndingRegion) (own : Bool)
+pub nothing_waits-after : (item_runs : List ItemRun) (i : ℕ) (s : ItemRun) (x : Bor Item) (region : EndingRegion) (own : Bool)
     → All IsRun (runs_of item_runs) → i < length item_runs → s ≡ get_or item_runs i s → own ≡ waits region (get_or s.items.now 0 x).now → own ≡ false
     → nothing_waits region (items_in (runs_of (drop i item_runs))) ≡ nothing_waits (region_after region s.mark) (items_in (runs_of (drop (i + 1) item_runs)))
-waits_after item_runs i s x region own all within is told here =
-    waits_from item_runs i s x region own all within is told
+nothing_waits-after item_runs i s x region own all within is agrees here =
+    waits_from item_runs i s x region own all within is agrees
     ∙ ap (λ b. not b && nothing_waits (region_after region s.mark) (items_in (runs_of (drop (i + 1) item_runs)))) here

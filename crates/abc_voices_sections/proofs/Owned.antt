@@ -16,12 +16,12 @@ both true false = refl
 both false true = refl
 both false false = refl
 
-pub part_owned : (voice current : List ℕ) (steps : List Item)
+pub own_from_part : (voice current : List ℕ) (steps : List Item)
     → own_from voice (bytes_eq current voice) steps ≡ part_from voice current steps
-part_owned voice current [] = refl
-part_owned voice current (step ∷ steps) =
+own_from_part voice current [] = refl
+own_from_part voice current (step ∷ steps) =
     let rest = own_from voice (is_own_after voice (bytes_eq current voice) step) steps in
     let same : rest ≡ part_from voice (voice_after current step) steps =
-    ap (λ own. own_from voice own steps) (own_is voice current step) ∙ part_owned voice (voice_after current step) steps in
+    ap (λ own. own_from voice own steps) (own_is voice current step) ∙ own_from_part voice (voice_after current step) steps in
     ap (λ b. if b then step ∷ rest else rest) (both (bytes_eq current voice) (is_step step))
     ∙ ap (λ l. if is_step step && bytes_eq current voice then step ∷ l else l) same

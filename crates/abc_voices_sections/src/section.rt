@@ -94,7 +94,7 @@ fn is_turn_or_sign(item: &Item) -> bool
 
 /// Returns the items of a voice from a place on, at which `opening` is the current voice, without the bar lines that change
 /// nothing. Names may be long, so they are compared only when the current voice changes.
-#[tactic(auto, using(crate::proofs::Owned::part_owned))]
+#[tactic(auto, using(crate::proofs::Owned::own_from_part))]
 pub(crate) fn part<'a>(
     alloc: Global,
     voice: &[u8],

@@ -6,7 +6,7 @@ use Rattle.abc_voices.specs.declared.arranged.BuildFault.TheVariants.{TooLong}
 use Rattle.abc_voices.proofs.OfFields.{items_of_fields, played_of_fields, unknown_of_fields}
 use Rattle.abc_voices.specs.TooLong.{of_sections}
 use Rattle.abc_voices.proofs.Layouts.{unknown_is}
-use Rattle.abc_voices.proofs.TooLong.{long_by}
+use Rattle.abc_voices.proofs.TooLong.{is_too_long-by}
 use Rattle.abc_voices.proofs.layout.arrange_items.Goals as goal
 
 pub order_of_sections-requires : goal.order_of_sections-requires
@@ -31,7 +31,7 @@ returns-in-Ok-clause-unknown c = λ unknown e.
 pub returns-in-Err-clause-too_long : goal.returns-in-Err-clause-too_long
 returns-in-Err-clause-too_long c = λ unknown e.
     let same : c.in-Err.why ≡ TooLong unknown = cc in
-    long_by (items_of c.args.tune.now) (of_sections (subst (λ (n : ℕ). MOST_SECTIONS < n)
+    is_too_long-by (items_of c.args.tune.now) (of_sections (subst (λ (n : ℕ). MOST_SECTIONS < n)
     (ap length (played_of_fields (items_of c.args.tune.now) (items_of c.args.fields.now) c.requires.fields)) (c.in-Err.ensures.too_long unknown (ap Err same))))
 
 pub returns-in-Err-clause-unknown : goal.returns-in-Err-clause-unknown

@@ -6,7 +6,7 @@ use Rattle.abc_voices_score.specs.Limits.{IsWithinLimits}
 use Rattle.abc_voices.specs.TooLong.{of_places, of_time}
 use Rattle.abc_voices.specs.Track.{voice_names}
 use Rattle.abc_voices.proofs.Layouts.{arranged_is}
-use Rattle.abc_voices.proofs.TooLong.{AreFew, few, fits, long_by, many, short_enough}
+use Rattle.abc_voices.proofs.TooLong.{AreFew, few, fits, is_too_long-by, is_too_long-many, is_too_long-short}
 use Rattle.abc_voices.proofs.layout.arrange_within_limits.Goals as goal
 
 pub returns-then-are_voices_and_title_within-clause-value : goal.returns-then-are_voices_and_title_within-clause-value
@@ -19,7 +19,7 @@ pub returns-then-are_voices_and_title_within-clause-short : goal.returns-then-ar
 returns-then-are_voices_and_title_within-clause-short c =
     let score : c.in-Ok.score ≡ score_of (items_of c.args.tune.now) = cc (c.in-Ok.ensures.score) in
     let small : AreFew (items_of c.args.tune.now) = few (items_of c.args.tune.now) c.in-Ok.score score (sym c.are_voices_and_title_within.ensures ∙ c.if-are_voices_and_title_within.true) in
-    short_enough (items_of c.args.tune.now)
+    is_too_long-short (items_of c.args.tune.now)
     (record { sections = c.requires.few; places = c.in-Ok.ensures.few; time = c.in-Ok.ensures.in_time; voices = small.voices; title = small.title })
 
 pub returns-then-are_voices_and_title_within-clause-limits : goal.returns-then-are_voices_and_title_within-clause-limits
@@ -32,12 +32,12 @@ returns-then-are_voices_and_title_within-clause-limits c =
 pub returns-else-are_voices_and_title_within-clause-too_long : goal.returns-else-are_voices_and_title_within-clause-too_long
 returns-else-are_voices_and_title_within-clause-too_long c = λ other e.
     let score : c.in-Ok.score ≡ score_of (items_of c.args.tune.now) = cc (c.in-Ok.ensures.score) in
-    many (items_of c.args.tune.now) c.in-Ok.score score (sym c.are_voices_and_title_within.ensures ∙ c.if-are_voices_and_title_within.false)
+    is_too_long-many (items_of c.args.tune.now) c.in-Ok.score score (sym c.are_voices_and_title_within.ensures ∙ c.if-are_voices_and_title_within.false)
 
 pub returns-in-Err-TooMany-clause-too_long : goal.returns-in-Err-TooMany-clause-too_long
 returns-in-Err-TooMany-clause-too_long c = λ other e.
-    long_by (items_of c.args.tune.now) (of_places (c.in-Err-TooMany.ensures.too_many (ap Err c.in-Err-TooMany.field-0-is)))
+    is_too_long-by (items_of c.args.tune.now) (of_places (c.in-Err-TooMany.ensures.too_many (ap Err c.in-Err-TooMany.field-0-is)))
 
 pub returns-in-Err-TooLate-clause-too_long : goal.returns-in-Err-TooLate-clause-too_long
 returns-in-Err-TooLate-clause-too_long c = λ other e.
-    long_by (items_of c.args.tune.now) (of_time (c.in-Err-TooLate.ensures.too_late (ap Err c.in-Err-TooLate.field-0-is)))
+    is_too_long-by (items_of c.args.tune.now) (of_time (c.in-Err-TooLate.ensures.too_late (ap Err c.in-Err-TooLate.field-0-is)))

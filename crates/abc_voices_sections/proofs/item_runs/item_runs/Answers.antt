@@ -1,7 +1,7 @@
 use Rattle.std.proofs.Common.{◌-◌, ◌+◌, ◌++◌, take, drop, All, sym, ap, subst, ◌∙◌, arith}
 use Rattle.abc_voices_sections.specs.Items.{items_of}
 use Rattle.abc_voices_sections.specs.ItemRuns.{runs_of, items_in, AreAllPlayed, IsRun}
-use Rattle.abc_voices_sections.proofs.ItemRuns.{mark_alone, lone_run, mark_more, turn_more, no_turn, each_more}
+use Rattle.abc_voices_sections.proofs.ItemRuns.{items_of-mark_alone, lone_run, mark_more, turn_more, no_turn, each_more}
 use Rattle.abc_voices_sections.proofs.item_runs.item_runs.Goals as goal
 use Rattle.abc_voices_sections.proofs.item_runs.item_runs.Goals.{then-not-is_played+in_ok-push_run+in_ok-push, else-not-is_played}
 
@@ -11,7 +11,7 @@ loop-at-preserved c =
     let x = c.index-part-at.result in
     elim c.if-not-is_played.branch [
       | then-not-is_played+in_ok-push_run+in_ok-push w ↦
-          let single_run = mark_alone part c.loop-at.at x c.loop-at-test.true c.index-part-at.is in
+          let single_run = items_of-mark_alone part c.loop-at.at x c.loop-at-test.true c.index-part-at.is in
           let whole = mark_more part c.loop-at.found.items w.push_run.new.found.items w.push.new.self.items _ c.loop-at.begin
           c.loop-at.at x c.loop-at.invariant.inside c.loop-at-test.true c.index-part-at.is c.loop-at.invariant.whole w.in_ok-push_run.ensures.whole w.in_ok-push.ensures.items single_run in
           let each = each_more w.push_run.new.found.items w.push.new.self.items _ w.in_ok-push.ensures.items
