@@ -1,0 +1,108 @@
+-- Items are matched with the tokens that give them.
+use Rattle.std.proofs.Common.{◌≡◌, ◌≤◌, ℕ, suc, ◌+◌, ◌-◌, min, Bool, true, false, cond, List, [], ◌∷◌, ◌++◌, length, drop, refl, sym, ap, subst, ◌∙◌, arith, append_assoc, append-nil, length-append}
+use Rattle.std.specs.Prelude.{Some, None, replicate}
+use Rattle.std.proofs.lemmas.List.{drop_more}
+use Rattle.abc_bars_body.specs.declared.body.Body.{Body}
+use Rattle.abc_bars_body.specs.declared.cell.CellResult.{CellResult}
+use Rattle.abc_bars_body.specs.Cell.{cell_result, cell_result_from, empty_cell_result, with_token}
+use Rattle.abc_bars_items.specs.declared.item.Item.{Item}
+use Rattle.abc_scan.specs.declared.spanned.Spanned.{Spanned}
+use Rattle.abc_scan.specs.declared.token.TokenKind.{TokenKind}
+use Rattle.abc_play_places.specs.Givers.{added, first_giver, giver_at, givers, givers_from, gives_place, has_place, matched, placed}
+use Rattle.abc_play_places.proofs.Adding.{Adds, NonePlaced, token_adds}
+
+abbrev Tokens : Type 0
+Tokens = List (Spanned TokenKind)
+
+-- items without a place
+matched_none : (cell : Tokens) (next : ℕ) (more others : List Item) → NonePlaced more → matched cell next (more ++ others) ≡ placed more [] ++ matched cell next others
+matched_none cell next [] others none = refl
+matched_none cell next (item ∷ more) others none =
+    ap (λ b. cond b (Some (giver_at cell next) ∷ matched cell (giver_at cell next + 1) (more ++ others)) (None ∷ matched cell next (more ++ others))) none.0
+    ∙ ap (λ l. None ∷ l) (matched_none cell next more others none.1)
+
+placed_none : (more others : List Item) (at : ℕ) (own : List ℕ) → NonePlaced more → placed (more ++ others) (replicate (length more) at ++ own) ≡ placed more [] ++ placed others own
+placed_none [] others at own none = refl
+placed_none (item ∷ more) others at own none =
+    ap (λ b. cond b (Some at) None ∷ placed (more ++ others) (replicate (length more) at ++ own)) none.0
+    ∙ ap (λ l. None ∷ l) (placed_none more others at own none.1)
+
+-- a token that gives no item with a place is passed over
+passed : (cell : Tokens) (next : ℕ) (others : List Item) → giver_at cell next ≡ giver_at cell (next + 1) → matched cell next others ≡ matched cell (next + 1) others
+passed cell next [] same = refl
+passed cell next (item ∷ others) same =
+    λ i. cond (has_place item) (Some (same i) ∷ matched cell (same i + 1) others) (None ∷ passed cell next others same i)
+
+-- the tokens from an index on
+record IsAt (cell : Tokens) (at : ℕ) (left : Tokens) : Type 0 where
+  within : at + length left ≡ length cell
+  rest : drop at cell ≡ left
+
+next_at : (cell : Tokens) (at : ℕ) (token : Spanned TokenKind) (ahead : Tokens) → IsAt cell at (token ∷ ahead) → IsAt cell (at + 1) ahead
+next_at cell at token ahead is =
+    let inside : suc at ≤ length cell = omega (arith, is.within) in
+    let more = drop_more cell at token inside in
+    let tail : drop (at + 1) cell ≡ ahead = let both = sym more ∙ is.rest in cc in
+    record { within = omega (arith, is.within); rest = tail }
+
+giver_here : (cell : Tokens) (at : ℕ) (left : Tokens) → IsAt cell at left → giver_at cell at ≡ at + first_giver left
+giver_here cell at left is =
+    let inside : min at (length cell) ≡ at = omega (arith, is.within) in
+    ap (λ k. k + first_giver (drop k cell)) inside ∙ ap (λ l. at + first_giver l) is.rest
+
+-- the items that the rest of a cell gives, and the tokens that give them
+record AreMatched (cell : Tokens) (at : ℕ) (given : CellResult) (left : Tokens) : Type 0 where
+  more : List Item
+  grown : (cell_result_from given left).items.items ≡ given.items.items ++ more
+  same : matched cell at more ≡ placed more (givers_from given at left)
+
+size_is : (old new more : List Item) → new ≡ old ++ more → length new - length old ≡ length more
+size_is old new more is = let size = ap length is ∙ length-append old more in omega arith
+
+one_matched : (cell : Tokens) (at : ℕ) (given : CellResult) (token : Spanned TokenKind) (ahead : Tokens) (gives : Bool) → gives_place token.kind ≡ gives
+    → IsAt cell at (token ∷ ahead) → (adds : Adds gives given.items.items (with_token given token ahead).items.items)
+    → AreMatched cell (at + 1) (with_token given token ahead) ahead → AreMatched cell at given (token ∷ ahead)
+one_matched cell at given token ahead true h is adds are =
+    let own = adds.fits in
+    let item = own.0 in
+    let size : added given token ahead ≡ 1 = size_is given.items.items _ adds.more adds.grown ∙ ap length own.1 in
+    let here : giver_at cell at ≡ at = giver_here cell at (token ∷ ahead) is ∙ ap (λ b. at + cond b 0 (suc (first_giver ahead))) h ∙ omega arith in
+    let later = givers_from (with_token given token ahead) (at + 1) ahead in
+    record {
+      more = item ∷ are.more;
+      grown = are.grown ∙ ap (λ l. l ++ are.more) (adds.grown ∙ ap (λ l. given.items.items ++ l) own.1) ∙ append_assoc given.items.items (item ∷ []) are.more;
+      same =
+          ap (λ b. cond b (Some (giver_at cell at) ∷ matched cell (giver_at cell at + 1) are.more) (None ∷ matched cell at are.more)) own.2
+          ∙ ap (λ k. Some k ∷ matched cell (k + 1) are.more) here
+          ∙ ap (λ l. Some at ∷ l) are.same
+          ∙ ap (λ b. cond b (Some at) None ∷ placed are.more later) (sym own.2)
+          ∙ ap (λ n. placed (item ∷ are.more) (replicate n at ++ later)) (sym size);
+    }
+one_matched cell at given token ahead false h is adds are =
+    let size : added given token ahead ≡ length adds.more = size_is given.items.items _ adds.more adds.grown in
+    let next = next_at cell at token ahead is in
+    let skip : giver_at cell at ≡ giver_at cell (at + 1) =
+    giver_here cell at (token ∷ ahead) is ∙ ap (λ b. at + cond b 0 (suc (first_giver ahead))) h
+    ∙ omega arith ∙ sym (giver_here cell (at + 1) ahead next) in
+    let later = givers_from (with_token given token ahead) (at + 1) ahead in
+    record {
+      more = adds.more ++ are.more;
+      grown = are.grown ∙ ap (λ l. l ++ are.more) adds.grown ∙ append_assoc given.items.items adds.more are.more;
+      same =
+          matched_none cell at adds.more are.more adds.fits
+          ∙ ap (λ l. placed adds.more [] ++ l) (passed cell at are.more skip ∙ are.same)
+          ∙ sym (placed_none adds.more are.more at later adds.fits)
+          ∙ ap (λ n. placed (adds.more ++ are.more) (replicate n at ++ later)) (sym size);
+    }
+
+all_matched : (cell : Tokens) (at : ℕ) (given : CellResult) (left : Tokens) → IsAt cell at left → AreMatched cell at given left
+all_matched cell at given [] is = record { more = []; grown = sym (append-nil given.items.items); same = refl }
+all_matched cell at given (token ∷ ahead) is =
+    one_matched cell at given token ahead (gives_place token.kind) refl is (token_adds given token ahead)
+    (all_matched cell (at + 1) (with_token given token ahead) ahead (next_at cell at token ahead is))
+
+-- the items of a cell
+pub matched-cell : (body : Body) (cell : Tokens) → matched cell 0 (cell_result body cell).items.items ≡ placed (cell_result body cell).items.items (givers body cell)
+matched-cell body cell =
+    let are = all_matched cell 0 (empty_cell_result body) cell (record { within = omega arith; rest = refl }) in
+    subst (λ l. matched cell 0 l ≡ placed l (givers body cell)) (sym are.grown) are.same

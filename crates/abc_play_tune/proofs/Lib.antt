@@ -1,0 +1,9 @@
+pub mod Begun
+pub mod Cuts
+pub mod Entering
+pub mod Lengths
+pub mod Placed
+pub mod Times
+pub mod Tokens
+pub mod Tracks
+pub mod WithoutPlaces

@@ -1,0 +1,8 @@
+pub mod Entries
+pub mod Laws
+pub mod Play
+pub mod Stage
+pub mod Steps
+pub mod Table
+pub mod Timed
+pub mod Turns

@@ -1,0 +1,101 @@
+//! The play of a tune.
+
+ghost use Rattle.std.specs.Prelude.{◌≡◌, ◌≢◌, ◌<◌, ◌≤◌, length, map, None, IfOk};
+ghost use Rattle.abc_repeat.specs.Order.{sections_of};
+ghost use Rattle.abc_repeat.specs.declared.play.TheConstants.{MOST_PLACES};
+ghost use Rattle.abc_time.specs.Grains.{grains_of_the_latest_end};
+ghost use Rattle.abc_voices.specs.Layout.{total};
+ghost use Rattle.abc_voices.specs.Opening.{order_after, after_all};
+ghost use Rattle.abc_voices.specs.Track.{tracks, voice_names};
+ghost use Rattle.abc_voices.specs.Turns.{first_place};
+ghost use Rattle.abc_voices_sections.specs.Items.{items_of};
+ghost use Rattle.abc_voices_sections.specs.Section.{letters, opening_voice};
+ghost use Rattle.abc_voices_sections.specs.declared.stage.StageError.TheVariants.{TooMany, TooLate};
+ghost use Rattle.abc_play_tune.specs.Play.{played_sections, play_of_voice, steps_played};
+ghost use Rattle.abc_play_tune.specs.Stage.{stage_of};
+ghost use Rattle.abc_play_tune.specs.Table.{at_places};
+ghost use Rattle.abc_play_tune.specs.Turns.{stages_in};
+
+use crate::sections::sections;
+use crate::stage::StepStage;
+use crate::steps::steps_of;
+use crate::table::stages;
+use crate::timed::{TimedStep, voices_along};
+use crate::turns::{Turn, length_along, turns_in_order};
+use abc_bars_items::Item;
+use abc_text::Sequence;
+use abc_voices_sections::StageError;
+use std::alloc::Global;
+
+/// Returns the stages of the sections of a tune that are played.
+fn stages_of<'t>(
+    alloc: Global,
+    tune: &[&'t Item],
+    opening: &'t [u8],
+    voices: &[&[u8]],
+    played: &[usize],
+) -> Result<Vec<Option<StepStage<'t>>>, StageError>
+    requires opening { opening.now ≡ opening_voice (items_of tune.now) }
+    requires voices { map (λ voice. voice.now) voices.now ≡ voice_names (items_of tune.now) }
+    requires played { played.now ≡ sections_of (after_all order_after None (items_of tune.now)) (letters (items_of tune.now)) }
+    ensures value { IfOk result (λ table. at_places table.items played.now
+        ≡ map (stage_of (voice_names (items_of tune.now))) (played_sections tune.now)) }
+    ensures few { IfOk result (λ _. steps_played tune.now ≤ MOST_PLACES) }
+    ensures too_many { result ≡ Err TooMany → MOST_PLACES < steps_played tune.now }
+    ensures too_late { result ≡ Err TooLate → grains_of_the_latest_end < total (items_of tune.now) }
+{
+    let steps = steps_of(alloc, tune)?;
+    let found = sections(alloc, &steps, opening)?;
+    stages(alloc, &found, voices, played)
+}
+
+/// Returns what the voices with a track play in stages, one after another.
+fn tracks_along<'t>(
+    alloc: Global,
+    tune: &[&'t Item],
+    turns: &[Turn<'_, 't>],
+    first: usize,
+    count: usize,
+) -> Result<Sequence<Sequence<TimedStep<'t>>>, StageError>
+    requires first { first ≡ first_place (items_of tune.now) }
+    requires count { count ≡ length (voice_names (items_of tune.now)) }
+    requires stages { stages_in turns.now ≡ map (stage_of (voice_names (items_of tune.now))) (played_sections tune.now) }
+    ensures value { IfOk result (λ found. found ≡ map (play_of_voice tune.now) (tracks (items_of tune.now))) }
+    ensures too_many { result ≢ Err TooMany }
+    ensures too_late { result ≡ Err TooLate → grains_of_the_latest_end < total (items_of tune.now) }
+{
+    let Some(_total) = length_along(turns) else {
+        return Err(StageError::TooLate);
+    };
+    let found = voices_along(alloc, turns, first, count)?;
+    Ok(found)
+}
+
+/// Returns what each voice with a track plays, from the beginning of a tune to its end. `opening` is the current voice before the
+/// first V: of the body, `voices` are the names of the voices, the one at place `first` has the first track, and the sections at
+/// `played` are played.
+pub fn play_along<'t>(
+    alloc: Global,
+    tune: &[&'t Item],
+    opening: &'t [u8],
+    voices: &[&[u8]],
+    first: usize,
+    played: &[usize],
+) -> Result<Sequence<Sequence<TimedStep<'t>>>, StageError>
+    requires opening { opening.now ≡ opening_voice (items_of tune.now) }
+    requires voices { map (λ voice. voice.now) voices.now ≡ voice_names (items_of tune.now) }
+    requires first { first ≡ first_place (items_of tune.now) }
+    requires played { played.now ≡ sections_of (after_all order_after None (items_of tune.now)) (letters (items_of tune.now)) }
+    ensures value { IfOk result (λ found. found ≡ map (play_of_voice tune.now) (tracks (items_of tune.now))) }
+    ensures few { IfOk result (λ _. steps_played tune.now ≤ MOST_PLACES) }
+    ensures too_many { result ≡ Err TooMany → MOST_PLACES < steps_played tune.now }
+    ensures too_late { result ≡ Err TooLate → grains_of_the_latest_end < total (items_of tune.now) }
+{
+    match stages_of(alloc, tune, opening, voices, played) {
+        Ok(table) => {
+            let turns = turns_in_order(alloc, &table, played)?;
+            tracks_along(alloc, tune, &turns, first, voices.len())
+        }
+        Err(why) => Err(why),
+    }
+}
