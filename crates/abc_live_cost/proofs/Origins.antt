@@ -81,10 +81,10 @@ split text at to h =
     let here : at + (to - at) ≡ to = omega arith in
     sym (take-append-drop (to - at) (drop at text)) ∙ ap (λ l. lines_between text at to ++ l) (drop-drop (to - at) at text ∙ ap (λ n. drop n text) here)
 
-rows_stand : {State Cell Items : Type 0} (steps : Steps State Cell Items) (read : List ℕ → List Cell) (text : Text) (at : ℕ)
+rows_are : {State Cell Items : Type 0} (steps : Steps State Cell Items) (read : List ℕ → List Cell) (text : Text) (at : ℕ)
     (chains : List (FoldedBlock State)) → ChainsRise at chains (length text) → addressed (rows_from steps read text at chains) ≡ addresses_beside read (origins_from read text at chains) (drop at text)
-rows_stand steps read text at [] h = none_along steps read (drop at text)
-rows_stand {State = State} steps read text at (chain ∷ chains) h =
+rows_are steps read text at [] h = none_along steps read (drop at text)
+rows_are {State = State} steps read text at (chain ∷ chains) h =
     let gap = lines_between text at chain.block.from in
     let lines = lines_in text chain.block in
     let own = pasts_along steps read (past_of chain.source 0 chain.opening) lines in
@@ -93,7 +93,7 @@ rows_stand {State = State} steps read text at (chain ∷ chains) h =
     let cut : drop at text ≡ gap ++ (lines ++ drop chain.block.to text) = split text at chain.block.from h.0 ∙ ap (λ l. gap ++ l) (split text chain.block.from chain.block.to (omega (arith, h.1))) in
     map-append by (map (no_pasts steps read) gap) (own ++ others)
     ∙ ((λ i. none_along steps read gap i ++ map-append by own others i)
-    ∙ (ap (λ l. addresses_beside read (no_origins gap) gap ++ l) ((λ i. along steps read chain.source 0 chain.opening lines i ++ rows_stand steps read text chain.block.to chains h.2 i)
+    ∙ (ap (λ l. addresses_beside read (no_origins gap) gap ++ l) ((λ i. along steps read chain.source 0 chain.opening lines i ++ rows_are steps read text chain.block.to chains h.2 i)
     ∙ sym (beside_both steps read (origins_along read chain.source 0 lines) (origins_from read text chain.block.to chains) lines
     (drop chain.block.to text) (length-origins_along steps read chain.source 0 lines)))
     ∙ (sym (beside_both steps read (no_origins gap) (origins_along read chain.source 0 lines
@@ -122,7 +122,7 @@ origins_agree {State = State} steps read old s h inside =
     let rows = rows_of steps read old in
     let all = origins_of read old in
     let by : List (Option (Past State)) → List (Option (ℕ × ℕ)) = λ row. map address_of row in
-    let whole : addressed rows ≡ addresses_beside read all old.text = rows_stand steps read old.text 0 (chains_of old) h in
+    let whole : addressed rows ≡ addresses_beside read all old.text = rows_are steps read old.text 0 (chains_of old) h in
     let count : length all ≡ length old.text = length-origins steps read old.text 0 (chains_of old) h in
     let front : addressed (take s.at rows) ≡ addresses_beside read (take s.at all) (take s.at old.text) =
     sym (take-map by s.at rows) ∙ (ap (take s.at) whole ∙ sym (beside_take steps read s.at all old.text)) in

@@ -53,9 +53,9 @@ pieces_along steps read past line state (bytes ∷ lines) rows h =
     (λ i. here i ++ more i)
     ∙ sym (map-append (look past) (spots_in_line steps.next line 0 state cells) (spots_along steps read (line + 1) (state_after steps.next state cells) lines))
 
-pub pieces_are : {State Cell Items : Type 0} (steps : Steps State Cell Items) (read : List ℕ → List Cell) (text : Text)
+pub pasts_of_chain-pieces : {State Cell Items : Type 0} (steps : Steps State Cell Items) (read : List ℕ → List Cell) (text : Text)
     (rows : List (List (Option (Past State)))) (chain : FoldedBlock State) → pasts_of_chain read text rows chain ≡ map (look (past_at rows)) (spots_of steps read text chain)
-pieces_are steps read text rows chain = pieces_along steps read (past_at rows) chain.block.from chain.opening
+pasts_of_chain-pieces steps read text rows chain = pieces_along steps read (past_at rows) chain.block.from chain.opening
     (lines_in text chain.block) (drop chain.block.from rows) (λ i k. ap (λ row. option_flatten (slice_get row k)) (sym (row_drop chain.block.from rows i)))
 
 -- cells of one chain, one after another, each in a list
@@ -123,15 +123,15 @@ place_some : {State : Type 0} (source place : ℕ) (o : Option (Full State)) →
 place_some source place None h = absurd (cc)
 place_some source place (Some x) h = let both = and_parts (x.source == source) (x.place == place) h in (x, refl, eqb-true x.source source both.0, eqb-true x.place place both.1)
 
-pub one_piece : {State : Type 0} (all : List (Full State)) (w : Full State) (m k : ℕ) → Rising all → In w all
+pub is_place-one : {State : Type 0} (all : List (Full State)) (w : Full State) (m k : ℕ) → Rising all → In w all
     → is_place w.source w.place (option_map as_past (find (is_at m k) all)) ≡ ((m == w.line) && (k == w.nth))
-one_piece all w m k h i = same_tests _ _
+is_place-one all w m k h i = same_tests _ _
     (λ e.
     let some = place_some w.source w.place (find (is_at m k) all) e in
     let x = some.0 in
-    let stands = found_in (is_at m k) x all some.1 in
-    let both = and_parts (x.line == m) (x.nth == k) stands.1 in
-    let mine : find (is_of x.source x.place) all ≡ Some x = found_at_place x all h stands.0 in
+    let there = found_in (is_at m k) x all some.1 in
+    let both = and_parts (x.line == m) (x.nth == k) there.1 in
+    let mine : find (is_of x.source x.place) all ≡ Some x = found_at_place x all h there.0 in
     let its : find (is_of w.source w.place) all ≡ Some w = found_at_place w all h i in
     let join : find (is_of x.source x.place) all ≡ find (is_of w.source w.place) all = λ j. find (is_of (some.2 j) (some.3 j)) all in
     let one : x ≡ w = cc in
@@ -156,33 +156,33 @@ spot_piece {State = State} steps read old s spot w h inside i =
     let by : (o : Option ℕ) → is_place w.source w.place (option_and_then (λ m. past_at (rows_of steps read old) m spot.nth) o) ≡ (is_line w.line o && (spot.nth == w.nth)) =
     λ o. elim o as (λ o. is_place w.source w.place (option_and_then (λ m. past_at (rows_of steps read old) m spot.nth) o) ≡ (is_line w.line o && (spot.nth == w.nth))) [
       | None ↦ refl
-      | Some m ↦ ap (is_place w.source w.place) (sym (rows_hold steps read old m spot.nth h)) ∙ one_piece all w m spot.nth rises i
+      | Some m ↦ ap (is_place w.source w.place) (sym (rows_hold steps read old m spot.nth h)) ∙ is_place-one all w m spot.nth rises i
     ] in
     ap (is_place w.source w.place) (carried_rows steps read old s spot.line spot.nth h inside) ∙ by (old_line s spot.line)
 
-pub all_pieces : {State Cell Items : Type 0} (steps : Steps State Cell Items) (read : List ℕ → List Cell) (old : Layout State)
+pub are_places-all : {State Cell Items : Type 0} (steps : Steps State Cell Items) (read : List ℕ → List Cell) (old : Layout State)
     (s : Splice) (source place : ℕ) (spots : List (Spot State)) (ws : List (Full State)) → LiesInOrder old
     → s.at + s.removed ≤ length old.text → Follow (flat_map (full_of steps read old.text) (chains_of old)) source place ws
     → are_places source place (length ws) (map (look (past_at (pasts steps read old s))) spots) ≡ are_carried_from s spots (map as_spot ws)
-all_pieces steps read old s source place [] [] h inside k = refl
-all_pieces steps read old s source place [] (w ∷ ws) h inside k = refl
-all_pieces steps read old s source place (spot ∷ spots) [] h inside k = refl
-all_pieces steps read old s source place (spot ∷ spots) (w ∷ ws) h inside k =
+are_places-all steps read old s source place [] [] h inside k = refl
+are_places-all steps read old s source place [] (w ∷ ws) h inside k = refl
+are_places-all steps read old s source place (spot ∷ spots) [] h inside k = refl
+are_places-all steps read old s source place (spot ∷ spots) (w ∷ ws) h inside k =
     let here : is_place source place (look (past_at (pasts steps read old s)) spot) ≡ is_carried_from s spot (as_spot w) =
     (λ i. is_place (sym k.0.0 i) (sym k.0.1 i) (look (past_at (pasts steps read old s)) spot)) ∙ spot_piece steps read old s spot w h inside k.0.2 in
-    let more = all_pieces steps read old s source (place + 1) spots ws h inside k.1 in
+    let more = are_places-all steps read old s source (place + 1) spots ws h inside k.1 in
     λ i. here i && more i
 
-pub tune_pieces : {State Cell Items : Type 0} (steps : Steps State Cell Items) (read : List ℕ → List Cell) (old : Layout State)
+pub are_places-tune : {State Cell Items : Type 0} (steps : Steps State Cell Items) (read : List ℕ → List Cell) (old : Layout State)
     (s : Splice) (text : Text) (chain was : FoldedBlock State) → LiesInOrder old → s.at + s.removed ≤ length old.text
     → In was (chains_of old) → are_places was.source 0 (length (spots_of steps read old.text was))
     (pasts_of_chain read text (pasts steps read old s) chain) ≡ are_carried_from s (spots_of steps read text chain) (spots_of steps read old.text was)
-tune_pieces steps read old s text chain was h inside i =
+are_places-tune steps read old s text chain was h inside i =
     let ws = full_of steps read old.text was in
     let spots = along_spots steps read was.block.from was.source 0 was.opening (lines_in old.text was.block) in
     let count : length (spots_of steps read old.text was) ≡ length ws = ap length (sym spots) ∙ length-map ws as_spot in
-    (λ j. are_places was.source 0 (count j) (pieces_are steps read text (pasts steps read old s) chain j))
-    ∙ (all_pieces steps read old s was.source 0 (spots_of steps read text chain) ws h inside (chain_follows steps read old.text (chains_of old) was i)
+    (λ j. are_places was.source 0 (count j) (pasts_of_chain-pieces steps read text (pasts steps read old s) chain j))
+    ∙ (are_places-all steps read old s was.source 0 (spots_of steps read text chain) ws h inside (chain_follows steps read old.text (chains_of old) was i)
     ∙ ap (are_carried_from s (spots_of steps read text chain)) spots)
 
 any_alike : {A : Type 0} (p q : A → Bool) (xs : List A) → ((x : A) → In x xs → p x ≡ q x) → list_any p xs ≡ list_any q xs
@@ -197,5 +197,5 @@ pieces_decide steps read old s text chain h inside =
     (λ tune. are_places tune.source 0 (length (spots_of steps read old.text tune)) (pasts_of_chain read text (pasts steps read old s) chain))
     (λ tune. are_carried_from s (spots_of steps read text chain) (spots_of steps read old.text tune))
     tunes
-    (λ was m. tune_pieces steps read old s text chain was h inside (in_right was (header_chain old.first old.header) tunes m)) in
+    (λ was m. are_places-tune steps read old s text chain was h inside (in_right was (header_chain old.first old.header) tunes m)) in
     λ i. (count i == 0) && any i

@@ -49,9 +49,9 @@ fresh_flat steps read state (bytes ∷ lines) rows =
     ap (λ n. fresh_cells_in_line steps state cells (first_row rows) + n) (fresh_flat steps read (state_after steps.next state cells) lines (rest rows))
     ∙ sym (fresh_both steps state cells (flat_map read lines) (first_row rows) (pasts_over read lines (rest rows)))
 
-pub same_test : {State Cell Items : Type 0} (steps : Steps State Cell Items) (a b c d : State) → IsResumable steps
+pub alike-same : {State Cell Items : Type 0} (steps : Steps State Cell Items) (a b c d : State) → IsResumable steps
     → IsTrue (steps.alike a b) → IsTrue (steps.alike c d) → steps.alike a c ≡ steps.alike b d
-same_test steps a b c d one h k = ⊎_elim
+alike-same steps a b c d one h k = ⊎_elim
     (λ (e : steps.alike a c ≡ true). e ∙ sym (one.transitive b c d (one.transitive b a c (one.symmetric a b h) e) k))
     (λ (e : steps.alike a c ≡ false). e ∙ sym (false_from_ne_true (steps.alike b d)
     (λ m. let back : steps.alike a c ≡ true = one.transitive a d c (one.transitive a b d h m) (one.symmetric c d k) in cc)))
@@ -69,7 +69,7 @@ one_step steps a b cell cells kept_states pieces one h go None None m = ap (λ n
 one_step steps a b cell cells kept_states pieces one h go None (Some past) m = absurd m
 one_step steps a b cell cells kept_states pieces one h go (Some held) None m = absurd m
 one_step steps a b cell cells kept_states pieces one h go (Some held) (Some past) m =
-    let tests : steps.alike held.entry a ≡ steps.alike past.entered b = same_test steps held.entry past.entered a b one m.0 h in
+    let tests : steps.alike held.entry a ≡ steps.alike past.entered b = alike-same steps held.entry past.entered a b one m.0 h in
     ⊎_elim
     (λ (e : steps.alike past.entered b ≡ true).
     let first : steps.alike held.entry a ≡ true = tests ∙ e in
@@ -167,8 +167,8 @@ source_is steps read text chain x h =
 named_by : {State Cell Items : Type 0} (steps : Steps State Cell Items) (read : List ℕ → List Cell) (old : Layout State)
     (line nth : ℕ) (past : Past State) (was chain : FoldedBlock State) (x : Full State) → Contains (chains_of old) was
     → was.source ≡ past.source → as_past x ≡ past → is_at line nth x ≡ true → In chain (chains_of old) → In x (full_of steps read old.text chain) → Named steps read old.text line nth past was
-named_by {State = State} steps read old line nth past was chain x member source e stands own inside =
-    let both = and_parts (x.line == line) (x.nth == nth) stands in
+named_by {State = State} steps read old line nth past was chain x member source e is_there own inside =
+    let both = and_parts (x.line == line) (x.nth == nth) is_there in
     let a : chain.source ≡ was.source = sym (source_is steps read old.text chain x inside) ∙ (ap (λ p. p.source) e ∙ sym source) in
     let same : chain ≡ was = one_source 0 (chains_of old) chain was (sources_rise old) own (in_from_contains was (chains_of old) member.0 member.1 member.2) a in
     let cells = full_of steps read old.text was in
@@ -190,7 +190,7 @@ pub record Found {State Cell Items : Type 0} (steps : Steps State Cell Items) (r
   pub cell : Full State
   pub chain : FoldedBlock State
   pub is : as_past cell ≡ past
-  pub stands : is_at line nth cell ≡ true
+  pub is_there : is_at line nth cell ≡ true
   pub among : In chain (chains_of old)
   pub inside : In cell (full_of steps read old.text chain)
 
@@ -199,16 +199,16 @@ pub found_past : {State Cell Items : Type 0} (steps : Steps State Cell Items) (r
 found_past steps read old line nth past h e =
     let all = flat_map (full_of steps read old.text) (chains_of old) in
     let some = some_past (find (is_at line nth) all) past (rows_hold steps read old line nth h ∙ e) in
-    let stands = found_in (is_at line nth) some.0 all some.1 in
-    let own = from_flat (full_of steps read old.text) (chains_of old) some.0 stands.0 in
-    record { cell = some.0; chain = own.0; is = some.2; stands = stands.1; among = own.1; inside = own.2 }
+    let is_there = found_in (is_at line nth) some.0 all some.1 in
+    let own = from_flat (full_of steps read old.text) (chains_of old) some.0 is_there.0 in
+    record { cell = some.0; chain = own.0; is = some.2; is_there = is_there.1; among = own.1; inside = own.2 }
 
 pub named : {State Cell Items : Type 0} (steps : Steps State Cell Items) (read : List ℕ → List Cell) (old : Layout State)
     (line nth : ℕ) (past : Past State) (was : FoldedBlock State) → LiesInOrder old → Contains (chains_of old) was
     → was.source ≡ past.source → past_at (rows_of steps read old) line nth ≡ Some past → Named steps read old.text line nth past was
 named steps read old line nth past was h member source e =
     let found = found_past steps read old line nth past h e in
-    named_by steps read old line nth past was found.chain found.cell member source found.is found.stands found.among found.inside
+    named_by steps read old line nth past was found.chain found.cell member source found.is found.is_there found.among found.inside
 
 pub pasts_name_cells : {State Cell Items : Type 0} → PastsNameCells State Cell Items
 pasts_name_cells {State = State} steps read old line nth past was h member source e =

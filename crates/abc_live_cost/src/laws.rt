@@ -41,8 +41,8 @@ pub fn lines_suffice<State, Cell, Items>()
 
 /// The origins of lines agree with the rows, and the old chains have the states of the pasts.
 pub fn origins_agree<State, Cell, Items>()
-    ensures stand { OriginsAgree State Cell Items }
-    ensures held { PastsHaveStates State Cell Items }
+    ensures origins { OriginsAgree State Cell Items }
+    ensures pasts { PastsHaveStates State Cell Items }
 {}
 
 /// A past is the cell of the chain and place that it names.

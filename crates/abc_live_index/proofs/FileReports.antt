@@ -57,8 +57,8 @@ lt_or_same : (m n : ℕ) → m < n + 1 → (m < n) ⊎ (m ≡ n)
 lt_or_same m n order = elim (cases_lt m n) [ inl less ↦ inl less | inr following ↦ inr (omega (arith, order, following)) ]
 
 -- the numbers that have an owner are those that have a file
-pub keys_are : (outputs : List Output) (owners : Owners) → owners ≡ owners_of outputs → keys_of owners ≡ keys_of (files_of outputs)
-keys_are outputs owners are = ap (λ (o : Owners). keys_of o) are ∙ keys_agree outputs
+pub keys_of-owners : (outputs : List Output) (owners : Owners) → owners ≡ owners_of outputs → keys_of owners ≡ keys_of (files_of outputs)
+keys_of-owners outputs owners are = ap (λ (o : Owners). keys_of o) are ∙ keys_agree outputs
 
 gone_step : (outputs : List Output) (n : ℕ) (owner : Option ℕ) (file : Option (List ℕ)) → Answers outputs n owner file → not (is_some owner) ≡ not (is_some file)
 gone_step outputs n None None says = refl
@@ -72,10 +72,10 @@ owner_gone outputs n owners are =
     ap (λ (o : Owners). not (is_some (owner_at o n))) are ∙ gone_step outputs n (owner_at (owners_of outputs) n) (file_at (files_of outputs) n) (owner_answers outputs n)
 
 -- the numbers that have no owner any more have lost their file
-pub owners_lost : (before after : List Output) (numbers : List ℕ) (owners : Owners) → owners ≡ owners_of after → numbers ≡ keys_of (files_of before)
+pub filter-owners_lost : (before after : List Output) (numbers : List ℕ) (owners : Owners) → owners ≡ owners_of after → numbers ≡ keys_of (files_of before)
     → filter (λ n. not (is_some (owner_at owners n))) numbers ≡ removed_numbers (files_of before) (files_of after)
 unfolding removed_numbers
-owners_lost before after numbers owners are all =
+filter-owners_lost before after numbers owners are all =
     filter_agree (λ n. not (is_some (owner_at owners n))) (λ n. not (is_some (file_at (files_of after) n))) (λ n. owner_gone after n owners are) numbers
     ∙ ap (filter (λ n. not (is_some (file_at (files_of after) n)))) all
 
@@ -89,9 +89,9 @@ module _ (before after : List Output) where
       ∙ ap (option_and_then (bytes_at after)) was ∙ ap (λ (o : Owners). option_and_then (bytes_at after) (owner_at o n)) late ∙ file_by_owner after n)
 
   -- else its files are what the two give
-  pub owner_tells : (n : ℕ) (old new : Option ℕ) (first last : Owners) → first ≡ owners_of before → last ≡ owners_of after → old ≡ owner_at first n → new ≡ owner_at last n
+  pub not_owner_differs : (n : ℕ) (old new : Option ℕ) (first last : Owners) → first ≡ owners_of before → last ≡ owners_of after → old ≡ owner_at first n → new ≡ owner_at last n
       → not (option_eq bytes_eq (option_and_then (bytes_at before) old) (option_and_then (bytes_at after) new)) ≡ not (option_eq bytes_eq (file_at (files_of before) n) (file_at (files_of after) n))
-  owner_tells n old new first last early late is was =
+  not_owner_differs n old new first last early late is was =
       let one : option_and_then (bytes_at before) old ≡ file_at (files_of before) n =
       ap (option_and_then (bytes_at before)) is ∙ ap (λ (o : Owners). option_and_then (bytes_at before) (owner_at o n)) early ∙ file_by_owner before n in
       let other : option_and_then (bytes_at after) new ≡ file_at (files_of after) n =
@@ -266,8 +266,8 @@ module _ (before after : List Output) where
           found_all found sorted are rises ordered (λ n. subst (λ (l : List ℕ). Contains l n ↔ Contains found n) (sym is) (sorted_members found n))
 
     -- the numbers that have a file are those that owners had before
-    pub keys_stay : (owners : Owners) → owners ≡ owners_of before → keys_of owners ≡ keys_of (files_of after)
-    keys_stay owners are = ap (λ (o : Owners). keys_of o) (are ∙ same_owners) ∙ keys_agree after
+    pub keys_of-stay : (owners : Owners) → owners ≡ owners_of before → keys_of owners ≡ keys_of (files_of after)
+    keys_of-stay owners are = ap (λ (o : Owners). keys_of o) (are ∙ same_owners) ∙ keys_agree after
 
     -- and no number has lost its file
     pub none_lost : [] ≡ removed_numbers (files_of before) (files_of after)

@@ -11,6 +11,7 @@ pub mod ChainOutputs
 pub mod OutputLists
 pub mod OutputPlaces
 pub mod FileOwners
+pub mod FirstOwners
 pub mod Places
 pub mod FaultPlaces
 pub mod FileReports

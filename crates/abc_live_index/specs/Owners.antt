@@ -1,5 +1,6 @@
 -- Which tune gives the file of each number. Not in ABC 2.1.
-use Rattle.std.specs.Prelude.{ℕ, ◌+◌, ◌==◌, if◌then◌else◌, List, [], ◌∷◌, map, is_some, Option, option_and_then, slice_get}
+use Rattle.std.specs.Prelude.{ℕ, ◌+◌, ◌==◌, ◌&&◌, if◌then◌else◌, List, [], ◌∷◌, map, is_some, Option, Some, None, option_and_then}
+use Rattle.std.specs.Prelude.{slice_get}
 use Rattle.std.specs.BTreeMap.{insert_entry}
 use Rattle.std.specs.Map.{lookup}
 use Rattle.std.specs.Ordering.{nat_cmp}
@@ -42,3 +43,13 @@ owners_of outputs = owners_after [] 0 (claims_of outputs)
 -- The file that the tune at a place gives, if it gives one.
 abbrev pub bytes_at : List Output → ℕ → Option (List ℕ)
 bytes_at outputs place = option_and_then (λ output. output.built.bytes) (slice_get outputs place)
+
+-- The index of the first element that has a number and a file, of elements whose first has the index `at`.
+abbrev pub owner_by : {A : Type 0} → (A → ℕ) → (A → Option (List ℕ)) → ℕ → List A → ℕ → Option ℕ
+owner_by number_of file_of at [] number = None
+owner_by number_of file_of at (one ∷ rest) number =
+    if (number_of one == number) && is_some (file_of one) then Some at else owner_by number_of file_of (at + 1) rest number
+
+-- The index of the tune that gives the file of a number: the first of its tunes that has one.
+abbrev pub owner_among : List Output → ℕ → Option ℕ
+owner_among outputs number = owner_by (λ output. output.number) (λ output. output.built.bytes) 0 outputs number

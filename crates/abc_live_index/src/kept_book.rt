@@ -8,7 +8,7 @@ ghost use Rattle.abc_lines.specs.ItemRange.{removed_count};
 ghost use Rattle.abc_live_index.specs.TuneChange.{IsChange, new_outputs, old_outputs};
 ghost use Rattle.abc_live_index.specs.Faults.{faults_after};
 ghost use Rattle.abc_live_index.specs.Outputs.{files_of, titles_of};
-ghost use Rattle.abc_live_index.specs.Owners.{owners_of};
+ghost use Rattle.abc_live_index.specs.Owners.{owner_among, owners_of};
 ghost use Rattle.abc_live_index.specs.Titles.{TitlesFit, titles_after};
 ghost use Rattle.abc_tune_compiler.specs.Files.{file_at};
 ghost use Rattle.abc_tune_compiler.specs.Report.{Reports};
@@ -27,8 +27,8 @@ use abc_tune_compiler::{Fault, Report, Title};
 use std::alloc::{AllocError, Global};
 use std::marker::Model;
 
-/// The files, titles and faults of a text. Contracts see what each tune gives and the faults: the files and the titles
-/// are what the tunes give.
+/// The files, titles and faults of a text. Contracts see the output of each tune and the faults: the files and the
+/// titles are those of the outputs.
 #[derive(Drop)]
 pub struct KeptBook {
     outputs: GapList<Shared<Output>>,
@@ -82,7 +82,7 @@ struct Differences {
 }
 
 impl KeptBook {
-    /// Returns the book of no tunes. It allocates nothing yet.
+    /// Returns the book of no tunes. It allocates nothing yet, so it never fails.
     pub fn new(alloc: Global) -> Result<KeptBook, AllocError>
         ensures succeeds { IsOk result }
         ensures outputs { IfOk result (λ book. book.outputs.items ≡ []) }
@@ -103,11 +103,18 @@ impl KeptBook {
         &self.outputs
     }
 
-    /// Returns the file of a number, if it has one.
+    /// Returns the file of a number: that of the first tune of the number that has one. None if no tune has.
     pub fn file(&self, number: u32) -> Option<&[u8]>
         ensures { option_copied result ≡ file_at (files_of self.now.outputs.items) number }
     {
         file_of(&self.outputs, self.owners.get(number))
+    }
+
+    /// Returns the index of the tune that gives the file of a number: the first of its tunes that has one. None if no tune has.
+    pub fn owner(&self, number: u32) -> Option<usize>
+        ensures { result ≡ owner_among self.now.outputs.items number }
+    {
+        self.owners.get(number)
     }
 
     /// Returns the numbers that have a file, rising.
@@ -132,7 +139,7 @@ impl KeptBook {
         &self.faults
     }
 
-    /// Prepares to replace old tunes and faults by new ones. Nothing changes.
+    /// Prepares to replace old tunes and faults by new ones. Nothing changes. The only error is a failed allocation.
     pub fn prepare(&self, alloc: Global, tunes: NewTunes) -> Result<BookPatch, AllocError>
         requires order { tunes.range.from ≤ tunes.range.to }
         requires inside { tunes.range.to ≤ length self.now.outputs.items }
@@ -229,7 +236,7 @@ impl KeptBook {
         } = differences;
         self.outputs.commit(outputs);
         self.owners.replace_by(owners);
-        titles.put_in_place(&mut self.titles);
+        titles.commit(&mut self.titles);
         self.faults = faults;
         report
     }

@@ -1,4 +1,4 @@
-//! What the tunes of a stretch give, whatever their places in the text.
+//! The outputs of the tunes of a stretch, whatever their places in the text.
 
 ghost use Rattle.std.specs.Prelude.{◌≡◌, ◌<◌, IfOk, Some, length, map, option_copied, slice_get, true};
 ghost use Rattle.std.specs.List.{AllZip, list_all};
@@ -17,7 +17,7 @@ use abc_tune_compiler::Compiler;
 use abc_tune_memo::TuneMemo;
 use std::alloc::{AllocError, Global};
 
-/// What the old tune at index `place` gives.
+/// Returns the output of the old tune at index `place`.
 fn shared_at(outputs: &GapList<Shared<Output>>, place: usize) -> Result<Shared<Output>, AllocError>
     requires { place < length outputs.now.items }
     ensures { IfOk result (λ output. slice_get outputs.now.items place ≡ Some output) }
@@ -25,7 +25,7 @@ fn shared_at(outputs: &GapList<Shared<Output>>, place: usize) -> Result<Shared<O
     outputs.get(place).unwrap().share()
 }
 
-/// The chain of the tune at index `place`.
+/// Returns the chain of the tune at index `place`.
 fn chain_at<C: Compiler>(chains: &[Shared<Chain<C>>], place: usize) -> &Chain<C>
     requires { place < length chains.now }
     ensures { slice_get chains.now place ≡ Some result.now }
@@ -33,7 +33,7 @@ fn chain_at<C: Compiler>(chains: &[Shared<Chain<C>>], place: usize) -> &Chain<C>
     chains[place].get()
 }
 
-/// What the tune at index `place` gives, with what the memo answers for it.
+/// Returns the output of the tune at index `place`, with the memo's answer for it.
 fn output_at<C: Compiler>(
     compiler: &C,
     alloc: Global,
@@ -60,8 +60,8 @@ fn output_at<C: Compiler>(
     Shared::new(alloc, Output::of(compiler, alloc, &items, built)?)
 }
 
-/// What the tunes of a stretch give, in order: the output of an old tune if one is reused, else what the memo answers.
-/// The compiler builds at most the others, on every path.
+/// Returns the outputs of the tunes of a stretch, in order: that of an old tune if one is reused, else the memo's answer.
+/// The only error is a failed allocation. On every path the compiler builds at most the tunes that reuse none.
 pub fn outputs_of<C: Compiler>(
     compiler: &C,
     alloc: Global,

@@ -75,7 +75,7 @@ pub(crate) fn report_within(
 }
 
 /// Whether the file of a number differs after a change. The bytes are compared only if another tune may give them.
-#[tactic(auto, using(crate::proofs::FileReports::owner_kept, crate::proofs::FileReports::owner_tells))]
+#[tactic(auto, using(crate::proofs::FileReports::owner_kept, crate::proofs::FileReports::not_owner_differs))]
 fn differs(change: &TuneChange, before: &Owners, after: &Owners, number: u32) -> bool
     requires change { IsChange change.now }
     requires before { before.now ≡ owners_of (old_outputs change.now) }

@@ -79,7 +79,7 @@ fn put_of_place<C: Compiler>(
     Ok(())
 }
 
-/// Appends the faults of the tunes of a stretch, which give these. If an allocation fails, nothing is appended.
+/// Appends the faults of the tunes of a stretch, by their outputs. If an allocation fails, nothing is appended.
 pub fn put_tune_faults<C: Compiler>(
     compiler: &C,
     faults: &mut Vec<Fault>,

@@ -67,7 +67,7 @@ impl NewTitles {
     }
 
     /// Commits the titles without allocating.
-    pub(crate) fn put_in_place(self, titles: &mut Vec<Title>)
+    pub(crate) fn commit(self, titles: &mut Vec<Title>)
         requires { TitlesFit titles.old.items self }
         ensures { titles.new.items ≡ titles_after titles.old.items self }
     {

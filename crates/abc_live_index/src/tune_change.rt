@@ -1,6 +1,6 @@
 //! The tunes of a book before a change and after it.
 
-ghost use Rattle.std.specs.Prelude.{◌≡◌, ◌-◌, ◌<◌, Some, true, length, option_and_then, option_copied, option_map, slice_get};
+ghost use Rattle.std.specs.Prelude.{◌≡◌, ◌↔◌, ◌-◌, ◌<◌, Some, true, length, option_and_then, option_copied, option_map, slice_get};
 ghost use Rattle.std.specs.Option.{option_eq};
 ghost use Rattle.std.specs.Str.{bytes_eq};
 ghost use Rattle.abc_live_index.specs.TuneChange.{IsChange, new_outputs, old_outputs};
@@ -107,7 +107,7 @@ impl TuneChange<'_> {
     /// Whether the count of tunes is unchanged.
     pub(crate) fn keeps_count(&self) -> bool
         requires { IsChange self.now }
-        ensures { result ≡ true → self.now.tunes.came ≡ self.now.tunes.to - self.now.tunes.from }
+        ensures exact { (result ≡ true) ↔ (self.now.tunes.came ≡ self.now.tunes.to - self.now.tunes.from) }
     {
         self.tunes.came == self.tunes.to - self.tunes.from
     }

@@ -10,7 +10,7 @@ use Rattle.std.proofs.lemmas.List.Elements.{All-append, All-contains, All-contai
 use Rattle.abc_book.specs.declared.block.Block.{Block}
 use Rattle.abc_live_text.specs.Chains.{AreChains, IsHeaderChainOf}
 use Rattle.abc_lines.specs.ItemRange.{removed_count}
-use Rattle.abc_live_text.specs.KeptText.{KeptPatchView, HoldsHeader, KeepsHeader, block_after}
+use Rattle.abc_live_text.specs.KeptText.{TextPatchView, HoldsHeader, KeepsHeader, block_after}
 use Rattle.abc_fold.specs.Chain.{ChainView}
 use Rattle.abc_fold.specs.Steps.{Steps, IsAlike, IsResumable}
 use Rattle.abc_live_index.specs.Faults.{shifted_fault, faults_after}
@@ -20,9 +20,9 @@ use Rattle.abc_live_index.proofs.ReplacedFaults.{faults_meet}
 use Rattle.abc_lines.specs.Text.{Splice, Text}
 use Rattle.abc_live_session.specs.Prepared.{IsBook, IsPrepared, header_faults_there}
 use Rattle.abc_live_session.proofs.AlikeStates.{tunes_alike}
-use Rattle.abc_live_session.proofs.FaultLines.{header_stands, same_after, same_header_faults, same_tunes, shifted_tunes, tunes_stand}
+use Rattle.abc_live_session.proofs.FaultLines.{header_faults_hold, state_after_header_same, header_faults-same, same_tunes, shifted_tunes, tune_faults_hold}
 use Rattle.abc_live_session.proofs.TunePlaces.{LiesIn, header_lies}
-use Rattle.abc_live_session.proofs.Parts.{tells_of, tune_chains}
+use Rattle.abc_live_session.proofs.Parts.{outputs_agree, tune_chains}
 use Rattle.abc_live_session.proofs.Stretches.{first_is, made_chains, old_lie, old_stretch, parts_lie, places_lie, still_alike}
 use Rattle.abc_live_index.specs.Output.{output_in}
 use Rattle.abc_live_index.specs.Tunes.{LiesAmong, OutputAgrees, cell_faults_by, counts_among, faults_by, faults_of_tunes}
@@ -83,7 +83,7 @@ module _ {State Cell Items Defaults : Type 0} (steps : Steps State Cell Items) (
     book_is chains outputs found are outputs_are found_is =
         let tunes = map (tune_of steps.next steps.gives rules (opening_of steps.next rules text (blocks_in rules text)) text) (tunes_in (blocks_in rules text)) in
         let tells = subst (λ (given : List Output). AllZip OutputAgrees given tunes) (sym outputs_are)
-        (tells_of steps rules text (opening_of steps.next rules text (blocks_in rules text)) (drop 1 chains) (tunes_in (blocks_in rules text)) (tune_chains steps rules text chains are)) in
+        (outputs_agree steps rules text (opening_of steps.next rules text (blocks_in rules text)) (drop 1 chains) (tunes_in (blocks_in rules text)) (tune_chains steps rules text chains are)) in
         record {
           files = files_follow outputs tunes tells;
           titles = titles_follow outputs tunes tells;
@@ -99,10 +99,10 @@ module _ {State Cell Items Defaults : Type 0} (steps : Steps State Cell Items) (
         let found = faults_found header tunes in
         let all : All P found =
         All-append P (header_faults steps.next steps.gives rules text header) (tune_faults (opening_of steps.next rules text (blocks_in rules text)) text tunes)
-        (header_stands steps rules text P header header_lies
-        (λ block is fault stands. let lies = subst (λ h. IfSome h (LiesIn (length text))) is header_lies in let within = lies.within in let below = stands.1 in omega (arith, within, below)))
-        (tunes_stand steps rules (opening_of steps.next rules text (blocks_in rules text)) text P tunes tunes_lie
-        (λ k d inside. λ fault stands. let within = (tunes_lie k d inside).within in let below = stands.1 in omega (arith, within, below))) in
+        (header_faults_hold steps rules text P header header_lies
+        (λ block is fault bounds. let lies = subst (λ h. IfSome h (LiesIn (length text))) is header_lies in let within = lies.within in let below = bounds.1 in omega (arith, within, below)))
+        (tune_faults_hold steps rules (opening_of steps.next rules text (blocks_in rules text)) text P tunes tunes_lie
+        (λ k d inside. λ fault bounds. let within = (tunes_lie k d inside).within in let below = bounds.1 in omega (arith, within, below))) in
         subst (All P) (sym (book_faults header tunes header_is tunes_are))
         (λ k d inside. All-contains P found _ all ((no_fault_lost found _).0 (All-contains_itself (sort_dedup fault_cmp found) k d inside)))
 
@@ -124,7 +124,7 @@ module _ {State Cell Items Defaults : Type 0} (steps : Steps State Cell Items) (
   header_before from counts first None before = refl
   header_before from counts first (Some block) before = if_not_below from block.to (cell_faults_by rules from counts first block) [] (before block refl)
 
-  module _ {C : Type 0} (s : Splice) (patch : KeptPatchView C State Cell Items) (is : IsPrepared steps rules s patch)
+  module _ {C : Type 0} (s : Splice) (patch : TextPatchView C State Cell Items) (is : IsPrepared steps rules s patch)
       (first : ChainView State Cell Items) (there : slice_get patch.chains 0 ≡ Some first) where
     -- the faults that the stretch has
     abbrev pub new_faults : List Fault
@@ -142,21 +142,21 @@ module _ {State Cell Items Defaults : Type 0} (steps : Steps State Cell Items) (
 
     own_stand : All (FaultAmong patch.stretch.lines.from patch.stretch.lines.came) (tune_faults (opening_of steps.next rules patch.text (blocks_in rules patch.text)) patch.text patch.places)
     own_stand =
-        tunes_stand steps rules (opening_of steps.next rules patch.text (blocks_in rules patch.text)) patch.text
+        tune_faults_hold steps rules (opening_of steps.next rules patch.text (blocks_in rules patch.text)) patch.text
         (FaultAmong patch.stretch.lines.from patch.stretch.lines.came) patch.places (parts_lie steps rules s patch is)
-        (λ k d inside. λ fault stands.
+        (λ k d inside. λ fault bounds.
         let lies = places_lie steps rules s patch is k d inside in
         let following = lies.following in
         let within = lies.within in
-        let least = stands.0 in
-        let most = stands.1 in
+        let least = bounds.0 in
+        let most = bounds.1 in
         (omega (arith, following, least), omega (arith, within, most)))
 
     old_header : IfSome patch.on.header (LiesIn (length patch.on.lines.text))
-    old_header = header_lies rules.class patch.on.lines.text patch.on.header is.stood.header_is
+    old_header = header_lies rules.class patch.on.lines.text patch.on.header is.old_parts.header_is
 
     new_header : IfSome patch.header (LiesIn (length patch.text))
-    new_header = header_lies rules.class patch.text patch.header is.stands.header_is
+    new_header = header_lies rules.class patch.text patch.header is.new_parts.header_is
 
     abbrev start : State
     start = opening_of steps.next rules patch.on.lines.text (blocks_in rules patch.on.lines.text)
@@ -188,23 +188,23 @@ module _ {State Cell Items Defaults : Type 0} (steps : Steps State Cell Items) (
     amid_stand : All (FaultAmong patch.stretch.lines.from (removed_count patch.stretch.lines))
         (old_faults (take (patch.stretch.tunes.to - patch.stretch.tunes.from) (drop patch.stretch.tunes.from patch.on.tunes)))
     amid_stand =
-        tunes_stand steps rules start patch.on.lines.text (FaultAmong patch.stretch.lines.from (removed_count patch.stretch.lines))
+        tune_faults_hold steps rules start patch.on.lines.text (FaultAmong patch.stretch.lines.from (removed_count patch.stretch.lines))
         (take (patch.stretch.tunes.to - patch.stretch.tunes.from) (drop patch.stretch.tunes.from patch.on.tunes)) amid_lie
-        (λ k d inside. λ fault stands.
+        (λ k d inside. λ fault bounds.
         let own = is.in_stretch.amid k d inside in
         let following = own.0 in
         let before = own.1 in
-        let least = stands.0 in
-        let most = stands.1 in
+        let least = bounds.0 in
+        let most = bounds.1 in
         let end = end_is in
         (omega (arith, following, least), omega (arith, before, most, end)))
 
     after_stand : All (FaultAfter (patch.stretch.lines.from + removed_count patch.stretch.lines)) (old_faults (drop patch.stretch.tunes.to patch.on.tunes))
     after_stand =
-        tunes_stand steps rules start patch.on.lines.text (FaultAfter (patch.stretch.lines.from + removed_count patch.stretch.lines)) (drop patch.stretch.tunes.to patch.on.tunes) after_lie
-        (λ k d inside. λ fault stands.
+        tune_faults_hold steps rules start patch.on.lines.text (FaultAfter (patch.stretch.lines.from + removed_count patch.stretch.lines)) (drop patch.stretch.tunes.to patch.on.tunes) after_lie
+        (λ k d inside. λ fault bounds.
         let following = is.in_stretch.beyond k d inside in
-        let least = stands.0 in
+        let least = bounds.0 in
         let end = end_is in
         omega (arith, following, least, end))
 
@@ -262,11 +262,11 @@ module _ {State Cell Items Defaults : Type 0} (steps : Steps State Cell Items) (
       holds_stand =
           let P = FaultAmong patch.stretch.lines.from patch.stretch.lines.came in
           All-append P _ _
-          (subst (All P) (sym holds_header) (header_stands steps rules patch.text P patch.header new_header
-          (λ block is_some fault stands.
+          (subst (All P) (sym holds_header) (header_faults_hold steps rules patch.text P patch.header new_header
+          (λ block is_some fault bounds.
           let ends = holds.comes block is_some in
-          let least = stands.0 in
-          let most = stands.1 in
+          let least = bounds.0 in
+          let most = bounds.1 in
           let none = holds.from in
           (omega (arith, least, none), omega (arith, most, ends, none)))))
           (subst (All P) (sym own_faults) own_stand)
@@ -276,12 +276,12 @@ module _ {State Cell Items Defaults : Type 0} (steps : Steps State Cell Items) (
       holds_old =
           let P = FaultAmong patch.stretch.lines.from (removed_count patch.stretch.lines) in
           All-append P (header_faults steps.next steps.gives rules patch.on.lines.text patch.on.header) (old_faults amid_tunes)
-          (header_stands steps rules patch.on.lines.text P patch.on.header old_header
-          (λ block is_some fault stands.
+          (header_faults_hold steps rules patch.on.lines.text P patch.on.header old_header
+          (λ block is_some fault bounds.
           let ends = holds.goes block is_some in
           let end = end_is in
-          let least = stands.0 in
-          let most = stands.1 in
+          let least = bounds.0 in
+          let most = bounds.1 in
           let none = holds.from in
           (omega (arith, least, none), omega (arith, most, ends, end))))
           amid_stand
@@ -298,20 +298,20 @@ module _ {State Cell Items Defaults : Type 0} (steps : Steps State Cell Items) (
           (book_of steps rules patch.on.lines.text).faults new_faults ≡ (book_of steps rules patch.text).faults
       holds_meets laws =
           ap (λ faults. faults_after patch.stretch.lines faults new_faults)
-          (book_faults patch.on.lines.text patch.on.header patch.on.tunes is.stood.header_is is.stood.tunes_are ∙ ap (sort_dedup fault_cmp) holds_was)
+          (book_faults patch.on.lines.text patch.on.header patch.on.tunes is.old_parts.header_is is.old_parts.tunes_are ∙ ap (sort_dedup fault_cmp) holds_was)
           ∙ faults_meet patch.stretch.lines []
           (header_faults steps.next steps.gives rules patch.on.lines.text patch.on.header ++ old_faults amid_tunes) (old_faults after_tunes) new_faults
           (All-nil (FaultBefore patch.stretch.lines.from)) holds_old after_stand holds_stand
           ∙ ap (sort_dedup fault_cmp) (sym (holds_new laws))
-          ∙ sym (book_faults patch.text patch.header patch.tunes is.stands.header_is is.stands.tunes_are)
+          ∙ sym (book_faults patch.text patch.header patch.tunes is.new_parts.header_is is.new_parts.tunes_are)
 
     -- if the file header stays
     module _ (keeps : KeepsHeader patch) where
       start_same : opening_of steps.next rules patch.text (blocks_in rules patch.text) ≡ opening_of steps.next rules patch.on.lines.text (blocks_in rules patch.on.lines.text)
       start_same =
-          ap (λ h. rules.tune (state_after_header steps.next rules patch.text h)) (sym is.stands.header_is ∙ keeps.header)
-          ∙ ap rules.tune (same_after steps rules patch.on.lines.text patch.text patch.stretch.lines.from patch.on.header is.in_stretch.lines_before keeps.before old_header)
-          ∙ ap (λ h. rules.tune (state_after_header steps.next rules patch.on.lines.text h)) is.stood.header_is
+          ap (λ h. rules.tune (state_after_header steps.next rules patch.text h)) (sym is.new_parts.header_is ∙ keeps.header)
+          ∙ ap rules.tune (state_after_header_same steps rules patch.on.lines.text patch.text patch.stretch.lines.from patch.on.header is.in_stretch.lines_before keeps.before old_header)
+          ∙ ap (λ h. rules.tune (state_after_header steps.next rules patch.on.lines.text h)) is.old_parts.header_is
 
       front_lie : All (LiesIn (length patch.on.lines.text)) (take patch.stretch.tunes.from patch.on.tunes)
       front_lie = All-take (LiesIn (length patch.on.lines.text)) patch.stretch.tunes.from patch.on.tunes (old_lie steps rules s patch is)
@@ -321,15 +321,15 @@ module _ {State Cell Items Defaults : Type 0} (steps : Steps State Cell Items) (
       front_stand =
           let P = FaultBefore patch.stretch.lines.from in
           All-append P (header_faults steps.next steps.gives rules patch.on.lines.text patch.on.header) (old_faults (take patch.stretch.tunes.from patch.on.tunes))
-          (header_stands steps rules patch.on.lines.text P patch.on.header old_header
-          (λ block is_some fault stands.
+          (header_faults_hold steps rules patch.on.lines.text P patch.on.header old_header
+          (λ block is_some fault bounds.
           let before = keeps.before block is_some in
-          let most = stands.1 in
+          let most = bounds.1 in
           omega (arith, before, most)))
-          (tunes_stand steps rules start patch.on.lines.text P (take patch.stretch.tunes.from patch.on.tunes) front_lie
-          (λ k d inside. λ fault stands.
+          (tune_faults_hold steps rules start patch.on.lines.text P (take patch.stretch.tunes.from patch.on.tunes) front_lie
+          (λ k d inside. λ fault bounds.
           let before = is.in_stretch.before k d inside in
-          let most = stands.1 in
+          let most = bounds.1 in
           omega (arith, before, most)))
 
       kept_new : new_faults ≡ tune_faults (opening_of steps.next rules patch.text (blocks_in rules patch.text)) patch.text patch.places
@@ -350,7 +350,7 @@ module _ {State Cell Items Defaults : Type 0} (steps : Steps State Cell Items) (
       new_header_is : header_faults steps.next steps.gives rules patch.text patch.header ≡ header_faults steps.next steps.gives rules patch.on.lines.text patch.on.header
       new_header_is =
           ap (header_faults steps.next steps.gives rules patch.text) keeps.header
-          ∙ same_header_faults steps rules patch.on.lines.text patch.text patch.stretch.lines.from patch.on.header is.in_stretch.lines_before keeps.before old_header
+          ∙ header_faults-same steps rules patch.on.lines.text patch.text patch.stretch.lines.from patch.on.header is.in_stretch.lines_before keeps.before old_header
 
       new_front : tune_faults (opening_of steps.next rules patch.text (blocks_in rules patch.text)) patch.text front_tunes ≡ old_faults front_tunes
       new_front =
@@ -379,12 +379,12 @@ module _ {State Cell Items Defaults : Type 0} (steps : Steps State Cell Items) (
       kept_meets : faults_after patch.stretch.lines (book_of steps rules patch.on.lines.text).faults new_faults ≡ (book_of steps rules patch.text).faults
       kept_meets =
           ap (λ faults. faults_after patch.stretch.lines faults new_faults)
-          (book_faults patch.on.lines.text patch.on.header patch.on.tunes is.stood.header_is is.stood.tunes_are ∙ ap (sort_dedup fault_cmp) old_is)
+          (book_faults patch.on.lines.text patch.on.header patch.on.tunes is.old_parts.header_is is.old_parts.tunes_are ∙ ap (sort_dedup fault_cmp) old_is)
           ∙ faults_meet patch.stretch.lines
           (header_faults steps.next steps.gives rules patch.on.lines.text patch.on.header ++ old_faults front_tunes) (old_faults amid_tunes) (old_faults after_tunes) new_faults
           front_stand amid_stand after_stand (subst (All (FaultAmong patch.stretch.lines.from patch.stretch.lines.came)) (sym kept_new) own_stand)
           ∙ ap (sort_dedup fault_cmp) (sym new_is)
-          ∙ sym (book_faults patch.text patch.header patch.tunes is.stands.header_is is.stands.tunes_are)
+          ∙ sym (book_faults patch.text patch.header patch.tunes is.new_parts.header_is is.new_parts.tunes_are)
 
     meets : IsResumable steps → HoldsHeader patch ⊎ KeepsHeader patch
         → faults_after patch.stretch.lines (book_of steps rules patch.on.lines.text).faults new_faults ≡ (book_of steps rules patch.text).faults
@@ -392,6 +392,6 @@ module _ {State Cell Items Defaults : Type 0} (steps : Steps State Cell Items) (
     meets laws (inr keeps) = kept_meets keeps
 
     -- the faults of the new text
-    pub faults_are : IsResumable steps → faults_after patch.stretch.lines
+    pub faults_after-are : IsResumable steps → faults_after patch.stretch.lines
         (book_of steps rules patch.on.lines.text).faults new_faults ≡ (book_of steps rules patch.text).faults
-    faults_are laws = meets laws is.in_stretch.header_is
+    faults_after-are laws = meets laws is.in_stretch.header_is

@@ -2,7 +2,7 @@
 use Rattle.std.proofs.Common.{◌≡◌, ℕ, zero, suc, ◌+◌, ◌-◌, ◌≤◌, List, ◌++◌, length, Option, Some, None, Err, refl, sym, ap, subst}
 use Rattle.std.proofs.Common.{arith}
 use Rattle.std.proofs.lemmas.List.Sums.{sum_by-append, sum_by-cons}
-use Rattle.abc_live_text.specs.KeptText.{KeptPatchView, IsWorkUpTo, all_reused_tunes, kept_numbers}
+use Rattle.abc_live_text.specs.KeptText.{TextPatchView, IsWorkUpTo, all_reused_tunes, kept_numbers}
 use Rattle.abc_live_cost.specs.OldItems.{TakesUntouched}
 use Rattle.abc_fold.specs.Steps.{Steps}
 use Rattle.abc_fold.specs.Work.{Counters, raised}
@@ -56,22 +56,22 @@ worked_more lines steps tunes before after worked =
     }
 
 -- an edit that names a splice
-pub edit_is : (text : Text) (edit : Option Splice) (s : Splice) → Some s ≡ edit → edited text edit ≡ replaced text s
+pub edited-is : (text : Text) (edit : Option Splice) (s : Splice) → Some s ≡ edit → edited text edit ≡ replaced text s
 unfolding edited
-edit_is text edit s is = ap (edited text) (sym is)
+edited-is text edit s is = ap (edited text) (sym is)
 
 -- and one that names none
-pub edit_none : (text : Text) (edit : Option Splice) → None ≡ edit → edited text edit ≡ Err BadRange
+pub edited-none : (text : Text) (edit : Option Splice) → None ≡ edit → edited text edit ≡ Err BadRange
 unfolding edited
-edit_none text edit is = ap (edited text) (sym is)
+edited-none text edit is = ap (edited text) (sym is)
 
 -- those that stay are not built
 kept_unbuilt : (first count : ℕ) → built_count (kept_numbers first count) ≡ 0
 kept_unbuilt first zero = refl
 kept_unbuilt first (suc count) = let one = sum_by-cons built_count_at (Some first) (kept_numbers (first + 1) count) in let rest = kept_unbuilt (first + 1) count in omega (arith, one, rest)
 
-pub stretch_built : {C State Cell Items : Type 0} (patch : KeptPatchView C State Cell Items) → built_count (all_reused_tunes patch) ≡ built_count patch.reused_tunes
-stretch_built patch =
+pub built_count-stretch : {C State Cell Items : Type 0} (patch : TextPatchView C State Cell Items) → built_count (all_reused_tunes patch) ≡ built_count patch.reused_tunes
+built_count-stretch patch =
     let front = kept_numbers 0 patch.stretch.tunes.from in
     let following = kept_numbers patch.stretch.tunes.to (length patch.on.tunes - patch.stretch.tunes.to) in
     let all = sum_by-append built_count_at front (patch.reused_tunes ++ following) in

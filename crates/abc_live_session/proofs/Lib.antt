@@ -1,12 +1,14 @@
 pub mod Books
 pub mod AlikeStates
 pub mod Changes
+pub mod CompiledLines
 pub mod Costs
 pub mod FaultLines
 pub mod SplicedLines
 pub mod TunePlaces
 pub mod Memos
 pub mod Outcomes
+pub mod OwnTunes
 pub mod Parts
 pub mod PreparedEdit
 pub mod Stretches

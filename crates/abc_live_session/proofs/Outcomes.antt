@@ -6,7 +6,7 @@ use Rattle.std.specs.Prelude.{All, IfOk}
 use Rattle.std.proofs.lemmas.List.{length-map}
 use Rattle.abc_book.specs.declared.block.Block.{Block}
 use Rattle.abc_lines.specs.ItemRange.{removed_count}
-use Rattle.abc_live_text.specs.KeptText.{KeptPatchView, KeptTextView, old_tunes}
+use Rattle.abc_live_text.specs.KeptText.{TextPatchView, KeptTextView, old_tunes}
 use Rattle.abc_live_text.specs.declared.stretch.Stretch.{Stretch}
 use Rattle.abc_fold.specs.Chain.{ChainView}
 use Rattle.abc_fold.specs.Steps.{Steps, IsResumable}
@@ -15,9 +15,9 @@ use Rattle.abc_lines.specs.LineBuffer.{LineBufferView}
 use Rattle.abc_lines.specs.Text.{IsText, Splice, Text, is_line, spliced}
 use Rattle.abc_lines.specs.declared.limits.TheConstants.{MOST_LINES}
 use Rattle.abc_live_session.specs.Prepared.{HeaderCells, IsBook, IsPrepared, count_in, header_faults_there}
-use Rattle.abc_live_session.proofs.Changes.{book_is, faults_are, faults_within}
+use Rattle.abc_live_session.proofs.Changes.{book_is, faults_after-are, faults_within}
 use Rattle.abc_live_session.proofs.TunePlaces.{header_lies}
-use Rattle.abc_live_session.proofs.Stretches.{counts_many, counts_there, first_cells, lines_good, made_cells, new_outputs, old_count}
+use Rattle.abc_live_session.proofs.Stretches.{length-counts_among, map-counts, first_cells, list_all-lines, made_cells, take-new_outputs, length-old_tunes}
 use Rattle.abc_live_session.proofs.Stretches.{old_lie, stretch_inside, takes_over}
 use Rattle.abc_live_index.specs.Output.{ReusesOutput, output_in}
 use Rattle.abc_live_index.specs.Tunes.{HasCells, counts_among, faults_by}
@@ -32,7 +32,7 @@ ok_both (Ok x) P Q R follows one other = follows x one other
 ok_both (Err e) P Q R follows one other = one
 
 module _ {C State Cell Items Defaults : Type 0} (steps : Steps State Cell Items) (rules : Rules State Cell Items Defaults)
-    (s : Splice) (patch : KeptPatchView C State Cell Items) (is : IsPrepared steps rules s patch)
+    (s : Splice) (patch : TextPatchView C State Cell Items) (is : IsPrepared steps rules s patch)
     (text : KeptTextView C State Cell Items) (on : patch.on ≡ text) (stretch : Stretch) (there : stretch ≡ patch.stretch) where
   makes : (held : LineBufferView) → held ≡ text.lines → patch.text ≡ spliced held.text s
   makes held same = is.makes ∙ ap (λ (k : KeptTextView C State Cell Items). spliced k.lines.text s) on ∙ ap (λ (l : LineBufferView). spliced l.text s) (sym same)
@@ -47,17 +47,17 @@ module _ {C State Cell Items Defaults : Type 0} (steps : Steps State Cell Items)
   own_lines held seen same are =
       are ∙ ap (λ (t : Text). take stretch.lines.came (drop stretch.lines.from t)) (sym (makes held same)) ∙ ap (λ (x : Stretch). take x.lines.came (drop x.lines.from patch.text)) there
 
-  pub good_lines : (held : LineBufferView) (seen : Text) → held ≡ text.lines → seen ≡ take stretch.lines.came (drop stretch.lines.from (spliced held.text s)) → list_all is_line seen ≡ true
-  good_lines held seen same are = ap (list_all is_line) (own_lines held seen same are) ∙ lines_good steps rules s patch is
+  pub list_all-good : (held : LineBufferView) (seen : Text) → held ≡ text.lines → seen ≡ take stretch.lines.came (drop stretch.lines.from (spliced held.text s)) → list_all is_line seen ≡ true
+  list_all-good held seen same are = ap (list_all is_line) (own_lines held seen same are) ∙ list_all-lines steps rules s patch is
 
   pub own_counts : (counts : List ℕ) → counts ≡ map count_in (take patch.stretch.lines.came (drop patch.stretch.lines.from patch.rows))
       → counts ≡ counts_among rules.cells patch.text patch.stretch.lines.from patch.stretch.lines.came
-  own_counts counts are = are ∙ counts_there steps rules s patch is
+  own_counts counts are = are ∙ map-counts steps rules s patch is
 
   pub few_lines : (counts : List ℕ) → counts ≡ map count_in (take patch.stretch.lines.came (drop patch.stretch.lines.from patch.rows)) → stretch.lines.from + length counts ≤ MOST_LINES
   few_lines counts are =
       let many = ap length (own_counts counts are) in
-      let long = counts_many steps rules s patch is in
+      let long = length-counts_among steps rules s patch is in
       let inside = stretch_inside steps rules s patch is in
       let few = is.limits.count in
       let from = ap (λ (x : Stretch). x.lines.from) there in
@@ -84,7 +84,7 @@ module _ {C State Cell Items Defaults : Type 0} (steps : Steps State Cell Items)
   pub after_inside : (outputs : List Output) → outputs ≡ map (output_in rules) (drop 1 text.chains.items) → stretch.tunes.to ≤ length outputs
   after_inside outputs are =
       let many = ap length are ∙ length-map (drop 1 text.chains.items) (output_in rules)
-      ∙ ap (λ (k : KeptTextView C State Cell Items). length (drop 1 k.chains.items)) (sym on) ∙ old_count steps rules s patch is in
+      ∙ ap (λ (k : KeptTextView C State Cell Items). length (drop 1 k.chains.items)) (sym on) ∙ length-old_tunes steps rules s patch is in
       let count = is.in_stretch.count in
       let following = ap (λ (x : Stretch). x.tunes.to) there in
       omega (arith, many, count, following)
@@ -93,8 +93,8 @@ module _ {C State Cell Items Defaults : Type 0} (steps : Steps State Cell Items)
       → All (λ (fault : Fault). stretch.lines.from + removed_count stretch.lines < fault.line → fault.line - removed_count stretch.lines + stretch.lines.came ≤ 2097152) found
   few_faults found limits are =
       let own : found ≡ (book_of steps rules patch.on.lines.text).faults = are ∙ ap (λ (k : KeptTextView C State Cell Items). (book_of steps rules k.lines.text).faults) (sym on) in
-      let within = faults_within steps rules patch.on.lines.text patch.on.header patch.on.tunes is.stood.header_is is.stood.tunes_are
-      (header_lies rules.class patch.on.lines.text patch.on.header is.stood.header_is) (old_lie steps rules s patch is) in
+      let within = faults_within steps rules patch.on.lines.text patch.on.header patch.on.tunes is.old_parts.header_is is.old_parts.tunes_are
+      (header_lies rules.class patch.on.lines.text patch.on.header is.old_parts.header_is) (old_lie steps rules s patch is) in
       let all : All (λ (fault : Fault). fault.line ≤ length patch.on.lines.text) found = subst (All (λ (fault : Fault). fault.line ≤ length patch.on.lines.text)) (sym own) within in
       let long = ap (λ (k : KeptTextView C State Cell Items). length k.lines.text) on in
       λ k d inside following.
@@ -103,14 +103,14 @@ module _ {C State Cell Items Defaults : Type 0} (steps : Steps State Cell Items)
       let came = few_came in
       omega (arith, line, few, came, long)
 
-  pub outputs_after : (outputs made : List Output) → outputs ≡ map (output_in rules) (drop 1 text.chains.items) → made ≡ map (output_in rules) patch.new_chains
+  pub take-outputs_after : (outputs made : List Output) → outputs ≡ map (output_in rules) (drop 1 text.chains.items) → made ≡ map (output_in rules) patch.new_chains
       → take stretch.tunes.from outputs ++ (made ++ drop stretch.tunes.to outputs) ≡ map (output_in rules) (drop 1 patch.chains)
-  outputs_after outputs made are give =
+  take-outputs_after outputs made are give =
       let own : outputs ≡ map (output_in rules) (old_tunes patch) = are ∙ ap (λ (k : KeptTextView C State Cell Items). map (output_in rules) (drop 1 k.chains.items)) (sym on) in
       ap (λ (x : Stretch). take x.tunes.from outputs ++ (made ++ drop x.tunes.to outputs)) there
       ∙ ap (λ (o : List Output). take patch.stretch.tunes.from o ++ (made ++ drop patch.stretch.tunes.to o)) own
       ∙ ap (λ (m : List Output). take patch.stretch.tunes.from (map (output_in rules) (old_tunes patch)) ++ (m ++ drop patch.stretch.tunes.to (map (output_in rules) (old_tunes patch)))) give
-      ∙ new_outputs steps rules s patch is
+      ∙ take-new_outputs steps rules s patch is
 
   module _ (first : ChainView State Cell Items) (own_first : slice_get patch.chains 0 ≡ Some first) where
     pub header_there : (counts : List ℕ) (header : Option Block)
@@ -121,12 +121,12 @@ module _ {C State Cell Items Defaults : Type 0} (steps : Steps State Cell Items)
         (subst (HeaderCells patch.stretch.lines.from (counts_among rules.cells patch.text patch.stretch.lines.from patch.stretch.lines.came) first)
         (sym same) (first_cells steps rules s patch is first own_first)))
 
-    pub faults_now : IsResumable steps → (counts : List ℕ) (header : Option Block) (old new : List Fault)
+    pub faults_after-now : IsResumable steps → (counts : List ℕ) (header : Option Block) (old new : List Fault)
         → counts ≡ map count_in (take patch.stretch.lines.came (drop patch.stretch.lines.from patch.rows)) → header ≡ patch.header
         → old ≡ (book_of steps rules text.lines.text).faults
         → new ≡ header_faults_there rules stretch.lines.from counts first header ++ faults_by rules stretch.lines.from counts patch.new_chains patch.places
         → faults_after stretch.lines old new ≡ (book_of steps rules patch.text).faults
-    faults_now laws counts header old new are same old_is new_is =
+    faults_after-now laws counts header old new are same old_is new_is =
         let old_own = old_is ∙ ap (λ (k : KeptTextView C State Cell Items). (book_of steps rules k.lines.text).faults) (sym on) in
         let new_own =
         new_is
@@ -138,8 +138,8 @@ module _ {C State Cell Items Defaults : Type 0} (steps : Steps State Cell Items)
         ap (λ (x : Stretch). faults_after x.lines old new) there
         ∙ ap (λ o. faults_after patch.stretch.lines o new) old_own
         ∙ ap (faults_after patch.stretch.lines (book_of steps rules patch.on.lines.text).faults) new_own
-        ∙ faults_are steps rules s patch is first own_first laws
+        ∙ faults_after-are steps rules s patch is first own_first laws
 
   pub book_now : (outputs : List Output) (found : List Fault) → outputs ≡ map (output_in rules) (drop 1 patch.chains) → found ≡ (book_of steps rules patch.text).faults
       → IsBook outputs found (book_of steps rules patch.text)
-  book_now outputs found outputs_are found_is = book_is steps rules patch.text patch.chains outputs found is.stands.chains_are outputs_are found_is
+  book_now outputs found outputs_are found_is = book_is steps rules patch.text patch.chains outputs found is.new_parts.chains_are outputs_are found_is

@@ -37,24 +37,24 @@ module _ {State Cell Items Defaults : Type 0} (steps : Steps State Cell Items) (
   tune_chains (chain ∷ chains) are = are.1
 
   -- which give their tunes
-  pub tells_of : (opening : State) (chains : List (ChainView State Cell Items)) (blocks : List Block) → AllZip (IsChainOf steps rules.cells opening text) chains blocks
+  pub outputs_agree : (opening : State) (chains : List (ChainView State Cell Items)) (blocks : List Block) → AllZip (IsChainOf steps rules.cells opening text) chains blocks
       → AllZip OutputAgrees (map (output_in rules) chains) (map (tune_of steps.next steps.gives rules opening text) blocks)
-  tells_of opening [] [] all = tt
-  tells_of opening [] (block ∷ blocks) all = absurd all
-  tells_of opening (chain ∷ chains) [] all = absurd all
-  tells_of opening (chain ∷ chains) (block ∷ blocks) all =
-      (output_follows steps rules opening text chain block all.0, tells_of opening chains blocks all.1)
+  outputs_agree opening [] [] all = tt
+  outputs_agree opening [] (block ∷ blocks) all = absurd all
+  outputs_agree opening (chain ∷ chains) [] all = absurd all
+  outputs_agree opening (chain ∷ chains) (block ∷ blocks) all =
+      (output_follows steps rules opening text chain block all.0, outputs_agree opening chains blocks all.1)
 
 module _ {Cell : Type 0} where
-  row_counts : (rows : List (Row Cell)) → map count_in rows ≡ map length (map row_cells rows)
-  row_counts [] = refl
-  row_counts (row ∷ rows) = ap (λ l. length row.cells ∷ l) (row_counts rows)
+  map-count_in : (rows : List (Row Cell)) → map count_in rows ≡ map length (map row_cells rows)
+  map-count_in [] = refl
+  map-count_in (row ∷ rows) = ap (λ l. length row.cells ∷ l) (map-count_in rows)
 
-  line_counts : (read : List ℕ → List Cell) (text : Text) → map length (map read text) ≡ counts_of read text
-  line_counts read [] = refl
-  line_counts read (line ∷ text) = ap (λ l. length (read line) ∷ l) (line_counts read text)
+  map-length-cells : (read : List ℕ → List Cell) (text : Text) → map length (map read text) ≡ counts_of read text
+  map-length-cells read [] = refl
+  map-length-cells read (line ∷ text) = ap (λ l. length (read line) ∷ l) (map-length-cells read text)
 
 -- the rows have as many cells as the lines
-pub counts_are : {State Cell Items Defaults : Type 0} (rules : Rules State Cell Items Defaults) (text : Text)
+pub map-count_in_rows : {State Cell Items Defaults : Type 0} (rules : Rules State Cell Items Defaults) (text : Text)
     (rows : List (Row Cell)) → AreRows rules text rows → map count_in rows ≡ counts_of rules.cells text
-counts_are rules text rows are = row_counts rows ∙ ap (map length) are.cells ∙ line_counts rules.cells text
+map-count_in_rows rules text rows are = map-count_in rows ∙ ap (map length) are.cells ∙ map-length-cells rules.cells text

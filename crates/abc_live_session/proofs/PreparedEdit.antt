@@ -3,7 +3,7 @@ use Rattle.std.proofs.Common.{◌≡◌, Bool, true, false, if◌then◌else◌,
 use Rattle.std.proofs.Common.{◌∙◌, ap}
 use Rattle.std.specs.List.{AllZip, list_all}
 use Rattle.std.specs.Prelude.{IfOk}
-use Rattle.abc_live_text.specs.KeptText.{KeptPatchView, IsStretch, KeptTextView, ArePartsOf, parts_after, parts_of}
+use Rattle.abc_live_text.specs.KeptText.{TextPatchView, IsStretch, KeptTextView, ArePartsOf, parts_after, parts_of}
 use Rattle.abc_live_cost.specs.OldItems.{HasItemsOf}
 use Rattle.abc_fold.specs.Steps.{Steps}
 use Rattle.abc_lines.specs.Edits.{replaced}
@@ -33,17 +33,17 @@ splice_makes text s new is =
     subst (λ (r : Result Text EditError). IfOk r (λ t. t ≡ spliced text s)) is own
 
 pub is_prepared : {C State Cell Items Defaults : Type 0} (steps : Steps State Cell Items) (rules : Rules State Cell Items Defaults)
-    (s : Splice) (patch : KeptPatchView C State Cell Items) (text : KeptTextView C State Cell Items)
+    (s : Splice) (patch : TextPatchView C State Cell Items) (text : KeptTextView C State Cell Items)
     → patch.on ≡ text → ArePartsOf steps rules text.lines.text (parts_of text)
     → replaced text.lines.text s ≡ Ok patch.text → IsText patch.text → ArePartsOf steps rules patch.text (parts_after patch)
     → IsStretch s patch → AllZip (HasItemsOf (drop 1 text.chains.items)) patch.new_chains patch.reused_tunes
     → IsPrepared steps rules s patch
-is_prepared {C = C} {State = State} {Cell = Cell} {Items = Items} steps rules s patch text on stood made limits stands narrow items =
+is_prepared {C = C} {State = State} {Cell = Cell} {Items = Items} steps rules s patch text on old_parts made limits new_parts narrow items =
     record {
       makes = splice_makes text.lines.text s patch.text made ∙ ap (λ (k : KeptTextView C State Cell Items). spliced k.lines.text s) (sym on);
       limits = limits;
-      stood = subst (λ (k : KeptTextView C State Cell Items). ArePartsOf steps rules k.lines.text (parts_of k)) (sym on) stood;
-      stands = stands;
+      old_parts = subst (λ (k : KeptTextView C State Cell Items). ArePartsOf steps rules k.lines.text (parts_of k)) (sym on) old_parts;
+      new_parts = new_parts;
       in_stretch = narrow;
       own_items = subst (λ (k : KeptTextView C State Cell Items). AllZip (HasItemsOf (drop 1 k.chains.items)) patch.new_chains patch.reused_tunes) (sym on) items;
     }

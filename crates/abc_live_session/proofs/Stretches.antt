@@ -8,7 +8,7 @@ use Rattle.std.proofs.lemmas.List.Elements.{All-head, All-tail}
 use Rattle.abc_book.specs.declared.block.Block.{Block}
 use Rattle.abc_live_text.specs.Chains.{IsHeaderChainOf, state_after_chain}
 use Rattle.abc_live_cost.specs.OldItems.{IsChainOf}
-use Rattle.abc_live_text.specs.KeptText.{KeptPatchView, HoldsHeader, KeepsHeader, block_after, old_tunes}
+use Rattle.abc_live_text.specs.KeptText.{TextPatchView, HoldsHeader, KeepsHeader, block_after, old_tunes}
 use Rattle.abc_live_text.proofs.Openings.{opening_alike}
 use Rattle.abc_tune_compiler.specs.Lawful.{AreLawful}
 use Rattle.abc_fold.specs.Chain.{ChainView}
@@ -19,7 +19,7 @@ use Rattle.abc_lines.proofs.Splices.{length-spliced}
 use Rattle.abc_live_session.specs.Prepared.{HeaderCells, IsPrepared, count_in}
 use Rattle.abc_live_session.proofs.AlikeStates.{chains_alike}
 use Rattle.abc_live_session.proofs.TunePlaces.{LiesIn, all_first, all_second, header_lies, tunes_lie}
-use Rattle.abc_live_session.proofs.Parts.{counts_are, header_chain, some_chain, tune_chains}
+use Rattle.abc_live_session.proofs.Parts.{map-count_in_rows, header_chain, some_chain, tune_chains}
 use Rattle.abc_live_session.proofs.Zips.{zip_after, zip_fronts, zip_middle, zip_rest}
 use Rattle.abc_live_index.specs.Output.{ReusesOutput, counts_of, output_in}
 use Rattle.abc_live_index.specs.Tunes.{HasCells, IsTuneAt, LiesAmong, counts_among, line_run, lowered_place}
@@ -85,15 +85,15 @@ header_cells steps rules text from came first (Some block) inside lies is held =
     has_cells steps rules.cells rules.header text first block is from came there inside
 
 module _ {C State Cell Items Defaults : Type 0} (steps : Steps State Cell Items) (rules : Rules State Cell Items Defaults)
-    (s : Splice) (patch : KeptPatchView C State Cell Items) (is : IsPrepared steps rules s patch) where
+    (s : Splice) (patch : TextPatchView C State Cell Items) (is : IsPrepared steps rules s patch) where
   pub change_inside : s.at + s.removed ≤ length patch.on.lines.text
   change_inside =
       let ends = is.in_stretch.ends in
       let inside = is.in_stretch.inside in
       omega (arith, ends, inside)
 
-  pub spliced_length : length patch.text + s.removed ≡ length patch.on.lines.text + length s.lines
-  spliced_length = ap (λ (t : Text). length t + s.removed) is.makes ∙ length-spliced patch.on.lines.text s change_inside
+  pub length-text : length patch.text + s.removed ≡ length patch.on.lines.text + length s.lines
+  length-text = ap (λ (t : Text). length t + s.removed) is.makes ∙ length-spliced patch.on.lines.text s change_inside
 
   -- the stretch lies in the new text
   pub stretch_inside : patch.stretch.lines.from + patch.stretch.lines.came ≤ length patch.text
@@ -102,7 +102,7 @@ module _ {C State Cell Items Defaults : Type 0} (steps : Steps State Cell Items)
       let begins = is.in_stretch.begins in
       let inside = is.in_stretch.inside in
       let count = is.in_stretch.came in
-      let long = spliced_length in
+      let long = length-text in
       omega (arith, ends, begins, inside, count, long)
 
   pub old_stretch : patch.stretch.lines.from ≤ patch.stretch.lines.to
@@ -111,30 +111,30 @@ module _ {C State Cell Items Defaults : Type 0} (steps : Steps State Cell Items)
       let begins = is.in_stretch.begins in
       omega (arith, ends, begins)
 
-  pub rows_count : length patch.rows ≡ length patch.text
-  rows_count = sym (length-map patch.rows count_in) ∙ ap length (counts_are rules patch.text patch.rows is.stands.read) ∙ length-map patch.text (λ line. length (rules.cells line))
+  pub length-rows : length patch.rows ≡ length patch.text
+  length-rows = sym (length-map patch.rows count_in) ∙ ap length (map-count_in_rows rules patch.text patch.rows is.new_parts.read) ∙ length-map patch.text (λ line. length (rules.cells line))
 
   -- the lines of the stretch are within the limits
-  pub lines_good : list_all is_line (take patch.stretch.lines.came (drop patch.stretch.lines.from patch.text)) ≡ true
-  lines_good = all_reused_tunes is_line patch.stretch.lines.came (drop patch.stretch.lines.from patch.text) (all_dropped is_line patch.stretch.lines.from patch.text is.limits.lines)
+  pub list_all-lines : list_all is_line (take patch.stretch.lines.came (drop patch.stretch.lines.from patch.text)) ≡ true
+  list_all-lines = all_reused_tunes is_line patch.stretch.lines.came (drop patch.stretch.lines.from patch.text) (all_dropped is_line patch.stretch.lines.from patch.text is.limits.lines)
 
   -- how many cells each has
-  pub counts_there : map count_in (take patch.stretch.lines.came (drop patch.stretch.lines.from patch.rows)) ≡ counts_among rules.cells patch.text patch.stretch.lines.from patch.stretch.lines.came
-  counts_there =
+  pub map-counts : map count_in (take patch.stretch.lines.came (drop patch.stretch.lines.from patch.rows)) ≡ counts_among rules.cells patch.text patch.stretch.lines.from patch.stretch.lines.came
+  map-counts =
       sym (take-map count_in patch.stretch.lines.came (drop patch.stretch.lines.from patch.rows))
       ∙ ap (take patch.stretch.lines.came) (sym (drop-map count_in patch.stretch.lines.from patch.rows))
-      ∙ ap (λ counts. take patch.stretch.lines.came (drop patch.stretch.lines.from counts)) (counts_are rules patch.text patch.rows is.stands.read)
+      ∙ ap (λ counts. take patch.stretch.lines.came (drop patch.stretch.lines.from counts)) (map-count_in_rows rules patch.text patch.rows is.new_parts.read)
 
-  pub counts_many : length (counts_among rules.cells patch.text patch.stretch.lines.from patch.stretch.lines.came) ≡ patch.stretch.lines.came
-  counts_many =
+  pub length-counts_among : length (counts_among rules.cells patch.text patch.stretch.lines.from patch.stretch.lines.came) ≡ patch.stretch.lines.came
+  length-counts_among =
       among_inside (counts_of rules.cells patch.text) patch.stretch.lines.from patch.stretch.lines.came (omega (arith, stretch_inside, length-map patch.text (λ line. length (rules.cells line))))
 
   -- the old and the new tunes lie in their texts
   pub old_lie : All (LiesIn (length patch.on.lines.text)) patch.on.tunes
-  old_lie = tunes_lie rules.class patch.on.lines.text patch.on.tunes is.stood.tunes_are
+  old_lie = tunes_lie rules.class patch.on.lines.text patch.on.tunes is.old_parts.tunes_are
 
   pub new_lie : All (LiesIn (length patch.text)) patch.tunes
-  new_lie = tunes_lie rules.class patch.text patch.tunes is.stands.tunes_are
+  new_lie = tunes_lie rules.class patch.text patch.tunes is.new_parts.tunes_are
 
   pub parts_lie : All (LiesIn (length patch.text)) patch.places
   parts_lie =
@@ -147,14 +147,14 @@ module _ {C State Cell Items Defaults : Type 0} (steps : Steps State Cell Items)
   -- the chains of the old and of the new tunes
   pub old_chains : AllZip (IsChainOf steps rules.cells (opening_of steps.next rules patch.on.lines.text (blocks_in rules patch.on.lines.text)) patch.on.lines.text) (old_tunes patch) patch.on.tunes
   old_chains = subst (AllZip (IsChainOf steps rules.cells (opening_of steps.next rules patch.on.lines.text
-      (blocks_in rules patch.on.lines.text)) patch.on.lines.text) (old_tunes patch)) (sym is.stood.tunes_are) (tune_chains steps rules patch.on.lines.text patch.on.chains.items is.stood.chains_are)
+      (blocks_in rules patch.on.lines.text)) patch.on.lines.text) (old_tunes patch)) (sym is.old_parts.tunes_are) (tune_chains steps rules patch.on.lines.text patch.on.chains.items is.old_parts.chains_are)
 
   pub new_chains : AllZip (IsChainOf steps rules.cells (opening_of steps.next rules patch.text (blocks_in rules patch.text)) patch.text) (drop 1 patch.chains) patch.tunes
   new_chains = subst (AllZip (IsChainOf steps rules.cells (opening_of steps.next rules patch.text
-      (blocks_in rules patch.text)) patch.text) (drop 1 patch.chains)) (sym is.stands.tunes_are) (tune_chains steps rules patch.text patch.chains is.stands.chains_are)
+      (blocks_in rules patch.text)) patch.text) (drop 1 patch.chains)) (sym is.new_parts.tunes_are) (tune_chains steps rules patch.text patch.chains is.new_parts.chains_are)
 
-  pub old_count : length (old_tunes patch) ≡ length patch.on.tunes
-  old_count = zipped_count (IsChainOf steps rules.cells (opening_of steps.next rules patch.on.lines.text
+  pub length-old_tunes : length (old_tunes patch) ≡ length patch.on.tunes
+  length-old_tunes = zipped_count (IsChainOf steps rules.cells (opening_of steps.next rules patch.on.lines.text
       (blocks_in rules patch.on.lines.text)) patch.on.lines.text) (old_tunes patch) patch.on.tunes old_chains
 
   -- those of the stretch
@@ -193,7 +193,7 @@ module _ {C State Cell Items Defaults : Type 0} (steps : Steps State Cell Items)
       made_chains places_lie stretch_inside
 
   pub chain_there : 1 ≤ length patch.chains
-  chain_there = some_chain steps rules patch.text patch.chains is.stands.chains_are
+  chain_there = some_chain steps rules patch.text patch.chains is.new_parts.chains_are
 
   -- what the stretch reuses
   pub takes_over : AllZip (ReusesOutput rules (map (output_in rules) (old_tunes patch))) patch.new_chains patch.reused_tunes
@@ -202,7 +202,7 @@ module _ {C State Cell Items Defaults : Type 0} (steps : Steps State Cell Items)
   module _ (first : ChainView State Cell Items) (there : slice_get patch.chains 0 ≡ Some first) where
     -- the chain of the file header
     pub first_is : IsHeaderChainOf steps rules patch.text first patch.header
-    first_is = subst (IsHeaderChainOf steps rules patch.text first) (sym is.stands.header_is) (header_chain steps rules patch.text patch.chains first is.stands.chains_are there)
+    first_is = subst (IsHeaderChainOf steps rules patch.text first) (sym is.new_parts.header_is) (header_chain steps rules patch.text patch.chains first is.new_parts.chains_are there)
 
     -- the tunes of the stretch begin in a state equivalent to the one after the file header
     pub made_tunes : IsResumable steps → AreLawful steps rules
@@ -212,7 +212,7 @@ module _ {C State Cell Items Defaults : Type 0} (steps : Steps State Cell Items)
         let own = opening_of steps.next rules patch.text (blocks_in rules patch.text) in
         let alike : IsAlike steps (rules.tune (state_after_chain patch.header first)) own =
         subst (λ h. IsAlike steps (rules.tune (state_after_chain patch.header first))
-        (rules.tune (state_after_header steps.next rules patch.text h))) is.stands.header_is (opening_alike steps rules patch.text first patch.header laws lawful first_is) in
+        (rules.tune (state_after_header steps.next rules patch.text h))) is.new_parts.header_is (opening_alike steps rules patch.text first patch.header laws lawful first_is) in
         tunes_at steps rules laws own (state_after_chain patch.header first) patch.stretch.lines.from patch.stretch.lines.came
         patch.text patch.new_chains patch.places alike stretch_inside places_lie made_chains
 
@@ -227,12 +227,12 @@ module _ {C State Cell Items Defaults : Type 0} (steps : Steps State Cell Items)
     pub first_cells : HeaderCells patch.stretch.lines.from (counts_among rules.cells patch.text patch.stretch.lines.from patch.stretch.lines.came) first patch.header
     first_cells =
         header_cells steps rules patch.text patch.stretch.lines.from patch.stretch.lines.came first patch.header stretch_inside
-        (header_lies rules.class patch.text patch.header is.stands.header_is) first_is (held_there is.in_stretch.header_is)
+        (header_lies rules.class patch.text patch.header is.new_parts.header_is) first_is (held_there is.in_stretch.header_is)
 
   -- what the tunes give
-  pub new_outputs : take patch.stretch.tunes.from (map (output_in rules) (old_tunes patch)) ++
+  pub take-new_outputs : take patch.stretch.tunes.from (map (output_in rules) (old_tunes patch)) ++
       (map (output_in rules) patch.new_chains ++ drop patch.stretch.tunes.to (map (output_in rules) (old_tunes patch))) ≡ map (output_in rules) (drop 1 patch.chains)
-  new_outputs =
+  take-new_outputs =
       let f = output_in rules in
       ap (λ l. l ++ (map f patch.new_chains ++ drop patch.stretch.tunes.to (map f (old_tunes patch)))) (take-map f patch.stretch.tunes.from (old_tunes patch))
       ∙ ap (λ l. map f (take patch.stretch.tunes.from (old_tunes patch)) ++ (map f patch.new_chains ++ l)) (drop-map f patch.stretch.tunes.to (old_tunes patch))

@@ -3,14 +3,13 @@ use Rattle.std.specs.Prelude.{◌≡◌, ℕ, ◌<◌, ◌++◌, List, [], drop,
 use Rattle.std.specs.List.{AllZip}
 use Rattle.abc_book.specs.declared.block.Block.{Block}
 use Rattle.abc_live_text.specs.Row.{Row}
-use Rattle.abc_live_text.specs.KeptText.{KeptPatchView, IsStretch, KeptTextView, ArePartsOf, old_tunes, parts_after, parts_of}
+use Rattle.abc_live_text.specs.KeptText.{TextPatchView, IsStretch, KeptTextView, ArePartsOf, old_tunes, parts_after, parts_of}
 use Rattle.abc_live_cost.specs.OldItems.{HasItemsOf}
 use Rattle.abc_fold.specs.Chain.{ChainView}
 use Rattle.abc_fold.specs.Steps.{Steps}
 use Rattle.abc_live_index.specs.KeptBook.{KeptBookView}
 use Rattle.abc_live_index.specs.Outputs.{files_of, titles_of}
-use Rattle.abc_lines.specs.Text.{IsText, Splice, splice_from, spliced}
-use Rattle.abc_live_session.specs.declared.change.Change.{Change}
+use Rattle.abc_lines.specs.Text.{IsText, Splice, spliced}
 use Rattle.abc_live_index.specs.Output.{output_in}
 use Rattle.abc_live_index.specs.Tunes.{HasCells, cell_faults_by, faults_by}
 use Rattle.abc_live_index.specs.declared.output.Output.{Output}
@@ -18,21 +17,17 @@ use Rattle.abc_tune_compiler.specs.Book.{Book, book_of}
 use Rattle.abc_tune_compiler.specs.Rules.{Rules}
 use Rattle.abc_tune_compiler.specs.declared.fault.Fault.{Fault}
 
--- The splice that a change makes.
-abbrev pub splice_in : Change → Splice
-splice_in change = splice_from change.at change.removed change.lines.now
-
 -- How many cells a line has.
 abbrev pub count_in : {Cell : Type 0} → Row Cell → ℕ
 count_in row = length row.cells
 
 -- A prepared edit of a text makes this splice of it: what is kept of the text before and after is that of the text.
 pub record IsPrepared {C State Cell Items Defaults : Type 0} (steps : Steps State Cell Items)
-    (rules : Rules State Cell Items Defaults) (s : Splice) (patch : KeptPatchView C State Cell Items) : Type 0 where
+    (rules : Rules State Cell Items Defaults) (s : Splice) (patch : TextPatchView C State Cell Items) : Type 0 where
   pub makes : patch.text ≡ spliced patch.on.lines.text s
   pub limits : IsText patch.text
-  pub stood : ArePartsOf steps rules patch.on.lines.text (parts_of patch.on)
-  pub stands : ArePartsOf steps rules patch.text (parts_after patch)
+  pub old_parts : ArePartsOf steps rules patch.on.lines.text (parts_of patch.on)
+  pub new_parts : ArePartsOf steps rules patch.text (parts_after patch)
   pub in_stretch : IsStretch s patch
   pub own_items : AllZip (HasItemsOf (old_tunes patch)) patch.new_chains patch.reused_tunes
 

@@ -1,16 +1,16 @@
-//! What a prepared text gives to the book: what the tunes of its stretch give, and their faults.
+//! The book after a prepared edit: the outputs of the tunes of the stretch, and their faults.
 
 ghost use Rattle.std.specs.Prelude.{◌≡◌, ◌+◌, ◌≤◌, IfOk, Some, drop, length, map, slice_get};
 ghost use Rattle.abc_live_index.specs.Outputs.{files_of};
 ghost use Rattle.abc_lines.specs.declared.limits.TheConstants.{MOST_LINES};
-ghost use Rattle.abc_live_session.specs.Prepared.{HeaderCells, IsBook, IsPrepared, TuneCells, stretch_faults, splice_in};
+ghost use Rattle.abc_live_session.specs.Prepared.{HeaderCells, IsBook, IsPrepared, TuneCells, stretch_faults};
+ghost use Rattle.abc_live_text.specs.ItemSplice.{splice_in};
 ghost use Rattle.abc_tune_memo.specs.Memo.{Remembers};
 ghost use Rattle.abc_live_index.specs.BuildCount.{IsBuiltUpTo, built_count};
 ghost use Rattle.abc_live_index.specs.Output.{output_in};
 ghost use Rattle.abc_tune_compiler.specs.Book.{book_of};
 ghost use Rattle.abc_tune_compiler.specs.Report.{Reports};
 
-use crate::change::Change;
 use crate::stretch_lines::{counts_of, lines_of};
 use abc_book::Block;
 use abc_fold::{Chain, Shared};
@@ -18,13 +18,13 @@ use abc_live_index::{
     BookPatch, KeptBook, NewTunes, Output, ReusedOutputs, StretchView, outputs_of, put_cell_faults,
     put_tune_faults,
 };
-use abc_live_text::{KeptPatch, KeptText, header_state};
+use abc_live_text::{ItemSplice, KeptText, TextPatch, header_state};
 use abc_tune_compiler::{Compiler, Fault};
 use abc_tune_memo::TuneMemo;
 use std::alloc::{AllocError, Global};
 
-/// The chain of the file header after the edit. The edit belongs to the text as it is now.
-fn first_chain<'a, C: Compiler>(text: &'a KeptText<C>, text_patch: &'a KeptPatch<C>) -> &'a Chain<C>
+/// Returns the chain of the file header after the edit. The edit belongs to the text as it is now.
+fn first_chain<'a, C: Compiler>(text: &'a KeptText<C>, text_patch: &'a TextPatch<C>) -> &'a Chain<C>
     requires on { text_patch.now.on ≡ text.now }
     requires some { 1 ≤ length text_patch.now.chains }
     ensures { slice_get text_patch.now.chains 0 ≡ Some result.now }
@@ -32,7 +32,8 @@ fn first_chain<'a, C: Compiler>(text: &'a KeptText<C>, text_patch: &'a KeptPatch
     text_patch.chain(text, 0).unwrap().get()
 }
 
-/// The faults of a stretch: those of the file header, if it lies there, and those of the tunes, which give these.
+/// Returns the faults of a stretch: those of the file header, if it lies there, and those of the tunes, by their
+/// outputs.
 fn faults_of<C: Compiler>(
     compiler: &C,
     alloc: Global,
@@ -60,18 +61,18 @@ fn faults_of<C: Compiler>(
 }
 
 /// Prepares the book after a prepared edit. The memo is asked only for the tunes of the stretch that reuse no output,
-/// and at most these are built.
+/// and at most these are built. The only error is a failed allocation.
 pub(crate) fn book_after<C: Compiler>(
     text: &KeptText<C>,
     book: &KeptBook,
-    text_patch: &KeptPatch<C>,
-    change: &Change,
+    text_patch: &TextPatch<C>,
+    splice: &ItemSplice<Vec<u8>>,
     memo: &mut TuneMemo<C>,
     work: &mut C::Work,
 ) -> Result<BookPatch, AllocError>
     requires on { text_patch.now.on ≡ text.now }
     requires prepared { let c = text.now.compiler in
-        IsPrepared (C.steps c) (C.rules c) (splice_in change.now) text_patch.now }
+        IsPrepared (C.steps c) (C.rules c) (splice_in splice.now) text_patch.now }
     requires outputs { book.now.outputs.items ≡ map (output_in (C.rules text.now.compiler)) (drop 1 text.now.chains.items) }
     requires faults { let c = text.now.compiler in
         book.now.faults ≡ (book_of (C.steps c) (C.rules c) text.now.lines.text).faults }
@@ -93,7 +94,7 @@ pub(crate) fn book_after<C: Compiler>(
     let compiler = text.compiler();
     let stretch = text_patch.stretch();
     let first = first_chain(text, text_patch);
-    let lines = lines_of(text.lines(), change, stretch)?;
+    let lines = lines_of(text.lines(), splice, stretch)?;
     let counts = counts_of(alloc, text, text_patch)?;
     let folded = StretchView {
         lines: &lines,

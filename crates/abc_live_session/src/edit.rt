@@ -3,7 +3,7 @@
 /// A change of a range of lines. Lines are counted from 1, and a list of lines may be empty.
 #[derive(Debug, Drop)]
 pub enum Edit {
-    /// Puts lines before line `at`, from 1 to the count of lines plus one.
+    /// Inserts lines before line `at`, from 1 to the count of lines plus one; else the edit is a `BadRange`.
     Insert {
         at: u32,
         lines: Vec<Vec<u8>>,

@@ -41,10 +41,10 @@ empty_chains steps rules [] e = (refl, tt)
 empty_chains steps rules (block ∷ blocks) e = absurd (cc)
 
 -- What is kept of the text with no lines.
-pub empty_stands : {State Cell Items Defaults : Type 0} (steps : Steps State Cell Items) (rules : Rules State Cell Items Defaults)
+pub empty_parts_are : {State Cell Items Defaults : Type 0} (steps : Steps State Cell Items) (rules : Rules State Cell Items Defaults)
     (text : Text) (rows : List (Row Cell)) (header : Option Block) (tunes : List Block) (chains : List (ChainView State Cell Items))
     → text ≡ [] → rows ≡ [] → header ≡ None → tunes ≡ [] → chains ≡ no_cells ∷ [] → ArePartsOf steps rules text (parts rows header tunes chains)
-empty_stands {State = State} {Cell = Cell} {Items = Items} steps rules text rows header tunes chains t r h b c =
+empty_parts_are {State = State} {Cell = Cell} {Items = Items} steps rules text rows header tunes chains t r h b c =
     let none : blocks_in rules [] ≡ [] = one_pass [] in
     let all : ArePartsOf steps rules [] (parts [] None [] (no_cells ∷ [])) = record {
       read = record { classes = refl; cells = refl };
@@ -58,19 +58,19 @@ empty_stands {State = State} {Cell = Cell} {Items = Items} steps rules text rows
 pub record IsKept {C State Cell Items Defaults : Type 0} (steps : Steps State Cell Items) (rules : Rules State Cell Items Defaults) (on : KeptTextView C State Cell Items) : Type 0 where
   pub laws : IsResumable steps
   pub lawful : AreLawful steps rules
-  pub stands : ArePartsOf steps rules on.lines.text (parts_of on)
+  pub parts_are : ArePartsOf steps rules on.lines.text (parts_of on)
 
 pub kept_of : {C State Cell Items Defaults : Type 0} (steps : C → Steps State Cell Items) (rules : C → Rules State Cell Items Defaults) (on : KeptTextView C State Cell Items)
     → ArePartsOf (steps on.compiler) (rules on.compiler) on.lines.text (parts_of on)
     → ((compiler : C) → IsResumable (steps compiler)) → ((compiler : C) → AreLawful (steps compiler) (rules compiler)) → IsKept (steps on.compiler) (rules on.compiler) on
-kept_of steps rules on stands laws lawful = record { laws = laws on.compiler; lawful = lawful on.compiler; stands = stands }
+kept_of steps rules on parts_are laws lawful = record { laws = laws on.compiler; lawful = lawful on.compiler; parts_are = parts_are }
 
 -- The same of a text seen as it is now.
 pub kept_now : {C State Cell Items Defaults : Type 0} (steps : C → Steps State Cell Items) (rules : C → Rules State Cell Items Defaults) {was now : KeptTextView C State Cell Items} → was ≡ now
     → ArePartsOf (steps was.compiler) (rules was.compiler) was.lines.text (parts_of was)
     → ((compiler : C) → IsResumable (steps compiler)) → ((compiler : C) → AreLawful (steps compiler) (rules compiler)) → IsKept (steps now.compiler) (rules now.compiler) now
-kept_now {C = C} {State = State} {Cell = Cell} {Items = Items} steps rules {now = now} same stands laws lawful = record {
+kept_now {C = C} {State = State} {Cell = Cell} {Items = Items} steps rules {now = now} same parts_are laws lawful = record {
   laws = laws now.compiler;
   lawful = lawful now.compiler;
-  stands = subst (λ (k : KeptTextView C State Cell Items). ArePartsOf (steps k.compiler) (rules k.compiler) k.lines.text (parts_of k)) same stands;
+  parts_are = subst (λ (k : KeptTextView C State Cell Items). ArePartsOf (steps k.compiler) (rules k.compiler) k.lines.text (parts_of k)) same parts_are;
 }

@@ -30,7 +30,7 @@ use Rattle.abc_live_text.proofs.Edits.{edit_of, fresh_row}
 use Rattle.abc_live_text.proofs.Refolds.{all_renewed, head_cost, kept_alike, old_chains, run_chains, run_cost, run_renewed}
 use Rattle.abc_live_text.proofs.LeadRows.{IsLeadRun, first_run, lead_facts, new_run}
 use Rattle.abc_live_text.proofs.FreshSteps.{map-over}
-use Rattle.abc_live_text.proofs.StretchRows.{edited_carried, rows_count}
+use Rattle.abc_live_text.proofs.StretchRows.{edited_carried, length-rows}
 use Rattle.abc_live_text.proofs.Openings.{folds_alike, header_made, opening_alike}
 use Rattle.abc_live_text.proofs.Parts.{zip_drop, zip_same}
 use Rattle.abc_live_text.proofs.EditedRows.{AreRenewed, all_mid, bare_read, chain_moved, new_parts, steps_moved}
@@ -81,25 +81,25 @@ lead_edit rules on lead at removed lines new made rows inside is e m n = record 
 
 -- A kept text, seen from within as `on` and from outside as `now`, and its first lines.
 module _ {C State Cell Items Defaults : Type 0} (steps : C → Steps State Cell Items) (rules : C → Rules State Cell Items Defaults) {on now : KeptTextView C State Cell Items} (view : on ≡ now)
-    (stands : ArePartsOf (steps on.compiler) (rules on.compiler) on.lines.text (parts_of on)) (at removed : ℕ) (lead : Span)
+    (parts_are : ArePartsOf (steps on.compiler) (rules on.compiler) on.lines.text (parts_of on)) (at removed : ℕ) (lead : Span)
     (seen : IsLead now.tunes (length now.lines.text) (at + removed) lead) where
   is : IsLead on.tunes (length on.lines.text) (at + removed) lead
   is = subst (λ (k : KeptTextView C State Cell Items). IsLead k.tunes (length k.lines.text) (at + removed) lead) (sym view) seen
 
   facts_of : IsLeadRun (rules on.compiler) on.lines.text (splice_at at removed []) on.rows.items lead
-  facts_of = lead_facts (rules on.compiler) on.lines.text (splice_at at removed []) on.rows.items lead stands.read
-      (subst (λ (t : List Block). IsLead t (length on.lines.text) (at + removed) lead) stands.tunes_are is)
-      (new_parts (steps on.compiler) (rules on.compiler) on.lines.text (splice_at at removed []) on.rows.items on.chains.items stands.read stands.chains_are).read
+  facts_of = lead_facts (rules on.compiler) on.lines.text (splice_at at removed []) on.rows.items lead parts_are.read
+      (subst (λ (t : List Block). IsLead t (length on.lines.text) (at + removed) lead) parts_are.tunes_are is)
+      (new_parts (steps on.compiler) (rules on.compiler) on.lines.text (splice_at at removed []) on.rows.items on.chains.items parts_are.read parts_are.chains_are).read
 
   own_is : old_lead_rows on lead ≡ first_run (rules on.compiler) on.lines.text (splice_at at removed []) on.rows.items lead
-  own_is = λ i. rows_until (map carried_row on.rows.items) 0 lead.lines.to 0 (header_place (stands.header_is i) ∷ take lead.tunes.to (stands.tunes_are i))
+  own_is = λ i. rows_until (map carried_row on.rows.items) 0 lead.lines.to 0 (header_place (parts_are.header_is i) ∷ take lead.tunes.to (parts_are.tunes_are i))
 
   pub lead_rise : (tunes places : List Block) → tunes ≡ on.tunes → places ≡ header_place on.header ∷ take lead.tunes.to tunes → BlocksRise 0 places lead.lines.to
   lead_rise tunes places e p = subst (λ (b : List Block). BlocksRise 0 b lead.lines.to)
-      (sym (p ∙ (λ i. header_place (stands.header_is i) ∷ take lead.tunes.to ((e ∙ stands.tunes_are) i)))) facts_of.rise
+      (sym (p ∙ (λ i. header_place (parts_are.header_is i) ∷ take lead.tunes.to ((e ∙ parts_are.tunes_are) i)))) facts_of.rise
 
   pub lead_inside : lead.lines.to ≤ length on.rows.items
-  lead_inside = let a = facts_of.run.inside in let b = rows_count (steps on.compiler) (rules on.compiler) on stands in omega (arith, a, b)
+  lead_inside = let a = facts_of.run.inside in let b = length-rows (steps on.compiler) (rules on.compiler) on parts_are in omega (arith, a, b)
 
   old_is : (tunes places : List Block) (old : List (CarriedRow Cell)) → tunes ≡ on.tunes → places ≡ header_place on.header ∷ take lead.tunes.to tunes
       → old ≡ rows_until (map carried_row on.rows.items) 0 lead.lines.to 0 places → old ≡ old_lead_rows on lead
@@ -118,8 +118,8 @@ module _ {C State Cell Items Defaults : Type 0} (steps : C → Steps State Cell 
       → rows ≡ take at old ++ (map carried_row new ++ drop (at + removed) old) → All (IsCarried now.chains.items) rows
   lead_carried tunes places new old rows e p o r =
       let parts = facts_of.run.parts in
-      let read = bare_read (rules on.compiler) on.lines.text on.rows.items stands.read in
-      let all = settled_carried (steps on.compiler) (rules on.compiler) on.lines.text (map carried_row on.rows.items) on.chains.items read.cells stands.chains_are in
+      let read = bare_read (rules on.compiler) on.lines.text on.rows.items parts_are.read in
+      let all = settled_carried (steps on.compiler) (rules on.compiler) on.lines.text (map carried_row on.rows.items) on.chains.items read.cells parts_are.chains_are in
       let own = all_mid (IsCarried on.chains.items) parts.before
       (first_run (rules on.compiler) on.lines.text (splice_at at removed []) on.rows.items lead) parts.following (subst (All (IsCarried on.chains.items)) parts.old_are all) in
       subst (λ (k : KeptTextView C State Cell Items). All (IsCarried k.chains.items) rows) view
@@ -138,14 +138,14 @@ module _ {C State Cell Items Defaults : Type 0} {steps : Steps State Cell Items}
   new_rows_are = all_renewed kept s edit.inside
 
   facts : IsLeadRun rules on.lines.text s on.rows.items lead
-  facts = lead_facts rules on.lines.text s on.rows.items lead kept.stands.read
-      (subst (λ (t : List Block). IsLead t (length on.lines.text) (s.at + s.removed) lead) kept.stands.tunes_are edit.is_lead) new_rows_are.read
+  facts = lead_facts rules on.lines.text s on.rows.items lead kept.parts_are.read
+      (subst (λ (t : List Block). IsLead t (length on.lines.text) (s.at + s.removed) lead) kept.parts_are.tunes_are edit.is_lead) new_rows_are.read
 
   -- The rows as code builds them.
   runs : run ≡ new_run rules on.lines.text s on.rows.items lead
   runs =
       let old : old_lead_rows on lead ≡ first_run rules on.lines.text s on.rows.items lead =
-      λ i. rows_until (map carried_row on.rows.items) 0 lead.lines.to 0 (header_place (kept.stands.header_is i) ∷ take lead.tunes.to (kept.stands.tunes_are i)) in
+      λ i. rows_until (map carried_row on.rows.items) 0 lead.lines.to 0 (header_place (kept.parts_are.header_is i) ∷ take lead.tunes.to (kept.parts_are.tunes_are i)) in
       let own : map carried_row (map (new_row rules) s.lines) ≡ map (fresh_row rules) s.lines = map-over carried_row (new_row rules) s.lines in
       let a : s.at ≡ s.at - 0 = omega arith in
       let b : s.at + s.removed ≡ s.at + s.removed - 0 = omega arith in
@@ -207,16 +207,16 @@ module _ {C State Cell Items Defaults : Type 0} {steps : Steps State Cell Items}
         let Q = IsChainOf steps rules.cells now_opening on.lines.text in
         let chains = drop 1 on.chains.items in
         let blocks = tunes_in (blocks_in rules on.lines.text) in
-        let old = old_chains steps rules on.lines.text on.chains.items kept.stands.chains_are in
+        let old = old_chains steps rules on.lines.text on.chains.items kept.parts_are.chains_are in
         ⊎_elim
         (λ (all : length on.tunes ≤ lead.tunes.to).
-        let many = ap length kept.stands.tunes_are in
+        let many = ap length kept.parts_are.tunes_are in
         let count = AllZip-long R chains blocks old in
         let no_tunes : drop lead.tunes.to blocks ≡ [] = drop_all lead.tunes.to blocks (omega (arith, all, many)) in
         let no_chains : drop lead.tunes.to chains ≡ [] = drop_all lead.tunes.to chains (omega (arith, all, many, count)) in
         subst (λ c. AllZip Q c (drop lead.tunes.to blocks)) (sym no_chains) (subst (λ (b : List Block). AllZip Q [] b) (sym no_tunes) tt))
         (λ (begun : BeginAlike steps rules on own).
-        let was_alike = kept_alike steps rules on begun.was kept.laws kept.lawful kept.stands begun.begins in
+        let was_alike = kept_alike steps rules on begun.was kept.laws kept.lawful kept.parts_are begun.begins in
         let same : IsAlike steps was now_opening =
         kept.laws.transitive was begun.was now_opening (kept.laws.symmetric begun.was was was_alike) (kept.laws.transitive begun.was own now_opening begun.alike alike) in
         zip_same R Q (λ (block : Block). Unit {0}) (drop lead.tunes.to chains) (drop lead.tunes.to blocks)
@@ -236,6 +236,6 @@ module _ {C State Cell Items Defaults : Type 0} {steps : Steps State Cell Items}
           some = refl;
           front = refl;
           from = refl;
-          goes = subst (MayEndBy lead.lines.to) (sym kept.stands.header_is) (place_ended lead.lines.to (header_in (blocks_in rules on.lines.text)) facts.header_ends);
+          goes = subst (MayEndBy lead.lines.to) (sym kept.parts_are.header_is) (place_ended lead.lines.to (header_in (blocks_in rules on.lines.text)) facts.header_ends);
           comes = subst (MayEndBy (length run)) (sym begin.header_is) (header_ended (length run) (header_in now_blocks) header_lies);
         })))

@@ -15,20 +15,20 @@ use Rattle.abc_live_text.proofs.LinePieces.{IsPlaced}
 
 module _ {F State Cell Items Work : Type 0} (chains : List (ChainView State Cell Items)) where
   follows_one : (source i : ℕ) (last piece : Piece F State Cell Items Work) → IsLeftAt chains source i last → LiesAt chains (Some (source, i)) piece → Follows last piece
-  follows_one source i last (New cell) left stands = absurd stands
-  follows_one source i (New cell) (Kept other entered own items) left stands = absurd left
-  follows_one source i (Kept cell before following given) (Kept other entered own items) left stands =
-      some_same entered following (sym stands.0 ∙ left)
+  follows_one source i last (New cell) left lies = absurd lies
+  follows_one source i (New cell) (Kept other entered own items) left lies = absurd left
+  follows_one source i (Kept cell before following given) (Kept other entered own items) left lies =
+      some_same entered following (sym lies.0 ∙ left)
 
   -- A piece that is where others end follows the last of them.
   pub follows_end : (pieces : List (Piece F State Cell Items Work)) (piece : Piece F State Cell Items Work) (at : Option (ℕ × ℕ))
       → IsSomeAnd at (λ a. EndsAt chains pieces a.0 a.1) → LiesAt chains at piece → FollowsLast pieces piece
-  follows_end pieces piece None ends stands = absurd ends
-  follows_end pieces piece (Some a) ends stands = λ last is. follows_one a.0 a.1 last piece (ends last is) stands
+  follows_end pieces piece None ends lies = absurd ends
+  follows_end pieces piece (Some a) ends lies = λ last is. follows_one a.0 a.1 last piece (ends last is) lies
 
   left_one : (source i : ℕ) (piece : Piece F State Cell Items Work) → LiesAt chains (Some (source, i)) piece → IsLeftAt chains source (i + 1) piece
-  left_one source i (New cell) stands = absurd stands
-  left_one source i (Kept cell entered left items) stands = stands.1
+  left_one source i (New cell) lies = absurd lies
+  left_one source i (Kept cell entered left items) lies = lies.1
 
   ends_one : (pieces : List (Piece F State Cell Items Work)) (piece : Piece F State Cell Items Work) (source place : ℕ)
       → IsLeftAt chains source place piece → EndsAt chains (pieces ++ piece ∷ []) source place
@@ -40,11 +40,11 @@ module _ {F State Cell Items Work : Type 0} (chains : List (ChainView State Cell
   -- Where pieces end after the cell of a line at index `k`.
   pub ends_next : (pieces : List (Piece F State Cell Items Work)) (piece : Piece F State Cell Items Work) (o : Option Origin) (k : ℕ)
       → LiesAt chains (address_from k o) piece → IfSome (address_from (k + 1) o) (λ a. EndsAt chains (pieces ++ piece ∷ []) a.0 a.1)
-  ends_next pieces piece None k stands = tt
-  ends_next pieces piece (Some origin) k stands =
+  ends_next pieces piece None k lies = tt
+  ends_next pieces piece (Some origin) k lies =
       let place : origin.first + k + 1 ≡ origin.first + (k + 1) = omega arith in
       subst (λ n. EndsAt chains (pieces ++ piece ∷ []) origin.source n) place
-      (ends_one pieces piece origin.source (origin.first + k + 1) (left_one origin.source (origin.first + k) piece stands))
+      (ends_one pieces piece origin.source (origin.first + k + 1) (left_one origin.source (origin.first + k) piece lies))
 
   -- If a line has an origin, its pieces end somewhere.
   pub ends_there : (pieces : List (Piece F State Cell Items Work)) (o : Option Origin) (k : ℕ) → IsSome o
@@ -68,10 +68,10 @@ module _ {F State Cell Items Work : Type 0} (chains : List (ChainView State Cell
   ends_after pieces None o k is ends = tt
   ends_after pieces (Some e) o k is ends = subst (λ at. IfSome at (λ a. EndsAt chains pieces a.0 a.1)) is ends
 
-  stands_one : (source i : ℕ) (chain : ChainView State Cell Items) (piece : Piece F State Cell Items Work)
+  piece_lies : (source i : ℕ) (chain : ChainView State Cell Items) (piece : Piece F State Cell Items Work)
       → entries_at chains source ≡ chain.entries → IsKeptAt chain i piece → LiesAt chains (Some (source, i)) piece
-  stands_one source i chain (New cell) e at = absurd at
-  stands_one source i chain (Kept cell entered left items) e at =
+  piece_lies source i chain (New cell) e at = absurd at
+  piece_lies source i chain (Kept cell entered left items) e at =
       (ap (λ l. slice_get l i) e ∙ at.own_entry, ap (λ l. slice_get l (i + 1)) e ∙ at.next_entry)
 
   -- The place of a kept piece of a line.
@@ -79,4 +79,4 @@ module _ {F State Cell Items Work : Type 0} (chains : List (ChainView State Cell
       → IsPlaced chains row o k chain source i → IfOk result (λ piece. IsKeptAt chain i piece) → IfOk result (λ piece. LiesAt chains (address_from k o) piece)
   own_place (Err error) here at = tt
   own_place {chain = chain} {source = source} {i = i} (Ok piece) here at =
-      subst (λ a. LiesAt chains a piece) (sym here.address) (stands_one source i chain piece here.entries at)
+      subst (λ a. LiesAt chains a piece) (sym here.address) (piece_lies source i chain piece here.entries at)

@@ -13,8 +13,8 @@ use Rattle.abc_live_text.specs.Chains.{AreChains}
 use Rattle.abc_live_text.specs.NewParts.{HeaderIsReplaced, AreNewParts, MayReplaceHeader, HeaderStays, chains_after}
 use Rattle.abc_live_text.specs.NewParts.{NewPartsView, tunes_after}
 use Rattle.abc_live_text.specs.Row.{Row}
-use Rattle.abc_live_text.specs.KeptText.{AreRows, KeptPatchView, IsStretch, KeptTextView, LiesInNew, ArePartsOf, block_after}
-use Rattle.abc_live_text.specs.KeptText.{Parts, kept_patch_view, parts}
+use Rattle.abc_live_text.specs.KeptText.{AreRows, TextPatchView, IsStretch, KeptTextView, LiesInNew, ArePartsOf, block_after}
+use Rattle.abc_live_text.specs.KeptText.{Parts, text_patch_view, parts}
 use Rattle.abc_live_text.proofs.EditCost.{IsKept}
 use Rattle.abc_live_text.specs.declared.stretch.Stretch.{Stretch}
 use Rattle.std.proofs.lemmas.List.{length-take-le, length-map}
@@ -27,23 +27,23 @@ all_among stretch (block ∷ tunes) all =
     let own : LiesInNew stretch (move_block stretch.lines.from block) = (omega arith, omega (arith, known.1)) in
     All-cons (LiesInNew stretch) (move_block stretch.lines.from block) (map (move_block stretch.lines.from) tunes) own (all_among stretch tunes (λ i d l. all (suc i) d (omega arith)))
 
-tunes_following : {State Cell Items Defaults : Type 0} (steps : Steps State Cell Items) (rules : Rules State Cell Items Defaults)
+drop-chains_after : {State Cell Items Defaults : Type 0} (steps : Steps State Cell Items) (rules : Rules State Cell Items Defaults)
     (text : Text) (first : Option (ChainView State Cell Items)) (stretch : Stretch) (old made : List (ChainView State Cell Items)) → AreChains steps rules text old
     → drop 1 (chains_after first stretch old made) ≡ take stretch.tunes.from (drop 1 old) ++ (made ++ drop stretch.tunes.to (drop 1 old))
-tunes_following steps rules text first stretch [] made own = absurd own
-tunes_following steps rules text None stretch (chain ∷ tunes) made own = refl
-tunes_following steps rules text (Some new) stretch (chain ∷ tunes) made own = refl
+drop-chains_after steps rules text first stretch [] made own = absurd own
+drop-chains_after steps rules text None stretch (chain ∷ tunes) made own = refl
+drop-chains_after steps rules text (Some new) stretch (chain ∷ tunes) made own = refl
 
-first_same : {State Cell Items Defaults : Type 0} (steps : Steps State Cell Items) (rules : Rules State Cell Items Defaults)
+take-chains_after : {State Cell Items Defaults : Type 0} (steps : Steps State Cell Items) (rules : Rules State Cell Items Defaults)
     (text : Text) (first : Option (ChainView State Cell Items)) (stretch : Stretch) (old made : List (ChainView State Cell Items)) → AreChains steps rules text old → first ≡ None
     → take 1 (chains_after first stretch old made) ≡ take 1 old
-first_same steps rules text first stretch [] made own none = absurd own
-first_same steps rules text None stretch (chain ∷ tunes) made own none = refl
-first_same steps rules text (Some new) stretch (chain ∷ tunes) made own none = absurd (cc)
+take-chains_after steps rules text first stretch [] made own none = absurd own
+take-chains_after steps rules text None stretch (chain ∷ tunes) made own none = refl
+take-chains_after steps rules text (Some new) stretch (chain ∷ tunes) made own none = absurd (cc)
 
 -- What a prepared edit shows of a kept text, the text after it, what is kept of that, and what was folded again.
-abbrev pub patch_view : {C State Cell Items : Type 0} → KeptTextView C State Cell Items → Text → Parts State Cell Items → NewPartsView State Cell Items → List Block → KeptPatchView C State Cell Items
-patch_view on text kept new places = kept_patch_view on text kept new.stretch new.new_chains places new.reused_tunes
+abbrev pub patch_view : {C State Cell Items : Type 0} → KeptTextView C State Cell Items → Text → Parts State Cell Items → NewPartsView State Cell Items → List Block → TextPatchView C State Cell Items
+patch_view on text kept new places = text_patch_view on text kept new.stretch new.new_chains places new.reused_tunes
 
 module _ {C State Cell Items Defaults : Type 0} {steps : Steps State Cell Items} {rules : Rules State Cell Items Defaults}
     {on : KeptTextView C State Cell Items} {s : Splice} {new : NewPartsView State Cell Items}
@@ -59,10 +59,10 @@ module _ {C State Cell Items Defaults : Type 0} {steps : Steps State Cell Items}
       by_first (Some first) (inr anew) = anew.front
 
   -- What is kept of the new text.
-  pub new_stands : {text : Text} {rows : List (Row Cell)} {all : List Block} {chains : List (ChainView State Cell Items)} → text ≡ spliced on.lines.text s
+  pub new_parts_are : {text : Text} {rows : List (Row Cell)} {all : List Block} {chains : List (ChainView State Cell Items)} → text ≡ spliced on.lines.text s
       → AreRows rules (spliced on.lines.text s) rows → all ≡ tunes_after new.stretch on.tunes new.tunes → chains ≡ chains_after new.first new.stretch on.chains.items new.new_chains
       → ArePartsOf steps rules text (parts rows new.header all chains)
-  new_stands {rows = rows} {all = all} {chains = chains} x read t c = subst (λ (text : Text). ArePartsOf steps rules text (parts rows new.header all chains)) (sym x) (record {
+  new_parts_are {rows = rows} {all = all} {chains = chains} x read t c = subst (λ (text : Text). ArePartsOf steps rules text (parts rows new.header all chains)) (sym x) (record {
     read = read;
     header_is = new_parts.header_is;
     tunes_are = t ∙ sym new_parts.tunes_are;
@@ -81,7 +81,7 @@ module _ {C State Cell Items Defaults : Type 0} {steps : Steps State Cell Items}
     ends = new_parts.ends;
     inside = new_parts.inside;
     came = new_parts.came;
-    chains_are = ap (drop 1) c ∙ tunes_following steps rules on.lines.text new.first new.stretch on.chains.items new.new_chains kept.stands.chains_are;
+    chains_are = ap (drop 1) c ∙ drop-chains_after steps rules on.lines.text new.first new.stretch on.chains.items new.new_chains kept.parts_are.chains_are;
     tunes_are = t ∙ ap (λ l. take new.stretch.tunes.from on.tunes ++ (l ++ map (block_after new.stretch) (drop new.stretch.tunes.to on.tunes))) (sym p);
     places_count = ap length p ∙ (length-map new.tunes (move_block new.stretch.lines.from) ∙ sym new_parts.count);
     before = new_parts.before;
@@ -91,7 +91,7 @@ module _ {C State Cell Items Defaults : Type 0} {steps : Steps State Cell Items}
     header_is = ⊎_elim
         (λ (stays : HeaderStays new.first new.header on.header new.stretch). inr (record {
           header = stays.header_stays;
-          chain = ap (take 1) c ∙ first_same steps rules on.lines.text new.first new.stretch on.chains.items new.new_chains kept.stands.chains_are stays.none;
+          chain = ap (take 1) c ∙ take-chains_after steps rules on.lines.text new.first new.stretch on.chains.items new.new_chains kept.parts_are.chains_are stays.none;
           before = stays.before;
         }))
         (λ (anew : HeaderIsReplaced new.first new.header on.header new.stretch). inl (record { front = anew.front; from = anew.from; goes = anew.goes; comes = anew.comes }))

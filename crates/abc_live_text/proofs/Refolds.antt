@@ -63,15 +63,15 @@ refold_facts {State = State} steps old opening rows tunes here there made chains
     }
 
 -- The steps of tunes at their places in the text.
-pub sums_moved : {State Cell Items : Type 0} (steps : Steps State Cell Items) (own : State) (old : List (ChainView State Cell Items))
+pub sum_by-moved : {State Cell Items : Type 0} (steps : Steps State Cell Items) (own : State) (old : List (ChainView State Cell Items))
     (a rows b : List (CarriedRow Cell)) (n : ℕ) (tunes : List Block) → n ≡ length a → All (LiesWithin (length rows)) tunes
     → sum_by (steps_taken steps own old rows) tunes ≡ sum_by (steps_taken steps own old (a ++ (rows ++ b))) (map (move_block n) tunes)
-sums_moved steps own old a rows b n [] e within = refl
-sums_moved steps own old a rows b n (t ∷ tunes) e within =
+sum_by-moved steps own old a rows b n [] e within = refl
+sum_by-moved steps own old a rows b n (t ∷ tunes) e within =
     let here = sum_by-cons (steps_taken steps own old rows) t tunes in
     let there = sum_by-cons (steps_taken steps own old (a ++ (rows ++ b))) (move_block n t) (map (move_block n) tunes) in
     let first = steps_moved steps own old a rows b n t e (within 0 t (omega arith)) in
-    let more = sums_moved steps own old a rows b n tunes e (λ i d l. within (suc i) d (omega arith)) in
+    let more = sum_by-moved steps own old a rows b n tunes e (λ i d l. within (suc i) d (omega arith)) in
     omega (arith, here, there, first, more)
 
 -- The same of what goes along old tunes.
@@ -120,9 +120,9 @@ zips_moved steps own a rows b n made tunes e within all =
     zip_given (IsChain steps own rows) (IsChain steps own (a ++ (rows ++ b))) (LiesWithin (length rows)) (move_block n) made tunes
     (λ chain block known is. chain_moved steps own a rows b n chain block e known is) within all
 
-pub stretch_length : {State Cell Items Defaults : Type 0} (rules : Rules State Cell Items Defaults) (s : Splice) (from to : ℕ)
+pub length-stretch_rows : {State Cell Items Defaults : Type 0} (rules : Rules State Cell Items Defaults) (s : Splice) (from to : ℕ)
     (own : List (CarriedRow Cell)) → length own ≡ to - from → from ≤ s.at → s.at + s.removed ≤ to → length (stretch_rows rules s from own) ≡ to - from - s.removed + length s.lines
-stretch_length rules s from to own count h k =
+length-stretch_rows rules s from to own count h k =
     let a = take (s.at - from) own in
     let b = map (fresh_row rules) s.lines in
     let d = drop (s.at + s.removed - from) own in
@@ -136,9 +136,9 @@ stretch_length rules s from to own count h k =
 pub kept_alike : {C State Cell Items Defaults : Type 0} (steps : Steps State Cell Items) (rules : Rules State Cell Items Defaults)
     (on : KeptTextView C State Cell Items) (own : State) → IsResumable steps → AreLawful steps rules → ArePartsOf steps rules on.lines.text (parts_of on)
     → IsKeptOpening rules on own → IsAlike steps own (opening_of steps.next rules on.lines.text (blocks_in rules on.lines.text))
-kept_alike steps rules on own laws lawful stands kept =
-    alike_old steps rules on.lines.text on.chains.items kept.first own laws lawful stands.chains_are kept.there
-    (kept.begins ∙ ap (λ (h : Option Block). rules.tune (state_after_chain h kept.first)) stands.header_is)
+kept_alike steps rules on own laws lawful parts_are kept =
+    alike_old steps rules on.lines.text on.chains.items kept.first own laws lawful parts_are.chains_are kept.there
+    (kept.begins ∙ ap (λ (h : Option Block). rules.tune (state_after_chain h kept.first)) parts_are.header_is)
 
 -- The chains that are kept of the tunes.
 pub old_chains : {State Cell Items Defaults : Type 0} (steps : Steps State Cell Items) (rules : Rules State Cell Items Defaults)
@@ -165,13 +165,13 @@ module _ {C State Cell Items Defaults : Type 0} {steps : Steps State Cell Items}
   all_rows = edit_of rules s (placed_from (map carried_row on.rows.items) 0 0 (places_of (blocks_in rules on.lines.text)))
 
   pub all_renewed : AreRenewed steps rules on.lines.text s on.chains.items all_rows
-  all_renewed = new_parts steps rules on.lines.text s on.rows.items on.chains.items kept.stands.read kept.stands.chains_are
+  all_renewed = new_parts steps rules on.lines.text s on.rows.items on.chains.items kept.parts_are.read kept.parts_are.chains_are
 
   -- The cost if only the file header has been folded.
   pub head_cost : (before after : Counters) → IsRaisedUpTo (header_steps steps rules.header on.chains.items all_rows (header_in new_blocks)) before after
       → IsRaisedUpTo (fresh_cells_after steps rules on.lines.text s) before after
   head_cost before after raise =
-      let sum = edit_steps steps rules on.lines.text s on.chains.items all_rows new_opening kept.laws inside kept.stands.chains_are all_renewed.read all_renewed.from
+      let sum = edit_steps steps rules on.lines.text s on.chains.items all_rows new_opening kept.laws inside kept.parts_are.chains_are all_renewed.read all_renewed.from
       (kept.laws.reflexive new_opening) in
       raised_up _ _ before after (omega (arith, sum)) raise
 
@@ -182,9 +182,9 @@ module _ {C State Cell Items Defaults : Type 0} {steps : Steps State Cell Items}
 
     tunes_there : tunes_in new_blocks ≡ take span.tunes.from on.tunes
         ++ (map (move_block span.lines.from) (tunes_among run) ++ map (shift_block (span.lines.to - span.lines.from) (length run)) (drop span.tunes.to on.tunes))
-    tunes_there = facts.tunes ∙ (λ i. take span.tunes.from (sym kept.stands.tunes_are i)
+    tunes_there = facts.tunes ∙ (λ i. take span.tunes.from (sym kept.parts_are.tunes_are i)
         ++ (map (move_block span.lines.from) (tunes_among (sym runs i))
-        ++ map (shift_block (span.lines.to - span.lines.from) (length (sym runs i))) (drop span.tunes.to (sym kept.stands.tunes_are i))))
+        ++ map (shift_block (span.lines.to - span.lines.from) (length (sym runs i))) (drop span.tunes.to (sym kept.parts_are.tunes_are i))))
 
     within : All (LiesWithin (length run)) (tunes_among run)
     within = tunes_within run (blocks_of (map class_in run)) refl
@@ -196,17 +196,17 @@ module _ {C State Cell Items Defaults : Type 0} {steps : Steps State Cell Items}
     run_cost before now after head raise =
         let places = map (move_block span.lines.from) (tunes_among run) in
         let moved_sum : sum_by (steps_taken steps own on.chains.items run) (tunes_among run) ≡ sum_by (steps_taken steps own on.chains.items all_rows) places =
-        sums_moved steps own on.chains.items facts.parts.before run facts.parts.following span.lines.from (tunes_among run) facts.parts.count within
+        sum_by-moved steps own on.chains.items facts.parts.before run facts.parts.following span.lines.from (tunes_among run) facts.parts.count within
         ∙ ap (λ r. sum_by (steps_taken steps own on.chains.items r) places) (sym run_parts) in
         stretch_cost steps rules on.lines.text s on.chains.items all_rows own (take span.tunes.from on.tunes) places
-        (map (shift_block (span.lines.to - span.lines.from) (length run)) (drop span.tunes.to on.tunes)) before now after kept.laws inside kept.stands.chains_are all_renewed alike tunes_there head
+        (map (shift_block (span.lines.to - span.lines.from) (length run)) (drop span.tunes.to on.tunes)) before now after kept.laws inside kept.parts_are.chains_are all_renewed alike tunes_there head
         (subst (λ n. IsRaisedUpTo n now after) moved_sum raise)
 
     line_sum : span.lines.from + (span.lines.to - span.lines.from) ≡ span.lines.to
     line_sum = let a = facts.begins in let b = facts.ends in omega (arith, a, b)
 
     came_is : length run ≡ span.lines.to - span.lines.from - s.removed + length s.lines
-    came_is = ap length runs ∙ stretch_length rules s span.lines.from span.lines.to old facts.count facts.begins facts.ends
+    came_is = ap length runs ∙ length-stretch_rows rules s span.lines.from span.lines.to old facts.count facts.begins facts.ends
 
     lines_past : drop (span.lines.from + length run) new_text ≡ drop (span.lines.from + (span.lines.to - span.lines.from)) on.lines.text
     lines_past =
@@ -230,8 +230,8 @@ module _ {C State Cell Items Defaults : Type 0} {steps : Steps State Cell Items}
         made all_rows own new_opening span.tunes.from span.tunes.to
         (map (move_block span.lines.from) tunes) kept.laws (lines_before on.lines.text s span.lines.from facts.begins inside) lines_past
         (tunes_there
-        ∙ (λ i. take span.tunes.from (kept.stands.tunes_are i)
-        ++ (map (move_block span.lines.from) (sym e i) ++ map (shift_block (span.lines.to - span.lines.from) (length run)) (drop span.tunes.to (kept.stands.tunes_are i)))))
+        ∙ (λ i. take span.tunes.from (kept.parts_are.tunes_are i)
+        ++ (map (move_block span.lines.from) (sym e i) ++ map (shift_block (span.lines.to - span.lines.from) (length run)) (drop span.tunes.to (kept.parts_are.tunes_are i)))))
         facts.before (subst (λ n. All (StartsFrom n) (drop span.tunes.to old_blocks)) (sym line_sum) facts.following) front back alike all_renewed.read.cells (placed_chains tunes made e chains)
 
     -- What is folded again, with the file header and its chain.
@@ -252,13 +252,13 @@ module _ {C State Cell Items Defaults : Type 0} {steps : Steps State Cell Items}
         let goes = subst (λ r. KnowsAlong steps on.chains.items new_opening r (map (move_block span.lines.from) tunes) reused_tunes) (sym run_parts)
         (along_moved steps new_opening on.chains.items facts.parts.before run facts.parts.following span.lines.from tunes reused_tunes facts.parts.count here (refolded.along new_opening begun)) in
         let order = facts.order in
-        let most : span.tunes.to ≤ length on.tunes = subst (λ (t : List Block). span.tunes.to ≤ length t) (sym kept.stands.tunes_are) facts.most in
+        let most : span.tunes.to ≤ length on.tunes = subst (λ (t : List Block). span.tunes.to ≤ length t) (sym kept.parts_are.tunes_are) facts.most in
         let front_count : length (take span.tunes.from on.tunes) ≡ span.tunes.from = length-take-le span.tunes.from on.tunes (omega (arith, order, most)) in
         let back_count : length back ≡ length on.tunes - span.tunes.to =
         length-map (drop span.tunes.to on.tunes) (shift_block (span.lines.to - span.lines.from) (length run)) ∙ length-drop span.tunes.to on.tunes in
         let whole = taken_all steps new_opening on.chains.items all_rows (take span.tunes.from on.tunes) (map (move_block span.lines.from) tunes) back
         span.tunes.from span.tunes.to (length on.tunes) reused_tunes front_count back_count goes in
-        let same = kept.stands.tunes_are in
+        let same = kept.parts_are.tunes_are in
         let before = subst (λ (t : List Block). All (Ends span.lines.from) (take span.tunes.from t)) (sym same) facts.before in
         let following = subst (λ (t : List Block). All (StartsFrom span.lines.to) (drop span.tunes.to t)) (sym same) facts.following in
         record {
@@ -281,6 +281,6 @@ module _ {C State Cell Items Defaults : Type 0} {steps : Steps State Cell Items}
           lines_after = lines_past ∙ ap (λ n. drop n on.lines.text) line_sum;
           items = refolded.items;
           untouched = takes_untouched steps rules on.lines.text s on.chains.items all_rows
-              (reused_tunes_after stretch (length on.tunes) reused_tunes) kept.laws kept.lawful inside kept.stands.chains_are all_renewed.read all_renewed.from
+              (reused_tunes_after stretch (length on.tunes) reused_tunes) kept.laws kept.lawful inside kept.parts_are.chains_are all_renewed.read all_renewed.from
               (subst (λ (t : List Block). KnowsAlong steps on.chains.items new_opening all_rows t (reused_tunes_after stretch (length on.tunes) reused_tunes)) (sym all) whole);
         }

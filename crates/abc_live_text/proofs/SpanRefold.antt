@@ -47,11 +47,11 @@ module _ {C State Cell Items Defaults : Type 0} {steps : Steps State Cell Items}
   same = refl
 
   runs : run ≡ stretch_rows rules s span.lines.from (old_run rules on.lines.text s on.rows.items span)
-  runs = run_is (λ (k : C). steps) (λ (k : C). rules) same kept.stands s.at s.removed span edit.is_span s.lines run edit.rows_are
+  runs = run_is (λ (k : C). steps) (λ (k : C). rules) same kept.parts_are s.at s.removed span edit.is_span s.lines run edit.rows_are
 
   facts : IsSpanRun rules on.lines.text s on.rows.items span
-  facts = span_facts rules on.lines.text s on.rows.items span kept.stands.read
-      (subst (λ (t : List Block). IsSpan t (length on.lines.text) s.at s.removed span) kept.stands.tunes_are edit.is_span) (all_renewed kept s edit.inside).read
+  facts = span_facts rules on.lines.text s on.rows.items span kept.parts_are.read
+      (subst (λ (t : List Block). IsSpan t (length on.lines.text) s.at s.removed span) kept.parts_are.tunes_are edit.is_span) (all_renewed kept s edit.inside).read
 
   same_before : take span.lines.from (spliced on.lines.text s) ≡ take span.lines.from on.lines.text
   same_before = lines_before on.lines.text s span.lines.from facts.run.begins edit.inside
@@ -61,7 +61,7 @@ module _ {C State Cell Items Defaults : Type 0} {steps : Steps State Cell Items}
   stays = opening_stays steps rules on.lines.text (spliced on.lines.text s) span.lines.from (span.lines.to - span.lines.from) (length run) facts.header facts.header_ends same_before
 
   alike : IsAlike steps own (opening_of steps.next rules (spliced on.lines.text s) (blocks_in rules (spliced on.lines.text s)))
-  alike = subst (λ o. IsAlike steps own o) (sym stays) (kept_alike steps rules on own kept.laws kept.lawful kept.stands opening)
+  alike = subst (λ o. IsAlike steps own o) (sym stays) (kept_alike steps rules on own kept.laws kept.lawful kept.parts_are opening)
 
   pub span_cost : {before after : Counters} → IsRaisedUpTo (sum_by (steps_taken steps own on.chains.items run) (tunes_among run)) before after
       → IsRaisedUpTo (fresh_cells_after steps rules on.lines.text s) before after
@@ -75,14 +75,14 @@ module _ {C State Cell Items Defaults : Type 0} {steps : Steps State Cell Items}
       let R = IsChainOf steps rules.cells now on.lines.text in
       let blocks = tunes_in (blocks_in rules on.lines.text) in
       let chains : AllZip R (drop 1 on.chains.items) blocks = subst (λ (o : State). AllZip (IsChainOf steps rules.cells o on.lines.text) (drop 1 on.chains.items) blocks)
-      (sym stays) (old_chains steps rules on.lines.text on.chains.items kept.stands.chains_are) in
+      (sym stays) (old_chains steps rules on.lines.text on.chains.items kept.parts_are.chains_are) in
       run_renewed kept s edit.inside span _ run facts.run runs own alike on.header None tunes made reused_tunes refolded
-      (kept.stands.header_is ∙ sym facts.header)
-      (header_stays steps rules on.lines.text (spliced on.lines.text s) (span_stretch span (length run)) on.chains.items made kept.stands.chains_are facts.header facts.header_ends same_before
+      (kept.parts_are.header_is ∙ sym facts.header)
+      (header_stays steps rules on.lines.text (spliced on.lines.text s) (span_stretch span (length run)) on.chains.items made kept.parts_are.chains_are facts.header facts.header_ends same_before
       (run_chains kept s edit.inside span _ run facts.run runs own alike tunes made refolded.tunes_are refolded.chains_are
       (zip_take R span.tunes.from (drop 1 on.chains.items) blocks chains) (zip_drop R span.tunes.to (drop 1 on.chains.items) blocks chains)))
       (inl (record {
         none = refl;
         header_stays = refl;
-        before = λ block h. (facts.header_ends block (sym kept.stands.header_is ∙ h)).1;
+        before = λ block h. (facts.header_ends block (sym kept.parts_are.header_is ∙ h)).1;
       }))

@@ -35,26 +35,26 @@ edited_carried chains old new at end all =
     All-append (IsCarried chains) (take at old) (map carried_row new ++ drop end old) (All-take (IsCarried chains) at old all)
     (All-append (IsCarried chains) (map carried_row new) (drop end old) (bare_carried chains new) (All-drop (IsCarried chains) end old all))
 
-pub rows_count : {State Cell Items Defaults : Type 0} (steps : Steps State Cell Items)
+pub length-rows : {State Cell Items Defaults : Type 0} (steps : Steps State Cell Items)
     (rules : Rules State Cell Items Defaults) {C : Type 0} (on : KeptTextView C State Cell Items) → ArePartsOf steps rules on.lines.text (parts_of on) → length on.rows.items ≡ length on.lines.text
-rows_count steps rules on stands = sym (length-map on.rows.items row_class) ∙ (ap length stands.read.classes ∙ length-map on.lines.text rules.class)
+length-rows steps rules on parts_are = sym (length-map on.rows.items row_class) ∙ (ap length parts_are.read.classes ∙ length-map on.lines.text rules.class)
 
 pub tunes_inside : {State Cell Items Defaults : Type 0} (steps : Steps State Cell Items)
     (rules : Rules State Cell Items Defaults) {C : Type 0} (on : KeptTextView C State Cell Items)
     → ArePartsOf steps rules on.lines.text (parts_of on) → All (LiesWithin (length on.lines.text)) on.tunes
-tunes_inside steps rules on stands =
-    let read = bare_read rules on.lines.text on.rows.items stands.read in
+tunes_inside steps rules on parts_are =
+    let read = bare_read rules on.lines.text on.rows.items parts_are.read in
     let same : blocks_in rules on.lines.text ≡ blocks_of (map class_in (map carried_row on.rows.items)) = ap blocks_of (sym read.classes) in
-    subst (λ n. All (LiesWithin n) on.tunes) (length-map on.rows.items carried_row ∙ rows_count steps rules on stands)
-    (subst (All (LiesWithin (length (map carried_row on.rows.items)))) (sym stands.tunes_are) (tunes_within (map carried_row on.rows.items) (blocks_in rules on.lines.text) same))
+    subst (λ n. All (LiesWithin n) on.tunes) (length-map on.rows.items carried_row ∙ length-rows steps rules on parts_are)
+    (subst (All (LiesWithin (length (map carried_row on.rows.items)))) (sym parts_are.tunes_are) (tunes_within (map carried_row on.rows.items) (blocks_in rules on.lines.text) same))
 
 -- The chains go on past the tunes before a number, which are no more than all.
 pub chains_reach : {C State Cell Items Defaults : Type 0} (steps : C → Steps State Cell Items) (rules : C → Rules State Cell Items Defaults)
     {on now : KeptTextView C State Cell Items} (view : on ≡ now)
     → ArePartsOf (steps on.compiler) (rules on.compiler) on.lines.text (parts_of on) → (n : ℕ) → n ≤ length now.tunes → n + 1 ≤ length now.chains.items
-chains_reach {C = C} {State = State} {Cell = Cell} {Items = Items} steps rules {on = on} {now = now} view stands n most =
-    let total = chains_count (steps on.compiler) (rules on.compiler) on.lines.text on.chains.items stands.chains_are in
-    let tunes = ap length stands.tunes_are in
+chains_reach {C = C} {State = State} {Cell = Cell} {Items = Items} steps rules {on = on} {now = now} view parts_are n most =
+    let total = chains_count (steps on.compiler) (rules on.compiler) on.lines.text on.chains.items parts_are.chains_are in
+    let tunes = ap length parts_are.tunes_are in
     let seen : length now.tunes ≡ length on.tunes = ap (λ (k : KeptTextView C State Cell Items). length k.tunes) (sym view) in
     let chains : length now.chains.items ≡ length on.chains.items = ap (λ (k : KeptTextView C State Cell Items). length k.chains.items) (sym view) in
     omega (arith, total, tunes, seen, chains, most)
@@ -63,36 +63,36 @@ chains_reach {C = C} {State = State} {Cell = Cell} {Items = Items} steps rules {
 pub tunes_within_most : {C State Cell Items Defaults : Type 0} (steps : C → Steps State Cell Items) (rules : C → Rules State Cell Items Defaults)
     {on now : KeptTextView C State Cell Items} (view : on ≡ now)
     → ArePartsOf (steps on.compiler) (rules on.compiler) on.lines.text (parts_of on) → (most : ℕ) → length on.lines.text ≤ most → (tunes : List Block) → tunes ≡ on.tunes → All (LiesWithin most) tunes
-tunes_within_most steps rules {on = on} view stands most limit tunes e =
+tunes_within_most steps rules {on = on} view parts_are most limit tunes e =
     subst (All (LiesWithin most)) (sym e) (All-weaker (LiesWithin (length on.lines.text)) (LiesWithin most) (λ block h. (h.0, omega (arith, h.1, limit))) on.tunes
-    (tunes_inside (steps on.compiler) (rules on.compiler) on stands))
+    (tunes_inside (steps on.compiler) (rules on.compiler) on parts_are))
 
 -- A kept text, seen from within as `on` and from outside as `now`, and a stretch of it.
 module _ {C State Cell Items Defaults : Type 0} (steps : C → Steps State Cell Items) (rules : C → Rules State Cell Items Defaults) {on now : KeptTextView C State Cell Items} (view : on ≡ now)
-    (stands : ArePartsOf (steps on.compiler) (rules on.compiler) on.lines.text (parts_of on)) (at removed : ℕ) (span : Span)
+    (parts_are : ArePartsOf (steps on.compiler) (rules on.compiler) on.lines.text (parts_of on)) (at removed : ℕ) (span : Span)
     (seen : IsSpan now.tunes (length now.lines.text) at removed span) where
   is : IsSpan on.tunes (length on.lines.text) at removed span
   is = subst (λ (k : KeptTextView C State Cell Items). IsSpan k.tunes (length k.lines.text) at removed span) (sym view) seen
 
   facts_of : (lines : Text) → IsSpanRun (rules on.compiler) on.lines.text (splice_at at removed lines) on.rows.items span
-  facts_of lines = span_facts (rules on.compiler) on.lines.text (splice_at at removed lines) on.rows.items span stands.read
-      (subst (λ (t : List Block). IsSpan t (length on.lines.text) at removed span) stands.tunes_are is)
-      (new_parts (steps on.compiler) (rules on.compiler) on.lines.text (splice_at at removed lines) on.rows.items on.chains.items stands.read stands.chains_are).read
+  facts_of lines = span_facts (rules on.compiler) on.lines.text (splice_at at removed lines) on.rows.items span parts_are.read
+      (subst (λ (t : List Block). IsSpan t (length on.lines.text) at removed span) parts_are.tunes_are is)
+      (new_parts (steps on.compiler) (rules on.compiler) on.lines.text (splice_at at removed lines) on.rows.items on.chains.items parts_are.read parts_are.chains_are).read
 
   own_is : (lines : Text) → old_span_rows on span ≡ old_run (rules on.compiler) on.lines.text (splice_at at removed lines) on.rows.items span
   own_is lines =
       let tunes = tunes_in (blocks_in (rules on.compiler) on.lines.text) in
-      let long = ap length stands.tunes_are in
+      let long = ap length parts_are.tunes_are in
       let count : length (take span.tunes.from tunes) ≡ span.tunes.from = length-take-le span.tunes.from tunes (omega (arith, is.order, is.most, long)) in
       let number : span.tunes.from + 1 ≡ 0 + suc (length (take span.tunes.from tunes)) = omega (arith, count) in
-      λ i. rows_until (map carried_row on.rows.items) span.lines.from span.lines.to (number i) (take (span.tunes.to - span.tunes.from) (drop span.tunes.from (stands.tunes_are i)))
+      λ i. rows_until (map carried_row on.rows.items) span.lines.from span.lines.to (number i) (take (span.tunes.to - span.tunes.from) (drop span.tunes.from (parts_are.tunes_are i)))
 
   pub span_rise : (tunes : List Block) → tunes ≡ on.tunes → BlocksRise span.lines.from (take (span.tunes.to - span.tunes.from) (drop span.tunes.from tunes)) span.lines.to
   span_rise tunes e =
-      subst (λ (t : List Block). BlocksRise span.lines.from (take (span.tunes.to - span.tunes.from) (drop span.tunes.from t)) span.lines.to) (sym (e ∙ stands.tunes_are)) (facts_of []).rise
+      subst (λ (t : List Block). BlocksRise span.lines.from (take (span.tunes.to - span.tunes.from) (drop span.tunes.from t)) span.lines.to) (sym (e ∙ parts_are.tunes_are)) (facts_of []).rise
 
   pub span_inside : span.lines.to ≤ length on.rows.items
-  span_inside = let a = (facts_of []).run.inside in let b = rows_count (steps on.compiler) (rules on.compiler) on stands in omega (arith, a, b)
+  span_inside = let a = (facts_of []).run.inside in let b = length-rows (steps on.compiler) (rules on.compiler) on parts_are in omega (arith, a, b)
 
   old_is : (tunes : List Block) (old : List (CarriedRow Cell)) → tunes ≡ on.tunes
       → old ≡ rows_until (map carried_row on.rows.items) span.lines.from span.lines.to (span.tunes.from + 1) (take (span.tunes.to - span.tunes.from) (drop span.tunes.from tunes))
@@ -114,8 +114,8 @@ module _ {C State Cell Items Defaults : Type 0} (steps : C → Steps State Cell 
       → rows ≡ take (at - span.lines.from) old ++ (map carried_row new ++ drop (at - span.lines.from + removed) old) → All (IsCarried now.chains.items) rows
   span_carried tunes new old rows e o r =
       let parts = (facts_of []).run.parts in
-      let read = bare_read (rules on.compiler) on.lines.text on.rows.items stands.read in
-      let all = settled_carried (steps on.compiler) (rules on.compiler) on.lines.text (map carried_row on.rows.items) on.chains.items read.cells stands.chains_are in
+      let read = bare_read (rules on.compiler) on.lines.text on.rows.items parts_are.read in
+      let all = settled_carried (steps on.compiler) (rules on.compiler) on.lines.text (map carried_row on.rows.items) on.chains.items read.cells parts_are.chains_are in
       let own = all_mid (IsCarried on.chains.items) parts.before
       (old_run (rules on.compiler) on.lines.text (splice_at at removed []) on.rows.items span) parts.following (subst (All (IsCarried on.chains.items)) parts.old_are all) in
       subst (λ (k : KeptTextView C State Cell Items). All (IsCarried k.chains.items) rows) view

@@ -60,7 +60,7 @@ parts_of on = parts on.rows.items on.header on.tunes on.chains.items
 
 -- A kept text, and the text after an edit with its kept parts. Nothing changes outside the stretch. Of the tunes in it the
 -- patch has the chains, the places, and which of them have the items of old tunes.
-pub record KeptPatchView (C State Cell Items : Type 0) : Type 0 where
+pub record TextPatchView (C State Cell Items : Type 0) : Type 0 where
   pub on : KeptTextView C State Cell Items
   pub text : Text
   pub rows : List (Row Cell)
@@ -73,7 +73,7 @@ pub record KeptPatchView (C State Cell Items : Type 0) : Type 0 where
   pub reused_tunes : List (Option ℕ)
 
 -- The kept parts of the new text.
-abbrev pub parts_after : {C State Cell Items : Type 0} → KeptPatchView C State Cell Items → Parts State Cell Items
+abbrev pub parts_after : {C State Cell Items : Type 0} → TextPatchView C State Cell Items → Parts State Cell Items
 parts_after patch = parts patch.rows patch.header patch.tunes patch.chains
 
 -- What a prepared edit makes of the lines of a text and of its kept parts.
@@ -90,9 +90,9 @@ patched_parts lines rows header tunes chains =
     record { lines = lines; rows = rows; header = header; tunes = tunes; chains = chains }
 
 -- A prepared edit of a kept text, by the text after it, the kept parts of that, its stretch and the tunes of the stretch.
-abbrev pub kept_patch_view : {C State Cell Items : Type 0} → KeptTextView C State Cell Items → Text → Parts State Cell Items
-    → Stretch → List (ChainView State Cell Items) → List Block → List (Option ℕ) → KeptPatchView C State Cell Items
-kept_patch_view on text kept stretch new_chains places reused_tunes = record {
+abbrev pub text_patch_view : {C State Cell Items : Type 0} → KeptTextView C State Cell Items → Text → Parts State Cell Items
+    → Stretch → List (ChainView State Cell Items) → List Block → List (Option ℕ) → TextPatchView C State Cell Items
+text_patch_view on text kept stretch new_chains places reused_tunes = record {
   on = on;
   text = text;
   rows = kept.rows;
@@ -112,7 +112,7 @@ pub record IsPatch {C State Cell Items Defaults : Type 0} (steps : Steps State C
   pub lines_on : new.lines.on ≡ on.lines
   pub rows_on : new.rows.on ≡ on.rows
   pub chains_on : new.chains.on ≡ on.chains
-  pub stands : ArePartsOf steps rules new.lines.after (parts new.rows.after.items new.header new.tunes new.chains.after.items)
+  pub parts_are : ArePartsOf steps rules new.lines.after (parts new.rows.after.items new.header new.tunes new.chains.after.items)
 
 -- The same by the definitions of the text's own compiler.
 abbrev pub Patches : {C State Cell Items Defaults : Type 0} → (C → Steps State Cell Items)
@@ -120,7 +120,7 @@ abbrev pub Patches : {C State Cell Items Defaults : Type 0} → (C → Steps Sta
 Patches steps rules on new = IsPatch (steps on.compiler) (rules on.compiler) on new
 
 -- The chains of the tunes: the file header's is before them.
-abbrev pub old_tunes : {C State Cell Items : Type 0} → KeptPatchView C State Cell Items → List (ChainView State Cell Items)
+abbrev pub old_tunes : {C State Cell Items : Type 0} → TextPatchView C State Cell Items → List (ChainView State Cell Items)
 old_tunes patch = drop 1 patch.on.chains.items
 
 -- The place after the edit of a block that is after the stretch.
@@ -149,21 +149,21 @@ abbrev pub MayEndBy : ℕ → Option Block → Type 0
 MayEndBy line header = (block : Block) → header ≡ Some block → block.to ≤ line
 
 -- The stretch begins with the text, and the file header lies in it, before and after.
-pub record HoldsHeader {C State Cell Items : Type 0} (patch : KeptPatchView C State Cell Items) : Type 0 where
+pub record HoldsHeader {C State Cell Items : Type 0} (patch : TextPatchView C State Cell Items) : Type 0 where
   pub front : patch.stretch.tunes.from ≡ 0
   pub from : patch.stretch.lines.from ≡ 0
   pub goes : MayEndBy patch.stretch.lines.to patch.on.header
   pub comes : MayEndBy patch.stretch.lines.came patch.header
 
 -- The file header lies before the stretch, and stays.
-pub record KeepsHeader {C State Cell Items : Type 0} (patch : KeptPatchView C State Cell Items) : Type 0 where
+pub record KeepsHeader {C State Cell Items : Type 0} (patch : TextPatchView C State Cell Items) : Type 0 where
   pub header : patch.header ≡ patch.on.header
   pub chain : take 1 patch.chains ≡ take 1 patch.on.chains.items
   pub before : MayLieBefore patch.stretch patch.on.header
 
 -- All lines of a splice lie in the stretch of an edit, and nothing outside the stretch changes but the numbers of the
 -- lines after it.
-pub record IsStretch {C State Cell Items : Type 0} (s : Splice) (patch : KeptPatchView C State Cell Items) : Type 0 where
+pub record IsStretch {C State Cell Items : Type 0} (s : Splice) (patch : TextPatchView C State Cell Items) : Type 0 where
   pub order : patch.stretch.tunes.from ≤ patch.stretch.tunes.to
   pub count : patch.stretch.tunes.to ≤ length patch.on.tunes
   pub begins : patch.stretch.lines.from ≤ s.at
@@ -196,7 +196,7 @@ abbrev pub reused_tunes_after : Stretch → ℕ → List (Option ℕ) → List (
 reused_tunes_after stretch tunes reused_tunes = kept_numbers 0 stretch.tunes.from
     ++ (reused_tunes ++ kept_numbers stretch.tunes.to (tunes - stretch.tunes.to))
 
-abbrev pub all_reused_tunes : {C State Cell Items : Type 0} → KeptPatchView C State Cell Items → List (Option ℕ)
+abbrev pub all_reused_tunes : {C State Cell Items : Type 0} → TextPatchView C State Cell Items → List (Option ℕ)
 all_reused_tunes patch = reused_tunes_after patch.stretch (length patch.on.tunes) patch.reused_tunes
 
 -- How many cells of a kept text a splice makes fresh.

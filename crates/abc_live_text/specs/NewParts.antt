@@ -17,6 +17,7 @@ use Rattle.abc_live_text.specs.Row.{CarriedRow, Row, carried_row, new_row}
 use Rattle.abc_live_text.specs.KeptText.{KeptTextView, LiesInOld, LiesBefore, LiesAfter, MayEndBy, MayLieBefore, block_after}
 use Rattle.abc_live_text.specs.KeptText.{reused_tunes_after}
 use Rattle.abc_live_cost.specs.OldItems.{HasItemsOf, TakesUntouched}
+use Rattle.abc_live_text.specs.declared.item_splice.ItemSplice.{ItemSplice}
 use Rattle.abc_live_text.specs.declared.new_parts.NewParts.{NewParts}
 use Rattle.abc_live_text.specs.declared.stretch.Stretch.{Stretch}
 use Rattle.abc_live_text.specs.declared.stretch.Span.{Span}
@@ -30,10 +31,11 @@ start_of (block ∷ blocks) last = block.from
 abbrev pub splice_at : ℕ → ℕ → Text → Splice
 splice_at at removed lines = record { at = at; removed = removed; lines = lines }
 
--- A law of the splice that puts lines instead of others, if these rows were read from the lines.
-abbrev pub ForSplice : {State Cell Items Defaults : Type 0} → Rules State Cell Items Defaults → ℕ → ℕ → List (Row Cell)
+-- A law of the splice that puts lines instead of others, if the rows of a splice were read from the lines.
+abbrev pub ForSplice : {State Cell Items Defaults : Type 0} → Rules State Cell Items Defaults → ItemSplice (Row Cell)
     → (Splice → Type 0) → Type 0
-ForSplice rules at removed rows Holds = (lines : Text) → rows ≡ map (new_row rules) lines → Holds (splice_at at removed lines)
+ForSplice rules splice Holds =
+    (lines : Text) → splice.new.now ≡ map (new_row rules) lines → Holds (splice_at splice.at splice.removed lines)
 
 -- A stretch that begins with the last tune before an edit, and goes on to the first one after it.
 pub record IsSpan (tunes : List Block) (count at removed : ℕ) (span : Span) : Type 0 where

@@ -122,7 +122,7 @@ pub(crate) fn header_chain<C: Compiler>(
     }
 }
 
-/// Returns the state after the file header's last cell, if there is a file header.
+/// Returns the state after the file header's last cell, by the header's place and chain. None without a file header.
 pub fn header_state<C: Compiler>(header: Option<Block>, chain: &Chain<C>) -> Option<&C::State>
     ensures { option_copied result ≡ state_after_chain header chain.now }
 {

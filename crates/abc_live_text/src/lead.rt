@@ -12,6 +12,7 @@ ghost use Rattle.abc_fold.specs.Work.{IsRaisedUpTo};
 
 use crate::blocks::{blocks_of, header_in, places_of};
 use crate::chains::{header_chain, tune_opening};
+use crate::item_splice::ItemSplice;
 use crate::kept_text::KeptText;
 use crate::new_parts::{NewParts, edited_rows};
 use crate::origin::{CarriedRow, rows_with_origins};
@@ -39,7 +40,7 @@ impl<C: Compiler> KeptText<C> {
         lead_of(&self.tunes, self.lines.len(), end)
     }
 
-    /// All lines.
+    /// Returns the span of all lines.
     fn whole_lead(&self) -> Span
         ensures { result ≡ whole_lead self.now }
     {
@@ -50,19 +51,17 @@ impl<C: Compiler> KeptText<C> {
     fn lead_rows(
         &self,
         lead: Span,
-        at: usize,
-        removed: usize,
-        new: &[Row<C::Cell>],
+        splice: &ItemSplice<Row<C::Cell>>,
     ) -> Result<Vec<CarriedRow<C::Cell>>, AllocError>
-        requires lead { IsLead self.now.tunes (length self.now.lines.text) (at + removed) lead }
-        requires inside { at + removed ≤ length self.now.lines.text }
-        ensures value { IfOk result (λ rows. rows.items ≡ lead_rows self.now lead at removed new.now) }
+        requires lead { IsLead self.now.tunes (length self.now.lines.text) (splice.now.at + splice.now.removed) lead }
+        requires inside { splice.now.at + splice.now.removed ≤ length self.now.lines.text }
+        ensures value { let s = splice.now in IfOk result (λ rows. rows.items ≡ lead_rows self.now lead s.at s.removed s.new.now) }
         ensures carried { IfOk result (λ rows. All (IsCarried self.now.chains.items) rows.items) }
     {
         let alloc = self.lines.allocator();
         let places = places_of(alloc, self.header, &self.tunes[..lead.tunes.to])?;
         let old = rows_with_origins(alloc, &self.rows, 0, lead.lines.to, 0, &places)?;
-        let rows = edited_rows(alloc, &old, at, removed, new)?;
+        let rows = edited_rows(alloc, &old, splice)?;
         Ok(rows)
     }
 
@@ -121,7 +120,7 @@ impl<C: Compiler> KeptText<C> {
             IsRaisedUpTo (sum_by (steps_taken (C.steps c) header.opening self.now.chains.items rows.now)
             (tunes_among rows.now)) (C.Work.counts work.old) (C.Work.counts work.new) }
     {
-        // For the prover: what is kept is that of the text.
+        // For the prover: the parts are those of the text.
         let _ = self.lines();
         let HeaderOpening {
             header,
@@ -141,27 +140,25 @@ impl<C: Compiler> KeptText<C> {
     /// that begins after it. If the new file header changes how tunes begin, all tunes are folded again.
     pub(crate) fn refold_from_start(
         &self,
-        at: usize,
-        removed: usize,
-        new: &[Row<C::Cell>],
+        splice: &ItemSplice<Row<C::Cell>>,
         work: &mut C::Work,
     ) -> Result<NewParts<C>, AllocError>
-        requires { at + removed ≤ length self.now.lines.text }
-        ensures new_parts { let c = self.now.compiler in ForSplice (C.rules c) at removed new.now (λ s.
+        requires { splice.now.at + splice.now.removed ≤ length self.now.lines.text }
+        ensures new_parts { let c = self.now.compiler in ForSplice (C.rules c) splice.now (λ s.
             IfOk result (λ r. AreNewParts (C.steps c) (C.rules c) self.now s (view_of_new_parts r))) }
-        ensures counted { let c = self.now.compiler in ForSplice (C.rules c) at removed new.now (λ s.
+        ensures counted { let c = self.now.compiler in ForSplice (C.rules c) splice.now (λ s.
             IsRaisedUpTo (fresh_cells_in (C.steps c) (C.rules c) self.now s) (C.Work.counts work.old) (C.Work.counts work.new)) }
     {
-        // For the prover: what is kept is that of the text, and the count of lines fits.
+        // For the prover: the parts are those of the text, and the count of lines fits.
         let _ = self.lines().len();
-        let lead = self.lead(at + removed);
-        let rows = self.lead_rows(lead, at, removed, new)?;
+        let lead = self.lead(splice.at + splice.removed);
+        let rows = self.lead_rows(lead, splice)?;
         let header = self.header_opening(&rows, work)?;
         if self.may_go_on(lead.tunes.to, &header.opening) {
             return self.refold_lead(lead, header, &rows, work);
         }
         let whole = self.whole_lead();
-        let rows = self.lead_rows(whole, at, removed, new)?;
+        let rows = self.lead_rows(whole, splice)?;
         self.refold_lead(whole, header, &rows, work)
     }
 }

@@ -3,6 +3,7 @@
 
 mod blocks;
 mod chains;
+mod item_splice;
 mod kept_text;
 mod lead;
 mod new_parts;
@@ -17,6 +18,7 @@ mod row;
 mod stretch;
 
 pub use chains::header_state;
-pub use kept_text::{KeptPatch, KeptText};
+pub use item_splice::ItemSplice;
+pub use kept_text::{KeptText, TextPatch};
 pub use row::{Row, read_rows};
 pub use stretch::Stretch;

@@ -12,6 +12,7 @@ ghost use Rattle.abc_live_text.specs.KeptText.{fresh_cells_in};
 ghost use Rattle.abc_fold.specs.Work.{IsRaisedUpTo};
 
 use crate::chains::tune_opening;
+use crate::item_splice::ItemSplice;
 use crate::kept_text::KeptText;
 use crate::origin::{CarriedRow, item_at, rows_with_origins};
 use crate::refold::Refold;
@@ -65,17 +66,15 @@ fn append_new<K: Drop>(rows: &mut Vec<CarriedRow<K>>, new: &[Row<K>]) -> Result<
 pub(crate) fn edited_rows<K: Drop>(
     alloc: Global,
     old: &[CarriedRow<K>],
-    at: usize,
-    removed: usize,
-    new: &[Row<K>],
+    splice: &ItemSplice<Row<K>>,
 ) -> Result<Vec<CarriedRow<K>>, AllocError>
-    requires { at + removed ≤ length old.now }
-    ensures { IfOk result (λ rows. rows.items ≡ edited_rows at removed new.now old.now) }
+    requires { splice.now.at + splice.now.removed ≤ length old.now }
+    ensures { IfOk result (λ rows. rows.items ≡ edited_rows splice.now.at splice.now.removed splice.now.new.now old.now) }
 {
     let mut rows = Vec::new(alloc);
-    append_rows(&mut rows, old, 0, at)?;
-    append_new(&mut rows, new)?;
-    append_rows(&mut rows, old, at + removed, old.len())?;
+    append_rows(&mut rows, old, 0, splice.at)?;
+    append_new(&mut rows, splice.new)?;
+    append_rows(&mut rows, old, splice.at + splice.removed, old.len())?;
     Ok(rows)
 }
 
@@ -84,12 +83,10 @@ impl<C: Compiler> KeptText<C> {
     fn span_rows(
         &self,
         span: Span,
-        at: usize,
-        removed: usize,
-        new: &[Row<C::Cell>],
+        splice: &ItemSplice<Row<C::Cell>>,
     ) -> Result<Vec<CarriedRow<C::Cell>>, AllocError>
-        requires { IsSpan self.now.tunes (length self.now.lines.text) at removed span }
-        ensures value { IfOk result (λ rows. rows.items ≡ span_rows self.now span at removed new.now) }
+        requires { IsSpan self.now.tunes (length self.now.lines.text) splice.now.at splice.now.removed span }
+        ensures value { let s = splice.now in IfOk result (λ rows. rows.items ≡ span_rows self.now span s.at s.removed s.new.now) }
         ensures carried { IfOk result (λ rows. All (IsCarried self.now.chains.items) rows.items) }
     {
         let alloc = self.lines.allocator();
@@ -102,7 +99,12 @@ impl<C: Compiler> KeptText<C> {
             span.tunes.from + 1,
             places,
         )?;
-        let rows = edited_rows(alloc, &old, at - span.lines.from, removed, new)?;
+        let inside = ItemSplice {
+            at: splice.at - span.lines.from,
+            removed: splice.removed,
+            new: splice.new,
+        };
+        let rows = edited_rows(alloc, &old, &inside)?;
         Ok(rows)
     }
 
@@ -142,21 +144,19 @@ impl<C: Compiler> KeptText<C> {
     fn refold_stretch(
         &self,
         span: Span,
-        at: usize,
-        removed: usize,
-        new: &[Row<C::Cell>],
+        splice: &ItemSplice<Row<C::Cell>>,
         work: &mut C::Work,
     ) -> Result<NewParts<C>, AllocError>
-        requires span { IsSpan self.now.tunes (length self.now.lines.text) at removed span }
-        requires inside { at + removed ≤ length self.now.lines.text }
-        ensures new_parts { let c = self.now.compiler in ForSplice (C.rules c) at removed new.now (λ s.
+        requires span { IsSpan self.now.tunes (length self.now.lines.text) splice.now.at splice.now.removed span }
+        requires inside { splice.now.at + splice.now.removed ≤ length self.now.lines.text }
+        ensures new_parts { let c = self.now.compiler in ForSplice (C.rules c) splice.now (λ s.
             IfOk result (λ r. AreNewParts (C.steps c) (C.rules c) self.now s (view_of_new_parts r))) }
-        ensures counted { let c = self.now.compiler in ForSplice (C.rules c) at removed new.now (λ s.
+        ensures counted { let c = self.now.compiler in ForSplice (C.rules c) splice.now (λ s.
             IsRaisedUpTo (fresh_cells_in (C.steps c) (C.rules c) self.now s) (C.Work.counts work.old) (C.Work.counts work.new)) }
     {
-        // For the prover: what is kept is that of the text.
+        // For the prover: the parts are those of the text.
         let _ = self.lines();
-        let rows = self.span_rows(span, at, removed, new)?;
+        let rows = self.span_rows(span, splice)?;
         let opening = self.kept_opening();
         let folded = self.refold_rows(&opening, &rows, work)?;
         Ok(NewParts {
@@ -170,20 +170,18 @@ impl<C: Compiler> KeptText<C> {
     /// Folds again what an edit may change.
     pub(crate) fn refold(
         &self,
-        at: usize,
-        removed: usize,
-        new: &[Row<C::Cell>],
+        splice: &ItemSplice<Row<C::Cell>>,
         work: &mut C::Work,
     ) -> Result<NewParts<C>, AllocError>
-        requires { at + removed ≤ length self.now.lines.text }
-        ensures new_parts { let c = self.now.compiler in ForSplice (C.rules c) at removed new.now (λ s.
+        requires { splice.now.at + splice.now.removed ≤ length self.now.lines.text }
+        ensures new_parts { let c = self.now.compiler in ForSplice (C.rules c) splice.now (λ s.
             IfOk result (λ r. AreNewParts (C.steps c) (C.rules c) self.now s (view_of_new_parts r))) }
-        ensures counted { let c = self.now.compiler in ForSplice (C.rules c) at removed new.now (λ s.
+        ensures counted { let c = self.now.compiler in ForSplice (C.rules c) splice.now (λ s.
             IsRaisedUpTo (fresh_cells_in (C.steps c) (C.rules c) self.now s) (C.Work.counts work.old) (C.Work.counts work.new)) }
     {
-        match span_of(&self.tunes, self.lines.len(), at, removed) {
-            None => self.refold_from_start(at, removed, new, work),
-            Some(span) => self.refold_stretch(span, at, removed, new, work),
+        match span_of(&self.tunes, self.lines.len(), splice.at, splice.removed) {
+            None => self.refold_from_start(splice, work),
+            Some(span) => self.refold_stretch(span, splice, work),
         }
     }
 }

@@ -127,7 +127,7 @@ impl NewPlaces {
     }
 
     /// Commits the places without allocating.
-    pub(crate) fn put_in_place(self, tunes: &mut Vec<Block>, stretch: Stretch, places: &[Block])
+    pub(crate) fn commit(self, tunes: &mut Vec<Block>, stretch: Stretch, places: &[Block])
         requires { MayReplaceTunes self stretch tunes.old.items places.now }
         ensures { tunes.new.items ≡ tune_places_after self stretch tunes.old.items places.now }
     {

@@ -70,7 +70,7 @@ impl<K: Drop> CarriedRow<K> {
 
     /// Whether the cells of the line follow, in the same chain, those that end at `end`.
     pub(crate) fn goes_on(&self, end: &Option<Origin>) -> bool
-        ensures held { result ≡ true → IsSome self.now.origin }
+        ensures origin { result ≡ true → IsSome self.now.origin }
         ensures same { result ≡ true → end.now ≡ self.now.origin }
         ensures found { IsSome self.now.origin → end.now ≡ self.now.origin → result ≡ true }
     {

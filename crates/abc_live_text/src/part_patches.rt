@@ -9,6 +9,7 @@ ghost use Rattle.abc_live_text.specs.KeptText.{LiesAfter};
 ghost use Rattle.abc_lines.specs.GapList.{replaced_run};
 ghost use Rattle.abc_lines.specs.declared.limits.TheConstants.{MOST_LINES};
 
+use crate::item_splice::ItemSplice;
 use crate::kept_text::KeptText;
 use crate::new_parts::NewParts;
 use crate::new_places::NewPlaces;
@@ -20,13 +21,29 @@ use abc_lines::SplicePatch;
 use abc_tune_compiler::Compiler;
 use std::alloc::{AllocError, Global};
 
-/// The prepared changes of the parts of a kept text: its rows, its chains, the places of its tunes, and the new places
-/// of the stretch.
+/// The prepared changes of the parts of a kept text: its rows, its chains, the places of its tunes, the new places of the
+/// stretch, and the parts that were folded again. It must be spent, by `commit` of the text or by `drop_patches`.
 pub(crate) struct PartPatches<C: Compiler> {
     pub(crate) rows: SplicePatch<Row<C::Cell>>,
     pub(crate) chains: SplicePatch<Shared<Chain<C>>>,
     pub(crate) tunes: NewPlaces,
     pub(crate) places: Vec<Block>,
+    pub(crate) new_parts: NewParts<C>,
+}
+
+impl<C: Compiler> PartPatches<C> {
+    /// Drops the patches: nothing changes.
+    pub(crate) fn drop_patches(self) {
+        let PartPatches {
+            rows,
+            chains,
+            tunes: _,
+            places: _,
+            new_parts: _,
+        } = self;
+        rows.drop_patch();
+        chains.drop_patch();
+    }
 }
 
 /// Returns the places in the text of the tunes of a stretch.
@@ -96,35 +113,34 @@ impl<C: Compiler> KeptText<C> {
         }
     }
 
-    /// Prepares what an edit changes of the kept parts.
+    /// Prepares the changes of the kept parts.
     pub(crate) fn prepare_patches(
         &self,
-        at: usize,
-        removed: usize,
-        new: Vec<Row<C::Cell>>,
-        new_parts: &NewParts<C>,
+        splice: &ItemSplice<Vec<u8>>,
+        rows: Vec<Row<C::Cell>>,
+        new_parts: NewParts<C>,
     ) -> Result<PartPatches<C>, AllocError>
-        requires range { at + removed ≤ length self.now.lines.text }
-        requires order { new_parts.now.stretch.tunes.from ≤ new_parts.now.stretch.tunes.to }
-        requires inside { new_parts.now.stretch.tunes.to ≤ length self.now.tunes }
-        requires lines { new_parts.now.stretch.lines.from ≤ new_parts.now.stretch.lines.to }
-        requires beyond { All (LiesAfter new_parts.now.stretch) (drop new_parts.now.stretch.tunes.to self.now.tunes) }
-        requires within { All (LiesWithin new_parts.now.stretch.lines.came) new_parts.now.folded.tunes.items }
-        requires anew { MayReplaceHeader new_parts.now.first new_parts.now.stretch }
-        requires numbers { new_parts.now.stretch.lines.came ≤ MOST_LINES }
-        requires from { new_parts.now.stretch.lines.from ≤ length self.now.lines.text }
+        requires range { splice.now.at + splice.now.removed ≤ length self.now.lines.text }
+        requires order { new_parts.stretch.tunes.from ≤ new_parts.stretch.tunes.to }
+        requires inside { new_parts.stretch.tunes.to ≤ length self.now.tunes }
+        requires lines { new_parts.stretch.lines.from ≤ new_parts.stretch.lines.to }
+        requires beyond { All (LiesAfter new_parts.stretch) (drop new_parts.stretch.tunes.to self.now.tunes) }
+        requires within { All (LiesWithin new_parts.stretch.lines.came) new_parts.folded.tunes.items }
+        requires anew { MayReplaceHeader new_parts.first new_parts.stretch }
+        requires numbers { new_parts.stretch.lines.came ≤ MOST_LINES }
+        requires from { new_parts.stretch.lines.from ≤ length self.now.lines.text }
+        ensures new_parts { IfOk result (λ p. p.new_parts ≡ new_parts) }
         ensures rows_on { IfOk result (λ p. p.rows.on ≡ self.now.rows) }
-        ensures rows { IfOk result (λ p. p.rows.after.items ≡ replaced_run self.now.rows.items at removed new.items) }
+        ensures rows { IfOk result (λ p. p.rows.after.items ≡ replaced_run self.now.rows.items splice.now.at splice.now.removed rows.items) }
         ensures chains_on { IfOk result (λ p. p.chains.on ≡ self.now.chains) }
         ensures chains { IfOk result (λ p. p.chains.after.items
-            ≡ chains_after new_parts.now.first new_parts.now.stretch self.now.chains.items new_parts.now.folded.new_chains.items) }
+            ≡ chains_after p.new_parts.first p.new_parts.stretch self.now.chains.items p.new_parts.folded.new_chains.items) }
         ensures tunes { IfOk result
-            (λ p. tune_places_after p.tunes new_parts.now.stretch self.now.tunes p.places.items
-            ≡ tunes_after new_parts.now.stretch self.now.tunes new_parts.now.folded.tunes.items) }
-        ensures put { IfOk result
-            (λ p. MayReplaceTunes p.tunes new_parts.now.stretch self.now.tunes p.places.items) }
+            (λ p. tune_places_after p.tunes p.new_parts.stretch self.now.tunes p.places.items
+            ≡ tunes_after p.new_parts.stretch self.now.tunes p.new_parts.folded.tunes.items) }
+        ensures fit { IfOk result (λ p. MayReplaceTunes p.tunes p.new_parts.stretch self.now.tunes p.places.items) }
         ensures places { IfOk result (λ p. p.places.items
-            ≡ map (move_block new_parts.now.stretch.lines.from) new_parts.now.folded.tunes.items) }
+            ≡ map (move_block p.new_parts.stretch.lines.from) p.new_parts.folded.tunes.items) }
     {
         let alloc = self.lines.allocator();
         let stretch = new_parts.stretch;
@@ -132,13 +148,16 @@ impl<C: Compiler> KeptText<C> {
         let _ = self.lines.len();
         let places = tune_places(alloc, &new_parts.folded.tunes, stretch)?;
         let tunes = NewPlaces::of(alloc, &self.tunes, stretch, &places)?;
-        let rows = self.rows.splice_prepare(alloc, at, removed, new)?;
+        let rows = self
+            .rows
+            .splice_prepare(alloc, splice.at, splice.removed, rows)?;
         match self.prepare_chains(stretch, &new_parts.first, &new_parts.folded.new_chains) {
             Ok(chains) => Ok(PartPatches {
                 rows,
                 chains,
                 tunes,
                 places,
+                new_parts,
             }),
             Err(refused) => {
                 rows.drop_patch();

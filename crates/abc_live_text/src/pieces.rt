@@ -65,10 +65,10 @@ impl<F: Fold> Refold<'_, F> {
         requires carried { IsCarried self.now.chains.now.items row.now }
         requires refold { IsRefold (F.steps self.now.fold.now) self.now }
         ensures cell { IfOk result (λ piece. slice_get row.now.cells k ≡ Some (cell_of piece)) }
-        ensures held { IfOk result (λ piece. kept_state_in piece
+        ensures state { IfOk result (λ piece. kept_state_in piece
             ≡ kept_state_at (entries_at self.now.chains.now.items) (address_from k row.now.origin)) }
-        ensures kept { IfOk result (λ piece. IsKept (F.steps self.now.fold.now) piece) }
-        ensures stands { IfOk result (λ piece. LiesAt self.now.chains.now.items (address_from k row.now.origin) piece) }
+        ensures sound { IfOk result (λ piece. IsKept (F.steps self.now.fold.now) piece) }
+        ensures place { IfOk result (λ piece. LiesAt self.now.chains.now.items (address_from k row.now.origin) piece) }
     {
         match &row.origin {
             None => {
@@ -93,13 +93,13 @@ impl<F: Fold> Refold<'_, F> {
     ) -> Result<(), AllocError>
         requires carried { IsCarried self.now.chains.now.items row.now }
         requires refold { IsRefold (F.steps self.now.fold.now) self.now }
-        requires kept { All (IsKept (F.steps self.now.fold.now)) pieces.old }
+        requires sound { All (IsKept (F.steps self.now.fold.now)) pieces.old }
         requires known { known ≡ true
             → IsSomeAnd (address_from 0 row.now.origin) (λ at. EndsAt self.now.chains.now.items pieces.old at.0 at.1) }
         ensures cells { OnOk result (cells_of pieces.new ≡ cells_of pieces.old ++ row.now.cells) }
         ensures kept_states { OnOk result (kept_states_in pieces.new ≡ kept_states_in pieces.old
             ++ kept_states_of self.now.chains.now.items row.now) }
-        ensures kept { All (IsKept (F.steps self.now.fold.now)) pieces.new }
+        ensures sound { All (IsKept (F.steps self.now.fold.now)) pieces.new }
         ensures ends { 0 < length row.now.cells → OnOk result (IfSome (address_from (length row.now.cells) row.now.origin)
             (λ at. EndsAt self.now.chains.now.items pieces.new at.0 at.1)) }
     {
@@ -122,12 +122,12 @@ impl<F: Fold> Refold<'_, F> {
     ) -> Result<Option<Origin>, AllocError>
         requires carried { IsCarried self.now.chains.now.items row.now }
         requires refold { IsRefold (F.steps self.now.fold.now) self.now }
-        requires kept { All (IsKept (F.steps self.now.fold.now)) pieces.old }
+        requires sound { All (IsKept (F.steps self.now.fold.now)) pieces.old }
         requires ends { IfSome end (λ end. EndsAt self.now.chains.now.items pieces.old end.source end.first) }
         ensures cells { OnOk result (cells_of pieces.new ≡ cells_of pieces.old ++ row.now.cells) }
         ensures kept_states { OnOk result (kept_states_in pieces.new ≡ kept_states_in pieces.old
             ++ kept_states_of self.now.chains.now.items row.now) }
-        ensures kept { All (IsKept (F.steps self.now.fold.now)) pieces.new }
+        ensures sound { All (IsKept (F.steps self.now.fold.now)) pieces.new }
         ensures ends { IfOk result (λ end. IfSome end (λ end. EndsAt self.now.chains.now.items pieces.new end.source end.first)) }
     {
         if row.cells().len() == 0 {
@@ -144,11 +144,11 @@ impl<F: Fold> Refold<'_, F> {
         ensures cells { IfOk result (λ pieces. cells_of pieces ≡ cells_over self.now.rows.now block.now) }
         ensures kept_states { IfOk result (λ pieces. kept_states_in pieces
             ≡ kept_states_over self.now.chains.now.items self.now.rows.now block.now) }
-        ensures kept { IfOk result (λ pieces. All (IsKept (F.steps self.now.fold.now)) pieces) }
+        ensures sound { IfOk result (λ pieces. All (IsKept (F.steps self.now.fold.now)) pieces) }
     {
         let rows = self.rows;
         let room = room_for(&rows[block.from..block.to]);
-        let mut pieces = Pieces::with_room(self.chains.allocator(), room)?;
+        let mut pieces = Pieces::with_capacity(self.chains.allocator(), room)?;
         let mut end = None;
         for i in block.from..block.to {
             end = self.append_row(&rows[i], end, &mut pieces)?;

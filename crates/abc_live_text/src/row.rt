@@ -35,7 +35,7 @@ impl<K: Drop> Row<K> {
     }
 }
 
-/// Returns a line that has been read.
+/// Returns the row of a line.
 fn read_line<C: Compiler>(
     alloc: Global,
     compiler: &C,
@@ -51,7 +51,7 @@ fn read_line<C: Compiler>(
     Ok(Row { class, cells })
 }
 
-/// Lines that have been read, each once.
+/// Returns the rows of lines, in order. Each line is read once. The only error is a failed allocation.
 pub fn read_rows<C: Compiler>(
     alloc: Global,
     compiler: &C,

@@ -21,7 +21,7 @@ pub(crate) struct Span {
 }
 
 impl Span {
-    /// The stretch, which has `came` lines after the edit.
+    /// Returns the stretch, which has `came` lines after the edit.
     pub(crate) fn stretch(self, came: usize) -> Stretch
         ensures { result ≡ span_stretch self came }
     {
@@ -36,7 +36,7 @@ impl Span {
     }
 }
 
-/// The first tunes and the first lines of a text.
+/// Returns the span of the first tunes and the first lines of a text.
 pub(crate) fn span_to(tunes: usize, lines: usize) -> Span
     ensures { result ≡ span_to tunes lines }
 {
@@ -46,7 +46,7 @@ pub(crate) fn span_to(tunes: usize, lines: usize) -> Span
     }
 }
 
-/// How many tunes begin before a line; at least `first` do.
+/// Returns how many tunes begin before a line; at least `first` do.
 fn begun_before(tunes: &[Block], first: usize, line: usize) -> usize
     requires { first ≤ length tunes.now }
     ensures least { first ≤ result }
@@ -67,15 +67,15 @@ fn begun_before(tunes: &[Block], first: usize, line: usize) -> usize
     count
 }
 
-/// Where the tune at index `i` begins; without one, at the end.
+/// Returns the line at which the tune at index `i` begins; without such a tune, the end.
 fn start_at(tunes: &[Block], i: usize, end: usize) -> usize
     ensures { result ≡ start_of (drop i tunes.now) end }
 {
     if i < tunes.len() { tunes[i].from } else { end }
 }
 
-/// The stretch of an edit of a text with `count` lines: from the last tune that begins before the edit to the first
-/// that begins after it. None if no tune begins before the edit.
+/// Returns the span of an edit of a text with `count` lines: from the last tune that begins before the edit to the
+/// first that begins after it. None if no tune begins before the edit.
 #[tactic(auto, using(crate::proofs::Spans::starts_late))]
 pub(crate) fn span_of(tunes: &[Block], count: usize, at: usize, removed: usize) -> Option<Span>
     requires { at + removed ≤ count }
@@ -99,7 +99,7 @@ pub(crate) fn span_of(tunes: &[Block], count: usize, at: usize, removed: usize) 
     })
 }
 
-/// The prefix that an edit ending at `end` can affect: up to the first tune that begins at `end` or later.
+/// Returns the prefix that an edit ending at `end` can affect: up to the first tune that begins at `end` or later.
 #[tactic(auto, using(crate::proofs::Spans::starts_late))]
 pub(crate) fn lead_of(tunes: &[Block], count: usize, end: usize) -> Span
     requires { end ≤ count }

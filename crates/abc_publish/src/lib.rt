@@ -7,7 +7,6 @@ pub mod laws;
 mod publisher;
 mod slot;
 
-pub use abc_live::Session;
 pub use abc_live_session::LiveSession;
 pub use abc_tune_compiler::Compiler;
 pub use job::Job;

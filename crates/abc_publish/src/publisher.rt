@@ -35,7 +35,8 @@ impl Model for Publisher {
 }
 
 impl Publisher {
-    /// No file is in the directory, none is unknown, and no job is under way. It allocates nothing yet.
+    /// Returns a publisher of a directory in which there is no file and none is unknown, with no job under way. It allocates
+    /// nothing yet, so it always succeeds.
     pub fn new(alloc: Global) -> Result<Publisher, AllocError>
         ensures succeeds { IsOk result }
         ensures empty { IfOk result (λ p. maps_of p ≡ publishing_of (λ _. None) (λ _. None)) }
@@ -154,7 +155,7 @@ impl Publisher {
     /// Returns the least number from another one on that has a slot or a file.
     fn next_number<C: Compiler>(&self, session: &LiveSession<C>, at: u32) -> Option<u32>
         ensures from { IfSome result (λ number. at ≤ number) }
-        ensures held { let files = (book_in C.steps C.rules session.now).files in
+        ensures file { let files = (book_in C.steps C.rules session.now).files in
             IfSome result (λ number. has_slot_or_file self.now files number ≡ true) }
         ensures none { let files = (book_in C.steps C.rules session.now).files in (n : ℕ) → at ≤ n
             → MatchOption result ⊤ (λ number. n < number) → is_wanted (maps_of self.now) files n ≡ false }
@@ -169,7 +170,7 @@ impl Publisher {
     /// Returns the least number from another one on that has a slot.
     fn next_slot(&self, at: u32) -> Option<u32>
         ensures from { IfSome result (λ number. at ≤ number) }
-        ensures held { IfSome result (λ number. is_some (slot_at self.now number) ≡ true) }
+        ensures slot { IfSome result (λ number. is_some (slot_at self.now number) ≡ true) }
         ensures none { (n : ℕ) → at ≤ n → MatchOption result ⊤ (λ number. n < number) → slot_at self.now n ≡ None }
     {
         let (number, _) = self.slots.range(at..).next()?;
@@ -216,7 +217,7 @@ impl Publisher {
 fn next_in(numbers: &[u32], at: u32) -> Option<u32>
     requires { IsStrictlyIncreasing numbers.now }
     ensures from { IfSome result (λ number. at ≤ number) }
-    ensures held { IfSome result (λ number. Contains numbers.now number) }
+    ensures member { IfSome result (λ number. Contains numbers.now number) }
     ensures none { (n : ℕ) → at ≤ n → MatchOption result ⊤ (λ number. n < number) → All (λ m. (m == n) ≡ false) numbers.now }
 {
     let from = numbers.partition_point(|number| *number < at);

@@ -1,8 +1,8 @@
 use Rattle.abc_live_cost.proofs.Origins.{origins_agree, pasts_held}
 use Rattle.abc_live_cost.proofs.laws.origins_agree.Goals as goal
 
-pub returns-clause-stand : goal.returns-clause-stand
-returns-clause-stand g c = origins_agree
+pub returns-clause-origins : goal.returns-clause-origins
+returns-clause-origins g c = origins_agree
 
-pub returns-clause-held : goal.returns-clause-held
-returns-clause-held g c = pasts_held
+pub returns-clause-pasts : goal.returns-clause-pasts
+returns-clause-pasts g c = pasts_held

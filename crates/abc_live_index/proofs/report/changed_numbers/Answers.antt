@@ -2,7 +2,7 @@ use Rattle.std.proofs.Common.{ℕ, List, sym, ap, ◌∙◌, subst}
 use Rattle.std.specs.List.Sorted.{IsStrictlyIncreasing}
 use Rattle.abc_live_index.proofs.ClaimSteps.{came_count}
 use Rattle.abc_live_index.proofs.Lists.{ok_both}
-use Rattle.abc_live_index.proofs.FileReports.{AreFound, found_more, found_none, found_same, found_sorted, keys_stay}
+use Rattle.abc_live_index.proofs.FileReports.{AreFound, found_more, found_none, found_same, found_sorted, keys_of-stay}
 use Rattle.abc_live_index.specs.TuneChange.{new_outputs, old_outputs}
 use Rattle.abc_live_index.specs.Owners.{Owners, owners_of}
 use Rattle.abc_live_index.specs.Report.{changed_number_at}
@@ -38,7 +38,7 @@ returns c =
     let new = new_outputs s in
     let r = c.requires.change in
     let count = came_count old new s.tunes.from s.tunes.came s.tunes.to c.requires.claims r.order r.inside r.count in
-    let rises = subst IsStrictlyIncreasing (keys_stay old new c.requires.claims c.args.owners.now c.requires.owners) c.requires.rise in
+    let rises = subst IsStrictlyIncreasing (keys_of-stay old new c.requires.claims c.args.owners.now c.requires.owners) c.requires.rise in
     ok_both c.sort_dedup.result _ _ _ (λ sorted is ordered.
     found_sorted old new c.requires.claims s.tunes.from s.tunes.came s.tunes.to c.loop-place.place r.order count
     c.loop-place-test.false r.front r.following c.loop-place.found.items sorted.items c.loop-place.invariant rises ordered (is ∙ ap (sort_dedup nat_cmp) c.deref.ensures.value))

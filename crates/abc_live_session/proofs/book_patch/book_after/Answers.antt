@@ -3,9 +3,9 @@ use Rattle.abc_lines.specs.GapList.{GapListView}
 use Rattle.abc_lines.specs.LineBuffer.{LineBufferView}
 use Rattle.abc_lines.specs.Text.{IsText, seen_lines}
 use Rattle.abc_live_session.specs.Prepared.{IsBook, header_faults_there}
-use Rattle.abc_live_session.proofs.Outcomes.{after_inside, book_now, cells_there, faults_now, few_faults, few_lines}
-use Rattle.abc_live_session.proofs.Outcomes.{good_lines, header_there, lines_inside, ok_both, outputs_after, own_lines, taken_over}
-use Rattle.abc_live_session.proofs.Stretches.{made_tunes, rows_count, stretch_inside}
+use Rattle.abc_live_session.proofs.Outcomes.{after_inside, book_now, cells_there, faults_after-now, few_faults, few_lines}
+use Rattle.abc_live_session.proofs.Outcomes.{list_all-good, header_there, lines_inside, ok_both, take-outputs_after, own_lines, taken_over}
+use Rattle.abc_live_session.proofs.Stretches.{made_tunes, length-rows, stretch_inside}
 use Rattle.abc_live_index.specs.Output.{output_in}
 use Rattle.abc_live_index.specs.Tunes.{faults_by}
 use Rattle.abc_live_index.specs.declared.output.Output.{Output}
@@ -24,7 +24,7 @@ returns-in_err-lines-clause-counted g c = built_none _ _
 pub counts_of-requires-clause-inside : goal.counts_of-requires-clause-inside
 counts_of-requires-clause-inside g c =
     let inside = stretch_inside _ _ _ _ c.requires.prepared in
-    let many = rows_count _ _ _ _ c.requires.prepared in
+    let many = length-rows _ _ _ _ c.requires.prepared in
     omega (arith, inside, many)
 
 pub returns-in_err-counts-clause-counted : goal.returns-in_err-counts-clause-counted
@@ -32,7 +32,7 @@ returns-in_err-counts-clause-counted g c = built_none _ _
 
 pub outputs_of-requires-clause-limits : goal.outputs_of-requires-clause-limits
 outputs_of-requires-clause-limits g c =
-    good_lines _ _ _ _ c.requires.prepared _ c.requires.on _ c.stretch-stretch.ensures
+    list_all-good _ _ _ _ c.requires.prepared _ c.requires.on _ c.stretch-stretch.ensures
     c.lines-3.result.now (seen_lines c.deref.result.now) c.lines-3.ensures.lines (ap seen_lines c.deref.ensures.value ∙ c.in_ok-lines.ensures)
 
 pub outputs_of-requires-clause-tunes : goal.outputs_of-requires-clause-tunes
@@ -75,18 +75,18 @@ prepare-requires-clause-few g c =
 pub returns-clause-outputs : goal.returns-clause-outputs
 returns-clause-outputs g c =
     let made = c.in_ok-outputs.ensures.value ∙ (λ i. map (output_in (g.C.Compiler.rules (c.compiler-compiler.ensures i))) (c.new_chains.ensures i)) in
-    let after = outputs_after _ _ _ _ c.requires.prepared _ c.requires.on _ c.stretch-stretch.ensures c.args.book.now.outputs.items c.in_ok-outputs.outputs.items c.requires.outputs made in
+    let after = take-outputs_after _ _ _ _ c.requires.prepared _ c.requires.on _ c.stretch-stretch.ensures c.args.book.now.outputs.items c.in_ok-outputs.outputs.items c.requires.outputs made in
     ok_more c.prepare.result _ (λ patch. patch.outputs ≡ map (output_in (g.C.Compiler.rules c.args.text.now.compiler))
     (drop 1 c.args.text_patch.now.chains)) (λ patch are. are ∙ after) c.prepare.ensures.outputs
 
 pub returns-clause-book : goal.returns-clause-book
 returns-clause-book g c =
     let made = c.in_ok-outputs.ensures.value ∙ (λ i. map (output_in (g.C.Compiler.rules (c.compiler-compiler.ensures i))) (c.new_chains.ensures i)) in
-    let after = outputs_after _ _ _ _ c.requires.prepared _ c.requires.on _ c.stretch-stretch.ensures c.args.book.now.outputs.items c.in_ok-outputs.outputs.items c.requires.outputs made in
+    let after = take-outputs_after _ _ _ _ c.requires.prepared _ c.requires.on _ c.stretch-stretch.ensures c.args.book.now.outputs.items c.in_ok-outputs.outputs.items c.requires.outputs made in
     let found = c.in_ok-faults.ensures ∙ (λ i. header_faults_there (g.C.Compiler.rules (c.compiler-compiler.ensures i))
     c.stretch-stretch.result.lines.from c.deref-2.result.now c.first_chain-first.result.now c.header-2.result
     ++ faults_by (g.C.Compiler.rules (c.compiler-compiler.ensures i)) c.stretch-stretch.result.lines.from c.deref-2.result.now (c.new_chains.ensures i) (c.places.ensures i)) in
-    let faults = faults_now _ _ _ _ c.requires.prepared _ c.requires.on _ c.stretch-stretch.ensures c.first_chain-first.result.now c.first_chain-first.ensures
+    let faults = faults_after-now _ _ _ _ c.requires.prepared _ c.requires.on _ c.stretch-stretch.ensures c.first_chain-first.result.now c.first_chain-first.ensures
     (g.met.C.Fold.resumable c.args.text.now.compiler) c.deref-2.result.now c.header-2.result c.args.book.now.faults c.in_ok-faults.faults.items
     (c.deref-2.ensures.value ∙ c.in_ok-counts.ensures) c.header-2.ensures c.requires.faults found in
     ok_both c.prepare.result _ _ (λ patch. IsBook patch.outputs patch.faults (book_of (g.C.Fold.steps c.args.text.now.compiler)

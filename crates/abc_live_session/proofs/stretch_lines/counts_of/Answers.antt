@@ -9,10 +9,10 @@ use Rattle.abc_live_session.proofs.stretch_lines.counts_of.Goals.{in-Some+in_ok-
 pub loop-nth-preserved : goal.loop-nth-preserved
 loop-nth-preserved g c =
     let from = c.stretch-stretch.result.lines.from in
-    let rows = c.args.kept.now.rows in
+    let rows = c.args.text_patch.now.rows in
     let same_from = ap (λ (s : Stretch). s.lines.from) c.stretch-stretch.ensures in
     let same_came = ap (λ (s : Stretch). s.lines.came) c.stretch-stretch.ensures in
-    let within : c.stretch-stretch.result.lines.from + c.loop-nth.nth < length c.args.kept.now.rows = omega (arith, c.requires.inside, c.loop-nth-test.true, same_from, same_came) in
+    let within : c.stretch-stretch.result.lines.from + c.loop-nth.nth < length c.args.text_patch.now.rows = omega (arith, c.requires.inside, c.loop-nth-test.true, same_from, same_came) in
     elim c.match-row.branch [
       | in-Some+in_ok-push w ↦
           mapped_more count_in (drop from rows) c.loop-nth.nth w.in-Some.row.now _ c.loop-nth.counts.items c.match-row.counts.items
@@ -25,5 +25,5 @@ pub returns : goal.returns
 returns g c =
     let end : c.loop-nth.nth ≡ c.stretch-stretch.result.lines.came = omega (arith, c.loop-nth-test.false, c.loop-nth.auto.nth-end) in
     c.loop-nth.invariant
-    ∙ ap (λ n. map count_in (take n (drop c.stretch-stretch.result.lines.from c.args.kept.now.rows))) end
-    ∙ ap (λ (s : Stretch). map count_in (take s.lines.came (drop s.lines.from c.args.kept.now.rows))) c.stretch-stretch.ensures
+    ∙ ap (λ n. map count_in (take n (drop c.stretch-stretch.result.lines.from c.args.text_patch.now.rows))) end
+    ∙ ap (λ (s : Stretch). map count_in (take s.lines.came (drop s.lines.from c.args.text_patch.now.rows))) c.stretch-stretch.ensures

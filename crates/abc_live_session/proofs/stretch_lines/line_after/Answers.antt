@@ -5,21 +5,21 @@ use Rattle.abc_live_session.proofs.stretch_lines.line_after.Goals as goal
 
 pub overflow_add-i : goal.overflow_add-i
 overflow_add-i c =
-    let small : c.args.i - length c.args.change.now.lines.now + c.args.change.now.removed ≤ MOST_LINES =
-    line_small c.args.text.now.text c.args.change.now.at c.args.change.now.removed c.args.change.now.lines.now c.requires.change
-    c.args.i c.len.ensures.limits c.if-i-change.false c.if-i-change-2.false c.requires.inside in
+    let small : c.args.i - length c.args.splice.now.new.now + c.args.splice.now.removed ≤ MOST_LINES =
+    line_small c.args.text.now.text c.args.splice.now.at c.args.splice.now.removed c.args.splice.now.new.now c.requires.range
+    c.args.i c.len.ensures.limits c.if-i-splice.false c.if-i-splice-2.false c.requires.inside in
     search rules
 
-pub returns-then-i-change : goal.returns-then-i-change
-returns-then-i-change c = c.line.ensures ∙ line_front c.args.text.now.text c.args.change.now.at c.args.change.now.removed c.args.change.now.lines.now c.requires.change c.args.i c.if-i-change.true
+pub returns-then-i-splice : goal.returns-then-i-splice
+returns-then-i-splice c = c.line.ensures ∙ line_front c.args.text.now.text c.args.splice.now.at c.args.splice.now.removed c.args.splice.now.new.now c.requires.range c.args.i c.if-i-splice.true
 
-pub returns-then-i-change-2 : goal.returns-then-i-change-2
-returns-then-i-change-2 c =
-    line_among c.args.text.now.text c.args.change.now.at c.args.change.now.removed c.args.change.now.lines.now c.requires.change
-    c.args.i c.index-change-i.result c.as_slice.result.now c.if-i-change.false c.if-i-change-2.true c.index-change-i.is c.as_slice.ensures.value
+pub returns-then-i-splice-2 : goal.returns-then-i-splice-2
+returns-then-i-splice-2 c =
+    line_among c.args.text.now.text c.args.splice.now.at c.args.splice.now.removed c.args.splice.now.new.now c.requires.range
+    c.args.i c.index-splice-i.result c.as_slice.result.now c.if-i-splice.false c.if-i-splice-2.true c.index-splice-i.is c.as_slice.ensures.value
 
-pub returns-else-i-change-2 : goal.returns-else-i-change-2
-returns-else-i-change-2 c =
-    c.line-else-i-change-2.ensures
-    ∙ line_following c.args.text.now.text c.args.change.now.at c.args.change.now.removed c.args.change.now.lines.now
-    c.requires.change c.args.i c.if-i-change.false c.if-i-change-2.false c.requires.inside
+pub returns-else-i-splice-2 : goal.returns-else-i-splice-2
+returns-else-i-splice-2 c =
+    c.line-else-i-splice-2.ensures
+    ∙ line_following c.args.text.now.text c.args.splice.now.at c.args.splice.now.removed c.args.splice.now.new.now
+    c.requires.range c.args.i c.if-i-splice.false c.if-i-splice-2.false c.requires.inside

@@ -1,7 +1,7 @@
 use Rattle.std.proofs.Common.{◌≡◌, ◌+◌, ◌<◌, ap, ◌∙◌, sym, drop, length, take, arith}
 use Rattle.abc_lines.specs.Text.{spliced}
 use Rattle.abc_lines.proofs.Splices.{seen_more}
-use Rattle.abc_live_session.specs.Prepared.{splice_in}
+use Rattle.abc_live_text.specs.ItemSplice.{splice_in}
 use Rattle.abc_live_session.proofs.SplicedLines.{dropped_at}
 use Rattle.abc_live_index.proofs.OutputLists.{never_none}
 use Rattle.abc_live_session.proofs.stretch_lines.lines_of.Goals as goal
@@ -9,7 +9,7 @@ use Rattle.abc_live_session.proofs.stretch_lines.lines_of.Goals.{in-Some+in_ok-p
 
 pub loop-nth-preserved : goal.loop-nth-preserved
 loop-nth-preserved c =
-    let whole = spliced c.args.text.now.text (splice_in c.args.change.now) in
+    let whole = spliced c.args.text.now.text (splice_in c.args.splice.now) in
     let within : c.args.stretch.lines.from + c.loop-nth.nth < length whole = omega (arith, c.requires.inside, c.loop-nth-test.true) in
     elim c.match-line_after.branch [
       | in-Some+in_ok-push w ↦
@@ -23,4 +23,4 @@ loop-nth-preserved c =
 pub returns : goal.returns
 returns c =
     let end : c.loop-nth.nth ≡ c.args.stretch.lines.came = omega (arith, c.loop-nth-test.false, c.loop-nth.auto.nth-end) in
-    c.loop-nth.invariant ∙ ap (λ n. take n (drop c.args.stretch.lines.from (spliced c.args.text.now.text (splice_in c.args.change.now)))) end
+    c.loop-nth.invariant ∙ ap (λ n. take n (drop c.args.stretch.lines.from (spliced c.args.text.now.text (splice_in c.args.splice.now)))) end

@@ -14,4 +14,4 @@ returns c = λ _.
     claims_end (old_outputs c.args.self.now)
     (new_outputs
     c.args.self.now) c.args.self.now.tunes.from c.args.self.now.tunes.came c.args.self.now.tunes.to c.loop-place.place c.requires.order
-    (c.keeps_count.ensures c.if-not-keeps_count.false) c.requires.following c.loop-place-test.false c.loop-place.invariant
+    (c.keeps_count.ensures.exact.0 c.if-not-keeps_count.false) c.requires.following c.loop-place-test.false c.loop-place.invariant

@@ -10,10 +10,10 @@ pub of-requires-clause-within : goal.of-requires-clause-within
 of-requires-clause-within g c = tunes_within_most g.C.Fold.steps g.C.Compiler.rules c.self.view_is c.self.invariant MOST_LINES c.len.ensures.limits.count _ c.deref-2.ensures.value
 
 pub prepare_chains-requires-clause-inside : goal.prepare_chains-requires-clause-inside
-prepare_chains-requires-clause-inside g c = chains_reach g.C.Fold.steps g.C.Compiler.rules c.self.view_is c.self.invariant c.args.new_parts.now.stretch.tunes.to c.requires.inside
+prepare_chains-requires-clause-inside g c = chains_reach g.C.Fold.steps g.C.Compiler.rules c.self.view_is c.self.invariant c.args.new_parts.stretch.tunes.to c.requires.inside
 
 pub returns-in-Ok-clause-rows : goal.returns-in-Ok-clause-rows
 returns-in-Ok-clause-rows g c =
     subst (λ (k : KeptTextView g.row.C.Denot g.row.C-State.Denot g.row.C-Cell.Denot g.row.C-Items.Denot).
-    c.in_ok-rows.rows.after.items ≡ replaced_run k.rows.items c.args.at c.args.removed c.args.new.items) c.self.view_is
-    (items_after c.self.inside.rows c.in_ok-rows.rows.after c.args.at c.args.removed c.args.new.items c.in_ok-rows.ensures.after)
+    c.in_ok-rows.rows.after.items ≡ replaced_run k.rows.items c.args.splice.now.at c.args.splice.now.removed c.args.rows.items) c.self.view_is
+    (items_after c.self.inside.rows c.in_ok-rows.rows.after c.args.splice.now.at c.args.splice.now.removed c.args.rows.items c.in_ok-rows.ensures.after)

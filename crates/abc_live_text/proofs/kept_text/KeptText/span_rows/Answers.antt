@@ -4,18 +4,18 @@ use Rattle.abc_live_text.proofs.kept_text.KeptText.span_rows.Goals as goal
 
 pub rows_with_origins-requires-clause-rise : goal.rows_with_origins-requires-clause-rise
 rows_with_origins-requires-clause-rise g c =
-    span_rise g.C.Fold.steps g.C.Compiler.rules c.self.view_is c.self.invariant c.args.at c.args.removed c.args.span c.requires _ c.deref.ensures.value
+    span_rise g.C.Fold.steps g.C.Compiler.rules c.self.view_is c.self.invariant c.args.splice.now.at c.args.splice.now.removed c.args.span c.requires _ c.deref.ensures.value
 
 pub rows_with_origins-requires-clause-inside : goal.rows_with_origins-requires-clause-inside
 rows_with_origins-requires-clause-inside g c =
-    span_inside g.C.Fold.steps g.C.Compiler.rules c.self.view_is c.self.invariant c.args.at c.args.removed c.args.span c.requires
+    span_inside g.C.Fold.steps g.C.Compiler.rules c.self.view_is c.self.invariant c.args.splice.now.at c.args.splice.now.removed c.args.span c.requires
 
 pub edited_rows-requires : goal.edited_rows-requires
 edited_rows-requires g c =
-    span_fits g.C.Fold.steps g.C.Compiler.rules c.self.view_is c.self.invariant c.args.at c.args.removed c.args.span c.requires
+    span_fits g.C.Fold.steps g.C.Compiler.rules c.self.view_is c.self.invariant c.args.splice.now.at c.args.splice.now.removed c.args.span c.requires
     _ _ c.deref.ensures.value (c.deref-2.ensures.value ∙ c.in_ok-old.ensures)
 
 pub returns-clause-carried : goal.returns-clause-carried
 returns-clause-carried g c =
-    span_carried g.C.Fold.steps g.C.Compiler.rules c.self.view_is c.self.invariant c.args.at c.args.removed c.args.span c.requires
-    _ c.args.new.now _ _ c.deref.ensures.value (c.deref-2.ensures.value ∙ c.in_ok-old.ensures) c.in_ok-rows.ensures
+    span_carried g.C.Fold.steps g.C.Compiler.rules c.self.view_is c.self.invariant c.args.splice.now.at c.args.splice.now.removed c.args.span c.requires
+    _ c.args.splice.now.new.now _ _ c.deref.ensures.value (c.deref-2.ensures.value ∙ c.in_ok-old.ensures) c.in_ok-rows.ensures

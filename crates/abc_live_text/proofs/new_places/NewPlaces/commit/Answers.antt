@@ -2,7 +2,7 @@ use Rattle.std.proofs.Common.{◌++◌, ◌∙◌, ap, sym, subst, drop, map, ta
 use Rattle.abc_live_text.specs.NewPlaces.{FitAmong, MayReplaceTunes, tune_places_after}
 use Rattle.abc_live_text.specs.KeptText.{block_after}
 use Rattle.abc_live_text.proofs.PlaceUpdates.{put_and_moved}
-use Rattle.abc_live_text.proofs.new_places.NewPlaces.put_in_place.Goals as goal
+use Rattle.abc_live_text.proofs.new_places.NewPlaces.commit.Goals as goal
 
 pub returns-in-Among : goal.returns-in-Among
 returns-in-Among c =

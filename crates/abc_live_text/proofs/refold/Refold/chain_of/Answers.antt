@@ -9,10 +9,10 @@ pub returns-in_err-patch-clause-counted : goal.returns-in_err-patch-clause-count
 returns-in_err-patch-clause-counted g c =
     pieces_cost (g.F.Fold.steps c.args.self.now.fold.now) (g.met.F.Fold.resumable c.args.self.now.fold.now)
     c.args.self.now.opening.now c.args.self.now.chains.now.items c.args.self.now.rows.now c.args.block.now c.in_ok-pieces.pieces
-    c.in_ok-pieces.ensures.kept c.in_ok-pieces.ensures.cells c.in_ok-pieces.ensures.kept_states c.prepare_pieces.ensures.counted
+    c.in_ok-pieces.ensures.sound c.in_ok-pieces.ensures.cells c.in_ok-pieces.ensures.kept_states c.prepare_pieces.ensures.counted
 
 pub returns-clause-counted : goal.returns-clause-counted
 returns-clause-counted g c =
     pieces_cost (g.F.Fold.steps c.args.self.now.fold.now) (g.met.F.Fold.resumable c.args.self.now.fold.now)
     c.args.self.now.opening.now c.args.self.now.chains.now.items c.args.self.now.rows.now c.args.block.now c.in_ok-pieces.pieces
-    c.in_ok-pieces.ensures.kept c.in_ok-pieces.ensures.cells c.in_ok-pieces.ensures.kept_states c.prepare_pieces.ensures.counted
+    c.in_ok-pieces.ensures.sound c.in_ok-pieces.ensures.cells c.in_ok-pieces.ensures.kept_states c.prepare_pieces.ensures.counted

@@ -35,17 +35,17 @@ pub returns-in-Some-clause-cell : goal.returns-in-Some-clause-cell
 returns-in-Some-clause-cell g c = own_cell c.kept_piece.result (place_facts c.args.self.now.chains.now.items c.args.row.now.cells c.args.row.now.origin _ c.args.k c.item_at-chain.result.now
     (origin_seen c.row.view_is c.in-Some.is c.origin.view_is) c.requires.carried c.requires.inside c.item_at-chain.ensures) c.kept_piece.ensures.place
 
-pub returns-in-Some-clause-held : goal.returns-in-Some-clause-held
-returns-in-Some-clause-held g c = own_held c.kept_piece.result (place_facts c.args.self.now.chains.now.items c.args.row.now.cells c.args.row.now.origin _ c.args.k c.item_at-chain.result.now
+pub returns-in-Some-clause-state : goal.returns-in-Some-clause-state
+returns-in-Some-clause-state g c = own_held c.kept_piece.result (place_facts c.args.self.now.chains.now.items c.args.row.now.cells c.args.row.now.origin _ c.args.k c.item_at-chain.result.now
     (origin_seen c.row.view_is c.in-Some.is c.origin.view_is) c.requires.carried c.requires.inside c.item_at-chain.ensures) c.kept_piece.ensures.place
 
-pub returns-in-Some-clause-stands : goal.returns-in-Some-clause-stands
-returns-in-Some-clause-stands g c =
+pub returns-in-Some-clause-place : goal.returns-in-Some-clause-place
+returns-in-Some-clause-place g c =
     own_place c.args.self.now.chains.now.items c.kept_piece.result (place_facts c.args.self.now.chains.now.items c.args.row.now.cells c.args.row.now.origin _ c.args.k c.item_at-chain.result.now
     (origin_seen c.row.view_is c.in-Some.is c.origin.view_is) c.requires.carried c.requires.inside c.item_at-chain.ensures) c.kept_piece.ensures.place
 
-pub returns-in-Some-clause-kept : goal.returns-in-Some-clause-kept
-returns-in-Some-clause-kept g c =
+pub returns-in-Some-clause-sound : goal.returns-in-Some-clause-sound
+returns-in-Some-clause-sound g c =
     let steps = g.F.Fold.steps c.args.self.now.fold.now in
     let here = place_facts c.args.self.now.chains.now.items c.args.row.now.cells c.args.row.now.origin _ c.args.k c.item_at-chain.result.now
     (origin_seen c.row.view_is c.in-Some.is c.origin.view_is) c.requires.carried c.requires.inside c.item_at-chain.ensures in

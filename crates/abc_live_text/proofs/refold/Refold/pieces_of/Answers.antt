@@ -16,7 +16,7 @@ loop-i-preserved g c =
       kept_states = c.in_ok-end.ensures.kept_states ∙ (ap (λ l. l
           ++ kept_states_of c.args.self.now.chains.now.items c.index-rows-i.result) c.loop-i.invariant.kept_states
           ∙ sym (over_next (kept_states_of c.args.self.now.chains.now.items) c.args.self.now.rows.now c.args.block.now.from c.loop-i.i c.index-rows-i.result order at));
-      kept = c.append_row.ensures.kept;
+      kept = c.append_row.ensures.sound;
       ends = c.in_ok-end.ensures.ends;
     }
 
