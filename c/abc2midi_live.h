@@ -13,8 +13,9 @@
  * Rules for all calls
  * - Give each session zeros before its first call, as `= {0}` does.
  * - You may move a session: copy its bytes and zero the old place. Never use two copies of one session, and never change its bytes.
- * - A session stays on the thread that opened it, and is in one call at a time. Two sessions are independent: each may be on a
- *   thread of its own. Make no call from a signal handler, or in the child of a fork of a process with threads.
+ * - A session is in one call at a time. Its calls may be on several threads, if each call ends before the next one begins: hand it
+ *   over by a mutex, a channel or the like. Two sessions are independent: each may be on a thread of its own. Make no call from a
+ *   signal handler, or in the child of a fork of a process with threads.
  * - Pointers are valid and do not overlap. A pointer to text or to a buffer may be null if its length or room is 0; no other may,
  *   also not one to counters.
  * - The library does not decode text: lines, titles and columns are bytes.
@@ -24,10 +25,12 @@
  *   `*count` and `*number` to 0.
  *
  * Buffers
- * A call that copies takes a buffer, its room in items, and a count. An item is a byte, a number or a fault. The call sets `*count`
- * to the number of items that there are. If they fit, it copies them and returns ABC_LIVE_OK; the rest of the buffer stays. If not,
- * it copies none and returns ABC_LIVE_SHORT_BUFFER. So a call with a room of 0 asks for the count; it returns ABC_LIVE_OK if there
- * are no items. If a call returns ABC_LIVE_NOT_FOUND, `*count` is 0. Nothing ends with a zero byte.
+ * A call that copies takes a buffer, its room in items, and a count. An item is a byte, a number, a fault or a token. The call sets
+ * `*count` to the number of items that there are. If they fit, it copies them and returns ABC_LIVE_OK; the rest of the buffer
+ * stays. If not, it copies none and returns ABC_LIVE_SHORT_BUFFER. So a call with a room of 0 asks for the count; it returns
+ * ABC_LIVE_OK if there are no items. If a call returns ABC_LIVE_NOT_FOUND, `*count` is 0. Nothing ends with a zero byte.
+ *
+ * The structs of this header keep their fields and their sizes within 1.x. What they lack will come by new calls, with new structs.
  *
  * Tune numbers are 0 to 999,999,999. A tune whose `X:` is empty or a fault has the number 0. Of several tunes with one number, the
  * first that is not too long has the file.
@@ -55,7 +58,7 @@ typedef struct abc_live_session {
 /*
  * Counters of work: lines scanned, steps folded, tunes built. They are yours: set them to zeros, and each edit adds its work. An
  * edit that runs out of memory may add to them too; one that is refused for another reason adds nothing. A counter that reaches
- * UINT64_MAX stays there. One struct may serve several sessions of one thread.
+ * UINT64_MAX stays there. One struct may serve several sessions, if their edits are not at the same time.
  */
 typedef struct abc_live_work {
     uint64_t scanned;
@@ -70,7 +73,48 @@ typedef struct abc_live_fault {
     uint32_t code;
 } abc_live_fault;
 
-/* The codes that calls return. A refused edit returns the first of 2 to 5 that applies. Only `abc_live_open` and edits return 5. */
+/* A part of a line. Columns count bytes, from 1. */
+typedef struct abc_live_token {
+    uint32_t from;  /* The column of its first byte. */
+    uint32_t to;    /* The column after its last byte. */
+    uint32_t kind;  /* One of ABC_LIVE_TOKEN_.. */
+    uint32_t depth; /* 1 for a part of a chord, else 0. */
+} abc_live_token;
+
+/* The kinds of tokens. A kind keeps its number within 1.x; new ones come at the end. */
+enum {
+    ABC_LIVE_TOKEN_NOTE = 1,
+    ABC_LIVE_TOKEN_REST = 2,
+    ABC_LIVE_TOKEN_BAR_REST = 3,
+    ABC_LIVE_TOKEN_CHORD = 4,         /* With its brackets and its length. Its parts follow it. */
+    ABC_LIVE_TOKEN_INLINE_FIELD = 5,  /* As `[K:G]`. */
+    ABC_LIVE_TOKEN_BAR_LINE = 6,
+    ABC_LIVE_TOKEN_ENDING = 7,
+    ABC_LIVE_TOKEN_TUPLET = 8,
+    ABC_LIVE_TOKEN_BROKEN_RHYTHM = 9,
+    ABC_LIVE_TOKEN_TIE = 10,
+    ABC_LIVE_TOKEN_DYNAMIC = 11,
+    ABC_LIVE_TOKEN_BLANK = 12,        /* A space or tab, or a whole blank line. */
+    ABC_LIVE_TOKEN_QUOTED = 13,       /* `".."` */
+    ABC_LIVE_TOKEN_DECORATION = 14,   /* `!..!` that is no dynamic. */
+    ABC_LIVE_TOKEN_GRACE = 15,        /* `{..}` */
+    ABC_LIVE_TOKEN_SPACE = 16,        /* `y` */
+    ABC_LIVE_TOKEN_NO_EFFECT = 17,    /* Another byte without effect. */
+    ABC_LIVE_TOKEN_BAD_BYTE = 18,     /* A byte that begins no token. */
+    ABC_LIVE_TOKEN_UNCLOSED = 19,     /* An opening byte without its closing byte. */
+    ABC_LIVE_TOKEN_COMMENT = 20,
+    ABC_LIVE_TOKEN_NUMBER_FIELD = 21, /* `X:` */
+    ABC_LIVE_TOKEN_TITLE_FIELD = 22,  /* `T:` */
+    ABC_LIVE_TOKEN_KEY_FIELD = 23,    /* `K:` */
+    ABC_LIVE_TOKEN_OTHER_FIELD = 24,
+    ABC_LIVE_TOKEN_DIRECTIVE = 25,    /* With its comment. */
+    ABC_LIVE_TOKEN_FREE_TEXT = 26     /* A line outside the file header and the tunes. */
+};
+
+/*
+ * The codes that calls return. A refused edit returns the first of 2 to 5 that applies. Only `abc_live_open`, edits and
+ * `abc_live_tokens` return 5.
+ */
 typedef uint32_t abc_live_code;
 enum {
     ABC_LIVE_OK = 0,
@@ -120,6 +164,13 @@ abc_live_code abc_live_replace(abc_live_session *session, uint32_t from, uint32_
 abc_live_code abc_live_delete(abc_live_session *session, uint32_t from, uint32_t to, abc_live_work *work);
 
 /*
+ * Gives the session a whole text, cut into lines as that of an edit. It finds which lines are the same at the front and at the end of
+ * the old text and of the new one, and makes one edit of those between. A text without changes is an edit, too: its report is empty.
+ * It returns what an edit does, but never ABC_LIVE_BAD_RANGE.
+ */
+abc_live_code abc_live_set_text(abc_live_session *session, const uint8_t *text, size_t bytes, abc_live_work *work);
+
+/*
  * Copy the report of the last edit that returned ABC_LIVE_OK. The first has the tune numbers whose files are new or have other
  * bytes than before it, the second those that no longer have a file. Both lists rise, and are empty before the first edit.
  */
@@ -153,11 +204,26 @@ abc_live_code abc_live_faults(abc_live_session *session, abc_live_fault *faults,
  */
 abc_live_code abc_live_fault_name(uint32_t code, uint8_t *bytes, size_t room, size_t *count);
 
+/*
+ * Copies the name of a code that calls return, as `ABC_LIVE_BAD_RANGE`. A name has at most 31 letters and underscores of ASCII. The
+ * call needs no session. Returns ABC_LIVE_NOT_FOUND if no code has the number.
+ */
+abc_live_code abc_live_code_name(abc_live_code code, uint8_t *bytes, size_t room, size_t *count);
+
 /* Counts the lines of the text. */
 abc_live_code abc_live_line_count(abc_live_session *session, uint32_t *count);
 
 /* Copies the bytes of a line, without its line feed, or returns ABC_LIVE_NOT_FOUND if there is no such line. */
 abc_live_code abc_live_line(abc_live_session *session, uint32_t number, uint8_t *bytes, size_t room, size_t *count);
+
+/*
+ * Copies the tokens of a line, in order; after a chord come its parts. Those that are no parts lie end to end from the first byte of
+ * the line to its last, without a carriage return at its end. They depend on the present text alone, and each call works them out
+ * anew. It counts one line as scanned, but for a blank line, a comment and free text. Returns ABC_LIVE_NOT_FOUND if there is no such
+ * line, or ABC_LIVE_OUT_OF_MEMORY.
+ */
+abc_live_code abc_live_tokens(abc_live_session *session, uint32_t number, abc_live_token *tokens, size_t room, size_t *count,
+                              abc_live_work *work);
 
 #ifdef __cplusplus
 }

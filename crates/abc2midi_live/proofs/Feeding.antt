@@ -1,17 +1,17 @@
 -- Laws of a machine that is fed pieces of an input.
 use Rattle.std.proofs.Common.{◌≡◌, ℕ, ◌+◌, ◌<◌, ◌≤◌, Bool, true, false, List, [], ◌∷◌, ◌++◌, length, take, Option, Some, None}
 use Rattle.std.proofs.Common.{inl, inr, refl, sym, ap, ◌∙◌, subst, arith, append_assoc, append-nil, length-append, length-take}
-use Rattle.std.proofs.Common.{if◌then◌else◌, ◌==◌, Result, Ok, Err, MatchResult, option_map}
+use Rattle.std.proofs.Common.{if◌then◌else◌, ◌==◌, Result, Ok, Err, MatchResult}
 use Rattle.std.specs.Prelude.{IsErr, IsErrAnd, IfSome}
-use Rattle.std.specs.Borrow.{Bor}
 use Rattle.std.proofs.lemmas.Grind.{common_steps}
+use Rattle.std.proofs.lemmas.Bool.{not-true}
 use Rattle.std.proofs.lemmas.Bool.Decides.{nat_tests}
 use Rattle.std.specs.Io.KnownBytes.{Appends, Keeps, Consumes, IsAtEnd}
 use Rattle.std.proofs.KnownBytes.{Appends-nil, Appends-trans, Appends-kept, Consumes-nil, Consumes-trans, Consumes-kept}
 use Rattle.std.proofs.lemmas.List.Elements.{All-append, All-nil}
 use Rattle.abc_fold.specs.Work.{raised}
 use Rattle.abc_publish.specs.Publisher.{Directory}
-use Rattle.abc2midi_live_protocol.specs.Cut.{IsCut}
+use Rattle.abc_text.specs.Cut.{HasNoByte}
 use Rattle.abc2midi_live.specs.Machine.{Future, future_change, IsClean, Answers, AsksNothing, CarriesOut, EndsOneAtMost}
 use Rattle.abc2midi_live.specs.Machine.{change_between, future_of_bytes, MachineState}
 use Rattle.abc2midi_live.specs.Outcome.{RunEnds, Outlets, outlets, Serves, Tells, TellsFirst, FailsToFeed, FailsToServe, FailsAtEnd}
@@ -88,9 +88,9 @@ unasked_ahead future d begun bytes s none =
     ([], t.0, t.1, follows_same s d t.0.directory t.2)
 
 -- nothing is written to a line that has only begun
-pub nothing_ahead : (future : OfLines) (d : Directory) (begun : List ℕ) → IsClean begun
+pub future_of_bytes-nothing : (future : OfLines) (d : Directory) (begun : List ℕ) → IsClean begun
     → future SoFar [] [] ≡ Some (run_output [] d) → future_of_bytes future begun SoFar [] [] ≡ Some (run_output [] d)
-nothing_ahead future d begun clean waits =
+future_of_bytes-nothing future d begun clean waits =
     ahead_is future begun SoFar [] begun [] (append-nil begun) ∙ ap (λ l. future SoFar l []) (input_lines-begun begun clean) ∙ waits
 
 -- the end of the input ends a line that has begun
@@ -341,14 +341,9 @@ pub fault_exit : {T : Type 0} (r : Result T RunFault) (P : T → Type 0) (Q : Ru
 fault_exit (Ok x) P Q fault h q = let e = h.0 in cc
 fault_exit (Err e) P Q fault h q = subst Q (sym h.1) q
 
--- what a cut with a rest says
-pub cut_some : (text front : List ℕ) (rest : Option (Bor (List ℕ))) (back : Bor (List ℕ)) → IsCut 10 text front (option_map (λ r. r.now) rest) → rest ≡ Some back → text ≡ front ++ 10 ∷ back.now
-cut_some text front None back c e = cc
-cut_some text front (Some b) back c e = let same : b ≡ back = cc in c.joined ∙ ap (λ r. front ++ 10 ∷ r.now) same
-
-pub cut_none : (text front : List ℕ) (rest : Option (Bor (List ℕ))) → IsCut 10 text front (option_map (λ r. r.now) rest) → rest ≡ None → text ≡ front
-cut_none text front None c e = c.joined
-cut_none text front (Some b) c e = cc
+-- no byte of a line is a line feed
+pub is_clean : (line : List ℕ) → HasNoByte 10 line → IsClean line
+is_clean line has = λ k d below. not-true _ (has k d below)
 
 -- a fault while a line is served breaks the piece off
 pub fed_fault : {before mid : Ahead} {d e : Directory} {piece rest : List ℕ} (line back : List ℕ) {old w : Outlets} (new : Outlets) (fault : RunFault)

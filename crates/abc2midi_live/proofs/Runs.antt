@@ -1,11 +1,10 @@
 -- Laws of whole runs.
-use Rattle.std.proofs.Common.{◌≡◌, ℕ, true, false, List, [], ◌∷◌, ◌++◌, Option, Some, None, Result, Ok, Err, MatchResult, inl}
+use Rattle.std.proofs.Common.{◌≡◌, ℕ, true, List, [], ◌∷◌, ◌++◌, Option, Some, None, Result, Ok, Err, MatchResult, inl}
 use Rattle.std.proofs.Common.{inr, refl, sym, ap, ◌∙◌, subst}
 use Rattle.std.specs.Prelude.{IfSome, IsErr, IsErrAnd}
 use Rattle.std.specs.Io.KnownBytes.{Appends, Keeps}
 use Rattle.std.specs.Result.{result_unwrap_or}
 use Rattle.std.proofs.KnownBytes.{Appends-nil, Appends-trans, Appends-kept, Consumes-nil, Keeps-refl}
-use Rattle.abc_fold.specs.Work.{raised}
 use Rattle.abc_lines.specs.Text.{Text}
 use Rattle.abc_lines.specs.Edits.{edited, insertion}
 use Rattle.abc_publish.specs.Publisher.{Directory}
@@ -13,7 +12,7 @@ use Rattle.abc2midi_live.specs.Transcript.{book_lines, input_lines, requests, ou
 use Rattle.abc2midi_live.specs.Transcript.{transcript, transcript_of}
 use Rattle.abc2midi_live.specs.Dialogue.{BegunCommand, dialogue_future, Opens}
 use Rattle.abc2midi_live.specs.Outcome.{RunEnds, Outlets, outlets, Completes, AnswersInput, InHand, LastInHand, Leaves, LeavesRun}
-use Rattle.abc2midi_live.specs.Outcome.{TellsFirst, FailsToOpen, Within, AtTheEnd, ReadCounts, Reads, RunView, Runs, write_faults}
+use Rattle.abc2midi_live.specs.Outcome.{TellsFirst, FailsToOpen, Within, AtTheEnd, ReadCounts, Reads, RunView, Runs}
 use Rattle.abc2midi_live.specs.Machine.{CarriesOut, Future}
 use Rattle.abc2midi_live.specs.Storing.{StoreAnswer, StoreView, Follows}
 use Rattle.abc2midi_live.specs.RunOutput.{Extent, Whole, SoFar, Stopped, DialogueView, dialogue_view, is_whole, RunOutput, run_output}

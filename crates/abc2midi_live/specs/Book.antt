@@ -7,7 +7,7 @@ use Rattle.abc_tune_compiler.specs.Files.{Files}
 use Rattle.abc_tune_compiler.specs.declared.fault.Fault.{Fault}
 use Rattle.abc_tune_compiler.specs.declared.title.Title.{Title}
 
--- The book of a text.
+-- The book of a text: its files, titles and faults, as the rules of ABC give them.
 abbrev pub abc_book : Text → Book
 abc_book text = book_of steps_of_abc rules_of_abc text
 

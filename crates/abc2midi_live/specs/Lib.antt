@@ -15,6 +15,5 @@ pub mod Waiting
 -- The definitions of the crates below that public clauses cite: a caller needs only this crate.
 pub use Rattle.abc2midi_live_protocol.specs.Answer
 pub use Rattle.abc2midi_live_protocol.specs.Command
-pub use Rattle.abc2midi_live_protocol.specs.Cut
 pub use Rattle.abc_fold.specs.Work
 pub use Rattle.abc_lines.specs.Edits

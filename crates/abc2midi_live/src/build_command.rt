@@ -49,7 +49,7 @@ fn store_file<S: Store>(
         ++ answer_line (answer_of stored) job.now.number job.now.bytes) }
     ensures store { IfOk result (λ stored. StoresOne (S.seen store.old) (S.seen store.new)
         (answer_of stored) job.now.number job.now.bytes) }
-    ensures unchanged { OnErr result (StoresOneAtMost (S.seen store.old) (S.seen store.new) job.now.number job.now.bytes) }
+    ensures stop { OnErr result (StoresOneAtMost (S.seen store.old) (S.seen store.new) job.now.number job.now.bytes) }
 {
     let number = job.number();
     let bytes = job.bytes();
@@ -78,7 +78,7 @@ fn carry_out<S: Store>(
     ensures unknown { OnErr result (maps_of publisher.new ≡ without_job (maps_of publisher.old) job.number (Some Unknown)) }
     ensures store { IfOk result (λ stored. Follows (S.seen store.old) (S.seen store.new)
         (answer_of stored ∷ []) (maps_of publisher.old).directory (maps_of publisher.new).directory) }
-    ensures unchanged { OnErr result (StoresOneAtMost (S.seen store.old) (S.seen store.new) job.number job.bytes) }
+    ensures stop { OnErr result (StoresOneAtMost (S.seen store.old) (S.seen store.new) job.number job.bytes) }
     ensures jobs { (maps_of publisher.new).jobs ≡ with_entry (maps_of publisher.old).jobs job.number None }
 {
     let stored = store_file(alloc, &job, store, text);
@@ -104,7 +104,7 @@ fn store_next<S: Store>(
     ensures stored { IfOk result (λ next. StoresBy session.now.text (stage_of publisher.old (Some from))
         (stage_of publisher.new next)
         (Extends text.old.items text.new.items) (S.seen store.old) (S.seen store.new)) }
-    ensures unchanged { OnErr result (StopsAtOnce session.now.text (stage_of publisher.old (Some from)) (S.seen store.old)
+    ensures stop { OnErr result (StopsAtOnce session.now.text (stage_of publisher.old (Some from)) (S.seen store.old)
         (S.seen store.new)) }
     ensures onward { IfOk result (λ next. IfSome next (λ n. (from < n) × (n < 2 ^ 32))) }
     ensures idle { IsIdle (maps_of publisher.new) }
@@ -131,7 +131,7 @@ pub fn build<S: Store>(
     ensures answer { IfOk result (λ text. BuildsBy session.now.text (maps_of publisher.old).directory
         (maps_of publisher.new).directory
         text.items (S.seen store.old) (S.seen store.new)) }
-    ensures unchanged { OnErr result (BuildStops session.now.text (maps_of publisher.old).directory (S.seen store.old)
+    ensures stop { OnErr result (BuildStops session.now.text (maps_of publisher.old).directory (S.seen store.old)
         (S.seen store.new)) }
     ensures idle { IsIdle (maps_of publisher.new) }
 {

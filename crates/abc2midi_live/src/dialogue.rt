@@ -97,7 +97,7 @@ impl Dialogue {
         ensures reply { let request = request_of command (text_of lines) in
             IfOk result (λ reply. RespondsBy (view_of self.old) (view_of self.new) request reply
             (S.seen store.old) (S.seen store.new)) }
-        ensures unchanged { let request = request_of command (text_of lines) in
+        ensures stop { let request = request_of command (text_of lines) in
             OnErr result (RequestStops (view_of self.old) request (S.seen store.old) (S.seen store.new)) }
         ensures pending { self.new.pending ≡ self.old.pending }
         ensures uncounted { OnOk result (is_taken self.old.session.text (request_of command (text_of lines)) ≡ false
@@ -150,7 +150,7 @@ impl Dialogue {
     ) -> Result<Reply, AllocError>
         requires idle { self.old.pending ≡ None }
         requires few { length lines.items ≤ line_count command }
-        ensures unchanged { let begun = with_first_lines command (text_of lines) in
+        ensures stop { let begun = with_first_lines command (text_of lines) in
             OnErr result (CommandStops (view_of self.old) begun (S.seen store.old) (S.seen store.new)) }
         ensures reply { let begun = with_first_lines command (text_of lines) in
             IfOk result (λ reply. ProceedsBy self.old self.new begun reply (S.seen store.old) (S.seen store.new)) }

@@ -22,7 +22,7 @@ use crate::run_fault::RunFault;
 use crate::streams::{Sink, Source, Store};
 use abc_fold::Work;
 use abc_lines::LONGEST_LINE;
-use abc2midi_live_protocol::cut;
+use abc_text::cut_at;
 use std::alloc::{AllocError, Global};
 use std::mem;
 
@@ -81,7 +81,7 @@ pub struct Listener<M> {
     ghost kept: { length begun.items ≤ most_kept },
 }
 
-#[tactic(auto, using(crate::proofs::Counts::raised_none))]
+#[tactic(auto, using(crate::proofs::Counts::raised_none, crate::proofs::Feeding::is_clean))]
 impl<M: Machine> Listener<M> {
     ghost use Rattle.abc2midi_live.specs.Listener.{at_byte};
 
@@ -158,15 +158,15 @@ impl<M: Machine> Listener<M> {
     {
         let mut rest = piece;
         'lines: loop {
-            match cut(rest, b'\n') {
-                (line, Some(after)) => {
+            match cut_at(rest, b'\n') {
+                Some((line, after)) => {
                     if !self.end_line(writer, line, store, work)? {
                         return Ok(false);
                     }
                     rest = after;
                 }
-                (line, None) => {
-                    self.keep(line)?;
+                None => {
+                    self.keep(rest)?;
                     return Ok(true);
                 }
             }

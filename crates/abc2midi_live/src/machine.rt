@@ -35,7 +35,7 @@ pub trait Machine {
         work: &mut Work,
     ) -> Result<Reply, AllocError>
         ensures reply { IfOk result (TakesLine (state self.old) (state self.new) line.items (S.seen store.old) (S.seen store.new)) }
-        ensures unchanged { let before = state self.old in
+        ensures stop { let before = state self.old in
             OnErr result (CarriesOut before.directory (before.future Stopped (line.items ∷ [])) (S.seen store.old)
             (S.seen store.new)) }
         ensures uncounted { OnOk result (costs self.old line.items ≡ false → work.new ≡ work.old) };

@@ -1,35 +1,42 @@
 -- Laws of command lines: numbers, and words after one another.
 use Rattle.std.proofs.Common.{◌≡◌, ℕ, ◌<◌, ◌≤◌, Bool, true, false, cond, ◌==◌, List, [], ◌∷◌, length, Option, Some, None, refl}
 use Rattle.std.proofs.Common.{sym, ap, ⊎_elim, ◌∙◌, subst, arith, rules, option_map, ◌++◌, append_assoc, append-nil}
-use Rattle.std.proofs.Common.{length-append}
+use Rattle.std.proofs.Common.{length-append, All}
 use Rattle.std.specs.Option.{option_map_or}
 use Rattle.std.specs.Prelude.{codes}
 use Rattle.std.proofs.lemmas.Str.{IsUtf8-from_ascii}
-use Rattle.std.specs.Borrow.{Bor}
 use Rattle.std.specs.Str.{IsUtf8, bytes_eq}
 use Rattle.abc_text.specs.LineEnd.{without_return}
 use Rattle.std.proofs.lemmas.List.Splits.{slice_split_at, slice_split_none}
 use Rattle.std.proofs.lemmas.Bool.Decides.{nat_tests}
-use Rattle.std.proofs.lemmas.Bool.{cases_Bool}
+use Rattle.std.proofs.lemmas.Bool.{cases_Bool, not-true}
 use Rattle.std.proofs.lemmas.Slice.Eq.{bytes_eq-Decides}
 use Rattle.abc_lines.specs.declared.limits.TheConstants.{LONGEST_LINE}
-use Rattle.abc2midi_live_protocol.specs.Cut.{IsCut}
+use Rattle.abc_text.specs.Cut.{HasNoByte, IsCut}
 use Rattle.abc_text.specs.Number.{number_of}
 use Rattle.abc2midi_live_protocol.specs.Command.{numbers_of, number_and_rest, with_numbers, words_of, words_after, command_named}
 use Rattle.abc2midi_live_protocol.specs.Command.{command_of_words, command_of, IsUseless, insertion, replacement, deletion, hex_dump}
 use Rattle.abc2midi_live_protocol.specs.Command.{without_numbers}
 use Rattle.abc2midi_live_protocol.specs.declared.command.Command.TheVariants.{Faults, Titles, Build, Quit, Unknown}
 
--- the words after a cut
-pub words_of-cut : (text front : List ℕ) (rest : Option (Bor (List ℕ))) → IsCut 32 text front (option_map (λ r. r.now) rest) → words_of text ≡ front ∷ words_after rest
-unfolding words_of words_after
-words_of-cut text front None c = ap words_of c.joined ∙ slice_split_none (λ b. b == 32) front c.clean
-words_of-cut text front (Some rest) c = ap words_of c.joined ∙ slice_split_at (λ b. b == 32) front 32 rest.now c.clean refl
+-- A text without the byte is clean.
+clean : (byte : ℕ) (text : List ℕ) → HasNoByte byte text → All (λ b. (b == byte) ≡ false) text
+clean byte text has = λ k d below. not-true _ (has k d below)
+
+-- the words of a text with a space
+pub words_of-cut : (text front rest : List ℕ) → IsCut 32 text front rest → words_of text ≡ front ∷ words_of rest
+unfolding words_of
+words_of-cut text front rest is = ap words_of is.spelling ∙ slice_split_at (λ b. b == 32) front 32 rest (clean 32 front is.first) refl
+
+-- the word of a text without a space
+pub words_of-alone : (text : List ℕ) → HasNoByte 32 text → words_of text ≡ text ∷ []
+unfolding words_of
+words_of-alone text has = slice_split_none (λ b. b == 32) text (clean 32 text has)
 
 -- the command of a line of allowed length
-pub command_of-short : (line : List ℕ) → length line ≤ LONGEST_LINE → command_of_words (words_of (without_return line)) ≡ command_of line
+pub command_of_words-short : (line : List ℕ) → length line ≤ LONGEST_LINE → command_of_words (words_of (without_return line)) ≡ command_of line
 unfolding command_of
-command_of-short line h = grind (arith, nat_tests)
+command_of_words-short line h = grind (arith, nat_tests)
 
 pub command_of-long : (line : List ℕ) → LONGEST_LINE < length line → Unknown ≡ command_of line
 unfolding command_of

@@ -1,6 +1,6 @@
-//! The texts of answers.
+//! The texts of answers. The only error of a call is a failed allocation.
 
-ghost use Rattle.std.specs.Prelude.{◌≡◌, ◌≢◌, ◌++◌, decimal, option_copied, option_map, IfOk, OnOk};
+ghost use Rattle.std.specs.Prelude.{◌≡◌, ◌≢◌, ◌<◌, ◌++◌, codes, decimal, length, option_copied, option_map, IfOk, OnErr, OnOk};
 ghost use Rattle.abc2midi_live_protocol.specs.Answer.{number_list, report_line, refusal, fault_line, fault_list, title_line, title_list};
 ghost use Rattle.abc2midi_live_protocol.specs.Answer.{hex_line, stored_line, failed_line};
 
@@ -8,6 +8,9 @@ use abc_lines::EditError;
 use abc_tune_compiler::{Fault, Report, Title};
 use itoa::Buffer;
 use std::alloc::{AllocError, Global};
+
+/// What follows the number of a file in its line.
+const FILE_ENDING: &[u8] = b".mid\n";
 
 fn put_number(text: &mut Vec<u8>, number: u32) -> Result<(), AllocError>
     ensures { OnOk result (text.new.items ≡ text.old.items ++ decimal number) }
@@ -106,7 +109,7 @@ pub fn title_list(alloc: Global, titles: &[Title]) -> Result<Vec<u8>, AllocError
     Ok(text)
 }
 
-/// Returns the bytes of a file, if there is one.
+/// Returns the bytes of a file in upper-case hexadecimal on one line, or `none` if there is no file.
 #[tactic(auto, unfolding(crate::specs::Answer::hex_line))]
 pub fn hex_line(alloc: Global, bytes: Option<&[u8]>) -> Result<Vec<u8>, AllocError>
     ensures { IfOk result (λ text. text.items ≡ hex_line (option_map (λ b. b.now) bytes.entry)) }
@@ -121,25 +124,39 @@ pub fn hex_line(alloc: Global, bytes: Option<&[u8]>) -> Result<Vec<u8>, AllocErr
     }
 }
 
-/// Appends the line of a file that was written or removed.
-#[tactic(auto, unfolding(crate::specs::Answer::stored_line))]
-pub fn put_stored(text: &mut Vec<u8>, number: u32, bytes: Option<&[u8]>) -> Result<(), AllocError>
-    ensures { OnOk result (text.new.items ≡ text.old.items ++ stored_line number (option_copied bytes.entry)) }
+/// Appends a word, the name of the file of a number, and a line feed. If an allocation fails, the text is as it was.
+fn put_file_line(text: &mut Vec<u8>, word: &[u8], number: u32) -> Result<(), AllocError>
+    requires { length word.now < 9 }
+    ensures ok { OnOk result (text.new.items ≡ text.old.items ++ word.now ++ decimal number ++ codes ".mid\n") }
+    ensures unchanged { OnErr result (text.new.items ≡ text.old.items) }
 {
-    match bytes {
-        Some(_) => text.extend_from_slice(b"written ")?,
-        None => text.extend_from_slice(b"removed ")?,
-    }
-    put_number(text, number)?;
-    text.extend_from_slice(b".mid\n")
+    let mut buffer = Buffer::new();
+    let digits = buffer.format(number).as_bytes();
+    text.reserve(word.len() + digits.len() + FILE_ENDING.len())?;
+    text.extend_from_slice(word)?;
+    text.extend_from_slice(digits)?;
+    text.extend_from_slice(FILE_ENDING)
 }
 
-/// Appends the line of a file that could not be written or removed.
+/// Appends the line of a file that was written, or of one that was removed, which has no bytes. The only error is a failed
+/// allocation, after which the text is as it was.
+#[tactic(auto, unfolding(crate::specs::Answer::stored_line))]
+pub fn put_stored(text: &mut Vec<u8>, number: u32, bytes: Option<&[u8]>) -> Result<(), AllocError>
+    ensures ok { OnOk result (text.new.items ≡ text.old.items ++ stored_line number (option_copied bytes.entry)) }
+    ensures unchanged { OnErr result (text.new.items ≡ text.old.items) }
+{
+    match bytes {
+        Some(_) => put_file_line(text, b"written ", number),
+        None => put_file_line(text, b"removed ", number),
+    }
+}
+
+/// Appends the line of a file that could not be written or removed. The only error is a failed allocation, after which the
+/// text is as it was.
 #[tactic(auto, unfolding(crate::specs::Answer::failed_line))]
 pub fn put_failed(text: &mut Vec<u8>, number: u32) -> Result<(), AllocError>
-    ensures { OnOk result (text.new.items ≡ text.old.items ++ failed_line number) }
+    ensures ok { OnOk result (text.new.items ≡ text.old.items ++ failed_line number) }
+    ensures unchanged { OnErr result (text.new.items ≡ text.old.items) }
 {
-    text.extend_from_slice(b"failed ")?;
-    put_number(text, number)?;
-    text.extend_from_slice(b".mid\n")
+    put_file_line(text, b"failed ", number)
 }

@@ -1,14 +1,13 @@
 //! The commands, and the reading of a line.
 
-ghost use Rattle.std.specs.Prelude.{◌≡◌, ◌≤◌, take, Some, MatchOption, IfSome};
+ghost use Rattle.std.specs.Prelude.{◌≡◌, ◌≤◌, ◌∷◌, take, Some, MatchOption, IfSome};
 ghost use Rattle.abc_text.specs.Number.{number_of};
 ghost use Rattle.abc2midi_live_protocol.specs.Command.{insertion, replacement, deletion, hex_dump, without_numbers, within_line_limit};
 ghost use Rattle.abc2midi_live_protocol.specs.Command.{command_named, command_of, command_of_words, numbers_of, words_after, IsUseless};
 ghost use Rattle.abc2midi_live_protocol.specs.Command.{words_of, line_count};
 
-use crate::cutting::cut;
 use abc_lines::{LONGEST_LINE, MOST_LINES};
-use abc_text::{number_of, without_return};
+use abc_text::{cut_at, number_of, without_return};
 use std::str;
 
 /// A command. `Insert` and `Replace` take the `count` lines after them.
@@ -53,6 +52,16 @@ impl Numbers {
     }
 }
 
+/// Returns the first word of a text, and what follows the space after it if there is one.
+fn first_word(text: &[u8]) -> (&[u8], Option<&[u8]>)
+    ensures { words_of text.now ≡ result.0.now ∷ words_after result.1 }
+{
+    match cut_at(text, b' ') {
+        Some((word, after)) => (word, Some(after)),
+        None => (text, None),
+    }
+}
+
 /// Returns the numbers that words spell, if each of them spells one and there are at most three.
 fn numbers_of(words: Option<&[u8]>) -> Option<Numbers>
     ensures numbers { MatchOption result (IsUseless (numbers_of (words_after words.entry)))
@@ -63,7 +72,7 @@ fn numbers_of(words: Option<&[u8]>) -> Option<Numbers>
     let mut count = 0;
     let mut rest = words;
     while let Some(text) = rest {
-        let (word, after) = cut(text, b' ');
+        let (word, after) = first_word(text);
         let number = number_of(word)?;
         if count == MOST_NUMBERS {
             return None;
@@ -168,7 +177,7 @@ fn command_named_by_bytes(name: &[u8], numbers: &[u32]) -> Command
 fn command_of_words(line: &[u8]) -> Command
     ensures { result ≡ command_of_words (words_of line.now) }
 {
-    let (name, words) = cut(line, b' ');
+    let (name, words) = first_word(line);
     match numbers_of(words) {
         Some(numbers) => command_named_by_bytes(name, numbers.as_slice()),
         None => Command::Unknown,

@@ -3,8 +3,6 @@
 
 mod answer;
 mod command;
-mod cutting;
 
 pub use answer::{fault_list, hex_line, put_failed, put_stored, refusal, report_line, title_list};
 pub use command::Command;
-pub use cutting::cut;

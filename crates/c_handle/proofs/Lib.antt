@@ -3,3 +3,5 @@ pub mod Owned
 pub mod Puts
 pub mod Refusals
 pub mod Sessions
+pub mod TextChanges
+pub mod TokenCopies

@@ -1,4 +1,4 @@
-//! The codes that calls answer. Their numbers are those of the header of C.
+//! The codes that calls answer. The header of C, the Python package and the package of JavaScript repeat their numbers.
 
 ghost use Rattle.std.specs.Prelude.{◌≡◌};
 ghost use Rattle.c_handle.specs.Codes.{code_of};

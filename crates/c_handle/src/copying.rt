@@ -5,14 +5,16 @@ ghost use Rattle.c_handle.specs.Copies.{copy_answer, lookup_answer};
 
 use crate::codes::{CODE_MISUSED, CODE_NOT_FOUND, CODE_OK, CODE_SHORT_BUFFER};
 
-/// The answer of a call that copies items: a code, and the number of items.
+/// The answer of a call that copies items: a code, and the number of items, which is 0 if there are none. The code is
+/// `CODE_OK`, `CODE_SHORT_BUFFER` if they do not fit, `CODE_NOT_FOUND` if there are none, or `CODE_MISUSED` if the slot has no
+/// session.
 #[derive(Drop)]
 pub struct CopyAnswer {
     pub code: u32,
     pub count: usize,
 }
 
-/// Copies items into a buffer if they fit.
+/// Copies items into a buffer if they fit, and else leaves it.
 pub fn copy<T: Copy>(items: &[T], buffer: &mut [T]) -> CopyAnswer
     ensures value { (result.code, result.count, buffer.new) ≡ copy_answer items.now buffer.old }
 {

@@ -19,7 +19,7 @@ use abc_live::Edit;
 use std::alloc::Global;
 
 /// Edits the text of a session, and keeps the report.
-fn edit_session(held: &mut OpenSession, edit: &Edit, work: &mut Work) -> u32
+pub(crate) fn edit_session(held: &mut OpenSession, edit: &Edit, work: &mut Work) -> u32
     ensures value { Edits (splice_of edit.now) held.old result held.new }
     ensures counted { MayCost (cost_of steps_of_abc rules_of_abc held.old.session.text (splice_of edit.now)) work.old work.new }
     ensures uncounted { CountsNoRefusal result work.old work.new }
@@ -36,6 +36,7 @@ fn edit_session(held: &mut OpenSession, edit: &Edit, work: &mut Work) -> u32
 /// Edits the text of the session in a slot.
 fn edit_slot(alloc: Global, slot: &mut SessionSlot, edit: &Edit, work: &mut Work) -> u32
     ensures value { EditsSlot (splice_of edit.now) (session_in slot.old) result (session_in slot.new) }
+    ensures empty { session_in slot.old ≡ None → slot.new ≡ slot.old }
     ensures counted { CostsSlot (splice_of edit.now) (session_in slot.old) work.old work.new }
     ensures uncounted { CountsNoRefusal result work.old work.new }
 {
@@ -59,6 +60,7 @@ pub fn insert_lines(
     work: &mut Work,
 ) -> u32
     ensures value { EditsSlot (insertion at (lines_in text.now)) (session_in slot.old) result (session_in slot.new) }
+    ensures empty { session_in slot.old ≡ None → slot.new ≡ slot.old }
     ensures counted { CostsSlot (insertion at (lines_in text.now)) (session_in slot.old) work.old work.new }
     ensures uncounted { CountsNoRefusal result work.old work.new }
 {
@@ -79,6 +81,7 @@ pub fn replace_lines(
     work: &mut Work,
 ) -> u32
     ensures value { EditsSlot (replacement from to (lines_in text.now)) (session_in slot.old) result (session_in slot.new) }
+    ensures empty { session_in slot.old ≡ None → slot.new ≡ slot.old }
     ensures counted { CostsSlot (replacement from to (lines_in text.now)) (session_in slot.old) work.old work.new }
     ensures uncounted { CountsNoRefusal result work.old work.new }
 {
@@ -97,6 +100,7 @@ pub fn delete_lines(
     work: &mut Work,
 ) -> u32
     ensures value { EditsSlot (deletion from to) (session_in slot.old) result (session_in slot.new) }
+    ensures empty { session_in slot.old ≡ None → slot.new ≡ slot.old }
     ensures counted { CostsSlot (deletion from to) (session_in slot.old) work.old work.new }
     ensures uncounted { CountsNoRefusal result work.old work.new }
 {

@@ -43,6 +43,7 @@ fn copy_records(faults: &[Fault], records: &mut [FaultRecord]) -> CopyAnswer
 /// Copies the faults of the text, in order.
 pub fn copy_faults(alloc: Global, slot: &mut SessionSlot, records: &mut [FaultRecord]) -> CopyAnswer
     ensures unchanged { session_in slot.new ≡ session_in slot.old }
+    ensures empty { session_in slot.old ≡ None → slot.new ≡ slot.old }
     ensures value { (result.code, result.count, records.new)
         ≡ slot_answer (option_map faults_in (session_in slot.old)) records.old }
 {

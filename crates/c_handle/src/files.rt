@@ -12,6 +12,7 @@ use std::alloc::Global;
 /// Copies the reference numbers that have a file, rising.
 pub fn copy_numbers(alloc: Global, slot: &mut SessionSlot, numbers: &mut [u32]) -> CopyAnswer
     ensures unchanged { session_in slot.new ≡ session_in slot.old }
+    ensures empty { session_in slot.old ≡ None → slot.new ≡ slot.old }
     ensures value { (result.code, result.count, numbers.new)
         ≡ slot_answer (option_map numbers_in (session_in slot.old)) numbers.old }
 {
@@ -26,6 +27,7 @@ pub fn copy_output(
     bytes: &mut [u8],
 ) -> CopyAnswer
     ensures unchanged { session_in slot.new ≡ session_in slot.old }
+    ensures empty { session_in slot.old ≡ None → slot.new ≡ slot.old }
     ensures value { (result.code, result.count, bytes.new)
         ≡ slot_answer (option_map (output_in number) (session_in slot.old)) bytes.old }
 {

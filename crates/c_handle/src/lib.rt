@@ -3,6 +3,7 @@
 #![tactic(auto)]
 
 mod box_parts;
+mod code_names;
 mod codes;
 mod copying;
 mod editing;
@@ -17,11 +18,16 @@ mod opening;
 mod refusal;
 mod reports;
 mod slot;
+mod text_change;
 mod texts;
 mod titles;
+mod token_record;
+mod tokens;
+mod whole_text;
 
 pub use abc_fold::Work;
 pub use abc_live::{Report, Session};
+pub use code_names::copy_code_name;
 pub use copying::CopyAnswer;
 pub use editing::{delete_lines, insert_lines, replace_lines};
 pub use fault_names::copy_fault_name;
@@ -35,3 +41,6 @@ pub use reports::{copy_removed, copy_written};
 pub use slot::{OPEN, SessionSlot};
 pub use texts::{copy_line, count_lines};
 pub use titles::{copy_title, count_titles};
+pub use token_record::TokenRecord;
+pub use tokens::copy_tokens;
+pub use whole_text::set_text;

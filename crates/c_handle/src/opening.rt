@@ -22,7 +22,8 @@ fn new_session(alloc: Global) -> Result<Box<OpenSession>, AllocError>
     Ok(Box::new(alloc, OpenSession { session, report })?)
 }
 
-/// Opens a session without lines in a slot that holds none.
+/// Opens a session without lines in a slot that holds none, and returns `CODE_OK`; or `CODE_MISUSED` if the slot holds one,
+/// or `CODE_OUT_OF_MEMORY`.
 pub fn open_slot(alloc: Global, slot: &mut SessionSlot) -> u32
     ensures value { IsOpened (session_in slot.old) result (session_in slot.new) }
     ensures unchanged { result ≢ CODE_OK → slot.new ≡ slot.old }
@@ -39,7 +40,7 @@ pub fn open_slot(alloc: Global, slot: &mut SessionSlot) -> u32
     }
 }
 
-/// Closes the session of a slot, and frees its memory.
+/// Closes the session of a slot, frees its memory, and returns `CODE_OK`; or `CODE_MISUSED` if the slot holds none.
 pub fn close_slot(alloc: Global, slot: &mut SessionSlot) -> u32
     ensures value { IsClosed (session_in slot.old) result (session_in slot.new) }
     ensures zeros { result ≡ CODE_OK → slot.new.state ≡ 0 }

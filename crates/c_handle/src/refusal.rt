@@ -1,5 +1,6 @@
 //! Why an edit is refused, found without an allocation: it is asked for after one failed.
 
+ghost use Rattle.std.specs.Prelude.{◌≡◌};
 ghost use Rattle.abc_lines.specs.Text.{Splice};
 ghost use Rattle.abc_lines.specs.Edits.{Refuses, edited, insertion, replaced, replacement};
 ghost use Rattle.abc_lines.specs.TextLines.{lines_in};
@@ -49,6 +50,7 @@ fn replacement_reason(session: &Session, from: u32, to: u32, text: &[u8]) -> Edi
 #[tactic(auto, using(crate::proofs::Sessions::refused_edits))]
 pub fn refuse_insertion(alloc: Global, slot: &mut SessionSlot, at: u32, text: &[u8]) -> u32
     ensures value { EditsSlot (insertion at (lines_in text.now)) (session_in slot.old) result (session_in slot.new) }
+    ensures empty { session_in slot.old ≡ None → slot.new ≡ slot.old }
 {
     match slot.take(alloc) {
         Some(session) => {
@@ -70,6 +72,7 @@ pub fn refuse_replacement(
     text: &[u8],
 ) -> u32
     ensures value { EditsSlot (replacement from to (lines_in text.now)) (session_in slot.old) result (session_in slot.new) }
+    ensures empty { session_in slot.old ≡ None → slot.new ≡ slot.old }
 {
     match slot.take(alloc) {
         Some(session) => {

@@ -12,6 +12,7 @@ use std::alloc::Global;
 /// Copies the numbers whose files the last edit wrote, rising.
 pub fn copy_written(alloc: Global, slot: &mut SessionSlot, numbers: &mut [u32]) -> CopyAnswer
     ensures unchanged { session_in slot.new ≡ session_in slot.old }
+    ensures empty { session_in slot.old ≡ None → slot.new ≡ slot.old }
     ensures value { (result.code, result.count, numbers.new)
         ≡ slot_answer (option_map written_in (session_in slot.old)) numbers.old }
 {
@@ -21,6 +22,7 @@ pub fn copy_written(alloc: Global, slot: &mut SessionSlot, numbers: &mut [u32]) 
 /// Copies the numbers whose files the last edit removed, rising.
 pub fn copy_removed(alloc: Global, slot: &mut SessionSlot, numbers: &mut [u32]) -> CopyAnswer
     ensures unchanged { session_in slot.new ≡ session_in slot.old }
+    ensures empty { session_in slot.old ≡ None → slot.new ≡ slot.old }
     ensures value { (result.code, result.count, numbers.new)
         ≡ slot_answer (option_map removed_in (session_in slot.old)) numbers.old }
 {

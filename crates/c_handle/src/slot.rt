@@ -1,4 +1,4 @@
-//! The slot of a session, which is a struct of the caller.
+//! The slot of a session, which is a struct of the caller: `abc_live_session` in the header of C, which has its size and alignment.
 
 ghost use Rattle.std.specs.Prelude.{◌≡◌, IfSome, IsSome, None, Some, option_map};
 

@@ -9,9 +9,10 @@ use crate::copying::{CopyAnswer, copy_found};
 use crate::slot::{SessionSlot, count_in_session, read_session};
 use std::alloc::Global;
 
-/// Returns the number of lines.
+/// Counts the lines, and returns `CODE_OK`; or `CODE_MISUSED` with 0 lines if the slot has no session.
 pub fn count_lines(alloc: Global, slot: &mut SessionSlot, count: &mut u32) -> u32
     ensures unchanged { session_in slot.new ≡ session_in slot.old }
+    ensures empty { session_in slot.old ≡ None → slot.new ≡ slot.old }
     ensures value { (result, count.new) ≡ count_answer (option_map lines_count (session_in slot.old)) }
 {
     count_in_session!(slot, alloc, count, session => session.session.line_count())
@@ -20,6 +21,7 @@ pub fn count_lines(alloc: Global, slot: &mut SessionSlot, count: &mut u32) -> u3
 /// Copies the bytes of a line, counted from 1.
 pub fn copy_line(alloc: Global, slot: &mut SessionSlot, number: u32, bytes: &mut [u8]) -> CopyAnswer
     ensures unchanged { session_in slot.new ≡ session_in slot.old }
+    ensures empty { session_in slot.old ≡ None → slot.new ≡ slot.old }
     ensures value { (result.code, result.count, bytes.new)
         ≡ slot_answer (option_map (line_in number) (session_in slot.old)) bytes.old }
 {

@@ -12,9 +12,10 @@ use crate::slot::{SessionSlot, count_in_session};
 use abc_live::Title;
 use std::alloc::Global;
 
-/// Returns the number of titles: one a tune.
+/// Counts the titles, one a tune, and returns `CODE_OK`; or `CODE_MISUSED` with 0 titles if the slot has no session.
 pub fn count_titles(alloc: Global, slot: &mut SessionSlot, count: &mut usize) -> u32
     ensures unchanged { session_in slot.new ≡ session_in slot.old }
+    ensures empty { session_in slot.old ≡ None → slot.new ≡ slot.old }
     ensures value { (result, count.new) ≡ count_answer (option_map titles_count (session_in slot.old)) }
 {
     count_in_session!(slot, alloc, count, session => session.session.titles().len())
@@ -41,7 +42,7 @@ fn copy_title_at(titles: &[Title], index: usize, number: &mut u32, bytes: &mut [
     }
 }
 
-/// Copies the number and the bytes of the title at an index from 0.
+/// Copies the number and the bytes of the title at an index from 0. The number is 0 if there is no such title or session.
 pub fn copy_title(
     alloc: Global,
     slot: &mut SessionSlot,
@@ -50,6 +51,7 @@ pub fn copy_title(
     bytes: &mut [u8],
 ) -> CopyAnswer
     ensures unchanged { session_in slot.new ≡ session_in slot.old }
+    ensures empty { session_in slot.old ≡ None → slot.new ≡ slot.old }
     ensures value { (result.code, result.count, bytes.new)
         ≡ slot_answer (option_map (title_text index) (session_in slot.old)) bytes.old }
     ensures number { number.new ≡ title_number index (session_in slot.old) }

@@ -4,3 +4,4 @@
 mod editing;
 mod opening;
 mod reading;
+mod tokens;

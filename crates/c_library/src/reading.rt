@@ -1,8 +1,9 @@
-//! Calls that read a session, and the call that names the codes of faults.
+//! Calls that read a session, and the calls that name codes.
 
 ghost use Rattle.std.specs.Prelude.{◌≡◌, length, option_map};
 ghost use Rattle.c_handle.specs.Answers.{count_answer, line_in, lines_count, numbers_in, output_in, removed_in, title_number};
 ghost use Rattle.c_handle.specs.Answers.{title_text, titles_count, written_in};
+ghost use Rattle.c_handle.specs.CodeNames.{code_name};
 ghost use Rattle.c_handle.specs.Copies.{lookup_answer, slot_answer};
 ghost use Rattle.c_handle.specs.FaultNames.{IsEachNumbered, name_numbered};
 ghost use Rattle.c_handle.specs.Faults.{faults_in};
@@ -21,6 +22,7 @@ pub extern "C" fn abc_live_written(
     count: &mut usize,
 ) -> u32
     ensures unchanged { session_in slot.new ≡ session_in slot.old }
+    ensures empty { session_in slot.old ≡ None → slot.new ≡ slot.old }
     ensures value { (result, count.new, numbers.new) ≡ slot_answer (option_map written_in (session_in slot.old)) numbers.old }
 {
     let answer = c_handle::copy_written(alloc, slot, numbers);
@@ -37,6 +39,7 @@ pub extern "C" fn abc_live_removed(
     count: &mut usize,
 ) -> u32
     ensures unchanged { session_in slot.new ≡ session_in slot.old }
+    ensures empty { session_in slot.old ≡ None → slot.new ≡ slot.old }
     ensures value { (result, count.new, numbers.new) ≡ slot_answer (option_map removed_in (session_in slot.old)) numbers.old }
 {
     let answer = c_handle::copy_removed(alloc, slot, numbers);
@@ -53,6 +56,7 @@ pub extern "C" fn abc_live_numbers(
     count: &mut usize,
 ) -> u32
     ensures unchanged { session_in slot.new ≡ session_in slot.old }
+    ensures empty { session_in slot.old ≡ None → slot.new ≡ slot.old }
     ensures value { (result, count.new, numbers.new) ≡ slot_answer (option_map numbers_in (session_in slot.old)) numbers.old }
 {
     let answer = c_handle::copy_numbers(alloc, slot, numbers);
@@ -70,6 +74,7 @@ pub extern "C" fn abc_live_output(
     count: &mut usize,
 ) -> u32
     ensures unchanged { session_in slot.new ≡ session_in slot.old }
+    ensures empty { session_in slot.old ≡ None → slot.new ≡ slot.old }
     ensures value { (result, count.new, bytes.new) ≡ slot_answer (option_map (output_in number) (session_in slot.old)) bytes.old }
 {
     let answer = c_handle::copy_output(alloc, slot, number, bytes);
@@ -85,6 +90,7 @@ pub extern "C" fn abc_live_title_count(
     count: &mut usize,
 ) -> u32
     ensures unchanged { session_in slot.new ≡ session_in slot.old }
+    ensures empty { session_in slot.old ≡ None → slot.new ≡ slot.old }
     ensures value { (result, count.new) ≡ count_answer (option_map titles_count (session_in slot.old)) }
 {
     c_handle::count_titles(alloc, slot, count)
@@ -101,6 +107,7 @@ pub extern "C" fn abc_live_title(
     count: &mut usize,
 ) -> u32
     ensures unchanged { session_in slot.new ≡ session_in slot.old }
+    ensures empty { session_in slot.old ≡ None → slot.new ≡ slot.old }
     ensures value { (result, count.new, bytes.new) ≡ slot_answer (option_map (title_text index) (session_in slot.old)) bytes.old }
     ensures number { number.new ≡ title_number index (session_in slot.old) }
 {
@@ -118,6 +125,7 @@ pub extern "C" fn abc_live_faults(
     count: &mut usize,
 ) -> u32
     ensures unchanged { session_in slot.new ≡ session_in slot.old }
+    ensures empty { session_in slot.old ≡ None → slot.new ≡ slot.old }
     ensures value { (result, count.new, records.new) ≡ slot_answer (option_map faults_in (session_in slot.old)) records.old }
 {
     let answer = c_handle::copy_faults(alloc, slot, records);
@@ -137,10 +145,21 @@ pub extern "C" fn abc_live_fault_name(number: u32, bytes: &mut [u8], count: &mut
     answer.code
 }
 
+/// Copies the name of a code that calls return, as the header of C has it.
+#[unsafe(no_mangle)]
+pub extern "C" fn abc_live_code_name(code: u32, bytes: &mut [u8], count: &mut usize) -> u32
+    ensures value { (result, count.new, bytes.new) ≡ lookup_answer (code_name code) bytes.old }
+{
+    let answer = c_handle::copy_code_name(code, bytes);
+    *count = answer.count;
+    answer.code
+}
+
 /// Counts the lines.
 #[unsafe(no_mangle)]
 pub extern "C" fn abc_live_line_count(alloc: Global, slot: &mut SessionSlot, count: &mut u32) -> u32
     ensures unchanged { session_in slot.new ≡ session_in slot.old }
+    ensures empty { session_in slot.old ≡ None → slot.new ≡ slot.old }
     ensures value { (result, count.new) ≡ count_answer (option_map lines_count (session_in slot.old)) }
 {
     c_handle::count_lines(alloc, slot, count)
@@ -156,6 +175,7 @@ pub extern "C" fn abc_live_line(
     count: &mut usize,
 ) -> u32
     ensures unchanged { session_in slot.new ≡ session_in slot.old }
+    ensures empty { session_in slot.old ≡ None → slot.new ≡ slot.old }
     ensures value { (result, count.new, bytes.new) ≡ slot_answer (option_map (line_in number) (session_in slot.old)) bytes.old }
 {
     let answer = c_handle::copy_line(alloc, slot, number, bytes);

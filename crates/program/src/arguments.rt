@@ -3,7 +3,7 @@
 use clap::{Arg, Command};
 use std::alloc::{AllocError, Global};
 
-/// The version of the program, its clients and its packages. `scripts/version` reads this line.
+/// The version of the program, its clients and its packages. `scripts/build/version` reads this line.
 const VERSION: &str = "1.0.0";
 
 /// The commands in a line each, and their answers.

@@ -1,6 +1,7 @@
 //! The folder of the MIDI files.
 
-ghost use Rattle.std.specs.Prelude.{◌≡◌, ◌++◌, [], codes, string_bytes, None, IfOk, IsErr};
+ghost use Rattle.std.specs.Prelude.{◌≡◌, ◌≢◌, ◌↔◌, ◌++◌, [], codes, string_bytes, None, IfOk, IsErr, IsTrue, MatchResult, ⊤};
+ghost use Rattle.std.specs.IoError.{error_kind};
 ghost use Rattle.abc2midi_live.specs.Storing.{store_view};
 
 use abc2midi_live::{Store, StoreFault};
@@ -17,6 +18,13 @@ pub(crate) enum PathKind {
     Nothing,
     /// It cannot be reached, for instance if a folder in the path may not be entered.
     Unreachable(io::Error),
+}
+
+/// Whether an error says that there is no such file.
+fn is_missing(error: &io::Error) -> bool
+    ensures { IsTrue result ↔ (error_kind error.now ≡ ErrorKind.NotFound) }
+{
+    error.kind() == ErrorKind::NotFound
 }
 
 /// Files by their names in one folder. For each file that cannot be stored or removed it prints the reason on standard
@@ -49,7 +57,7 @@ impl<'a, R: Runtime + AllocGlobal> Directory<'a, R> {
         match fs::metadata(self.rt, self.path) {
             Ok(metadata) if metadata.is_dir() => PathKind::Folder,
             Ok(_) => PathKind::NoFolder,
-            Err(error) if error.kind() == ErrorKind::NotFound => PathKind::Nothing,
+            Err(error) if is_missing(&error) => PathKind::Nothing,
             Err(error) => PathKind::Unreachable(error),
         }
     }
@@ -114,14 +122,21 @@ impl<'a, R: Runtime + AllocGlobal> Directory<'a, R> {
         fs::rename(self.rt, beside, path)
     }
 
-    fn delete(&self, path: &str) -> io::Result<()> {
+    /// Removes a file. A path at which there is none counts as removed.
+    fn delete(&self, path: &str) -> io::Result<()>
+        ensures missing { MatchResult result (λ _. ⊤) (λ error. error_kind error ≢ ErrorKind.NotFound) }
+    {
         match fs::remove_file(self.rt, path) {
-            Err(error) if error.kind() == ErrorKind::NotFound => Ok(()),
-            outcome => outcome,
+            Ok(()) => Ok(()),
+            Err(error) if is_missing(&error) => Ok(()),
+            Err(error) => Err(error),
         }
     }
 
-    fn delete_named(&self, name: &str) -> io::Result<()> {
+    /// Removes the file of a name in the folder, if there is one.
+    fn delete_named(&self, name: &str) -> io::Result<()>
+        ensures empty { self.now.path.now ≡ [] → IsErr result }
+    {
         let path = self.path_of(name)?;
         self.delete(path.as_str())
     }

@@ -129,7 +129,7 @@ fn book_of<R: Runtime + Files + AllocGlobal>(
     rt: &R,
     path: Option<&str>,
 ) -> Result<Option<Vec<u8>>, Failure>
-    ensures given { IfOk result (λ book. is_some book ≡ is_some path.entry) }
+    ensures book { IfOk result (λ book. is_some book ≡ is_some path.entry) }
     ensures none { is_none path.entry ≡ true → IsOk result }
 {
     let Some(path) = path else {

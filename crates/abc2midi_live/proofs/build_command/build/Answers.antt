@@ -49,8 +49,8 @@ returns-in_err-extend_from_slice-clause-idle g c = c.loop-next.invariant.idle
 pub returns-in_err-next-clause-idle : goal.returns-in_err-next-clause-idle
 returns-in_err-next-clause-idle g c = c.store_next.ensures.idle
 
-pub returns-in_err-next-clause-unchanged : goal.returns-in_err-next-clause-unchanged
-returns-in_err-next-clause-unchanged g c =
+pub returns-in_err-next-clause-stop : goal.returns-in_err-next-clause-stop
+returns-in_err-next-clause-stop g c =
     let seen = g.S.Store.seen in
     let text = c.args.session.now.text in
     let first = (maps_of c.args.publisher.now).directory in
@@ -58,10 +58,10 @@ returns-in_err-next-clause-unchanged g c =
     let so_far = subst (λ (o : Option ℕ). StoresSoFar text first (seen c.args.store.now) (stage d o)
     (build_seen c.loop-next.text.items (seen c.loop-next.store))) c.in-Some.is c.loop-next.invariant.stored in
     on_err c.from_residual.result _
-    (so_far_stops text first d c.loop-next.text.items (seen c.args.store.now) (seen c.loop-next.store) (seen c.store_next.new.store) (Some c.in-Some.from) so_far c.in_err-next.ensures.unchanged.0)
+    (so_far_stops text first d c.loop-next.text.items (seen c.args.store.now) (seen c.loop-next.store) (seen c.store_next.new.store) (Some c.in-Some.from) so_far c.in_err-next.ensures.stop.0)
 
-pub returns-in_err-extend_from_slice-clause-unchanged : goal.returns-in_err-extend_from_slice-clause-unchanged
-returns-in_err-extend_from_slice-clause-unchanged g c =
+pub returns-in_err-extend_from_slice-clause-stop : goal.returns-in_err-extend_from_slice-clause-stop
+returns-in_err-extend_from_slice-clause-stop g c =
     let seen = g.S.Store.seen in
     let text = c.args.session.now.text in
     let d = (maps_of c.loop-next.publisher).directory in

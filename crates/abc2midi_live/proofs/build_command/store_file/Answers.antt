@@ -9,15 +9,15 @@ returns-clause-store g c = λ directory.
     follows_job _ _ directory c.number-number.result c.args.job.now.number c.is_ok-stored.result (is_ok c.put_or_remove.result) _ c.args.job.now.bytes
     c.number-number.ensures c.bytes-bytes.ensures c.is_ok-stored.ensures.value (c.put_or_remove.ensures directory)
 
-pub returns-in_err-name-clause-unchanged : goal.returns-in_err-name-clause-unchanged
-returns-in_err-name-clause-unchanged g c = on_err c.from_residual.result _ (inl refl)
+pub returns-in_err-name-clause-stop : goal.returns-in_err-name-clause-stop
+returns-in_err-name-clause-stop g c = on_err c.from_residual.result _ (inl refl)
 
-pub returns-in_err-put_stored-clause-unchanged : goal.returns-in_err-put_stored-clause-unchanged
-returns-in_err-put_stored-clause-unchanged g c =
+pub returns-in_err-put_stored-clause-stop : goal.returns-in_err-put_stored-clause-stop
+returns-in_err-put_stored-clause-stop g c =
     on_err c.from_residual-in_err-put_stored.result _
     (stores_job _ _ c.number-number.result c.args.job.now.number (is_ok c.put_or_remove.result) _ c.args.job.now.bytes c.number-number.ensures c.bytes-bytes.ensures c.put_or_remove.ensures)
 
-pub returns-in_err-put_failed-clause-unchanged : goal.returns-in_err-put_failed-clause-unchanged
-returns-in_err-put_failed-clause-unchanged g c =
+pub returns-in_err-put_failed-clause-stop : goal.returns-in_err-put_failed-clause-stop
+returns-in_err-put_failed-clause-stop g c =
     on_err c.from_residual-in_err-put_failed.result _
     (stores_job _ _ c.number-number.result c.args.job.now.number (is_ok c.put_or_remove.result) _ c.args.job.now.bytes c.number-number.ensures c.bytes-bytes.ensures c.put_or_remove.ensures)

@@ -71,16 +71,16 @@ returns-else-branch-clause-idle g c =
     idle_again (maps_of c.args.publisher.now) (maps_of c.take_from.new.self) (maps_of c.carry_out.new.publisher) c.in-Some.job.number c.in-Some.job.bytes c.requires
     (at_some c.in_ok-job.field-0 c.in-Some.job _ _ c.in-Some.is c.in_ok-job.ensures.after) c.carry_out.ensures.jobs
 
-pub returns-in_err-job-clause-unchanged : goal.returns-in_err-job-clause-unchanged
-returns-in_err-job-clause-unchanged g c =
+pub returns-in_err-job-clause-stop : goal.returns-in_err-job-clause-stop
+returns-in_err-job-clause-stop g c =
     let at = stage (maps_of c.args.publisher.now).directory (Some c.args.from) in
     on_err c.from_residual.result _ (stops_uncalled c.args.session.now.text at _)
 
-pub returns-in_err-carry_out-clause-unchanged : goal.returns-in_err-carry_out-clause-unchanged
+pub returns-in_err-carry_out-clause-stop : goal.returns-in_err-carry_out-clause-stop
 unfolding files_of
-returns-in_err-carry_out-clause-unchanged g c =
+returns-in_err-carry_out-clause-stop g c =
     let job = c.in-Some.job in
     let small : job.number < 2 ^ 32 = subst (λ (k : ℕ). k < 2 ^ 32) c.number-number.ensures c.number-number.type_inv in
     on_err c.from_residual-in_err-carry_out.result _
     (stops_once c.args.session.now.text (maps_of c.args.publisher.now) c.args.from job.number job.bytes _ _ small c.requires
-    (at_some c.in_ok-job.field-0 job _ _ c.in-Some.is c.in_ok-job.ensures.job) c.in_err-carry_out.ensures.unchanged)
+    (at_some c.in_ok-job.field-0 job _ _ c.in-Some.is c.in_ok-job.ensures.job) c.in_err-carry_out.ensures.stop)

@@ -1,11 +1,11 @@
-use Rattle.std.proofs.Common.{◌≡◌, ◌≤◌, ◌+◌, length, [], sym, ap, ◌∙◌, subst, refl, Bool, Err, arith}
+use Rattle.std.proofs.Common.{◌≡◌, ◌≤◌, ◌+◌, length, sym, ap, ◌∙◌, subst, refl, Bool, Err, arith}
 use Rattle.std.specs.Prelude.{IfSome}
 use Rattle.abc2midi_live.specs.declared.run_loop.TheConstants.{MOST_READS}
 use Rattle.abc2midi_live.specs.Machine.{future_of_bytes}
 use Rattle.abc2midi_live.specs.Outcome.{outlets, Exhausted, read_faults}
 use Rattle.abc_fold.specs.Work.{raised}
 use Rattle.abc2midi_live.proofs.Counts.{raised_none}
-use Rattle.abc2midi_live.proofs.Feeding.{heard_none, heard_turn, heard_end, heard_left, heard_so_far, heard_enough, nothing_ahead}
+use Rattle.abc2midi_live.proofs.Feeding.{heard_none, heard_turn, heard_end, heard_left, heard_so_far, heard_enough, future_of_bytes-nothing}
 use Rattle.abc2midi_live.proofs.Feeding.{fault_exit, fault_is, reads_exit, calls_more}
 use Rattle.abc2midi_live.proofs.run_loop.listen.Goals as goal
 
@@ -63,7 +63,7 @@ unfolding future_of_bytes
 returns-clause-answers g c =
     let now = c.reads.listener in
     let state = g.M.Machine.state now.machine in
-    heard_so_far c.reads.invariant.heard (nothing_ahead state.future state.directory now.begun.items now.whole (g.met.M.Machine.waits now.machine))
+    heard_so_far c.reads.invariant.heard (future_of_bytes-nothing state.future state.directory now.begun.items now.whole (g.met.M.Machine.waits now.machine))
 
 pub returns-clause-calls : goal.returns-clause-calls
 returns-clause-calls g c = (c.reads.counter, omega arith, c.reads.invariant.calls)

@@ -32,9 +32,9 @@ returns-clause-reply g c =
     ))
     c.respond.ensures.reply
 
-pub returns-clause-unchanged : goal.returns-clause-unchanged
-returns-clause-unchanged g c =
+pub returns-clause-stop : goal.returns-clause-stop
+returns-clause-stop g c =
     let lines = text_of c.args.lines in
     let h = dialogue_view c.args.self.now.session.text (maps_of c.args.self.now.publisher).directory in
     let whole : length lines ≡ line_count c.args.command = length-map c.args.lines.items (λ line. line.items) ∙ (omega (arith, c.args.lines.ok.0)) in
-    on_err_weaker c.respond.result (λ stops. stops_whole h c.args.command lines _ _ whole stops) c.respond.ensures.unchanged
+    on_err_weaker c.respond.result (λ stops. stops_whole h c.args.command lines _ _ whole stops) c.respond.ensures.stop

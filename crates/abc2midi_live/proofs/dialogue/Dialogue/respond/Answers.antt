@@ -91,35 +91,35 @@ returns-in_ok-text-in-Delete-clause-uncounted g c = λ none.
     c.in_ok-text-in-Delete.ensures.uncounted
     (untaken c.args.self.now.session.text _ _ (delete_request c.args.command c.in-Delete.from c.in-Delete.to (text_of c.args.lines) c.in-Delete.is) none)
 
-pub returns-in_err-text-in-Build-clause-unchanged : goal.returns-in_err-text-in-Build-clause-unchanged
-returns-in_err-text-in-Build-clause-unchanged g c =
+pub returns-in_err-text-in-Build-clause-stop : goal.returns-in_err-text-in-Build-clause-stop
+returns-in_err-text-in-Build-clause-stop g c =
     on_err c.from_residual-in_err-text-in-Build.result _
-    (stops_build (view_of c.args.self.now) c.args.command (text_of c.args.lines) _ _ c.in-Build.is c.in_err-text-in-Build.ensures.unchanged)
+    (stops_build (view_of c.args.self.now) c.args.command (text_of c.args.lines) _ _ c.in-Build.is c.in_err-text-in-Build.ensures.stop)
 
-pub returns-in_err-text-in-Insert-clause-unchanged : goal.returns-in_err-text-in-Insert-clause-unchanged
-returns-in_err-text-in-Insert-clause-unchanged g c =
+pub returns-in_err-text-in-Insert-clause-stop : goal.returns-in_err-text-in-Insert-clause-stop
+returns-in_err-text-in-Insert-clause-stop g c =
     on_err c.from_residual.result _ (stops_unasked (view_of c.args.self.now) (request_of c.args.command (text_of c.args.lines)) _)
 
-pub returns-in_err-text-in-Replace-clause-unchanged : goal.returns-in_err-text-in-Replace-clause-unchanged
-returns-in_err-text-in-Replace-clause-unchanged g c =
+pub returns-in_err-text-in-Replace-clause-stop : goal.returns-in_err-text-in-Replace-clause-stop
+returns-in_err-text-in-Replace-clause-stop g c =
     on_err c.from_residual-in_err-text-in-Replace.result _ (stops_unasked (view_of c.args.self.now) (request_of c.args.command (text_of c.args.lines)) _)
 
-pub returns-in_err-text-in-Delete-clause-unchanged : goal.returns-in_err-text-in-Delete-clause-unchanged
-returns-in_err-text-in-Delete-clause-unchanged g c =
+pub returns-in_err-text-in-Delete-clause-stop : goal.returns-in_err-text-in-Delete-clause-stop
+returns-in_err-text-in-Delete-clause-stop g c =
     on_err c.from_residual-in_err-text-in-Delete.result _ (stops_unasked (view_of c.args.self.now) (request_of c.args.command (text_of c.args.lines)) _)
 
-pub returns-in_err-text-in-Faults-clause-unchanged : goal.returns-in_err-text-in-Faults-clause-unchanged
-returns-in_err-text-in-Faults-clause-unchanged g c =
+pub returns-in_err-text-in-Faults-clause-stop : goal.returns-in_err-text-in-Faults-clause-stop
+returns-in_err-text-in-Faults-clause-stop g c =
     on_err c.from_residual-in_err-text-in-Faults.result _ (stops_unasked (view_of c.args.self.now) (request_of c.args.command (text_of c.args.lines)) _)
 
-pub returns-in_err-text-in-Titles-clause-unchanged : goal.returns-in_err-text-in-Titles-clause-unchanged
-returns-in_err-text-in-Titles-clause-unchanged g c =
+pub returns-in_err-text-in-Titles-clause-stop : goal.returns-in_err-text-in-Titles-clause-stop
+returns-in_err-text-in-Titles-clause-stop g c =
     on_err c.from_residual-in_err-text-in-Titles.result _ (stops_unasked (view_of c.args.self.now) (request_of c.args.command (text_of c.args.lines)) _)
 
-pub returns-in_err-text-in-Hex-clause-unchanged : goal.returns-in_err-text-in-Hex-clause-unchanged
-returns-in_err-text-in-Hex-clause-unchanged g c =
+pub returns-in_err-text-in-Hex-clause-stop : goal.returns-in_err-text-in-Hex-clause-stop
+returns-in_err-text-in-Hex-clause-stop g c =
     on_err c.from_residual-in_err-text-in-Hex.result _ (stops_unasked (view_of c.args.self.now) (request_of c.args.command (text_of c.args.lines)) _)
 
-pub returns-in_err-text-in-Unknown-clause-unchanged : goal.returns-in_err-text-in-Unknown-clause-unchanged
-returns-in_err-text-in-Unknown-clause-unchanged g c =
+pub returns-in_err-text-in-Unknown-clause-stop : goal.returns-in_err-text-in-Unknown-clause-stop
+returns-in_err-text-in-Unknown-clause-stop g c =
     on_err c.from_residual-in_err-text-in-Unknown.result _ (stops_unasked (view_of c.args.self.now) (request_of c.args.command (text_of c.args.lines)) _)

@@ -71,14 +71,14 @@ returns-in-None-clause-uncounted x c =
     (subst (λ command. OnOk reply (is_taken text (request_of command []) ≡ false → same)) (c.of.ensures ∙ ap command_of c.deref.ensures.value)
     (subst (λ ls. OnOk reply (is_taken text (request_of c.of.result ls) ≡ false → same)) (ap (map (λ l. l.items)) c.new-lines.ensures.items) c.proceed-in-None.ensures.uncounted))
 
-pub returns-in_err-push-in-Some-clause-unchanged : goal.returns-in_err-push-in-Some-clause-unchanged
-returns-in_err-push-in-Some-clause-unchanged x c =
+pub returns-in_err-push-in-Some-clause-stop : goal.returns-in_err-push-in-Some-clause-stop
+returns-in_err-push-in-Some-clause-stop x c =
     let now = c.args.self.now in
     let h = dialogue_view now.session.text (maps_of now.publisher).directory in
     on_err c.from_residual.result _ (carried_none h.directory _ _ (dialogue_unasked h (begun_command now.pending) (c.args.line.items ∷ [])))
 
-pub returns-in_ok-push-in-Some-clause-unchanged : goal.returns-in_ok-push-in-Some-clause-unchanged
-returns-in_ok-push-in-Some-clause-unchanged x c =
+pub returns-in_ok-push-in-Some-clause-stop : goal.returns-in_ok-push-in-Some-clause-stop
+returns-in_ok-push-in-Some-clause-stop x c =
     let now = c.args.self.now in
     let h = dialogue_view now.session.text (maps_of now.publisher).directory in
     let g = c.in-Some.field-0 in
@@ -92,10 +92,10 @@ returns-in_ok-push-in-Some-clause-unchanged x c =
     subst (λ b. CarriesOut h.directory (dialogue_future h (begun_command b) Stopped (line ∷ [])) old new) c.in-Some.ensures.value
     (carried_as h.directory _ _ old new (λ stored. awaited_line h g.command lines line Stopped [] stored (few_lines g.command lines (pending_few g)))
     (subst (λ ls. CarriesOut h.directory (dialogue_future h (Some (record { command = g.command; lines = ls })) Stopped []) old new) more stops)))
-    c.proceed.ensures.unchanged
+    c.proceed.ensures.stop
 
-pub returns-in-None-clause-unchanged : goal.returns-in-None-clause-unchanged
-returns-in-None-clause-unchanged x c =
+pub returns-in-None-clause-stop : goal.returns-in-None-clause-stop
+returns-in-None-clause-stop x c =
     let now = c.args.self.now in
     let h = dialogue_view now.session.text (maps_of now.publisher).directory in
     let line = c.args.line.items in
@@ -106,4 +106,4 @@ returns-in-None-clause-unchanged x c =
     subst (λ b. CarriesOut h.directory (dialogue_future h (begun_command b) Stopped (line ∷ [])) old new) c.in-None.ensures.value
     (carried_as h.directory _ _ old new (λ stored. awaited_command h line c.of.result Stopped [] stored (c.of.ensures ∙ ap command_of c.deref.ensures.value))
     (subst (λ ls. CarriesOut h.directory (dialogue_future h (Some (record { command = c.of.result; lines = ls })) Stopped []) old new) (ap (map (λ l. l.items)) c.new-lines.ensures.items) stops)))
-    c.proceed-in-None.ensures.unchanged
+    c.proceed-in-None.ensures.stop

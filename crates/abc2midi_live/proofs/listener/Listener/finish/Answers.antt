@@ -1,7 +1,7 @@
 use Rattle.std.proofs.Common.{sym, ap, subst}
 use Rattle.abc2midi_live.specs.Outcome.{outlets}
 use Rattle.abc2midi_live.proofs.Feeding.{Served, last_served, last_fault, finish_said, finish_none, fault_exit, not_empty}
-use Rattle.abc2midi_live.proofs.Feeding.{is_empty, nothing_ahead}
+use Rattle.abc2midi_live.proofs.Feeding.{is_empty, future_of_bytes-nothing}
 use Rattle.abc2midi_live.proofs.listener.Listener.finish.Goals as goal
 
 pub returns-then-is_empty-clause-answer : goal.returns-then-is_empty-clause-answer
@@ -11,7 +11,7 @@ returns-then-is_empty-clause-answer g c =
     let old = outlets (g.W.Sink.contents c.args.writer.now) (g.S.Store.seen c.args.store.now) in
     finish_none c.write_text.result state now.begun.items c.on_end_of_input.result.now old _
     (is_empty now.begun.items now.begun.len now.begun.ok.0 (sym c.if-is_empty.ensures)) c.on_end_of_input.ensures
-    (nothing_ahead state.future state.directory now.begun.items now.whole (g.met.M.Machine.waits now.machine)) c.write_text.ensures.answer
+    (future_of_bytes-nothing state.future state.directory now.begun.items now.whole (g.met.M.Machine.waits now.machine)) c.write_text.ensures.answer
 
 pub returns-in_err-serve-clause-answer : goal.returns-in_err-serve-clause-answer
 returns-in_err-serve-clause-answer g c =

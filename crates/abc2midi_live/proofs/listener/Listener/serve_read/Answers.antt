@@ -1,7 +1,7 @@
 use Rattle.std.proofs.Common.{arith}
 use Rattle.abc2midi_live.specs.Machine.{future_of_bytes}
 use Rattle.abc2midi_live.specs.Outcome.{outlets}
-use Rattle.abc2midi_live.proofs.Feeding.{turn_failed, some_read, turn_fed, turn_ended, turn_unserved, nothing_ahead, nothing_read}
+use Rattle.abc2midi_live.proofs.Feeding.{turn_failed, some_read, turn_fed, turn_ended, turn_unserved, future_of_bytes-nothing, nothing_read}
 use Rattle.abc2midi_live.proofs.Feeding.{fault_exit}
 use Rattle.abc2midi_live.proofs.listener.Listener.serve_read.Goals as goal
 
@@ -11,7 +11,7 @@ returns-in-Err-clause-answers g c =
     let state = g.M.Machine.state now.machine in
     let old = outlets (g.W.Sink.contents c.args.writer.now) (g.S.Store.seen c.args.store.now) in
     turn_failed (future_of_bytes state.future now.begun.items) state.directory (g.R.Source.remaining c.args.reader.now) (g.R.Source.remaining c.read.new.self) old c.in-Err.ensures.bytes
-    (nothing_ahead state.future state.directory now.begun.items now.whole (g.met.M.Machine.waits now.machine))
+    (future_of_bytes-nothing state.future state.directory now.begun.items now.whole (g.met.M.Machine.waits now.machine))
 
 pub returns-then-count-gt0-clause-answers : goal.returns-then-count-gt0-clause-answers
 returns-then-count-gt0-clause-answers g c =
@@ -35,7 +35,7 @@ returns-in_err-finish-clause-answers g c =
     (turn_unserved (future_of_bytes state.future now.begun.items) state.directory (g.R.Source.remaining c.args.reader.now) (g.R.Source.remaining c.read.new.self)
     (outlets (g.W.Sink.contents c.args.writer.now) (g.S.Store.seen c.args.store.now)) new failed.field-0.0
     (nothing_read c.in-Ok.count c.read.new.buf _ _ c.if-count-gt0.false (omega arith) c.in-Ok.ensures.bytes.0 c.in-Ok.ensures.bytes.1)
-    (nothing_ahead state.future state.directory now.begun.items now.whole (g.met.M.Machine.waits now.machine)) failed.ensures.answer)
+    (future_of_bytes-nothing state.future state.directory now.begun.items now.whole (g.met.M.Machine.waits now.machine)) failed.ensures.answer)
 
 pub returns-clause-answers : goal.returns-clause-answers
 returns-clause-answers g c =
