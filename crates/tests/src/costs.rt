@@ -3,10 +3,10 @@
 use crate::texts::{empty_session, insertion, lines_of, replacement};
 use abc_fold::Work;
 use abc_live::{Edit, LiveSession, Session};
-use live_examples::marked_toy::MarkedToy;
 use std::alloc::Global;
 use std::process::Abort;
 use std::rt::Runtime;
+use tests_live::marked_toy::MarkedToy;
 
 /// Whether this many lines were scanned, steps folded and tunes built.
 fn is_work(work: &Work, scanned: u64, folded: u64, built: u64) -> bool {

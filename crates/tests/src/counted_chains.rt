@@ -4,7 +4,7 @@ use crate::kept_runs::append_kept;
 use abc_fold::{Chain, Piece, Work};
 use std::process::Abort;
 use std::rt::HostRuntime;
-use text_examples::chains::{Counted, Counting};
+use tests_text::chains::{Counted, Counting};
 
 /// Checks the items of a chain, and the number of steps that were folded.
 fn check_chain(rt: &impl Abort, chain: &Chain<Counting>, items: &[u8], work: &Work, folded: u64) {

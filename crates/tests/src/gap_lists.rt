@@ -50,33 +50,6 @@ fn the_gap_is_at_the_last_change(rt: HostRuntime) {
     assert!(rt; list.room() == 1);
 }
 
-#[test]
-fn an_item_changes_in_place(rt: HostRuntime) {
-    let alloc = rt.alloc();
-    let mut list = three_items(&rt, alloc, 4);
-    // one before the gap, and one after it
-    for (i, item) in [(0, 5), (2, 6), (3, 4)] {
-        if let Some(place) = list.get_mut(i) {
-            *place = item;
-        }
-    }
-    check_items(&rt, alloc, &list, &[5, 9, 6]);
-    assert!(rt; list.gap() == 2);
-    assert!(rt; list.moved() == 1);
-}
-
-#[test]
-fn a_range_of_a_list_is_in_order(rt: HostRuntime) {
-    let alloc = rt.alloc();
-    let list = three_items(&rt, alloc, 4);
-    assert!(rt; list.len() == 3);
-    let mut range = list.range(1..3);
-    assert!(rt; range.next().copied() == Some(9));
-    assert!(rt; range.next().copied() == Some(7));
-    assert!(rt; range.next().copied() == None);
-    assert!(rt; list.iter().count() == 3);
-}
-
 /// Counts up when it is dropped.
 struct DropCounter<'a> {
     drops: &'a Cell<u32>,

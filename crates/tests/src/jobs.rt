@@ -1,13 +1,13 @@
 //! Jobs that are taken, and the bytes that they carry.
 
 ghost use Rattle.abc_publish.specs.Publisher.{maps_of};
-ghost use Rattle.live_examples.specs.HeldJobs.{IsUnderWay};
+ghost use Rattle.tests_live.specs.HeldJobs.{IsUnderWay};
 
 use abc_live::Session;
 use abc_publish::Publisher;
-use live_examples::held_jobs::HeldJobs;
-pub use out_of_memory_layers::FILE_OF_C;
 use std::process::Abort;
+use tests_live::held_jobs::HeldJobs;
+pub use tests_memory_layers::FILE_OF_C;
 
 /// Takes the next job, if there is one.
 pub fn take(

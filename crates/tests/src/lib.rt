@@ -1,8 +1,8 @@
 //! The tests: each shows that public functions succeed with ample memory, which no clause promises. They are in one crate,
 //! since each crate with tests reads and compiles all that these call. The first line of a module says what it tests.
 //!
-//! The modules `refused_..` print for `scripts/refused_calls` which calls to refuse memory. Calls below edits, runs and
-//! jobs are in the crates `out_of_memory_layers` and `out_of_memory_session`. What commands can show is in
+//! The modules `refused_..` print for `tests/failures/refused_calls` which calls to refuse memory. Calls below edits, runs and
+//! jobs are in the crates `tests_memory_layers` and `tests_memory_session`. What commands can show is in
 //! `tests/transcripts`. Expected values are worked by hand from the rules in `docs/protocol.md`.
 #![tactic(auto)]
 
@@ -52,3 +52,5 @@ mod shelf;
 mod streams;
 #[cfg(test)]
 mod texts;
+#[cfg(test)]
+mod values;

@@ -4,10 +4,10 @@ ghost use Rattle.std.specs.Prelude.{◌≡◌, true};
 ghost use Rattle.abc_lines.specs.Text.{is_line};
 
 use abc_fold::Work;
-use live_examples::memo::ToyMemo;
 use std::alloc::Global;
 use std::process::Abort;
 use std::rt::Runtime;
+use tests_live::memo::ToyMemo;
 
 /// The line of a number below 100.
 fn line_of(number: u8) -> [u8; 3]

@@ -2,7 +2,7 @@
 
 ghost use Rattle.std.specs.Prelude.{◌<◌};
 ghost use Rattle.abc_publish.specs.Publisher.{maps_of};
-ghost use Rattle.live_examples.specs.HeldJobs.{IsUnderWay};
+ghost use Rattle.tests_live.specs.HeldJobs.{IsUnderWay};
 
 use crate::account::{Account, OPENING, Version};
 use crate::jobs::{FILE_OF_C, FILE_OF_D, check_newest, take};
@@ -10,9 +10,9 @@ use crate::texts::{apply, empty_session, insertion};
 use abc_fold::Work;
 use abc_live::Session;
 use abc_publish::{Job, Publisher};
-use live_examples::held_jobs::{HeldJobs, end_newer, end_older, finish};
 use std::alloc::Global;
 use std::process::Abort;
+use tests_live::held_jobs::{HeldJobs, end_newer, end_older, finish};
 
 /// How many events follow one another.
 const EVENTS: usize = 8;

@@ -5,9 +5,9 @@ use crate::texts::{apply, empty_session, insertion, replacement};
 use abc_fold::Work;
 use abc_live::{Edit, Session};
 use abc_publish::Publisher;
-use live_examples::held_jobs::{HeldJobs, end_newer, end_older, finish};
 use std::alloc::Global;
 use std::process::Abort;
+use tests_live::held_jobs::{HeldJobs, end_newer, end_older, finish};
 
 /// The file of a tune without a title, whose note is `C`.
 const UNTITLED_C: &[u8] = b"MThd\0\0\0\x06\0\x01\0\x02\x01\xE0\

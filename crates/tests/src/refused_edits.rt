@@ -4,10 +4,10 @@ use crate::alike::are_alike;
 use crate::texts::{empty_session, insertion, lines_of, replacement};
 use abc_fold::Work;
 use abc_live::{Edit, EditError, Report, Session};
-use out_of_memory_layers::report::{again, call, done, silent};
 use std::alloc::Global;
 use std::process::Abort;
 use std::rt::Runtime;
+use tests_memory_layers::report::{again, call, done, silent};
 
 /// A session, and another one with the same edits, which is never refused memory during the first one's calls.
 #[derive(Drop)]

@@ -2,18 +2,18 @@
 
 ghost use Rattle.std.specs.Prelude.{IfSome};
 ghost use Rattle.abc_publish.specs.Publisher.{maps_of};
-ghost use Rattle.live_examples.specs.HeldJobs.{IsUnderWay};
+ghost use Rattle.tests_live.specs.HeldJobs.{IsUnderWay};
 
 use crate::jobs::{FILE_OF_C, FILE_OF_D, check_newest};
 use crate::texts::{apply, empty_session, insertion, replacement};
 use abc_fold::Work;
 use abc_live::{Edit, Session};
 use abc_publish::Publisher;
-use live_examples::held_jobs::{HeldJobs, end_older, finish};
-use out_of_memory_layers::report::{again, call, done, silent};
 use std::alloc::Global;
 use std::process::Abort;
 use std::rt::Runtime;
+use tests_live::held_jobs::{HeldJobs, end_older, finish};
+use tests_memory_layers::report::{again, call, done, silent};
 
 /// The next job, if there is one; nothing if a request for memory is refused.
 fn try_take(publisher: &mut Publisher, session: &Session) -> Option<HeldJobs>

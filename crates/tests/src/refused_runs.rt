@@ -5,10 +5,10 @@ use crate::shelf::Shelf;
 use crate::streams::{MemorySink, PieceSource};
 use abc_fold::Work;
 use abc2midi_live::{RunFault, run};
-use out_of_memory_layers::report::{again, call, done};
 use std::alloc::Global;
 use std::process::Abort;
 use std::rt::Runtime;
+use tests_memory_layers::report::{again, call, done};
 
 /// The first tune of the transcripts, and its answer.
 const FIRST_TUNE: &[u8] = b"insert 1 4\nX:1\nT:A\nK:C\nC\nhex 1\nquit\n";

@@ -4,9 +4,9 @@ use crate::jobs::FILE_OF_C;
 use crate::texts::{empty_session, insertion, replacement};
 use abc_fold::Work;
 use abc_live::{Edit, EditError, LiveSession, Session};
-use live_examples::toy::{Toy, file_of_number};
 use std::alloc::Global;
 use std::process::Abort;
+use tests_live::toy::{Toy, file_of_number};
 
 /// Whether an edit is accepted, and reports that these files were written and those removed.
 fn reports(

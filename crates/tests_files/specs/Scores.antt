@@ -6,7 +6,7 @@ use Rattle.abc_voices_score.specs.declared.score.Score.{Score}
 use Rattle.abc_voices_score.specs.declared.score.Sounding.{Sounding}
 use Rattle.smf_bytes.specs.Event.{end_event, note_off, note_on}
 use Rattle.smf_bytes.specs.declared.event.Event.{Event}
-use Rattle.file_examples.specs.Values.{at_tick, change_at, program_at, seventh, sounding, sounding_with}
+use Rattle.tests_files.specs.Values.{at_tick, change_at, program_at, seventh, sounding, sounding_with}
 
 -- A tempo that changes at tick 240.
 abbrev pub two_tempos : List Change

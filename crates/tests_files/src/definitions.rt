@@ -14,10 +14,10 @@ ghost use Rattle.abc_text.specs.Power.{is_power_up_to};
 ghost use Rattle.smf_bytes.specs.Number.{number_text, read_result};
 ghost use Rattle.smf_bytes.specs.Order.{in_order};
 ghost use Rattle.smf_bytes.specs.Track.{channel_of, conductor_events, track, track_body, voice_events};
-ghost use Rattle.file_examples.specs.Scores.{two_tempos, one_eighth, one_eighth_file, seven_notes, seven_notes_track};
-ghost use Rattle.file_examples.specs.Scores.{opening_changes, events_in_no_order, changes_in_no_order, changes_track};
-ghost use Rattle.file_examples.specs.Scores.{notes_in_no_order, fifteen_silent_voices, the_longest, the_longest_file};
-ghost use Rattle.file_examples.specs.Values.{sounding};
+ghost use Rattle.tests_files.specs.Scores.{two_tempos, one_eighth, one_eighth_file, seven_notes, seven_notes_track};
+ghost use Rattle.tests_files.specs.Scores.{opening_changes, events_in_no_order, changes_in_no_order, changes_track};
+ghost use Rattle.tests_files.specs.Scores.{notes_in_no_order, fifteen_silent_voices, the_longest, the_longest_file};
+ghost use Rattle.tests_files.specs.Values.{sounding};
 
 /// Variable-length quantities, the first and the last of each count of bytes, and 240. SMF 1.0.
 pub fn number_texts()

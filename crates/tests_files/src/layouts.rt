@@ -15,12 +15,12 @@ ghost use Rattle.abc_voices_sections.specs.Play.{marks_of, played_items};
 ghost use Rattle.abc_voices_sections.specs.Section.{part, sections};
 ghost use Rattle.abc_voices.specs.Ties.{heard_notes, tokens_from};
 ghost use Rattle.abc_voices.specs.Track.{tracks};
-ghost use Rattle.file_examples.specs.Tunes.{tone, chord, note, tied, rest, bar_rest, single, opening, closing, between, double};
-ghost use Rattle.file_examples.specs.Tunes.{first, second, part_a, part_b, voice_1, voice_2, declared_1, opening_tempo, tempo};
-ghost use Rattle.file_examples.specs.Tunes.{opening_meter, refused_meter, opening_key, properties, sounding, tempo_change};
-ghost use Rattle.file_examples.specs.Tunes.{key_change, note_with, tied_with, held, opening_program, program, refused_opening};
-ghost use Rattle.file_examples.specs.Tunes.{refused, sounding_with, program_change, ordered_parts, tempo_between_endings};
-ghost use Rattle.file_examples.specs.Tunes.{tempo_in_a_strain, twice_closing, twice_opening};
+ghost use Rattle.tests_files.specs.Tunes.{tone, chord, note, tied, rest, bar_rest, single, opening, closing, between, double};
+ghost use Rattle.tests_files.specs.Tunes.{first, second, part_a, part_b, voice_1, voice_2, declared_1, opening_tempo, tempo};
+ghost use Rattle.tests_files.specs.Tunes.{opening_meter, refused_meter, opening_key, properties, sounding, tempo_change};
+ghost use Rattle.tests_files.specs.Tunes.{key_change, note_with, tied_with, held, opening_program, program, refused_opening};
+ghost use Rattle.tests_files.specs.Tunes.{refused, sounding_with, program_change, ordered_parts, tempo_between_endings};
+ghost use Rattle.tests_files.specs.Tunes.{tempo_in_a_strain, twice_closing, twice_opening};
 
 /// A section begins at each part, and goes on in the voice that is the current one there. ABC 2.1 sections 3.1.9 and 7.
 pub fn sections_of_a_tune()

@@ -8,8 +8,8 @@ ghost use Rattle.smf_bytes.specs.Event.{end_event, note_off, note_on, program_ch
 ghost use Rattle.smf_bytes.specs.File.{file_bytes};
 ghost use Rattle.smf_bytes.specs.Order.{in_order};
 ghost use Rattle.smf_bytes.specs.Track.{channel_of, track, track_body, voice_events};
-ghost use Rattle.file_examples.specs.Scores.{two_loud_notes, two_voices, two_voices_file};
-ghost use Rattle.file_examples.specs.Values.{program_at, sounding};
+ghost use Rattle.tests_files.specs.Scores.{two_loud_notes, two_voices, two_voices_file};
+ghost use Rattle.tests_files.specs.Values.{program_at, sounding};
 
 /// The track of a voice with the program 41, and of a note C of 240 ticks. SMF 1.0.
 pub fn a_program()

@@ -5,8 +5,8 @@ use Rattle.abc_lines.specs.Text.{is_line}
 use Rattle.abc_tune_memo.specs.Bytes.{line_bytes}
 use Rattle.abc_tune_memo.specs.Memo.{AreItemsOf}
 use Rattle.abc_scan.specs.Class.{class_of}
-use Rattle.live_examples.specs.declared.toy.Played.{Played}
-use Rattle.live_examples.specs.Toy.{cells_of, toy_rules, toy_steps}
+use Rattle.tests_live.specs.declared.toy.Played.{Played}
+use Rattle.tests_live.specs.Toy.{cells_of, toy_rules, toy_steps}
 
 pub asked : (byte : ℕ) (line bytes : List ℕ) (items : List Played) → is_line line ≡ true → bytes ≡ line_bytes (class_of line) line
     → items ≡ items_from toy_steps byte (cells_of line) → AreItemsOf toy_steps toy_rules (record { defaults = byte; bytes = bytes }) items

@@ -1,8 +1,8 @@
 -- Jobs that a caller holds. Not in ABC 2.1.
 use Rattle.std.specs.Prelude.{◌≡◌, ◌≢◌, ⊤, Some}
 use Rattle.abc_publish.specs.Publisher.{PublisherView}
-use Rattle.live_examples.specs.declared.held_jobs.HeldJobs.{HeldJobs}
-use Rattle.live_examples.specs.declared.held_jobs.HeldJobs.TheVariants.{Nothing, One, Two}
+use Rattle.tests_live.specs.declared.held_jobs.HeldJobs.{HeldJobs}
+use Rattle.tests_live.specs.declared.held_jobs.HeldJobs.TheVariants.{Nothing, One, Two}
 
 -- The caller's jobs are under way, for different numbers.
 abbrev pub IsUnderWay : PublisherView → HeldJobs → Type 0

@@ -2,15 +2,15 @@
 use Rattle.std.specs.Prelude.{ℕ, ◌+◌, ◌-◌, ◌^◌, Bool, ◌==◌, List, min, refl, unwrap_or}
 use Rattle.std.proofs.Common.{sym, ap, ◌∙◌}
 use Rattle.std.proofs.lemmas.Bool.{eqb-true, eq-eqb}
-use Rattle.abc_tune_compiler.specs.Lawful.{AreLawful}
-use Rattle.abc_fold.specs.Steps.{Steps, IsResumable}
-use Rattle.abc_scan.specs.Class.{class_of}
-use Rattle.abc_tune_compiler.specs.Rules.{Rules}
-use Rattle.live_examples.specs.declared.marked_toy.Marked.{Marked}
-use Rattle.live_examples.specs.declared.toy.Played.{Played}
-use Rattle.live_examples.specs.Toy.{cells_of, next_byte, no_byte, played_line, number_of, title_of, faults_of, file_of}
-use Rattle.live_examples.specs.Toy.{tune_faults_of}
-use Rattle.live_examples.specs.ToyLaws.{toy_without_cells}
+use Rattle.abc_live.specs.Lawful.{AreLawful}
+use Rattle.abc_live.specs.Steps.{Steps, IsResumable}
+use Rattle.abc_live.specs.Class.{class_of}
+use Rattle.abc_live.specs.Rules.{Rules}
+use Rattle.tests_live.specs.declared.marked_toy.Marked.{Marked}
+use Rattle.tests_live.specs.declared.toy.Played.{Played}
+use Rattle.tests_live.specs.Toy.{cells_of, next_byte, no_byte, played_line, number_of, title_of, faults_of, file_of}
+use Rattle.tests_live.specs.Toy.{tune_faults_of}
+use Rattle.tests_live.specs.ToyLaws.{toy_without_cells}
 
 -- The state after a line.
 abbrev pub marked_next : Marked → List ℕ → Marked

@@ -4,16 +4,16 @@
 use Rattle.std.specs.Prelude.{ℕ, ◌-◌, ◌==◌, Bool, false, if◌then◌else◌, List, [], ◌∷◌, length, drop, nat_le, Option, Some, None}
 use Rattle.std.specs.Prelude.{unwrap_or, slice_index}
 use Rattle.std.specs.List.{flat_map}
-use Rattle.abc_fields.specs.declared.fault_code.FaultCode.{FaultCode}
-use Rattle.abc_fields.specs.declared.fault_code.FaultCode.TheVariants.{BadByte, TuneTooLong}
-use Rattle.abc_fold.specs.Steps.{Steps}
-use Rattle.abc_lines.specs.Text.{Text}
-use Rattle.abc_scan.specs.Class.{class_of}
-use Rattle.abc_scan.specs.declared.line_class.LineClass.{LineClass}
-use Rattle.abc_scan.specs.declared.line_class.LineClass.TheVariants.{Blank, Comment, Field, Directive, Music}
-use Rattle.abc_tune_compiler.specs.Book.{Book, book_of}
-use Rattle.abc_tune_compiler.specs.Rules.{Rules}
-use Rattle.live_examples.specs.declared.toy.Played.{Played}
+use Rattle.abc_live.specs.declared.FaultCode.{FaultCode}
+use Rattle.abc_live.specs.declared.FaultCode.TheVariants.{BadByte, TuneTooLong}
+use Rattle.abc_live.specs.Steps.{Steps}
+use Rattle.abc_live.specs.Text.{Text}
+use Rattle.abc_live.specs.Class.{class_of}
+use Rattle.abc_live.specs.declared.LineClass.{LineClass}
+use Rattle.abc_live.specs.declared.LineClass.TheVariants.{Blank, Comment, Field, Directive, Music}
+use Rattle.abc_live.specs.Book.{Book, book_of}
+use Rattle.abc_live.specs.Rules.{Rules}
+use Rattle.tests_live.specs.declared.toy.Played.{Played}
 
 -- Whether a line begins with this byte.
 abbrev pub begins_with : ℕ → List ℕ → Bool

@@ -2,12 +2,12 @@
 use Rattle.std.specs.Prelude.{◌≡◌, ◌↔◌, ◌⊎◌, ℕ, ◌==◌, IsTrue, List, [], refl}
 use Rattle.std.proofs.Common.{inl, inr}
 use Rattle.std.proofs.lemmas.Bool.{eqb-true, eq-eqb}
-use Rattle.abc_tune_compiler.specs.Lawful.{AreLawful}
-use Rattle.abc_fold.specs.Steps.{IsResumable, resumable_where_equal}
-use Rattle.abc_scan.specs.Class.{class_of}
-use Rattle.abc_scan.specs.declared.line_class.LineClass.{LineClass}
-use Rattle.abc_scan.specs.declared.line_class.LineClass.TheVariants.{Blank, Comment, Field, Directive, Music}
-use Rattle.live_examples.specs.Toy.{cells_of, cells_of_class, next_byte, no_byte, toy_rules, toy_steps}
+use Rattle.abc_live.specs.Lawful.{AreLawful}
+use Rattle.abc_live.specs.Steps.{IsResumable, resumable_where_equal}
+use Rattle.abc_live.specs.Class.{class_of}
+use Rattle.abc_live.specs.declared.LineClass.{LineClass}
+use Rattle.abc_live.specs.declared.LineClass.TheVariants.{Blank, Comment, Field, Directive, Music}
+use Rattle.tests_live.specs.Toy.{cells_of, cells_of_class, next_byte, no_byte, toy_rules, toy_steps}
 
 pub toy_resumable : IsResumable toy_steps
 toy_resumable = resumable_where_equal toy_steps (λ a b alike. eqb-true a b alike) (λ a. eq-eqb a a refl)

@@ -2,7 +2,7 @@
 
 ghost use Rattle.std.specs.Prelude.{◌≡◌, ◌≢◌, ℕ, Some};
 ghost use Rattle.abc_publish.specs.Publisher.{maps_of};
-ghost use Rattle.live_examples.specs.HeldJobs.{IsUnderWay};
+ghost use Rattle.tests_live.specs.HeldJobs.{IsUnderWay};
 
 use abc_publish::{Job, Publisher};
 

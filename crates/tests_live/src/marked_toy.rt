@@ -1,15 +1,11 @@
 //! A compiler of the toy language that counts in its states; nothing reads the count. So states are never equal and often
 //! the same.
 
-ghost use Rattle.live_examples.specs.MarkedToy.{marked_steps, marked_rules, marked_resumable, marked_lawful};
-ghost use Rattle.live_examples.specs.ToyLaws.{toy_eq_is_sound};
+ghost use Rattle.tests_live.specs.MarkedToy.{marked_steps, marked_rules, marked_resumable, marked_lawful};
+ghost use Rattle.tests_live.specs.ToyLaws.{toy_eq_is_sound};
 
 use crate::toy::{Played, Toy};
-use abc_fields::FaultCode;
-use abc_fold::{Fold, Work};
-use abc_scan::LineClass;
-use abc_text::Sequence;
-use abc_tune::{Built, Compiler};
+use abc_live::{Built, Compiler, FaultCode, Fold, LineClass, Sequence, Work};
 use std::alloc::{AllocError, Global};
 
 /// A compiler of the toy language.

@@ -3,12 +3,10 @@
 ghost use Rattle.std.specs.Prelude.{◌≡◌, true, IfOk};
 ghost use Rattle.abc_fold.specs.Steps.{items_from};
 ghost use Rattle.abc_lines.specs.Text.{is_line};
-ghost use Rattle.live_examples.specs.Toy.{cells_of, toy_rules, toy_steps};
+ghost use Rattle.tests_live.specs.Toy.{cells_of, toy_rules, toy_steps};
 
 use crate::toy::{Played, Toy};
-use abc_fold::{Fold, Work};
-use abc_scan::{LineClass, class_of};
-use abc_text::Sequence;
+use abc_live::{Fold, LineClass, Sequence, Work, class_of};
 use abc_tune::{Built, TuneKey, TuneMemo, put_line};
 use std::alloc::{AllocError, Global};
 use std::marker::Model;
@@ -24,7 +22,7 @@ impl Model for ToyMemo {
     ghost use Rattle.abc_tune_compiler.specs.declared.built.Built.{Built};
     ghost use Rattle.abc_tune_memo.specs.declared.key.TuneKey.{TuneKey};
     ghost use Rattle.abc_tune_memo.specs.Memo.{Remembers};
-    ghost use Rattle.live_examples.specs.Toy.{toy_rules, toy_steps};
+    ghost use Rattle.tests_live.specs.Toy.{toy_rules, toy_steps};
 
     ghost Value = { List (TuneKey ℕ × Built) };
 

@@ -2,18 +2,15 @@
 
 ghost use Rattle.std.specs.Prelude.{◌≡◌, ◌++◌, ◌==◌, IfOk, OnOk, option_copied};
 ghost use Rattle.std.specs.List.{flat_map};
-ghost use Rattle.abc_scan.specs.Class.{class_of};
-ghost use Rattle.abc_tune_compiler.specs.Files.{file_at};
-ghost use Rattle.live_examples.specs.Toy.{begins_with, bytes_of_class, cells_of, first_of_value, is_long, next_byte, played_line};
-ghost use Rattle.live_examples.specs.Toy.{toy_book, toy_rules, toy_steps, value_of};
-ghost use Rattle.live_examples.specs.ToyLaws.{toy_lawful, toy_resumable, toy_eq_is_sound};
+ghost use Rattle.abc_live.specs.Class.{class_of};
+ghost use Rattle.abc_live.specs.Files.{file_at};
+ghost use Rattle.tests_live.specs.Toy.{begins_with, bytes_of_class, cells_of, first_of_value, is_long, next_byte, played_line};
+ghost use Rattle.tests_live.specs.Toy.{toy_book, toy_rules, toy_steps, value_of};
+ghost use Rattle.tests_live.specs.ToyLaws.{toy_lawful, toy_resumable, toy_eq_is_sound};
 
-use abc_fields::FaultCode;
-use abc_fold::{Fold, Shared, Work};
-use abc_live::LiveSession;
-use abc_scan::{LineClass, class_of};
-use abc_text::Sequence;
-use abc_tune::{Built, Compiler};
+use abc_live::{
+    Built, Compiler, FaultCode, Fold, LineClass, LiveSession, Sequence, Shared, Work, class_of,
+};
 use std::alloc::{AllocError, Global};
 
 /// The compiler of the toy language.

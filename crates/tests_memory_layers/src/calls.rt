@@ -24,7 +24,6 @@ pub enum Call {
     CopyChord,
     CopyField,
     BlocksOfText,
-    BlocksOfStretch,
     RoomyItems,
     Item,
     Fault,
@@ -55,7 +54,7 @@ pub enum Call {
 }
 
 /// All of them.
-pub const CALLS: [Call; 45] = [
+pub const CALLS: [Call; 44] = [
     Call::Sequence,
     Call::LongerSequence,
     Call::CopySequence,
@@ -73,7 +72,6 @@ pub const CALLS: [Call; 45] = [
     Call::CopyChord,
     Call::CopyField,
     Call::BlocksOfText,
-    Call::BlocksOfStretch,
     Call::RoomyItems,
     Call::Item,
     Call::Fault,
@@ -123,7 +121,6 @@ impl Trial for Call {
             Call::CopyChord => texts::copy_chord(rt, alloc),
             Call::CopyField => texts::copy_field(rt, alloc),
             Call::BlocksOfText => texts::blocks_of_text(rt, alloc),
-            Call::BlocksOfStretch => texts::blocks_of_stretch(rt, alloc),
             Call::RoomyItems => items::roomy_items(rt, alloc),
             Call::Item => items::item(rt, alloc),
             Call::Fault => items::fault(rt, alloc),

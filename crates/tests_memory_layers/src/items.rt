@@ -21,15 +21,15 @@ pub fn counts(items: &ItemsBuilder) -> (usize, usize) {
 
 /// Room for an item.
 pub fn roomy_items(rt: &impl Runtime, alloc: Global) -> Result<bool, AllocError> {
-    call(rt, "ItemsBuilder::with_room");
-    let items = ItemsBuilder::with_room(alloc, 1)?;
+    call(rt, "ItemsBuilder::with_capacity");
+    let items = ItemsBuilder::with_capacity(alloc, 1)?;
     done(rt);
     Ok(counts(&items) == (0, 0))
 }
 
 /// An item after none.
 pub fn item(rt: &impl Runtime, alloc: Global) -> Result<bool, AllocError> {
-    let mut items = ItemsBuilder::with_room(alloc, 0)?;
+    let mut items = ItemsBuilder::with_capacity(alloc, 0)?;
     call(rt, "ItemsBuilder::push_item");
     retry!(
         rt,
@@ -41,7 +41,7 @@ pub fn item(rt: &impl Runtime, alloc: Global) -> Result<bool, AllocError> {
 
 /// A fault after none.
 pub fn fault(rt: &impl Runtime, alloc: Global) -> Result<bool, AllocError> {
-    let mut items = ItemsBuilder::with_room(alloc, 0)?;
+    let mut items = ItemsBuilder::with_capacity(alloc, 0)?;
     call(rt, "ItemsBuilder::push_fault");
     retry!(
         rt,
@@ -53,7 +53,7 @@ pub fn fault(rt: &impl Runtime, alloc: Global) -> Result<bool, AllocError> {
 
 /// Two faults after none.
 pub fn faults(rt: &impl Runtime, alloc: Global) -> Result<bool, AllocError> {
-    let mut items = ItemsBuilder::with_room(alloc, 0)?;
+    let mut items = ItemsBuilder::with_capacity(alloc, 0)?;
     call(rt, "ItemsBuilder::push_faults");
     retry!(
         rt,
@@ -65,7 +65,7 @@ pub fn faults(rt: &impl Runtime, alloc: Global) -> Result<bool, AllocError> {
 
 /// An item and a fault.
 fn item_and_fault(alloc: Global) -> Result<ItemsBuilder, AllocError> {
-    let mut items = ItemsBuilder::with_room(alloc, 1)?;
+    let mut items = ItemsBuilder::with_capacity(alloc, 1)?;
     items.push_item(PART)?;
     items.push_fault(FAULT)?;
     Ok(items)

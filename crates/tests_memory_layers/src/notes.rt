@@ -149,7 +149,7 @@ struct Player {
 impl Player {
     fn new(alloc: Global) -> Result<Player, AllocError> {
         let state = voice_state(alloc)?;
-        let items = ItemsBuilder::with_room(alloc, 0)?;
+        let items = ItemsBuilder::with_capacity(alloc, 0)?;
         Ok(Player { state, items })
     }
 

@@ -1,4 +1,4 @@
-//! What the tests print of calls whose allocations fail one by one: `scripts/refused_calls` refuses those between `call` and
+//! What the tests print of calls whose allocations fail one by one: `tests/failures/refused_calls` refuses those between `call` and
 //! `done`, one in each run. After a refusal, what the call borrowed answers as before, and the same call is repeated and
 //! succeeds. Between `silent` and `done` there is no allocation.
 

@@ -2,7 +2,7 @@
 
 use crate::notes::chord_of;
 use crate::report::{call, done};
-use abc_book::{blocks, stretch_blocks};
+use abc_book::blocks;
 use abc_fold::Work;
 use abc_scan::{ChordPartKind, Field, LineClass, Token, cells, cells_of_line, class_of, scan};
 use abc_text::Sequence;
@@ -83,13 +83,4 @@ pub fn blocks_of_text(rt: &impl Runtime, alloc: Global) -> Result<bool, AllocErr
     let blocks = blocks(alloc, &classes)?;
     done(rt);
     Ok(blocks.len() == 3)
-}
-
-/// Their blocks after five other lines.
-pub fn blocks_of_stretch(rt: &impl Runtime, alloc: Global) -> Result<bool, AllocError> {
-    let classes = classes();
-    call(rt, "stretch_blocks");
-    let blocks = stretch_blocks(alloc, 5, &classes)?;
-    done(rt);
-    Ok(blocks.len() == 3 && blocks[0].from == 5)
 }

@@ -1,8 +1,8 @@
 -- The chains of one tune of the toy language, of a title and a line of music that is a fault. Not in ABC 2.1.
 use Rattle.std.specs.Prelude.{◌≡◌, ℕ, List, [], ◌∷◌}
 use Rattle.abc_fold.specs.Chain.{ChainView, Folds}
-use Rattle.live_examples.specs.declared.toy.Played.{Played}
-use Rattle.live_examples.specs.Toy.{no_byte, toy_steps}
+use Rattle.tests_live.specs.declared.toy.Played.{Played}
+use Rattle.tests_live.specs.Toy.{no_byte, toy_steps}
 
 -- The lines `T:A` and `!c`.
 abbrev pub titled_lines : List (List ℕ)

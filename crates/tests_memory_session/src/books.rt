@@ -6,15 +6,15 @@ use abc_fields::FaultCode;
 use abc_fold::{Shared, Work};
 use abc_lines::{EditError, ItemRange, Replacement};
 use abc_live_index::{KeptBook, NewTunes, Output};
-use abc_live_text::{KeptText, read_rows};
+use abc_live_text::{ItemSplice, KeptText, read_rows};
 use abc_text::Sequence;
 use abc_tune::Built;
 use abc_tune_compiler::Fault;
-use live_examples::toy::Toy;
-use out_of_memory_layers::lines_of;
-use out_of_memory_layers::report::{call, done, silent};
 use std::alloc::{AllocError, Global};
 use std::rt::Runtime;
+use tests_live::toy::Toy;
+use tests_memory_layers::lines_of;
+use tests_memory_layers::report::{call, done, silent};
 
 /// Two lines in the toy language, each with what it is and its cells.
 pub fn read_lines<R: Runtime>(rt: &R, alloc: Global) -> Result<bool, AllocError> {
@@ -34,13 +34,22 @@ pub fn empty_text(rt: &impl Runtime, alloc: Global) -> Result<bool, AllocError> 
     Ok(text.lines().len() == 0)
 }
 
+/// The splice that inserts lines at the start of a text.
+fn at_start(lines: &[Vec<u8>]) -> ItemSplice<'_, Vec<u8>> {
+    ItemSplice {
+        at: 0,
+        removed: 0,
+        new: lines,
+    }
+}
+
 /// A tune of three lines in the toy language for it.
 pub fn edited_text<R: Runtime>(rt: &R, alloc: Global) -> Result<bool, AllocError> {
     let mut work = Work::mint(rt);
     let lines = lines_of(alloc, &[b"X:1", b"D:5", b"c"])?;
     let mut text = KeptText::new(alloc, Toy)?;
     call(rt, "KeptText::prepare");
-    match text.prepare(0, 0, &lines, &mut work) {
+    match text.prepare(&at_start(&lines), &mut work) {
         Ok(patch) => {
             done(rt);
             silent(rt, "KeptText::commit");
@@ -58,9 +67,9 @@ pub fn dropped_text<R: Runtime>(rt: &R, alloc: Global) -> Result<bool, AllocErro
     let mut work = Work::mint(rt);
     let lines = lines_of(alloc, &[b"X:1", b"D:5", b"c"])?;
     let text = KeptText::new(alloc, Toy)?;
-    match text.prepare(0, 0, &lines, &mut work) {
+    match text.prepare(&at_start(&lines), &mut work) {
         Ok(patch) => {
-            silent(rt, "KeptPatch::drop_patch");
+            silent(rt, "TextPatch::drop_patch");
             patch.drop_patch();
             done(rt);
             Ok(text.lines().len() == 0)

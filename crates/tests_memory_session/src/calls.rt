@@ -1,9 +1,9 @@
 //! The calls of this crate that are tried.
 
 use crate::{books, chains, outputs, sessions, tunes};
-use out_of_memory_layers::Trial;
 use std::alloc::{AllocError, Global};
 use std::rt::Runtime;
+use tests_memory_layers::Trial;
 
 /// A call, by the name of the function that makes it.
 pub enum Call {

@@ -4,15 +4,15 @@ ghost use Rattle.std.specs.Prelude.{◌≡◌, ◌<◌, [], ◌∷◌, All, IfOk
 ghost use Rattle.abc_fold.specs.Chain.{Folds};
 ghost use Rattle.abc_fold.specs.Piece.{IsKept};
 ghost use Rattle.abc_fold.specs.declared.piece.Piece.TheVariants.{New};
-ghost use Rattle.live_examples.specs.Toy.{toy_steps};
+ghost use Rattle.tests_live.specs.Toy.{toy_steps};
 
 use abc_fold::{Chain, Piece, Pieces, Work};
 use abc_text::Sequence;
-use live_examples::toy::Toy;
-use out_of_memory_layers::report::{call, done, silent};
-use out_of_memory_layers::retry;
 use std::alloc::{AllocError, Global};
 use std::rt::Runtime;
+use tests_live::toy::Toy;
+use tests_memory_layers::report::{call, done, silent};
+use tests_memory_layers::retry;
 
 /// A line, to be folded.
 fn new_piece(alloc: Global, line: &[u8]) -> Result<Piece<Toy>, AllocError>
@@ -50,8 +50,8 @@ fn chain(alloc: Global, work: &mut Work) -> Result<Chain<Toy>, AllocError>
 
 /// Room for two pieces, and one of them.
 pub fn room_for_pieces(rt: &impl Runtime, alloc: Global) -> Result<bool, AllocError> {
-    call(rt, "Pieces::with_room");
-    let mut pieces: Pieces<Toy> = Pieces::with_room(alloc, 2)?;
+    call(rt, "Pieces::with_capacity");
+    let mut pieces: Pieces<Toy> = Pieces::with_capacity(alloc, 2)?;
     done(rt);
     pieces.push(Piece::New(Sequence::new(alloc)))?;
     Ok(pieces.as_slice().len() == 1)

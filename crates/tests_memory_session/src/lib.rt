@@ -1,4 +1,4 @@
-//! Calls of whole tunes, chains, the book and the session that allocate, each by itself; `out_of_memory_layers` has
+//! Calls of whole tunes, chains, the book and the session that allocate, each by itself; `tests_memory_layers` has
 //! those of the lower layers. Each has its arguments and its expected result. Generic calls use the toy language.
 #![tactic(auto)]
 

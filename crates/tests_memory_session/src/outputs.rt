@@ -4,8 +4,8 @@
 ghost use Rattle.std.specs.Prelude.{◌≡◌, IfOk, map};
 ghost use Rattle.abc_tune_memo.specs.Memo.{Remembers};
 ghost use Rattle.abc_live_index.specs.Output.{output_in};
-ghost use Rattle.live_examples.specs.Toy.{toy_rules, toy_steps};
-ghost use Rattle.out_of_memory_session.specs.TitledTune.{AreOfTitled};
+ghost use Rattle.tests_live.specs.Toy.{toy_rules, toy_steps};
+ghost use Rattle.tests_memory_session.specs.TitledTune.{AreOfTitled};
 
 use crate::chains::chain_of;
 use abc_book::{Block, BlockKind};
@@ -17,11 +17,11 @@ use abc_live_index::{
 };
 use abc_tune::TuneMemo;
 use abc_tune_compiler::Fault;
-use live_examples::toy::Toy;
-use out_of_memory_layers::report::{again, call, done};
-use out_of_memory_layers::retry;
 use std::alloc::{AllocError, Global};
 use std::rt::Runtime;
+use tests_live::toy::Toy;
+use tests_memory_layers::report::{again, call, done};
+use tests_memory_layers::retry;
 
 /// Returns the place of the two lines.
 const PLACE: Block = Block {

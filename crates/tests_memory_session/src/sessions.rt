@@ -2,11 +2,11 @@
 
 use abc_fold::Work;
 use abc_live::{Edit, LiveSession};
-use live_examples::toy::Toy;
-use out_of_memory_layers::report::{call, done};
-use out_of_memory_layers::{lines_of, retry};
 use std::alloc::{AllocError, Global};
 use std::rt::Runtime;
+use tests_live::toy::Toy;
+use tests_memory_layers::report::{call, done};
+use tests_memory_layers::{lines_of, retry};
 
 /// A session over no lines.
 pub fn empty_session(rt: &impl Runtime, alloc: Global) -> Result<bool, AllocError> {

@@ -6,12 +6,12 @@ use abc_fold::{Fold, Work};
 use abc_scan::{Cell, LineClass};
 use abc_tune::{Abc, Built, Compiler, build, put_line};
 use abc_voices::{BuildFault, arrange};
-use live_examples::memo::ToyMemo;
-use out_of_memory_layers::report::{again, call, done};
-use out_of_memory_layers::{FILE_OF_C, cell, retry};
 use smf_bytes::file_of;
 use std::alloc::{AllocError, Global};
 use std::rt::Runtime;
+use tests_live::memo::ToyMemo;
+use tests_memory_layers::report::{again, call, done};
+use tests_memory_layers::{FILE_OF_C, cell, retry};
 
 /// Two cells of a line.
 pub fn abc_cells<R: Runtime>(rt: &R, alloc: Global) -> Result<bool, AllocError> {

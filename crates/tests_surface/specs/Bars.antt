@@ -39,4 +39,3 @@ pub use Rattle.abc_bars.specs.Unit.{unit_of}
 pub use Rattle.abc_bars.specs.UnitLength.{IsUnitPart, unit_by}
 pub use Rattle.abc_bars.specs.VoiceState.{without_accidentals}
 pub use Rattle.abc_bars.specs.Voices.{voice_at}
-pub use Rattle.abc_bars.specs.VoicesLent.{lends_voice}

@@ -8,3 +8,4 @@ pub use Rattle.abc_live.specs.Files.{file_at}
 pub use Rattle.abc_live.specs.Limits.{MOST_LINES}
 pub use Rattle.abc_live.specs.Report.{Reports}
 pub use Rattle.abc_live.specs.Session.{book_in}
+pub use Rattle.abc_live.specs.Tokens.{RefusesLine, tokens_at, work_at}

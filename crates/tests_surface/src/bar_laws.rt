@@ -2,12 +2,12 @@
 
 ghost use Rattle.std.specs.Prelude.{◌≡◌, ◌≤◌, ◌∷◌, [], All, List, false, filter, length};
 ghost use Rattle.std.specs.Map.{keys_of};
-ghost use Rattle.public_surface.specs.Bars.{here, body_from, is_time_token, with_token, file_header_result, header_result};
-ghost use Rattle.public_surface.specs.Bars.{opening_header, HeaderLine, MOST_VOICES, body_after, CellTokens, naming_at};
-ghost use Rattle.public_surface.specs.Bars.{voice_state_named, VoicePlace, element_of, defaults_at, Element, declared_names};
-ghost use Rattle.public_surface.specs.Bars.{header_at, IsAlteredAt, AtEachPlace, Place, result_at, result_in_body, place_following};
-ghost use Rattle.public_surface.specs.Bars.{view, loose_ties, voice_state_at, is_loose_tie, MentionsFew, NamesVoices};
-ghost use Rattle.public_surface.specs.Bars.{entry_step};
+ghost use Rattle.tests_surface.specs.Bars.{here, body_from, is_time_token, with_token, file_header_result, header_result};
+ghost use Rattle.tests_surface.specs.Bars.{opening_header, HeaderLine, MOST_VOICES, body_after, CellTokens, naming_at};
+ghost use Rattle.tests_surface.specs.Bars.{voice_state_named, VoicePlace, element_of, defaults_at, Element, declared_names};
+ghost use Rattle.tests_surface.specs.Bars.{header_at, IsAlteredAt, AtEachPlace, Place, result_at, result_in_body, place_following};
+ghost use Rattle.tests_surface.specs.Bars.{view, loose_ties, voice_state_at, is_loose_tie, MentionsFew, NamesVoices};
+ghost use Rattle.tests_surface.specs.Bars.{entry_step};
 
 use abc_bars::{
     Body, CellResult, Defaults, Header, Key, Note, Spanned, TokenKind, VoiceState, laws,
@@ -75,7 +75,7 @@ pub fn no_tie_leads_on()
 /// The cells of a tune mention few voices, by their names.
 pub fn few_voices()
     ensures few { MentionsFew }
-    ensures named { NamesVoices }
+    ensures names { NamesVoices }
 {
     laws::voices_of_items();
 }

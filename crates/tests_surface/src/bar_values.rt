@@ -1,9 +1,9 @@
 //! The values of headers, by `abc_bars`.
 
 ghost use Rattle.std.specs.Prelude.{◌≡◌, ◌≤◌, [], IfSome};
-ghost use Rattle.public_surface.specs.Bars.{grains_of_the_longest_length, IsLength, HIGHEST_PROGRAM, MOST_VOICES};
-ghost use Rattle.public_surface.specs.Bars.{IsMeterInRange, meter_of, FitsInTempoEvent, IsRatio, tempo_of, micros_by, unit_of};
-ghost use Rattle.public_surface.specs.Bars.{IsUnitPart, unit_by};
+ghost use Rattle.tests_surface.specs.Bars.{grains_of_the_longest_length, IsLength, HIGHEST_PROGRAM, MOST_VOICES};
+ghost use Rattle.tests_surface.specs.Bars.{IsMeterInRange, meter_of, FitsInTempoEvent, IsRatio, tempo_of, micros_by, unit_of};
+ghost use Rattle.tests_surface.specs.Bars.{IsUnitPart, unit_by};
 
 use abc_bars::{
     FaultCode, Grains, HIGHEST_PROGRAM, MOST_VOICES, Meter, Ratio, Tempo, TuneMeter, TuneProgram,

@@ -1,15 +1,14 @@
 //! The fold over bars, its states and its items, by `abc_bars`.
 
 ghost use Rattle.std.specs.Prelude.{◌≡◌, All, IfOk};
-ghost use Rattle.std.specs.Borrow.{sem};
-ghost use Rattle.std.specs.Option.{option_copied, option_copied_mut};
-ghost use Rattle.public_surface.specs.Bars.{no_defaults, defaults_of, opening_after, IsItem, viewed_tones, same_defaults};
-ghost use Rattle.public_surface.specs.Bars.{bar_steps, without_accidentals, voice_at, lends_voice};
+ghost use Rattle.std.specs.Option.{option_copied};
+ghost use Rattle.tests_surface.specs.Bars.{no_defaults, defaults_of, opening_after, IsItem, viewed_tones, same_defaults};
+ghost use Rattle.tests_surface.specs.Bars.{bar_steps};
 
 use abc_bars::{
-    BarFold, BarLine, Body, Cell, Defaults, Entry, FaultCode, Fold, Grains, Header, Item, ItemText,
-    Items, ItemsBuilder, LocalFault, Meter, Reach, Sequence, Shared, ShortSequence, Tone, Tones,
-    TonesView, TuneMeter, TuneProgram, TuneTempo, UnitLength, VoiceName, VoiceState, Voices, Work,
+    BarFold, BarLine, Cell, Defaults, Entry, FaultCode, Fold, Grains, Item, ItemText, Items,
+    LocalFault, Meter, Reach, Tones, TonesView, TuneMeter, TuneProgram, TuneTempo, UnitLength,
+    Work,
 };
 use std::alloc::{AllocError, Global};
 
@@ -71,51 +70,6 @@ pub fn values_compare()
     ensures value { (a b : Defaults) → ⟦<Defaults as PartialEq>⟧.eq a b ≡ same_defaults a b }
 {}
 
-/// Returns the header that a state is in.
-pub fn header_in(entry: &Entry) -> Option<&Shared<Header>> {
-    match entry {
-        Entry::Header(header) => Some(header),
-        Entry::FileHeader(_) | Entry::Opening(_) | Entry::Body(_) => None,
-    }
-}
-
-/// Returns the body that a state is in.
-pub fn body_in(entry: &Entry) -> Option<&Shared<Body>> {
-    match entry {
-        Entry::Body(body) => Some(body),
-        Entry::FileHeader(_) | Entry::Opening(_) | Entry::Header(_) => None,
-    }
-}
-
-/// Returns what is known of a voice.
-pub fn voice_of<S>(voices: &Voices<S>, at: usize) -> Option<&S>
-    ensures value { option_copied result ≡ voice_at voices.now at }
-{
-    voices.get(at)
-}
-
-/// Returns the same, to be changed.
-pub fn voice_of_mut<S>(voices: &mut Voices<S>, at: usize) -> Option<&mut S>
-    ensures* writes_back { sem 𝓛 (lends_voice S.row voices.entry at result) }
-    ensures value { option_copied_mut result ≡ voice_at voices.old at }
-{
-    voices.get_mut(at)
-}
-
-/// Returns the name of a voice.
-pub fn voice_name(alloc: Global, bytes: &[u8]) -> Result<VoiceName, AllocError>
-    ensures value { IfOk result (λ name. name ≡ bytes.now) }
-{
-    VoiceName::new(alloc, bytes)
-}
-
-/// Ends the accidentals of a bar.
-pub fn end_accidentals(state: &mut VoiceState)
-    ensures value { state.new ≡ without_accidentals state.old }
-{
-    state.clear_accidentals();
-}
-
 /// Returns the items and the faults of a cell.
 pub fn parts_of_items(items: &Items) -> (&[Item], &[LocalFault])
     ensures items { result.0.now ≡ items.now.items }
@@ -124,28 +78,9 @@ pub fn parts_of_items(items: &Items) -> (&[Item], &[LocalFault])
     (items.items(), items.faults())
 }
 
-/// Makes the items and the faults of a cell.
-pub fn items_of(
-    alloc: Global,
-    items: Sequence<Item>,
-    faults: Sequence<LocalFault>,
-) -> Result<Items, AllocError>
-    requires { All IsItem items }
-    ensures value { IfOk result (λ given. given.items ≡ items) }
-{
-    Items::new(alloc, ItemsBuilder::of(items, faults))
-}
-
 /// Returns the column and the code of a fault.
 pub fn parts_of_fault(fault: LocalFault) -> (u32, FaultCode) {
     fault
-}
-
-/// Makes the tones of a note or chord.
-pub fn tones_of(alloc: Global, tones: ShortSequence<Tone>) -> Result<Tones, AllocError>
-    ensures value { IfOk result (λ made. made ≡ tones) }
-{
-    Tones::of(alloc, tones)
 }
 
 /// Borrows the tones.
@@ -156,8 +91,8 @@ pub fn borrow_tones(tones: &Tones) -> TonesView<'_>
 }
 
 /// Returns the key of a single tone, and none of a list of tones.
-pub fn key_of(lent: TonesView<'_>) -> Option<u8> {
-    match lent {
+pub fn key_of(view: TonesView<'_>) -> Option<u8> {
+    match view {
         TonesView::One(tone) => tone.key,
         TonesView::List(_) => None,
     }

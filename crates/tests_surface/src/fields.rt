@@ -1,8 +1,8 @@
 //! The values of fields, by `abc_fields`.
 
 ghost use Rattle.std.specs.Prelude.{◌≡◌, ◌↔◌, ◌∷◌, IfOk, List, drop, slice_range};
-ghost use Rattle.public_surface.specs.Fields.{name_of, key_of, capital, meter_of, parts_of, IsRatio, alteration, tempo_of};
-ghost use Rattle.public_surface.specs.Fields.{words_of};
+ghost use Rattle.tests_surface.specs.Fields.{name_of, key_of, capital, meter_of, parts_of, IsRatio, alteration, tempo_of};
+ghost use Rattle.tests_surface.specs.Fields.{words_of};
 
 use abc_fields::{
     FaultCode, Key, Letter, Meter, Ratio, Shift, Signature, Tempo, Voice, alteration, read_key,

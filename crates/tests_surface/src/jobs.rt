@@ -5,7 +5,8 @@ ghost use Rattle.abc_publish.specs.Publisher.{IsNextJob, IsSettled, without_job,
 ghost use Rattle.abc_publish.specs.Session.{book_in};
 ghost use Rattle.abc_publish.specs.declared.slot.Stored.TheVariants.{Unknown};
 
-use abc_publish::{Compiler, Job, LiveSession, Publisher, Session};
+use abc_live::Session;
+use abc_publish::{Compiler, Job, LiveSession, Publisher};
 use std::alloc::{AllocError, Global};
 
 /// Returns a publisher of an empty directory.

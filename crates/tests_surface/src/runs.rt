@@ -2,7 +2,7 @@
 
 ghost use Rattle.std.specs.Prelude.{◌≡◌, [], option_copied};
 ghost use Rattle.std.specs.Result.{result_err};
-ghost use Rattle.public_surface.specs.Runs.{edited, insertion, new_pipe, faults, book_lines, raised};
+ghost use Rattle.tests_surface.specs.Runs.{edited, insertion, new_pipe, faults, book_lines, raised};
 
 use abc2midi_live::{
     EditError, Piped, RunFault, Sink, Source, Store, StoreFault, StreamFault, Work, fault_of_book,

@@ -1,13 +1,13 @@
 //! Sessions and edits, by `abc_live`.
 
-ghost use Rattle.std.specs.Prelude.{◌≡◌, ◌≤◌, IfErr, IfOk, Ok, length, option_copied};
+ghost use Rattle.std.specs.Prelude.{◌≡◌, ◌≤◌, IfErr, IfOk, Ok, Some, length, option_copied};
 ghost use Rattle.std.specs.List.Sorted.{IsStrictlySortedBy};
-ghost use Rattle.public_surface.specs.Session.{book_of, line_at, splice_of, name_of, Refuses, edited, fault_cmp, file_at};
-ghost use Rattle.public_surface.specs.Session.{MOST_LINES, Reports, book_in};
+ghost use Rattle.tests_surface.specs.Session.{book_of, line_at, splice_of, name_of, Refuses, edited, fault_cmp, file_at};
+ghost use Rattle.tests_surface.specs.Session.{MOST_LINES, RefusesLine, Reports, book_in, tokens_at, work_at};
 
 use abc_live::{
-    Abc, Compiler, Edit, EditError, EditPatch, Fault, FaultCode, LiveSession, MOST_LINES, Report,
-    Sequence, Session, Title, Work,
+    Abc, Compiler, Edit, EditError, EditPatch, Fault, FaultCode, LineToken, LineTokenKind,
+    LiveSession, MOST_LINES, Report, Sequence, Session, Title, TokensError, Work,
 };
 use std::alloc::{AllocError, Global};
 
@@ -101,6 +101,19 @@ pub fn line_of<C: Compiler>(session: &LiveSession<C>, n: u32) -> Option<&[u8]>
     session.line(n)
 }
 
+/// Returns the tokens of a line, counted from 1.
+pub fn tokens_of<C: Compiler>(
+    session: &LiveSession<C>,
+    n: u32,
+    work: &mut Work,
+) -> Result<Vec<LineToken>, TokensError>
+    ensures value { IfOk result (λ tokens. tokens_at (C.rules session.now.compiler) session.now.text n ≡ Some tokens.items) }
+    ensures refused { IfErr result (RefusesLine (line_at session.now.text n)) }
+    ensures counted { work.new ≡ work_at (C.rules session.now.compiler) session.now.text n work.old }
+{
+    session.tokens(n, work)
+}
+
 /// Returns how many lines there are.
 pub fn count_lines<C: Compiler>(session: &LiveSession<C>) -> u32
     ensures value { result ≡ length session.now.text }
@@ -112,6 +125,11 @@ pub fn count_lines<C: Compiler>(session: &LiveSession<C>) -> u32
 /// Returns where a fault is, and its code.
 pub fn parts_of_fault(fault: Fault) -> (u32, u32, FaultCode) {
     (fault.line, fault.column, fault.code)
+}
+
+/// Returns where a token is in its line, its kind, and its depth.
+pub fn parts_of_token(token: LineToken) -> (u32, u32, LineTokenKind, u8) {
+    (token.from, token.to, token.kind, token.depth)
 }
 
 /// Returns the number and the text of a title.

@@ -1,8 +1,8 @@
 //! Lines, tokens and cells, by `abc_scan`.
 
 ghost use Rattle.std.specs.Prelude.{◌≡◌, ◌↔◌, IfOk, Some};
-ghost use Rattle.public_surface.specs.Tokens.{alteration, AreBlanks, cells_of, capital, tokens_of, DropsOneReturn, without_return};
-ghost use Rattle.public_surface.specs.Tokens.{raised};
+ghost use Rattle.tests_surface.specs.Tokens.{alteration, AreBlanks, cells_of, capital, tokens_of, DropsOneReturn, without_return};
+ghost use Rattle.tests_surface.specs.Tokens.{raised};
 
 use abc_scan::{
     Accidental, Cell, Field, Letter, LineClass, Sequence, Shared, Token, TokenKind, Work, cells,

@@ -1,8 +1,8 @@
 //! Tunes, compilers and the memo, by `abc_tune`.
 
 ghost use Rattle.std.specs.Prelude.{◌≡◌, ◌++◌, IfOk, OnErr, OnOk, option_copied};
-ghost use Rattle.public_surface.specs.Tunes.{build_faults_of, bytes_of, line_bytes, AreLawful, promoted, AreItemsOf, Remembers};
-ghost use Rattle.public_surface.specs.Tunes.{Rules, raised};
+ghost use Rattle.tests_surface.specs.Tunes.{build_faults_of, bytes_of, line_bytes, AreLawful, promoted, AreItemsOf, Remembers};
+ghost use Rattle.tests_surface.specs.Tunes.{Rules, raised};
 
 use abc_tune::{
     Abc, BarFold, Built, Cell, Compiler, Defaults, Entry, FaultCode, Fold, Items, LineClass,

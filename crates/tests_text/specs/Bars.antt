@@ -25,7 +25,7 @@ use Rattle.abc_bars_voice.specs.declared.voice_state.VoiceState.{VoiceState}
 use Rattle.abc_bars_voice.specs.declared.voice_shift.VoiceShift.{VoiceShift}
 use Rattle.abc_time.specs.declared.grains.Grains.{Grains}
 use Rattle.abc_time.specs.declared.ratio.Ratio.{Ratio}
-use Rattle.text_examples.specs.Values.{at_tick, ratio}
+use Rattle.tests_text.specs.Values.{at_tick, ratio}
 
 -- A shift by a clef, by octaves and by semitones.
 abbrev pub voice_shift : ℤ → ℤ → ℤ → VoiceShift

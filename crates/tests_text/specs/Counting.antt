@@ -3,7 +3,7 @@ use Rattle.std.specs.Prelude.{ℕ, ◌+◌, ◌-◌, ◌^◌, Bool, ◌==◌, if
 use Rattle.std.proofs.Common.{sym, ◌∙◌}
 use Rattle.std.proofs.lemmas.Bool.{eqb-true, eq-eqb}
 use Rattle.abc_fold.specs.Steps.{Steps, IsResumable}
-use Rattle.text_examples.specs.declared.chains.Counted.{Counted}
+use Rattle.tests_text.specs.declared.chains.Counted.{Counted}
 
 -- The count after a cell: 0 starts again, another number is added, up to 255. The mark counts the cells.
 abbrev pub next_count : Counted → ℕ → Counted

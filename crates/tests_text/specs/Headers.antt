@@ -14,8 +14,8 @@ use Rattle.abc_scan.specs.declared.directive.Reach.TheVariants.{Pitch}
 use Rattle.abc_bars_voice.specs.declared.voice_state.VoiceState.{VoiceState}
 use Rattle.abc_bars_voice.specs.declared.voice_shift.VoiceShift.{VoiceShift}
 use Rattle.abc_time.specs.declared.ratio.Ratio.{Ratio}
-use Rattle.text_examples.specs.Bars.{voice_state_in}
-use Rattle.text_examples.specs.Values.{ratio}
+use Rattle.tests_text.specs.Bars.{voice_state_in}
+use Rattle.tests_text.specs.Values.{ratio}
 
 -- The values that a file header sets.
 abbrev pub defaults : Option Meter → Option Ratio → Option Tempo → Option ℕ → Reach → Defaults

@@ -1,6 +1,6 @@
 //! A fold with rarely equal but often equivalent states: a chain resumes at a state with an equal count.
 
-ghost use Rattle.text_examples.specs.Counting.{counting, counting_resumable};
+ghost use Rattle.tests_text.specs.Counting.{counting, counting_resumable};
 
 use abc_fold::{Fold, Work};
 use std::alloc::{AllocError, Global};

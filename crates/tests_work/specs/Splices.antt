@@ -2,7 +2,7 @@
 use Rattle.std.specs.Prelude.{ℕ, ◌<◌, ◌^◌, List, [], ◌∷◌, String, string_bytes}
 use Rattle.std.specs.Global.{Global}
 use Rattle.std.specs.Str.Parse.{IsNumeral, digits_value, without_leading_plus}
-use Rattle.measurements.specs.declared.splices.SpliceRun.{SpliceRun}
+use Rattle.tests_work.specs.declared.splices.SpliceRun.{SpliceRun}
 
 -- The value of the decimal digits of a word. A plus may come first.
 abbrev pub value_of : List ℕ → ℕ

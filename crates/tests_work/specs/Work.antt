@@ -8,7 +8,7 @@ use Rattle.abc2midi_live.specs.Command.{command_of}
 use Rattle.abc2midi_live.specs.declared.Command.{Command}
 use Rattle.abc2midi_live.specs.declared.Command.TheVariants.{Insert, Replace, Delete, Faults, Titles, Hex, Build, Quit}
 use Rattle.abc2midi_live.specs.declared.Command.TheVariants.{Unknown}
-use Rattle.measurements.specs.declared.work.PartialCommand.{PartialCommand}
+use Rattle.tests_work.specs.declared.work.PartialCommand.{PartialCommand}
 
 -- The edit of a command with its lines, if it is one.
 abbrev pub edit_of : Command → Vec (Vec ℕ) → Option Edit

@@ -1,5 +1,5 @@
-//! Measures the library. `measurements work` prints the work of each edit of its input, and
-//! `measurements splices LINES COUNT STEP` makes splices in a long text, for timing.
+//! Measures the library. `tests_work work` prints the work of each edit of its input, and
+//! `tests_work splices LINES COUNT STEP` makes splices in a long text, for timing.
 #![tactic(auto)]
 
 mod splices;
@@ -15,9 +15,7 @@ fn main(rt: HostRuntime) -> ExitCode {
     match measure(&rt) {
         Ok(true) => ExitCode::SUCCESS,
         Ok(false) => {
-            let _ = eprintln!(rt;
-                "usage: measurements work | measurements splices LINES COUNT STEP"
-            );
+            let _ = eprintln!(rt; "usage: tests_work work | tests_work splices LINES COUNT STEP");
             ExitCode::from(2)
         }
         Err(error) => {

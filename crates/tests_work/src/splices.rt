@@ -1,6 +1,6 @@
 //! Splices of one line in a long text, for timing.
 ghost use Rattle.std.specs.Prelude.{SomeIff};
-ghost use Rattle.measurements.specs.Splices.{AreNumbers, IsNumber, run_of, value_of};
+ghost use Rattle.tests_work.specs.Splices.{AreNumbers, IsNumber, run_of, value_of};
 
 use abc_lines::{EditError, LineBuffer};
 use std::alloc::Global;

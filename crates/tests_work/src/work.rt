@@ -4,7 +4,7 @@
 
 ghost use Rattle.std.specs.Prelude.{◌≡◌, [], length, nat_le, IfOk};
 ghost use Rattle.abc2midi_live.specs.Command.{command_of, line_count};
-ghost use Rattle.measurements.specs.Work.{HasNextLine, edit_of};
+ghost use Rattle.tests_work.specs.Work.{HasNextLine, edit_of};
 
 use abc_fold::Work;
 use abc_live::{Edit, EditError, Session};

@@ -7,8 +7,8 @@ ghost use Rattle.abc_tune_compiler.specs.Book.{empty_book};
 ghost use Rattle.abc_tune_compiler.specs.Fault.{fault_cmp};
 ghost use Rattle.abc_tune_compiler.specs.Sort.{sort_dedup};
 ghost use Rattle.abc_tune_compiler.specs.Tune.{fault_in};
-ghost use Rattle.live_examples.specs.Toy.{toy_book};
-ghost use Rattle.live_examples.specs.Values.{faulty_blocks, faults_in_no_order};
+ghost use Rattle.tests_live.specs.Toy.{toy_book};
+ghost use Rattle.tests_live.specs.Values.{faulty_blocks, faults_in_no_order};
 
 /// Two tunes of a number: the number's file is that of the first, with the byte that the file header sets.
 pub fn first_owner()

@@ -11,7 +11,7 @@ ghost use Rattle.abc_lines.specs.declared.edit_error.EditError.TheVariants.{BadL
 ghost use Rattle.abc_live.specs.Edit.{line_at, splice_of};
 ghost use Rattle.abc_live.specs.declared.Edit.TheVariants.{Delete, Insert, Replace};
 ghost use Rattle.abc_tune_compiler.specs.Files.{file_at, removed_numbers, written_numbers};
-ghost use Rattle.live_examples.specs.Values.{four_lines};
+ghost use Rattle.tests_live.specs.Values.{four_lines};
 
 /// Lines are counted from 1.
 pub fn line_numbers()
@@ -87,7 +87,7 @@ pub fn differences()
     ensures other_bytes { written_numbers ((1, codes "a") ∷ []) ((1, codes "b") ∷ []) ≡ 1 ∷ [] }
     ensures same_bytes { written_numbers ((1, codes "a") ∷ []) ((1, codes "a") ∷ []) ≡ [] }
     ensures lost { removed_numbers ((1, codes "a") ∷ []) [] ≡ 1 ∷ [] }
-    ensures kept { removed_numbers ((1, codes "a") ∷ []) ((1, codes "b") ∷ []) ≡ [] }
+    ensures none_lost { removed_numbers ((1, codes "a") ∷ []) ((1, codes "b") ∷ []) ≡ [] }
     ensures rising { written_numbers ((2, codes "a") ∷ (5, codes "a") ∷ [])
         ((0, codes "x") ∷ (2, codes "a") ∷ (3, codes "x") ∷ (5, codes "b") ∷ []) ≡ 0 ∷ 3 ∷ 5 ∷ [] }
     ensures lost_rising { removed_numbers ((0, codes "x") ∷ (2, codes "a") ∷ (3, codes "x") ∷ []) ((2, codes "b") ∷ [])

@@ -12,9 +12,9 @@ ghost use Rattle.abc_fields.specs.declared.fault_code.FaultCode.TheVariants.{Unc
 ghost use Rattle.abc_fields.specs.declared.meter.Meter.TheVariants.{Of};
 ghost use Rattle.abc_bars_items.specs.declared.item.Item.TheVariants as items;
 ghost use Rattle.abc_scan.specs.declared.directive.Reach.TheVariants.{Not, Octave, Pitch};
-ghost use Rattle.text_examples.specs.Bars.{bar_rest, entry_after_header, faults_by, in_common, in_compound, in_free, in_reach, items_by};
-ghost use Rattle.text_examples.specs.Bars.{keys, keys_by};
-ghost use Rattle.text_examples.specs.Bars.{lengths_by, sound, ticks, tone_lengths_by, velocities_by};
+ghost use Rattle.tests_text.specs.Bars.{bar_rest, entry_after_header, faults_by, in_common, in_compound, in_free, in_reach, items_by};
+ghost use Rattle.tests_text.specs.Bars.{keys, keys_by};
+ghost use Rattle.tests_text.specs.Bars.{lengths_by, sound, ticks, tone_lengths_by, velocities_by};
 
 /// Keys of notes: letters, octaves, the accidentals of a bar. ABC 2.1 sections 4.1 and 4.2; the MIDI keys 0 to 127 are
 /// in MIDI 1.0.

@@ -4,7 +4,7 @@
 ghost use Rattle.std.specs.Prelude.{◌≡◌, [], ◌∷◌};
 ghost use Rattle.abc_scan.specs.declared.line_class.LineClass.TheVariants.{Blank, Comment, Directive, Music};
 ghost use Rattle.abc_book.specs.Block.{blocks_of};
-ghost use Rattle.text_examples.specs.Blocks.{continued, free, header, key, reference, tune};
+ghost use Rattle.tests_text.specs.Blocks.{continued, free, header, key, reference, tune};
 
 /// The block before the first tune. ABC 2.1 section 2.2.2; the choice by its first line is not in ABC 2.1.
 pub fn file_headers()

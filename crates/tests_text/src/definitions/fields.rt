@@ -15,8 +15,8 @@ ghost use Rattle.abc_fields.specs.declared.fault_code.FaultCode.TheVariants.{Bad
 ghost use Rattle.abc_fields.specs.declared.meter.Meter.TheVariants.{Free, Of};
 ghost use Rattle.abc_fields.specs.declared.tempo.Tempo.TheVariants.{Beat, Units, Unset};
 ghost use Rattle.abc_time.specs.Tempo.{quarter_micros_of};
-ghost use Rattle.text_examples.specs.Values.{by_fifths_in_key, fault_codes, flats, no_key, ratio, sharps, sharps_of};
-ghost use Rattle.text_examples.specs.Values.{sharps_of_keys, shift, shift_in_key, voice};
+ghost use Rattle.tests_text.specs.Values.{by_fifths_in_key, fault_codes, flats, no_key, ratio, sharps, sharps_of};
+ghost use Rattle.tests_text.specs.Values.{sharps_of_keys, shift, shift_in_key, voice};
 
 /// The meter: symbols, fractions and sums.
 pub fn meters()
@@ -207,7 +207,7 @@ pub fn properties_of_voices()
     ensures octave_clef { voice_of (codes "Solo clef=\"+8\"") ≡ Ok (voice 0 4 (Some (pos 12)) None None) }
     ensures other_word { voice_of (codes "Solo foo=x-8") ≡ Ok (voice 0 4 (Some (negsuc 11)) None None) }
     ensures accidental { voice_of (codes "Solo ^c-8") ≡ Ok (voice 0 4 (Some (negsuc 11)) None None) }
-    ensures kept { voice_of (codes "Solo treble-8 treble") ≡ Ok (voice 0 4 (Some (negsuc 11)) None None) }
+    ensures treble { voice_of (codes "Solo treble-8 treble") ≡ Ok (voice 0 4 (Some (negsuc 11)) None None) }
     ensures taken_back { voice_of (codes "Solo treble-8 clef=bass") ≡ Ok (voice 0 4 (Some (pos 0)) None None) }
 {}
 

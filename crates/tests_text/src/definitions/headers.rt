@@ -10,11 +10,11 @@ ghost use Rattle.abc_fields.specs.declared.meter.Meter.TheVariants.{Free, Of};
 ghost use Rattle.abc_bars_header.specs.Defaults.{no_defaults};
 ghost use Rattle.abc_bars_items.specs.declared.item.Item.TheVariants as items;
 ghost use Rattle.abc_scan.specs.declared.directive.Reach.TheVariants.{Not, Octave, Pitch};
-ghost use Rattle.text_examples.specs.Bars.{entry_after, after_file_header, entry_after_header, faults_by, in_body, items_by};
-ghost use Rattle.text_examples.specs.Bars.{voice_state_in, voice_shift, with_unnamed_voice};
-ghost use Rattle.text_examples.specs.Headers.{opening_state, defaults, fifteen_voices, in_f, in_g, state_with_key};
-ghost use Rattle.text_examples.specs.Headers.{shifted_voices, two_voices};
-ghost use Rattle.text_examples.specs.Values.{ratio};
+ghost use Rattle.tests_text.specs.Bars.{entry_after, after_file_header, entry_after_header, faults_by, in_body, items_by};
+ghost use Rattle.tests_text.specs.Bars.{voice_state_in, voice_shift, with_unnamed_voice};
+ghost use Rattle.tests_text.specs.Headers.{opening_state, defaults, fifteen_voices, in_f, in_g, state_with_key};
+ghost use Rattle.tests_text.specs.Headers.{shifted_voices, two_voices};
+ghost use Rattle.tests_text.specs.Values.{ratio};
 
 /// The meter and the unit with which a body begins. ABC 2.1 sections 3.1.6 and 3.1.7.
 pub fn meters_and_units()

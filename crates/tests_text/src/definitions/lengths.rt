@@ -6,7 +6,7 @@ ghost use Rattle.abc_time.specs.Grains.{grains_of_a_whole_note, grains_of_a_tick
 ghost use Rattle.abc_time.specs.Grains.{grains_of_the_latest_end, tick_at};
 ghost use Rattle.abc_time.specs.Length.{IsLength, length_of, quotient_of};
 ghost use Rattle.abc_time.specs.declared.lengths.LengthFault.TheVariants.{NotWhole, TooLong};
-ghost use Rattle.text_examples.specs.Values.{ratio, at_tick};
+ghost use Rattle.tests_text.specs.Values.{ratio, at_tick};
 
 /// A whole note is `2^16 * 3^4 * 5^2 * 7^2 * 11 * 13` grains and 1,920 ticks. Not in ABC 2.1.
 pub fn grains_and_ticks()

@@ -4,8 +4,8 @@
 
 ghost use Rattle.std.specs.Prelude.{◌≡◌, [], ◌∷◌};
 ghost use Rattle.abc_repeat.specs.Play.{play_of};
-ghost use Rattle.text_examples.specs.Repeats.{note, single, double, opening, closing, between};
-ghost use Rattle.text_examples.specs.Repeats.{ending, ending_for, no_pass};
+ghost use Rattle.tests_text.specs.Repeats.{note, single, double, opening, closing, between};
+ghost use Rattle.tests_text.specs.Repeats.{ending, ending_for, no_pass};
 
 /// Repeat bars and double bars.
 pub fn repeats()

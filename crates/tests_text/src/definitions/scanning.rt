@@ -17,9 +17,9 @@ ghost use Rattle.abc_scan.specs.Length.{length_at};
 ghost use Rattle.abc_scan.specs.Class.{class_of};
 ghost use Rattle.abc_scan.specs.Note.{octave};
 ghost use Rattle.abc_scan.specs.Text.{content};
-ghost use Rattle.text_examples.specs.Values.{bar_token, blank, c_part, c_token, chord_token, double_bar, kinds_of};
-ghost use Rattle.text_examples.specs.Values.{part, plain, token};
-ghost use Rattle.text_examples.specs.VoiceStates.{broken, mark};
+ghost use Rattle.tests_text.specs.Values.{bar_token, blank, c_part, c_token, chord_token, double_bar, kinds_of};
+ghost use Rattle.tests_text.specs.Values.{part, plain, token};
+ghost use Rattle.tests_text.specs.VoiceStates.{broken, mark};
 
 /// Blank lines and comments. ABC 2.1 section 2.2. Only spaces and tabs are blanks, and one carriage return is dropped
 /// at the end: not in ABC 2.1.

@@ -31,9 +31,9 @@ ghost use Rattle.abc_bars_voice.specs.Tuplet.{count_down, default_q, tuplet_by, 
 ghost use Rattle.abc_bars_voice.specs.UnitLength.{unit_by};
 ghost use Rattle.abc_bars_voice.specs.VoiceShift.{with_properties};
 ghost use Rattle.abc_bars_voice.specs.declared.voice_state.VoiceState.{VoiceState};
-ghost use Rattle.text_examples.specs.Bars.{bar_rest, voice_shift};
-ghost use Rattle.text_examples.specs.VoiceStates.{body_of, broken, fifteen_voices, mark, open_tuplet, voice_a, voices_in};
-ghost use Rattle.text_examples.specs.Values.{ratio, shift};
+ghost use Rattle.tests_text.specs.Bars.{bar_rest, voice_shift};
+ghost use Rattle.tests_text.specs.VoiceStates.{body_of, broken, fifteen_voices, mark, open_tuplet, voice_a, voices_in};
+ghost use Rattle.tests_text.specs.Values.{ratio, shift};
 
 /// The number of notes whose time p notes take. ABC 2.1 section 4.13; p below 2 and above 9 are not in ABC 2.1.
 pub fn times_of_tuplets()

@@ -3,8 +3,8 @@ use Rattle.std.proofs.lemmas.List.Elements.{All-push}
 use Rattle.abc_fold.specs.declared.piece.Piece.TheVariants.{New}
 use Rattle.abc_fold.specs.Chain.{Folds}
 use Rattle.abc_fold.specs.Piece.{IsKept}
-use Rattle.text_examples.specs.declared.chains.Counted.{Counted}
-use Rattle.text_examples.specs.Counting.{counting, counting_resumable}
+use Rattle.tests_text.specs.declared.chains.Counted.{Counted}
+use Rattle.tests_text.specs.Counting.{counting, counting_resumable}
 use Rattle.tests.proofs.counted_chains.cells_are_reused.Goals as goal
 
 pub prepare-requires-2 : goal.prepare-requires-2

@@ -1,7 +1,7 @@
 use Rattle.std.proofs.Common.{subst}
 use Rattle.abc_publish.specs.Publisher.{maps_of}
-use Rattle.live_examples.specs.HeldJobs.{IsUnderWay}
-use Rattle.live_examples.proofs.Jobs.{given, new, own, stays}
+use Rattle.tests_live.specs.HeldJobs.{IsUnderWay}
+use Rattle.tests_live.proofs.Jobs.{given, new, own, stays}
 use Rattle.tests.proofs.jobs.take.Goals as goal
 
 pub returns-in-Nothing-Some : goal.returns-in-Nothing-Some

@@ -1,6 +1,6 @@
 use Rattle.std.proofs.Common.{◌≡◌}
 use Rattle.abc_publish.specs.Publisher.{maps_of}
-use Rattle.live_examples.specs.HeldJobs.{IsUnderWay}
+use Rattle.tests_live.specs.HeldJobs.{IsUnderWay}
 use Rattle.tests.proofs.orders.try_events.Given as goal
 
 abbrev pub invariant-loop-event : goal.invariant-loop-event

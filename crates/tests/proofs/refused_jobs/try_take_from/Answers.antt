@@ -1,4 +1,4 @@
-use Rattle.live_examples.proofs.Jobs.{own}
+use Rattle.tests_live.proofs.Jobs.{own}
 use Rattle.tests.proofs.refused_jobs.try_take_from.Goals as goal
 
 pub returns-in-Ok-Some : goal.returns-in-Ok-Some

@@ -3,7 +3,7 @@ use Rattle.std.proofs.Common.{refl}
 use Rattle.std.proofs.lemmas.Bool.{false≢true}
 use Rattle.abc_text.specs.Power.{is_power_up_to}
 use Rattle.abc_text.proofs.Powers.{power_from, power_to}
-use Rattle.file_examples.proofs.definitions.changes_that_a_file_can_hold.Goals as goal
+use Rattle.tests_files.proofs.definitions.changes_that_a_file_can_hold.Goals as goal
 
 pub returns-clause-meter : goal.returns-clause-meter
 unfolding is_power_up_to

@@ -1,5 +1,5 @@
-use Rattle.live_examples.proofs.Jobs.{others}
-use Rattle.live_examples.proofs.held_jobs.end.Goals as goal
+use Rattle.tests_live.proofs.Jobs.{others}
+use Rattle.tests_live.proofs.held_jobs.end.Goals as goal
 
 pub returns-then-done : goal.returns-then-done
 returns-then-done c = others _ _ c.args.job.number _ c.done.ensures

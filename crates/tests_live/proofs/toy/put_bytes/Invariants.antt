@@ -1,5 +1,5 @@
 use Rattle.std.proofs.Common.{◌≡◌, ◌++◌, drop}
-use Rattle.live_examples.proofs.toy.put_bytes.Given as goal
+use Rattle.tests_live.proofs.toy.put_bytes.Given as goal
 
 -- what is put, and the rest
 abbrev pub invariant-loop-byte : goal.invariant-loop-byte

@@ -1,9 +1,9 @@
 use Rattle.std.proofs.Common.{◌≡◌, ◌++◌, drop}
 use Rattle.std.specs.List.{flat_map}
-use Rattle.abc_scan.specs.Class.{class_of}
-use Rattle.live_examples.specs.declared.toy.Played.{Played}
-use Rattle.live_examples.specs.Toy.{bytes_of_class}
-use Rattle.live_examples.proofs.toy.whole_file.Given as goal
+use Rattle.abc_live.specs.Class.{class_of}
+use Rattle.tests_live.specs.declared.toy.Played.{Played}
+use Rattle.tests_live.specs.Toy.{bytes_of_class}
+use Rattle.tests_live.proofs.toy.whole_file.Given as goal
 
 -- the bytes of the lines so far, and of the rest
 abbrev pub invariant-loop-one : goal.invariant-loop-one

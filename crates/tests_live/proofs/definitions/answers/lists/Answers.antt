@@ -1,7 +1,7 @@
 use Rattle.std.proofs.Common.{refl}
 use Rattle.std.specs.Fmt.{digits}
 use Rattle.abc2midi_live.specs.Answer.{fault_line, fault_list, title_line, title_list}
-use Rattle.live_examples.proofs.definitions.answers.lists.Goals as goal
+use Rattle.tests_live.proofs.definitions.answers.lists.Goals as goal
 
 pub returns-clause-fault : goal.returns-clause-fault
 unfolding fault_list fault_line digits

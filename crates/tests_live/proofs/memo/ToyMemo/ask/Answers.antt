@@ -1,7 +1,7 @@
 use Rattle.std.proofs.Common.{ap, ◌∙◌, ◌++◌}
 use Rattle.abc_tune_memo.specs.Bytes.{line_bytes}
-use Rattle.live_examples.proofs.Asked.{asked}
-use Rattle.live_examples.proofs.memo.ToyMemo.ask.Goals as goal
+use Rattle.tests_live.proofs.Asked.{asked}
+use Rattle.tests_live.proofs.memo.ToyMemo.ask.Goals as goal
 
 pub built-requires-clause-of_key : goal.built-requires-clause-of_key
 built-requires-clause-of_key c =
