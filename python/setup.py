@@ -11,7 +11,7 @@ except ImportError:  # before setuptools 70.1
     from wheel.bdist_wheel import bdist_wheel
 
 HERE = Path(__file__).resolve().parent
-SOURCE = HERE.parent / "crates/program/src/arguments.rt"  # as scripts/version reads it
+SOURCE = HERE.parent / "crates/program/src/arguments.rt"  # as scripts/build/version reads it
 ARCHIVE = HERE / "PKG-INFO"  # only a source archive has this file
 
 

@@ -15,10 +15,12 @@ from .edits import Edit, few_edits
 from .errors import (
     BadLine,
     BadRange,
+    BookTooLarge,
     ClosedError,
     EditError,
     Error,
     LibraryMissing,
+    LibraryNeeded,
     OutOfMemory,
     ProgramEnded,
     ProgramMissing,
@@ -28,10 +30,12 @@ from .finding import find_library, find_program, version
 from .opening import open
 from .process import Built, ProcessSession
 from .session import Fault, Report, Session, Title, Work
+from .tokens import Token, TokenKind
 
 __all__ = [
     "BadLine",
     "BadRange",
+    "BookTooLarge",
     "Built",
     "ClosedError",
     "Edit",
@@ -39,6 +43,7 @@ __all__ = [
     "Error",
     "Fault",
     "LibraryMissing",
+    "LibraryNeeded",
     "LibrarySession",
     "OutOfMemory",
     "ProcessSession",
@@ -47,6 +52,8 @@ __all__ = [
     "Report",
     "Session",
     "Title",
+    "Token",
+    "TokenKind",
     "TooLarge",
     "Work",
     "few_edits",

@@ -29,7 +29,13 @@ class CFault(ctypes.Structure):
     _fields_ = [("line", c_uint32), ("column", c_uint32), ("code", c_uint32)]
 
 
-SESSION, WORK, FAULT = POINTER(CSession), POINTER(CWork), POINTER(CFault)
+class CToken(ctypes.Structure):
+    """`abc_live_token`."""
+
+    _fields_ = [("from", c_uint32), ("to", c_uint32), ("kind", c_uint32), ("depth", c_uint32)]
+
+
+SESSION, WORK, FAULT, TOKEN = POINTER(CSession), POINTER(CWork), POINTER(CFault), POINTER(CToken)
 NUMBER, COUNT = POINTER(c_uint32), POINTER(c_size_t)
 BYTES = [c_char_p, c_size_t]  # and how many they are, or how many fit
 NUMBERS = [NUMBER, c_size_t]
@@ -51,6 +57,7 @@ CALLS = {  # all return a code, but `version`
     "fault_name": [c_uint32, *BYTES, COUNT],
     "line_count": [SESSION, NUMBER],
     "line": [SESSION, c_uint32, *BYTES, COUNT],
+    "tokens": [SESSION, c_uint32, TOKEN, c_size_t, COUNT, WORK],
 }
 
 

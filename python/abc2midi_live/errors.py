@@ -25,6 +25,10 @@ class OutOfMemory(EditError, MemoryError):
     """An allocation failed inside the library."""
 
 
+class BookTooLarge(Error, OSError):
+    """A file has more than 256 MB, so it is not read as a tune book."""
+
+
 class ClosedError(Error, ValueError):
     """The session is closed."""
 
@@ -39,6 +43,10 @@ class ProgramEnded(Error):
 
 class LibraryMissing(Error):
     """There is no library to load."""
+
+
+class LibraryNeeded(Error, NotImplementedError):
+    """Only a session over the C library has the answer."""
 
 
 SENTENCES: dict[type[EditError], str] = {

@@ -25,7 +25,7 @@ def is_installed() -> bool:
 
 def is_checkout() -> bool:
     """Returns whether the package is in a checkout of the repository."""
-    return PACKAGE.parent.name == "python" and (TOP / "scripts/digest_of_sources").is_file()
+    return PACKAGE.parent.name == "python" and (TOP / "scripts/build/digest_of_sources").is_file()
 
 
 def find_program() -> str:
@@ -39,7 +39,7 @@ def find_program() -> str:
     if is_checkout():
         if not is_built(TOP / "crates/program/out/program", TOP / "crates/program/out/program.digest"):
             raise ProgramMissing("there is no build of these sources; run ./build, or name a program")
-        return str(TOP / "scripts/launcher")
+        return str(TOP / "scripts/installed/launcher")
     found = shutil.which("abc2midi_live")
     if not found:
         raise ProgramMissing("there is no command abc2midi_live on the path; install it, or name a program")
@@ -57,7 +57,7 @@ def find_library() -> str:
     if is_checkout():
         library = TOP / "out/c_library/lib" / LIBRARY
         if not is_built(library, TOP / "out/c_library/digest"):
-            raise LibraryMissing("there is no library of these sources; run ./check and scripts/c_library, or name a library")
+            raise LibraryMissing("there is no library of these sources; run ./check and scripts/package/c_library, or name a library")
         return str(library)
     return LIBRARY
 
@@ -66,7 +66,7 @@ def is_built(file: Path, digest: Path) -> bool:
     """Returns whether a file of the checkout was built of its present sources, of which there is a digest beside it."""
     try:
         of = digest.read_text().strip()
-        asked = subprocess.run([TOP / "scripts/digest_of_sources"], capture_output=True, text=True, check=True)
+        asked = subprocess.run([TOP / "scripts/build/digest_of_sources"], capture_output=True, text=True, check=True)
     except (OSError, subprocess.CalledProcessError):
         return False
     return bool(of) and of == asked.stdout.strip() and os.access(file, os.X_OK)
@@ -77,5 +77,5 @@ def version() -> str:
     if is_installed():
         return INSTALLED.read_text().strip()
     if is_checkout():
-        return subprocess.run([TOP / "scripts/version"], capture_output=True, text=True, check=True).stdout.strip()
+        return subprocess.run([TOP / "scripts/build/version"], capture_output=True, text=True, check=True).stdout.strip()
     return metadata.version("abc2midi_live")

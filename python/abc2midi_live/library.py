@@ -10,16 +10,19 @@ from ctypes import byref, c_size_t, c_uint32
 from operator import index
 from typing import Any, Optional
 
-from .bindings import BAD_LINE, BAD_RANGE, NOT_FOUND, OK, OUT_OF_MEMORY, SHORT_BUFFER, TOO_LARGE, CFault, CSession, CWork, load
+from .bindings import BAD_LINE, BAD_RANGE, NOT_FOUND, OK, OUT_OF_MEMORY, SHORT_BUFFER, TOO_LARGE, CFault, CSession, CToken, CWork, load
 from .edits import Edit
 from .errors import BadLine, BadRange, OutOfMemory, TooLarge, refusal
 from .finding import PathName, find_library
 from .session import Fault, Report, Session, Title, Work
+from .tokens import Token, kind_of
 
 REFUSALS = {BAD_RANGE: BadRange, BAD_LINE: BadLine, TOO_LARGE: TooLarge, OUT_OF_MEMORY: OutOfMemory}
 MOST_NUMBER = 2**32 - 1
 ROOM = 4096  # bytes at first, for what the library copies
 ROOM_FOR_NUMBERS = 64  # at first
+ROOM_FOR_TOKENS = 256  # at first: more than most lines have
+_HERE = threading.local()
 
 
 class LibrarySession(Session):
@@ -32,12 +35,15 @@ class LibrarySession(Session):
         super().__init__()
         self._calls = load(os.fspath(library) if library is not None else find_library())
         self._session, self._counters = CSession(), CWork()
-        self._thread = threading.get_ident()
+        self._here = byref(self._session)
+        self._thread = this_thread()
         self._names: dict[int, str] = {}
-        self._bytes = ctypes.create_string_buffer(ROOM)
+        self._bytes: Any = ctypes.create_string_buffer(ROOM)  # its slices are bytes
         self._numbers = (c_uint32 * ROOM_FOR_NUMBERS)()
+        self._tokens = (CToken * ROOM_FOR_TOKENS)()
         self._count = c_size_t()
-        check(self._calls.abc_live_open(byref(self._session)))
+        self._count_here = byref(self._count)
+        check(self._calls.abc_live_open(self._here))
         self._finish = weakref.finalize(self, close, self._calls, self._session, self._thread)
 
     # ---- edits
@@ -46,19 +52,19 @@ class LibrarySession(Session):
         if not 0 <= at <= MOST_NUMBER:
             self._check_edits([Edit(at - 1, at - 1, lines)])
         text = text_of(lines)
-        return self._report(self._calls.abc_live_insert(byref(self._session), at, text, len(text), byref(self._counters)))
+        return self._report(self._calls.abc_live_insert(self._here, at, text, len(text), byref(self._counters)))
 
     def _replace(self, from_line: int, to_line: int, lines: list[bytes]) -> Report:
         if not (0 <= from_line <= MOST_NUMBER and 0 <= to_line <= MOST_NUMBER):
             self._check_edits([Edit(from_line - 1, to_line, lines)])
         text = text_of(lines)
-        where = byref(self._session), from_line, to_line
+        where = self._here, from_line, to_line
         return self._report(self._calls.abc_live_replace(*where, text, len(text), byref(self._counters)))
 
     def _delete(self, from_line: int, to_line: int) -> Report:
         if not (0 <= from_line <= MOST_NUMBER and 0 <= to_line <= MOST_NUMBER):
             self._check_edits([Edit(from_line - 1, to_line, [])])
-        return self._report(self._calls.abc_live_delete(byref(self._session), from_line, to_line, byref(self._counters)))
+        return self._report(self._calls.abc_live_delete(self._here, from_line, to_line, byref(self._counters)))
 
     def _report(self, code: int) -> Report:
         """The report of an edit that returned a code."""
@@ -72,7 +78,7 @@ class LibrarySession(Session):
         self._check_open()
         if not 0 <= index(number) <= MOST_NUMBER:
             return None
-        return self._copied_bytes(self._calls.abc_live_output, byref(self._session), number)
+        return self._copied_bytes(self._calls.abc_live_output, self._here, number)
 
     @property
     def numbers(self) -> list[int]:
@@ -82,11 +88,11 @@ class LibrarySession(Session):
     @property
     def titles(self) -> list[Title]:
         self._check_open()
-        number = c_uint32()
-        found = []
-        check(self._calls.abc_live_title_count(byref(self._session), byref(self._count)))
+        number, found, call = c_uint32(), [], self._calls.abc_live_title
+        number_here = byref(number)
+        check(self._calls.abc_live_title_count(self._here, self._count_here))
         for row in range(self._count.value):
-            text = self._copied_bytes(self._calls.abc_live_title, byref(self._session), row, byref(number))
+            text = self._copied_bytes(call, self._here, row, number_here)
             found.append(Title(number.value, text or b""))
         return found
 
@@ -94,12 +100,28 @@ class LibrarySession(Session):
     def faults(self) -> list[Fault]:
         self._check_open()
         call = self._calls.abc_live_faults
-        code = call(byref(self._session), None, 0, byref(self._count))
+        code = call(self._here, None, 0, self._count_here)
         faults = (CFault * self._count.value)()
         if code == SHORT_BUFFER:
-            code = call(byref(self._session), faults, len(faults), byref(self._count))
+            code = call(self._here, faults, len(faults), self._count_here)
         check(code)
         return [Fault(fault.line, fault.column, self._name(fault.code)) for fault in faults]
+
+    def tokens(self, number: int) -> tuple[Token, ...]:
+        self._check_line(number)
+        code = self._copy_tokens(index(number))
+        if code == SHORT_BUFFER:
+            self._tokens = (CToken * self._count.value)()
+            code = self._copy_tokens(index(number))
+        check(code)
+        copied = self._tokens[: self._count.value]
+        return tuple(Token(getattr(token, "from"), token.to, kind_of(token.kind), token.depth) for token in copied)
+
+    def _copy_tokens(self, number: int) -> int:
+        """Copies the tokens of a line, and returns the code of the call."""
+        room = len(self._tokens)
+        code: int = self._calls.abc_live_tokens(self._here, number, self._tokens, room, self._count_here, byref(self._counters))
+        return code
 
     @property
     def work(self) -> Optional[Work]:
@@ -110,23 +132,24 @@ class LibrarySession(Session):
 
     def _copied_numbers(self, call: Any) -> list[int]:
         """The numbers that a call copies."""
-        code = call(byref(self._session), self._numbers, len(self._numbers), byref(self._count))
+        code = call(self._here, self._numbers, len(self._numbers), self._count_here)
         if code == SHORT_BUFFER:
             self._numbers = (c_uint32 * self._count.value)()
-            code = call(byref(self._session), self._numbers, len(self._numbers), byref(self._count))
+            code = call(self._here, self._numbers, len(self._numbers), self._count_here)
         check(code)
         return self._numbers[: self._count.value]
 
     def _copied_bytes(self, call: Any, *words: Any) -> Optional[bytes]:
         """The bytes that a call copies, or None if it finds none."""
-        code = call(*words, self._bytes, len(self._bytes), byref(self._count))
+        code = call(*words, self._bytes, len(self._bytes), self._count_here)
         if code == SHORT_BUFFER:
             self._bytes = ctypes.create_string_buffer(self._count.value)
-            code = call(*words, self._bytes, len(self._bytes), byref(self._count))
+            code = call(*words, self._bytes, len(self._bytes), self._count_here)
         if code == NOT_FOUND:
             return None
         check(code)
-        return ctypes.string_at(self._bytes, self._count.value)
+        copied: bytes = self._bytes[: self._count.value]
+        return copied
 
     def _name(self, code: int) -> str:
         """The name of a fault."""
@@ -137,7 +160,7 @@ class LibrarySession(Session):
 
     def _check_open(self) -> None:
         super()._check_open()
-        if threading.get_ident() != self._thread:
+        if this_thread() is not self._thread:
             raise RuntimeError("a session of the library stays on the thread that opened it")
 
     def close(self) -> None:
@@ -148,9 +171,9 @@ class LibrarySession(Session):
 
     def _recover(self) -> None:
         count = c_uint32()
-        check(self._calls.abc_live_line_count(byref(self._session), byref(count)))
+        check(self._calls.abc_live_line_count(self._here, byref(count)))
         rows = range(1, count.value + 1)
-        self._lines = [self._copied_bytes(self._calls.abc_live_line, byref(self._session), row) or b"" for row in rows]
+        self._lines = [self._copied_bytes(self._calls.abc_live_line, self._here, row) or b"" for row in rows]
 
     def _close(self) -> None:
         self._finish()
@@ -169,7 +192,15 @@ def text_of(lines: list[bytes]) -> bytes:
     return b"\n".join([*lines, b""]) if lines else b""
 
 
-def close(calls: ctypes.CDLL, session: CSession, thread: int) -> None:
+def this_thread() -> object:
+    """An object of the present thread alone. Its number would not do: the system gives that of an ended thread to a new one."""
+    if not hasattr(_HERE, "thread"):
+        _HERE.thread = object()
+    thread: object = _HERE.thread
+    return thread
+
+
+def close(calls: ctypes.CDLL, session: CSession, thread: object) -> None:
     """Ends a session on the thread that began it."""
-    if threading.get_ident() == thread:
+    if this_thread() is thread:
         calls.abc_live_close(byref(session))

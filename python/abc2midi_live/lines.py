@@ -5,6 +5,7 @@ from typing import Union
 
 MOST_BYTES = 65_535  # of a line
 MOST_LINES = 1_048_576  # of a text
+MOST_BOOK_BYTES = 1 << 28  # of a file that is read as a book
 MARK = b"\xef\xbb\xbf"  # may begin a book
 
 Text = Union[bytes, str]
@@ -16,8 +17,8 @@ def lines_of(lines: Lines) -> list[bytes]:
     ValueError)."""
     if isinstance(lines, (bytes, bytearray, str)):
         return without_empty_end(bytes_of(lines).split(b"\n"))
-    found = [bytes_of(line) for line in lines]
-    if any(b"\n" in line for line in found):
+    found = [line if type(line) is bytes else bytes_of(line) for line in lines]
+    if b"\n" in b"".join(found):
         raise ValueError("a line of a list has a line feed: cut it there, or pass one text")
     return found
 

@@ -1,12 +1,14 @@
 """How a session begins."""
 
+import os
 from pathlib import Path
 from typing import Optional
 
-from .errors import LibraryMissing, ProgramMissing
+from .errors import BookTooLarge, LibraryMissing, ProgramMissing
 from .finding import PathName
 from .lines import MARK
 from .process import ProcessSession
+from .reading import bytes_of_book
 from .session import Session
 
 
@@ -14,9 +16,10 @@ def open(path: Optional[PathName] = None, *, library: Optional[PathName] = None,
     """Opens a session over the text of a tune book, or over an empty text.
 
     The session runs over the C library if that is found, and else in a process of the program. `library` or `program` names
-    one, which is used and no other. The file is read once and never written. Raises OSError if it cannot be read,
-    `BadLine` or `TooLarge` if it is no text that a session takes, and `LibraryMissing` or `ProgramMissing`."""
-    book = Path(path).read_bytes() if path is not None else b""
+    one, which is used and no other. The file is read once and never written. Raises OSError if it cannot be read, which is
+    `BookTooLarge` if it has more than 256 MB, `BadLine` or `TooLarge` if it is no text that a session takes, and
+    `LibraryMissing` or `ProgramMissing`."""
+    book = bytes_at(path) if path is not None else b""
     session = new_session(library, program)
     try:
         session.insert(1, book.removeprefix(MARK))
@@ -24,6 +27,16 @@ def open(path: Optional[PathName] = None, *, library: Optional[PathName] = None,
         session.close()
         raise
     return session
+
+
+def bytes_at(path: PathName) -> bytes:
+    """The bytes of the book at a path."""
+    with Path(path).open("rb") as file:
+        try:
+            return bytes_of_book(file)
+        except BookTooLarge as error:
+            error.filename = os.fspath(path)
+            raise
 
 
 def new_session(library: Optional[PathName], program: Optional[PathName]) -> Session:

@@ -7,17 +7,19 @@ import re
 import subprocess
 import tempfile
 from collections.abc import Iterator, Sequence
-from contextlib import contextmanager
+from contextlib import contextmanager, suppress
 from operator import index
 from typing import NamedTuple, Optional
 
 from .edits import Edit
-from .errors import SENTENCES, ProgramEnded, ProgramMissing, refusal
+from .errors import SENTENCES, LibraryNeeded, ProgramEnded, ProgramMissing, refusal
 from .finding import PathName, find_program
 from .lines import MOST_LINES
 from .session import Fault, Report, Session, Title, Work
+from .tokens import Token
 
 MOST_NUMBER = 999_999_999  # that a command can name
+SECONDS_TO_END = 10  # for a program that is asked to end
 REFUSALS = {b"error %s" % kind.__name__.encode(): kind for kind in SENTENCES}
 
 
@@ -31,7 +33,7 @@ class Built(NamedTuple):
 
 class ProcessSession(Session):
     """A session in a process of its own. Ctrl-C does not reach the program. It ends by `close`, or with the caller, because
-    its input ends then.
+    its input ends then. `close` kills a program that does not end within ten seconds.
 
     If the program ends, the call raises `ProgramEnded`, and so does every later one but `close` and those for lines: open
     another session with these. It ends with status 3 if it is out of memory. The same holds for a call that Ctrl-C or
@@ -115,6 +117,10 @@ class ProcessSession(Session):
             found.append(Fault(int(line), int(column), name))
         return found
 
+    def tokens(self, number: int) -> tuple[Token, ...]:
+        self._check_line(number)
+        raise LibraryNeeded("a session over a process has no tokens of lines: open one over the C library")
+
     @property
     def work(self) -> Optional[Work]:
         self._check_ready()
@@ -181,7 +187,15 @@ class ProcessSession(Session):
         return line[:-1]
 
     def _close(self) -> None:
-        self.process.communicate()
+        """Asks the program to end. Its input ends only when no child of the caller has the pipe any more, so a command does it."""
+        if not self._end:
+            with suppress(subprocess.TimeoutExpired):
+                self.process.communicate(b"quit\n", SECONDS_TO_END)
+        self.process.kill()
+        with suppress(BrokenPipeError):
+            self._commands.close()
+        self._answers.close()
+        self.process.wait()
 
 
 def report_of(answer: bytes) -> Report:

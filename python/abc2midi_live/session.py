@@ -3,8 +3,7 @@
 from __future__ import annotations
 
 from abc import ABC, abstractmethod
-from collections.abc import Iterator, Sequence
-from contextlib import contextmanager
+from collections.abc import Callable, Sequence
 from operator import index
 from types import TracebackType
 from typing import NamedTuple, Optional, TypeVar
@@ -12,6 +11,7 @@ from typing import NamedTuple, Optional, TypeVar
 from .edits import Edit, few_edits
 from .errors import BadLine, BadRange, ClosedError, EditError, TooLarge, refusal
 from .lines import MOST_BYTES, MOST_LINES, Lines, Text, lines_of, lines_of_book
+from .tokens import Token
 
 Self = TypeVar("Self", bound="Session")
 
@@ -66,28 +66,19 @@ class Session(ABC):
         """Inserts lines before line `at`, which is from 1 to `line_count + 1`."""
         self._check_ready()
         at, put = index(at), lines_of(lines)
-        with self._whole_edit():
-            report = self._insert(at, put)
-            self._lines[at - 1 : at - 1] = put
-        return report
+        return self._follow(Edit(at - 1, at - 1, put), lambda: self._insert(at, put))
 
     def replace(self, from_line: int, to_line: int, lines: Lines) -> Report:
         """Replaces the lines from `from_line` to `to_line`, both included, by any number of lines."""
         self._check_ready()
         from_line, to_line, put = index(from_line), index(to_line), lines_of(lines)
-        with self._whole_edit():
-            report = self._replace(from_line, to_line, put)
-            self._lines[from_line - 1 : to_line] = put
-        return report
+        return self._follow(Edit(from_line - 1, to_line, put), lambda: self._replace(from_line, to_line, put))
 
     def delete(self, from_line: int, to_line: int) -> Report:
         """Deletes the lines from `from_line` to `to_line`, both included."""
         self._check_ready()
         from_line, to_line = index(from_line), index(to_line)
-        with self._whole_edit():
-            report = self._delete(from_line, to_line)
-            del self._lines[from_line - 1 : to_line]
-        return report
+        return self._follow(Edit(from_line - 1, to_line, []), lambda: self._delete(from_line, to_line))
 
     def set_text(self, text: Text) -> Report:
         """Makes the text that of a tune book, by few edits. A byte order mark at its start is dropped.
@@ -102,36 +93,39 @@ class Session(ABC):
         """Makes edits, which rise and do not overlap. Their places are those of the present text. Returns one report, as
         `set_text` does. If one would be refused, nothing is changed, but for allocations that fail between two edits."""
         self._check_ready()
-        self._check_edits(edits)
-        if len(edits) == 1:
-            return self._apply_one(edits[0])
+        checked = [Edit(index(start), index(stop), lines_of(lines)) for start, stop, lines in edits]
+        self._check_edits(checked)
+        if len(checked) == 1:
+            return self._apply_one(checked[0])
         had = set(self.numbers)
         has_file: dict[int, bool] = {}
-        for edit in reversed(edits):
+        for edit in reversed(checked):
             report = self._apply_one(edit)
             has_file.update(dict.fromkeys(report.written, True))
             has_file.update(dict.fromkeys(report.removed, False))
         written = sorted(number for number, has in has_file.items() if has)
         return Report(tuple(written), tuple(sorted(had.intersection(has_file).difference(written))))
 
-    @contextmanager
-    def _whole_edit(self) -> Iterator[None]:
-        """An edit and its lines here. One that Ctrl-C interrupts may be made or not."""
+    def _follow(self, edit: Edit, make: Callable[[], Report]) -> Report:
+        """Makes an edit, and the same one of the lines here. One that Ctrl-C interrupts may be made or not."""
         try:
-            yield
+            report = make()
+            self._lines[edit.start : edit.stop] = edit.lines
         except EditError:
             raise
         except BaseException:
             self._recover()
             raise
+        return report
 
     def _apply_one(self, edit: Edit) -> Report:
-        """Makes one edit."""
-        if edit.start == edit.stop:
-            return self.insert(edit.start + 1, edit.lines)
-        if edit.lines:
-            return self.replace(edit.start + 1, edit.stop, edit.lines)
-        return self.delete(edit.start + 1, edit.stop)
+        """Makes one edit that is checked."""
+        start, stop, lines = edit
+        if start == stop:
+            return self._follow(edit, lambda: self._insert(start + 1, lines))
+        if lines:
+            return self._follow(edit, lambda: self._replace(start + 1, stop, lines))
+        return self._follow(edit, lambda: self._delete(start + 1, stop))
 
     def _check_edits(self, edits: Sequence[Edit]) -> None:
         """Raises what refuses edits together."""
@@ -150,10 +144,19 @@ class Session(ABC):
 
     def line(self, number: int) -> bytes:
         """A line of the text, without a line feed. Raises IndexError if there is none of that number."""
+        self._check_line(number)
+        return self._lines[number - 1]
+
+    @abstractmethod
+    def tokens(self, number: int) -> tuple[Token, ...]:
+        """The tokens of a line, in order; after a chord come its parts. They cover the line but for a carriage return at its end.
+        Raises IndexError if there is no line of that number, and `LibraryNeeded` over a process."""
+
+    def _check_line(self, number: int) -> None:
+        """Raises IndexError if the text has no line of this number."""
         self._check_open()
         if not 1 <= index(number) <= len(self._lines):
             raise IndexError(f"there is no line {number} in a text of {len(self._lines)} lines")
-        return self._lines[number - 1]
 
     @property
     def lines(self) -> list[bytes]:

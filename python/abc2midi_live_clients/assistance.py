@@ -1,6 +1,7 @@
 """What an editor asks of a tune book: its symbols, what is known at a place, quick fixes, and what may be written there."""
 
 from collections.abc import Iterator
+from itertools import chain, islice
 from typing import Optional
 
 from .changes import Position, Range
@@ -11,9 +12,11 @@ from .hints.values import voice_of
 from .messages import KEYWORD, MODULE, VALUE, Json
 from .midi import clock, seconds_of
 from .places import WHOLE_LINE, utf8
-from .program import LiveBook
+from .program import LiveBook, Tune
 from .quick_fixes import Fix, closing, next_number, renumbering
-from .remarks import Remark, diagnostic, remarks
+from .remarks import Remark, diagnostic, remarks_in
+
+MOST_FIXES = 100  # that an editor is offered at once
 
 
 def symbols(document: Document) -> list[Json]:
@@ -32,7 +35,8 @@ def symbols(document: Document) -> list[Json]:
 def hover(document: Document, position: Position) -> Optional[Json]:
     """Returns what is known at a place: the sentences of its faults and hints, and its tune with its length."""
     line, character = document.character(position)
-    parts = [remark.text for remark in remarks(document) if remark.covers(line, character, character)]
+    place = line, character
+    parts = [remark.text for remark in remarks_in(document, line, line) if remark.meets(place, place)]
     tune = document.tune_at(line)
     if tune and document.has_file(tune):
         number = tune.number
@@ -45,19 +49,26 @@ def hover(document: Document, position: Position) -> Optional[Json]:
 
 
 def quick_fixes(document: Document, uri: str, place: Range) -> Iterator[Json]:
-    """Yields the changes that mend a fault of the first line of a range, or act on a hint there."""
-    line, first = document.character(place.start)
-    last = document.character(place.end)[1] if place.end.line == place.start.line else len(document.lines[line])
-    for remark in remarks(document):
-        fix = fix_of(document, remark) if remark.covers(line, first, last) else None
-        if fix:
-            edit = {"range": document.range(line, fix.start, line, fix.end), "newText": fix.text}
-            yield {
-                "title": fix.title,
-                "kind": "quickfix",
-                "diagnostics": [diagnostic(document, remark)],
-                "edit": {"changes": {uri: [edit]}},
-            }
+    """Yields the changes that mend a fault in a range, or act on a hint there; of many the first ones."""
+    first, last = document.character(place.start), document.character(place.end)
+    met = (remark for remark in remarks_in(document, first[0], last[0]) if remark.meets(first, last))
+    fixes = ((remark, fix_of(document, remark)) for remark in met)
+    for remark, fix in islice(((remark, fix) for remark, fix in fixes if fix), MOST_FIXES):
+        edit = {"range": document.range(remark.line, fix.start, remark.line, fix.end), "newText": fix.text}
+        yield {
+            "title": fix.title,
+            "kind": "quickfix",
+            "diagnostics": [diagnostic(document, remark)],
+            "edit": {"changes": {uri: [edit]}},
+        }
+
+
+def tune_to_play(document: Document, place: Range) -> Optional[Tune]:
+    """Returns the tune at the start of a range, or else the first one in it, that has a file."""
+    first, last = document.place(place.start)[0], document.place(place.end)[0]
+    here = document.tune_at(first)
+    later = (tune for tune in document.ask(LiveBook.tunes) if first < tune.line <= last + 1)
+    return next((tune for tune in chain([here] if here else [], later) if document.has_file(tune)), None)
 
 
 def fix_of(document: Document, remark: Remark) -> Optional[Fix]:

@@ -7,6 +7,8 @@ import time
 from collections.abc import Callable
 from typing import BinaryIO, Optional
 
+from abc2midi_live.reading import bytes_of_book
+
 SECONDS_TO_SETTLE = 0.01  # between two reads that must agree
 SECONDS_OF_A_TICK = 3  # no file system's clock ticks more slowly; two saves within one tick may look the same
 
@@ -50,7 +52,7 @@ class BookFile:
             if self.is_settled:
                 return None
             age = self.clock() - self.since
-            data = file.read()
+            data = bytes_of_book(file)
         was_empty, self.was_empty = self.was_empty, not data
         if not data and not was_empty:
             return None
@@ -63,7 +65,7 @@ class BookFile:
         """These bytes if a second read finds the same, else None: then the save goes on."""
         self.pause(SECONDS_TO_SETTLE)
         with open_regular(self.path) as file:
-            if file.read() != data:
+            if bytes_of_book(file) != data:
                 return None
         self.data, self.data_signature = data, signature
         return data

@@ -1,75 +1,88 @@
 """A tune book that an editor has open: its text, the program that holds it, and its tunes."""
 
-import os
 import sys
 import tempfile
 from collections.abc import Callable
 from contextlib import suppress
-from typing import NamedTuple, Optional, TypeVar
+from typing import Optional, TypeVar
 
-from abc2midi_live import ProgramEnded, ProgramMissing
+from abc2midi_live import Fault, ProgramEnded, ProgramMissing
 from abc2midi_live.lines import without_empty_end
 
 from .changes import Change, Position
-from .hints import Finder, number_is_used
+from .editor_lines import EditorLines
+from .hints import Finder, Hint, number_is_used
 from .messages import REQUEST_FAILED, Failure, Json
 from .places import from_utf16, utf8, utf16
+from .played_files import PlayedFiles
 from .program import LiveBook, Tune, files_of
 
 Answer = TypeVar("Answer")
 
 
-class Running(NamedTuple):
-    """A program that runs, and the folder of its files."""
-
-    book: LiveBook
-    folder: "tempfile.TemporaryDirectory[str]"
-
-
 class Document:
-    """A tune book that an editor has open. Its lines are the editor's, cut at line feeds; the last one is empty if the text
-    ends with a line feed. A running program holds the same text. If there is none, the next question starts it."""
+    """A tune book that an editor has open. A running program holds the same text. If there is none, the next question starts
+    it. What the program finds in a text is asked once."""
 
     def __init__(self, text: str, program: str, words: dict[str, str], with_hints: bool = True):
-        self.lines = text.split("\n")
+        self.text = EditorLines(text)
         self.program = program
         self.words = words
         self.finder = Finder() if with_hints else None
         self.changed = 0  # the line of the last change
         self.is_lost = False  # a change could not be read, so the text is not the editor's
-        self.running: Optional[Running] = None
+        self.book: Optional[LiveBook] = None
+        self.files = PlayedFiles()
+        self.known_faults: Optional[list[Fault]] = None  # of the present text
+        self.known_hints: Optional[list[Hint]] = None
+
+    @property
+    def lines(self) -> list[str]:
+        """The lines of the text, cut at line feeds; the last one is empty if the text ends with a line feed."""
+        return self.text.texts
 
     def ask(self, question: Callable[[LiveBook], Answer]) -> Answer:
         """What the program answers. Raises ProgramEnded if there is none, and none can be started."""
-        if self.running:
+        if self.book:
             try:
-                return question(self.running.book)
+                return question(self.book)
             except ProgramEnded as ended:
                 print(f"language_server: {ended}; restarting it", file=sys.stderr)
-                self.close()
+                self.end_program()
         return question(self.start())
 
     def start(self) -> LiveBook:
         """Starts the program with the present text. Raises ProgramEnded if that fails."""
         try:
-            folder = tempfile.TemporaryDirectory(prefix="abc2midi_live-")
-        except OSError as error:
-            raise ProgramEnded(f"there is no folder for MIDI files: {error.strerror}") from error
-        try:
-            self.running = Running(LiveBook(self.program, folder.name), folder)
+            self.book = LiveBook(self.program, tempfile.gettempdir())
         except ProgramMissing as missing:
-            folder.cleanup()
             raise ProgramEnded(str(missing)) from missing
-        self.running.book.replace(0, 0, without_empty_end([utf8(line) for line in self.lines]))
-        return self.running.book
+        self.book.replace(0, 0, without_empty_end([utf8(line) for line in self.lines]))
+        return self.book
+
+    def end_program(self) -> None:
+        """Ends the program."""
+        if self.book:
+            book, self.book = self.book, None
+            book.close()
 
     def close(self) -> None:
-        """Ends the program, and removes its folder."""
-        if self.running:
-            book, folder = self.running
-            self.running = None
-            book.close()
-            folder.cleanup()
+        """Ends the program, and removes the files that were played."""
+        self.end_program()
+        self.files.close()
+
+    def faults(self) -> list[Fault]:
+        """The faults of the text in order."""
+        if self.known_faults is None:
+            self.known_faults = self.ask(LiveBook.faults)
+        return self.known_faults
+
+    def hints(self) -> list[Hint]:
+        """The hints on the text in order."""
+        if self.known_hints is None:
+            lines, tunes = self.ask(lambda book: (book.lines, book.tunes()))
+            self.known_hints = self.finder.hints(lines, tunes, self.faults()) if self.finder else []
+        return self.known_hints
 
     # ---- changes
 
@@ -77,11 +90,12 @@ class Document:
         """Replaces the lines from `start` to `stop`, counted from 0 and without `stop`, by those of a text."""
         at_end = stop == len(self.lines)
         texts = text.split("\n")
-        self.lines[start:stop] = texts
-        if self.running:
-            book, lines = self.running.book, [utf8(line) for line in texts]
+        self.text.replace(start, stop, texts)
+        self.known_faults = self.known_hints = None
+        if self.book:
+            lines = [utf8(line) for line in texts]
             with suppress(ProgramEnded):  # the next question starts another one
-                book.replace(start, min(stop, len(book.lines)), without_empty_end(lines) if at_end else lines)
+                self.book.replace(start, min(stop, len(self.book.lines)), without_empty_end(lines) if at_end else lines)
 
     def change(self, change: Change) -> None:
         """Changes a range of the text, or the whole."""
@@ -96,14 +110,8 @@ class Document:
         self.changed = first
 
     def place(self, position: Position) -> tuple[int, int]:
-        """The line and the UTF-16 unit of a position. One after the text is its end. One after a line is the line's end,
-        before its carriage return."""
-        line, unit = position
-        if line >= len(self.lines):
-            line, unit = len(self.lines) - 1, len(utf16(self.lines[-1])) // 2
-        elif unit > len(utf16(self.lines[line])) // 2:
-            unit = len(utf16(self.lines[line].removesuffix("\r"))) // 2
-        return line, unit
+        """The line and the UTF-16 unit of a position. One after the text or a line is its end."""
+        return self.text.place(position)
 
     def character(self, position: Position) -> tuple[int, int]:
         """The line and the character of it that has a position."""
@@ -112,10 +120,7 @@ class Document:
 
     def range(self, first: int, start: int, last: int, end: int) -> Json:
         """The range from a character of a line to a character of a line, all counted from 0."""
-        return {
-            "start": {"line": first, "character": len(utf16(self.lines[first][:start])) // 2},
-            "end": {"line": last, "character": len(utf16(self.lines[last][:end])) // 2},
-        }
+        return {"start": self.text.position(first, start)._asdict(), "end": self.text.position(last, end)._asdict()}
 
     # ---- tunes
 
@@ -137,32 +142,25 @@ class Document:
 
     def has_file(self, tune: Tune) -> bool:
         """Returns whether the file of its number is a tune's."""
-        return files_of(self.ask(LiveBook.tunes), self.ask(LiveBook.faults)).get(tune.number) == tune
+        return files_of(self.ask(LiveBook.tunes), self.faults()).get(tune.number) == tune
 
     def file_at(self, line: int) -> str:
-        """The MIDI file of the tune that has a line, up to date."""
+        """A file with the music of the tune that has a line."""
         tune = self.tune_at(line)
         if tune is None:
             raise Failure(REQUEST_FAILED, "no tune is here")
-        if not self.has_file(tune):
+        number = tune.number
+        data = self.ask(lambda book: book.midi(number)) if self.has_file(tune) else None
+        if data is None:
             raise Failure(REQUEST_FAILED, self.why_no_file(tune))
-        path = self.built(tune.number)
-        if not path:  # some systems remove old temporary files: another program writes all into another folder
-            self.close()
-            path = self.built(tune.number)
-        if not path:
-            raise Failure(REQUEST_FAILED, f"a file cannot be written below {tempfile.gettempdir()}")
-        return path
-
-    def built(self, number: int) -> Optional[str]:
-        """The file of a number after a build, or None if the build fails, or the file of an earlier one is gone."""
-        is_built = self.ask(LiveBook.build).failed is None
-        path = self.ask(lambda book: book.path(number))
-        return path if is_built and os.path.exists(path) else None
+        try:
+            return self.files.write(f"{number}.mid", data)
+        except OSError as error:
+            raise Failure(REQUEST_FAILED, f"a file cannot be written below {tempfile.gettempdir()}: {error.strerror}") from error
 
     def why_no_file(self, tune: Tune) -> str:
         """The reason why a tune has no file."""
-        owner = files_of(self.ask(LiveBook.tunes), self.ask(LiveBook.faults)).get(tune.number)
+        owner = files_of(self.ask(LiveBook.tunes), self.faults()).get(tune.number)
         if owner is None or tune.line < owner.line:
             return self.words["TuneTooLong"]
         return number_is_used(tune.number, owner.line)

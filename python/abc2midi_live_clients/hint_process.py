@@ -7,7 +7,6 @@ from abc2midi_live.lines import without_empty_end
 
 from .hints import Finder
 from .own_process import OwnProcess, answer_all
-from .places import LinePlaces
 from .program import Tune
 from .texts import Text
 
@@ -52,7 +51,7 @@ def hint_rows(finder: Finder, question: Question) -> list[HintRow]:
     text = question.text
     rows = []
     for line, column, name, sentence in finder.hints(without_empty_end(text.lines), question.tunes, question.faults):
-        start, end = LinePlaces(text.shown(text.lines[line - 1])).span(column, name)
+        start, end = text.places(text.lines[line - 1]).span(column, name)
         rows.append((line - 1, start, end, name, sentence_of(sentence)))
     return rows
 

@@ -2,15 +2,17 @@
 
 import argparse
 import json
-import os
+import select
 import shutil
 import sys
+import time
 from collections.abc import Callable
 from typing import Any, Optional
+from urllib.parse import unquote
 
 from abc2midi_live import ProgramEnded, ProgramMissing, version
 
-from .assistance import completion, hover, quick_fixes, symbols
+from .assistance import completion, hover, quick_fixes, symbols, tune_to_play
 from .changes import BadChange, Change, changes_of, position_of, range_of
 from .document import Document, title_of
 from .faults import sentences
@@ -32,9 +34,12 @@ from .messages import (
     write_message,
 )
 from .players import Player, command
+from .printing import printable
 from .program import add_common_options, find_program
-from .remarks import diagnostic, remarks
+from .remarks import diagnostic, remarks_to_send
 from .signals import when_told_to_end
+
+REST, MOST_REST = 4, 1.0  # times the seconds that the last diagnostics took; seconds
 
 
 class Server:
@@ -56,6 +61,8 @@ class Server:
         self.initialized = False
         self.status: Optional[int] = None  # the exit status, once the session is over
         self.is_shut_down = False
+        self.due: dict[str, Json] = {}  # the versions of documents whose diagnostics are to be sent, by document
+        self.seconds_of_rest = 0.0  # without a message, before they are sent
         self.can_register = False  # the editor may be asked to send changes in another way
         self.requests: dict[str, Callable[[Any], Any]] = {
             "initialize": self.initialize,
@@ -109,12 +116,16 @@ class Server:
     def follow(self, method: str, params: Any) -> None:
         """Follows a notification that is known and comes at its time."""
         if method == "exit" or self.initialized and not self.is_shut_down and method in self.notifications:
-            try:
-                self.notifications[method](params)
-            except ProgramEnded as ended:
-                self.notify("window/showMessage", {"type": ERROR, "message": f"abc2midi_live: {ended}"})
-            except (KeyError, TypeError, AttributeError, IndexError) as error:
-                print(f"language_server: ignored a wrong {method}: {error}", file=sys.stderr)
+            self.guarded(method, lambda: self.notifications[method](params))
+
+    def guarded(self, method: str, work: Callable[[], None]) -> None:
+        """Does what a notification asks for. Nobody waits for an answer, so what fails is a message."""
+        try:
+            work()
+        except ProgramEnded as ended:
+            self.notify("window/showMessage", {"type": ERROR, "message": f"abc2midi_live: {ended}"})
+        except (KeyError, TypeError, AttributeError, IndexError) as error:
+            print(f"language_server: ignored a wrong {method}: {error}", file=sys.stderr)
 
     def send(self, message: Json) -> None:
         """Sends a message."""
@@ -160,7 +171,7 @@ class Server:
             self.player.stop()
         for document in self.documents.values():
             document.close()
-        self.documents = {}
+        self.documents, self.due = {}, {}
 
     def open(self, params: Json) -> None:
         """An editor opens a tune book, which has a program of its own."""
@@ -186,19 +197,21 @@ class Server:
         if not document.is_lost or changes and changes[0].range is None:
             for change in changes:
                 document.change(change)
-            self.publish(params["textDocument"])
+            self.publish_soon(params["textDocument"])
 
     def lose(self, uri: str, why: str) -> None:
         """The text of a book is unknown: asks once for the whole text."""
         if self.documents[uri].is_lost:
             return
         self.documents[uri].is_lost = True
+        self.due.pop(uri, None)
         self.notify("textDocument/publishDiagnostics", {"uri": uri, "diagnostics": []})
         if self.can_register:
+            self.can_register = False  # it is for all documents
             options = {"documentSelector": [{"pattern": "**/*"}], "syncKind": WHOLE}
             asked = {"id": "whole", "method": "textDocument/didChange", "registerOptions": options}
             self.send({"id": f"whole {uri}", "method": "client/registerCapability", "params": {"registrations": [asked]}})
-        text = f"abc2midi_live: the text of {os.path.basename(uri)} is unknown: {why}. Save it, or open it again."
+        text = f"abc2midi_live: the text of {name_of(uri)} is unknown: {why}. Save it, or open it again."
         self.notify("window/showMessage", {"type": ERROR, "message": text})
 
     def save(self, params: Json) -> None:
@@ -212,24 +225,37 @@ class Server:
         """An editor closes a tune book: its diagnostics go."""
         uri = params["textDocument"]["uri"]
         self.documents.pop(uri).close()
+        self.due.pop(uri, None)
         self.notify("textDocument/publishDiagnostics", {"uri": uri, "diagnostics": []})
 
     def publish(self, given: Json) -> None:
-        """Sends the diagnostics of a tune book, hints first: of several on a line Neovim shows the last one."""
-        document = self.documents[given["uri"]]
-        rising = sorted(remarks(document), key=lambda remark: remark.severity != INFO)
-        report = {"uri": given["uri"], "diagnostics": [diagnostic(document, remark) for remark in rising]}
+        """Sends the diagnostics of a tune book."""
+        since = time.monotonic()
+        uri = given["uri"]
+        self.due.pop(uri, None)
+        document = self.documents[uri]
+        report = {"uri": uri, "diagnostics": [diagnostic(document, remark) for remark in remarks_to_send(document)]}
         if given.get("version") is not None:
             report["version"] = given["version"]
         self.notify("textDocument/publishDiagnostics", report)
+        self.seconds_of_rest = min(MOST_REST, REST * (time.monotonic() - since))
+
+    def publish_soon(self, given: Json) -> None:
+        """Sends the diagnostics of a tune book when no message comes for a while: the longer, the longer they took the last time."""
+        self.due[given["uri"]] = given
+
+    def rest(self) -> None:
+        """Sends what is due."""
+        for given in list(self.due.values()):
+            self.guarded("textDocument/didChange", lambda: self.publish(given))
 
     def document(self, params: Json) -> Document:
         """The tune book that a request names."""
         uri = params["textDocument"]["uri"]
         if uri not in self.documents:
-            raise Failure(INVALID_PARAMS, f"{uri} is not open")
+            raise Failure(INVALID_PARAMS, f"{name_of(uri)} is not open")
         if self.documents[uri].is_lost:
-            raise Failure(REQUEST_FAILED, f"the text of {uri} is unknown; save it, or open it again")
+            raise Failure(REQUEST_FAILED, f"the text of {name_of(uri)} is unknown; save it, or open it again")
         return self.documents[uri]
 
     def symbols(self, params: Json) -> list[Json]:
@@ -245,15 +271,16 @@ class Server:
         return completion(self.document(params), position_of(params["position"]))
 
     def actions(self, params: Json) -> list[Json]:
-        """The quick fixes at a range, and the command that plays the tune at its beginning, if that has a file. The command is
-        of no kind, so an editor that asks for some kinds alone is not sent it."""
+        """The quick fixes in a range, and the command that plays its first tune that has a file. The command is of no kind, so
+        an editor that asks for some kinds alone is not sent it."""
         document, place = self.document(params), range_of(params["range"])
         only = (params.get("context") or {}).get("only")
         uri = params["textDocument"]["uri"]
         found = list(quick_fixes(document, uri, place)) if not only or {"", "quickfix"} & set(only) else []
-        tune = document.tune_at(place.start.line) if not only or "" in only else None
-        if tune and document.has_file(tune):
-            where = {"textDocument": {"uri": uri}, "position": params["range"]["start"]}
+        tune = tune_to_play(document, place) if not only or "" in only else None
+        if tune:
+            position = document.range(tune.line - 1, 0, tune.line - 1, 0)["start"]
+            where = {"textDocument": {"uri": uri}, "position": position}
             found.append({"title": f"Play {title_of(tune)}", "command": "play", "arguments": [where]})
         return found
 
@@ -262,7 +289,8 @@ class Server:
         if params["command"] != "play":
             raise Failure(INVALID_PARAMS, f"there is no command {params['command']} here")
         where = params["arguments"][0]
-        path = self.document(where).file_at(where["position"]["line"])
+        document = self.document(where)
+        path = document.file_at(document.place(position_of(where["position"]))[0])
         if self.player:
             self.play(self.player, path)
         else:
@@ -275,6 +303,11 @@ class Server:
             player.play(path)
         except OSError as error:
             raise Failure(REQUEST_FAILED, f"{player.words[0]}: {error.strerror}") from error
+
+
+def name_of(uri: str) -> str:
+    """Returns the name of the file of a document, for a person."""
+    return printable(unquote(uri.rstrip("/").rpartition("/")[2]))
 
 
 def uri_of(params: Any) -> Optional[str]:
@@ -296,8 +329,11 @@ def may_register(params: Any) -> bool:
 
 def serve(server: Server) -> int:
     """Handles each message until the session is over; the exit status."""
+    messages = open(sys.stdin.fileno(), "rb", buffering=0, closefd=False)  # no buffer: `select` sees all that has come
     while server.status is None:
-        data = read_message(sys.stdin.buffer)
+        while server.due and not select.select([messages], [], [], server.seconds_of_rest)[0]:
+            server.rest()
+        data = read_message(messages)
         if data is None:
             return 1
         try:

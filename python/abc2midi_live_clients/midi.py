@@ -23,11 +23,12 @@ def seconds_of(data: bytes) -> float:
 
 def number(data: bytes, at: int) -> tuple[int, int]:
     """The number of variable length at a place, and the place after it."""
-    value = 0
-    while data[at] >= 0x80:
-        value = value << 7 | data[at] & 0x7F
-        at += 1
-    return value << 7 | data[at], at + 1
+    byte, at = data[at], at + 1
+    value = byte & 0x7F
+    while byte >= 0x80:
+        byte, at = data[at], at + 1
+        value = value << 7 | byte & 0x7F
+    return value, at
 
 
 def clock(seconds: float) -> str:

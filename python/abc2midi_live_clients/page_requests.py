@@ -14,13 +14,13 @@ from typing import TYPE_CHECKING, Any, Optional
 from abc2midi_live import ProgramEnded, ProgramMissing
 
 from .rows import Json
-from .shared_book import Refused
+from .shared_book import WINDOW, Refused
 
 if TYPE_CHECKING:
     from .page_server import Server
 
 MOST_BYTES = 1 << 25  # of an edit
-SECONDS_OF_SILENCE = 3  # after which a window hears that the server is there
+SECONDS_OF_SILENCE = 3  # after which a window hears that the server is there; server.js waits longer
 SAFE = {
     "Cache-Control": "no-store",
     "Content-Security-Policy": "default-src 'none'; script-src 'self'; style-src 'self'; img-src data:; "
@@ -116,11 +116,13 @@ class Request(BaseHTTPRequestHandler):
             return
         midi = re.fullmatch(r"midi/([0-9]{1,9})", name)
         changes = re.fullmatch(r"changes/([0-9]{1,15})", name)
-        news = re.fullmatch(r"(events|news)/([0-9]{1,15})/([\w.-]{1,64})", name, re.A)
+        news = re.fullmatch(rf"(events|news)/([0-9]{{1,15}})/({WINDOW.pattern})", name, re.ASCII)
         if name in self.server.files:
             self.send(*self.server.files[name])
         elif name == "book":
             self.send_json({**self.server.book.snapshot(), "sentences": self.server.sentences})
+        elif name == "text":
+            self.send(self.server.book.data(), "application/octet-stream", {"Content-Disposition": "attachment"})
         elif name == "state":
             self.send_json(self.server.book.now())
         elif name == "hints":
@@ -129,6 +131,8 @@ class Request(BaseHTTPRequestHandler):
             number = int(midi[1])
             data = self.server.book.midi(number)
             self.send(data, "audio/midi", {"Content-Disposition": f'attachment; filename="{number}.mid"'})
+        elif name == "midi.zip":
+            self.send(self.server.book.all_midi(), "application/zip", {"Content-Disposition": 'attachment; filename="midi.zip"'})
         elif changes:
             self.send_json(self.server.book.changes_after(int(changes[1])))
         elif news and news[1] == "events":
@@ -144,7 +148,8 @@ class Request(BaseHTTPRequestHandler):
         if name == "score":
             self.send(self.server.scorer.answer(self.body()), "application/json")
             return
-        known = {"edit": book.edit, "save": book.save, "save-as": book.save_as, "load": book.load, "restart": book.restart}
+        saves = {"save": book.save, "save-in-utf-8": book.save_in_utf8, "save-as": book.save_as}
+        known = {"edit": book.edit, **saves, "load": book.load, "restart": book.restart}
         follow = known.get(name or "")
         if follow is None:
             raise Refused(404, "There is nothing of that name.")

@@ -20,11 +20,12 @@ from abc2midi_live import ProgramEnded, ProgramMissing
 from .connections import Connections
 from .faults import sentence_pairs
 from .hint_process import HintProcess
+from .opening_page import PageNote
 from .own_process import ENDED
 from .page_requests import Request
 from .printing import printable
 from .program import add_common_options, find_program
-from .proofs import book_key, proof
+from .book_keys import book_key, proof
 from .scorer import Scorer
 from .shared_book import SharedBook
 from .signals import when_told_to_end
@@ -34,6 +35,7 @@ KINDS = {".html": "text/html; charset=utf-8", ".css": "text/css; charset=utf-8",
 SECONDS_BETWEEN_LOOKS = 0.5  # at the book on disk
 SECONDS_OF_REST = 0.3  # after an edit, before hints are looked for
 SECONDS_FOR_A_DESCRIPTOR = 0.05
+SECONDS_ALONE = 60  # without a window, after which a page that was opened on a desktop ends
 PERHAPS = ", perhaps by a page that you started before"
 FIRST_PORT, PORTS, TRIES, MOST_PORT = 20_000, 12_000, 20, 65_535
 
@@ -55,6 +57,8 @@ def arguments() -> argparse.Namespace:
     parser.add_argument("book", metavar="BOOK", nargs="?", help=what)
     parser.add_argument("--port", metavar="N", type=port_number, help="the port; without it the port depends on the book's name")
     parser.add_argument("--no-hints", action="store_true", help="show no hints")
+    opening = "open the page in the browser; it ends a minute after its last window, or when everything in it is saved"
+    parser.add_argument("--open", action="store_true", help=opening)
     add_common_options(parser)
     return parser.parse_args()
 
@@ -68,10 +72,12 @@ class Server(ThreadingHTTPServer):
     daemon_threads = True
     request_queue_size = 128
 
-    def __init__(self, port: int, book: SharedBook):
+    def __init__(self, port: int, book: SharedBook, ends_alone: bool = False):
         self.scorer = Scorer()  # first: a server whose port is taken is closed at once
         super().__init__(("127.0.0.1", port), Request)
         self.book = book
+        self.ends_alone = ends_alone
+        self.seen = time.monotonic()  # when there was a window last, or text that is not saved
         self.token = secrets.token_urlsafe(24)
         self.key = book_key(book.path)
         self.connections = Connections()
@@ -107,9 +113,15 @@ class Server(ThreadingHTTPServer):
         self.connections.end(request)
         super().shutdown_request(request)
 
+    def is_left(self) -> bool:
+        """Returns whether a page that was opened on a desktop had no window for a while, with all of its text saved."""
+        if not self.ends_alone or self.book.windows.count() or self.book.now()["unsaved"]:
+            self.seen = time.monotonic()
+        return time.monotonic() - self.seen > SECONDS_ALONE
+
     def service_actions(self) -> None:
         """Ends the server if the client is to end, and the connections of strangers that take too long."""
-        if interrupted.is_set():
+        if interrupted.is_set() or self.is_left():
             raise KeyboardInterrupt
         self.connections.cut_the_late()
         self.book.remind()
@@ -125,7 +137,7 @@ def serving(words: argparse.Namespace, book: SharedBook) -> Server:
     If another program has that one, the next free one is taken, with a message."""
     if words.port is not None:
         try:
-            return Server(words.port, book)
+            return Server(words.port, book, words.open)
         except OSError as error:
             if error.errno not in (errno.EADDRINUSE, errno.EACCES):
                 raise
@@ -134,7 +146,7 @@ def serving(words: argparse.Namespace, book: SharedBook) -> Server:
     first = FIRST_PORT + zlib.crc32(os.fsencode(book.path or "")) % PORTS
     for port in [*range(first, first + TRIES), 0]:
         try:
-            server = Server(port, book)
+            server = Server(port, book, words.open)
         except OSError:
             continue
         if port != first:
@@ -156,6 +168,20 @@ def serve(server: Server) -> None:
 def tell(sentence: str) -> None:
     """Prints a sentence on standard error."""
     print(f"page: {printable(sentence)}", file=sys.stderr, flush=True)
+
+
+def open_page(server: Server, note: PageNote) -> None:
+    """Opens the page in the browser of the desktop. A command for a browser may wait until it ends, so the page does not wait for it."""
+    note.write(f"http://127.0.0.1:{server.server_port}/{server.token}/")
+    threading.Thread(target=open_window, args=(note,), daemon=True).start()
+
+
+def open_window(note: PageNote) -> int:
+    """Opens a window of a page in the browser of the desktop, and returns the exit status."""
+    if note.open():
+        return 0
+    tell("the browser of this desktop is missing or failed; open the address by hand")
+    return 1
 
 
 def refuse_missing_folder(book: str) -> None:
@@ -197,11 +223,12 @@ class HintKeeper:
             known = version
 
     def restart(self) -> None:
-        """Starts another process, a moment after the last one ended."""
+        """Starts another process, a moment after the last one ended. If that fails, the next question tries again."""
         self.process.close()
         time.sleep(SECONDS_OF_REST)
         if not self.is_closed:
-            self.process = HintProcess()
+            with suppress(OSError):
+                self.process = HintProcess()
 
     def close(self) -> None:
         """Ends the process."""
@@ -219,7 +246,10 @@ def main() -> int:
     words = arguments()
     when_told_to_end(interrupt)
     book = keeper = None
+    note = PageNote(words.book or "")
     try:
+        if words.open and note.address():
+            return open_window(note)
         if words.book:
             refuse_missing_folder(words.book)
         with tempfile.TemporaryDirectory() as directory:
@@ -232,7 +262,9 @@ def main() -> int:
                 if keeper:
                     threading.Thread(target=keeper.keep, daemon=True).start()
                 print(f"http://127.0.0.1:{server.server_port}/{server.token}/", flush=True)
-                if sys.stdout.isatty():
+                if words.open:
+                    open_page(server, note)
+                elif sys.stdout.isatty():
                     tell("open this address in a browser of this machine; Ctrl-C ends the page")
                 serve(server)
         return 0
@@ -242,6 +274,7 @@ def main() -> int:
         tell(f"{error.filename}: {error.strerror}" if isinstance(error, OSError) and error.filename else str(error))
         return 127 if isinstance(error, ProgramMissing) else 1
     finally:
+        note.remove()
         if keeper:
             keeper.close()
         if book:

@@ -77,14 +77,14 @@ def span_of(line: str, start: int, name: str) -> tuple[int, int]:
 
 
 class LinePlaces:
-    """The places of one line as windows see it: a half of a pair is one byte there."""
+    """The places of one line as windows see it: a half of a pair is one byte there, and so is each letter in Latin-1."""
 
-    def __init__(self, text: str):
+    def __init__(self, text: str, is_latin1: bool = False):
         self.text = text
         self.bytes_before: Sequence[int] = range(len(text) + 1)
         self.units_before: Sequence[int] = range(len(text) + 1)
         if not text.isascii():
-            sizes = (1 if "\udc00" <= character <= "\udcff" else len(utf8(character)) for character in text)
+            sizes = (1 if is_latin1 or "\udc00" <= character <= "\udcff" else len(utf8(character)) for character in text)
             units = (2 if character > "\uffff" else 1 for character in text)
             self.bytes_before, self.units_before = [0, *accumulate(sizes)], [0, *accumulate(units)]
 

@@ -1,4 +1,4 @@
-"""Words for a terminal."""
+"""Prints for a terminal: the text of a book without control characters, numbers of things, lists of names."""
 
 MOST_NAMES = 8  # in a line
 

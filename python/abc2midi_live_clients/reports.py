@@ -6,6 +6,7 @@ from typing import NamedTuple, Optional, Protocol
 
 from abc2midi_live import Fault
 
+from .fault_groups import groups_of, line_and_name
 from .hints import Hint
 from .printing import count_of, list_of, printable
 
@@ -64,9 +65,10 @@ class TextReport:
         parts += [new_count_of("fault", [is_new for _, is_new in change.faults])]
         parts += [new_count_of("hint", [is_new for _, is_new in change.hints]) + (" (--all prints them)" if too_many else "")]
         self.write("; ".join([*filter(None, parts), f"{change.milliseconds:.0f} ms"]))
-        for fault, is_new in change.faults:
-            if is_new or self.in_full:
-                self.remark(fault.line, fault.column, fault.name, self.sentences.get(fault.name, ""))
+        shown = (fault for fault, is_new in change.faults if is_new or self.in_full)
+        for group in groups_of(shown, line_and_name):
+            line, column, name = group.first
+            self.remark(line, column, name, group.sentence(self.sentences.get(name, "")))
         for hint, is_new in change.hints:
             if (is_new or self.in_full) and not too_many:
                 self.remark(hint.line, hint.column, f"hint: {hint.name}", hint.text)

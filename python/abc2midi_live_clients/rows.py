@@ -1,4 +1,6 @@
-"""What the program finds in a text, as rows that windows keep and move with their lines."""
+"""What the program finds in a text, as rows that windows keep and move with their lines.
+
+The windows do so by `page_files/rows.js`, which mirrors `moved` and `difference`: tests/clients/test_rows.py compares the two."""
 
 from collections.abc import Sequence
 from itertools import groupby
@@ -6,7 +8,6 @@ from typing import Any, NamedTuple
 
 from abc2midi_live.edits import common_front
 
-from .places import LinePlaces
 from .texts import Text
 
 NOTHING_FOUND = {"faults": {"at": 0, "out": 0, "put": []}, "tunes": {"at": 0, "out": 0, "put": []}, "written": [], "removed": []}
@@ -41,6 +42,6 @@ def shown_rows(text: Text, faults: list[FaultRow]) -> list[list[Any]]:
     """Faults as windows see them, in order: the line of each, its begin and end there in UTF-16, and its name."""
     found = []
     for number, those in groupby(faults, lambda fault: fault[0]):
-        places = LinePlaces(text.shown(text.lines[number]))
+        places = text.places(text.lines[number])
         found += [[number, *places.span(column, name), name] for _, column, name in those]
     return found

@@ -10,6 +10,8 @@ import tempfile
 from contextlib import suppress
 from typing import NamedTuple, Optional
 
+from abc2midi_live.reading import bytes_of_book
+
 READ = os.O_RDONLY | os.O_NONBLOCK | os.O_NOCTTY | os.O_CLOEXEC | os.O_NOFOLLOW  # opening a book never waits
 NOT_REGULAR = "it is not a regular file"
 LIBRARY = ctypes.CDLL(None, use_errno=True)
@@ -31,7 +33,7 @@ class BookChanged(Exception):
     """Another program changed the book: the digest of its present content, None if there is no book any more."""
 
     def __init__(self, present: Optional[str]):
-        super().__init__("another program changed the book on disk")
+        super().__init__("another program changed the book on disk" if present else "the book is no longer on disk")
         self.present = present
 
 
@@ -86,7 +88,7 @@ def read_book(path: str) -> Optional[bytes]:
     if descriptor is None:
         return None
     with os.fdopen(descriptor, "rb") as file:
-        return file.read()
+        return bytes_of_book(file)
 
 
 def save_book(path: str, data: bytes, expected: Optional[str]) -> None:

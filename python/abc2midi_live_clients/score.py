@@ -15,10 +15,11 @@ from typing import NamedTuple, Optional
 
 from .own_process import answer_all
 from .places import utf8, utf16
+from .score_limits import UNFILTERED
 from .score_markup import Node, NoDrawing, images_of
 from .score_text import TuneLine, header_lines, tune_lines
 
-MOST_LINES, MOST_CHARACTERS = 2_000, 100_000  # of a tune that is drawn
+MOST_LINES, MOST_CHARACTERS = 2_000, 100_000  # of a tune that is drawn; score.js sends no more than 5,000 lines
 MOST_BYTES = 2 << 20  # of a drawing
 SECONDS = 10  # that a drawing may take by the clock; `score_limits` has those of the processor
 NARROWEST, WIDEST = 240, 2_000  # pixels
@@ -26,6 +27,7 @@ WIDTH_OF_FULL_SIZE, LEAST_SCALE = 800, 0.7  # staves are smaller if there is les
 ENVIRONMENT: dict[str, str] = {}
 LATE = "abcm2ps took too long for this tune."
 NICENESS = 5
+NO_FILTER = "abcm2ps may open connections and start programs here. To prevent that, install libseccomp: sudo apt install libseccomp2"
 LIMITS = str(Path(__file__).resolve().parent / "score_limits.py")
 MARGINS = ["--leftmargin", "4pt", "--rightmargin", "4pt", "--topmargin", "4pt", "--botmargin", "4pt"]
 OPTIONS = ["-q", "-S", "+F", "-k", "1024", "--pango", "0", *MARGINS, "--topspace", "0pt", "--staffsep", "36pt"]
@@ -63,10 +65,24 @@ def serve() -> None:
     answer_all(lambda asked: answer(*asked), NICENESS)
 
 
+class Drawing(NamedTuple):
+    """What `abcm2ps` writes, and whether no filter of its system calls was set."""
+
+    data: bytes
+    is_unfiltered: bool
+
+
+class Score(NamedTuple):
+    """The images of a tune, and what to say beside them, which may be nothing."""
+
+    images: list[Node]
+    note: str
+
+
 def answer(program: str, question: Question) -> Answer:
     """The images of a tune, or why there are none."""
     try:
-        return Answer(json.dumps({"images": images(program, question)}).encode(), True)
+        return Answer(json.dumps(score_of(program, question)._asdict()).encode(), True)
     except NoScore as why:
         return Answer(refusal_json(str(why)), not isinstance(why, NoScoreNow))
 
@@ -76,7 +92,7 @@ def refusal_json(why: str, **more: bool) -> bytes:
     return json.dumps({"why": why, **more}).encode()
 
 
-def images(program: str, question: Question) -> list[Node]:
+def score_of(program: str, question: Question) -> Score:
     """The images that a program draws of a tune, or `NoScore`. A `place` in them is a note: its row is the line of the tune,
     counted from 0, and its column counts there in UTF-16 units."""
     if len(question.tune) > MOST_LINES or sum(map(len, question.tune + question.header)) > MOST_CHARACTERS:
@@ -84,15 +100,15 @@ def images(program: str, question: Question) -> list[Node]:
     header, tune = header_lines(question.header), tune_lines(question.tune)
     if not any(line.readable.startswith("K:") for line in tune):
         raise NoScore("abcm2ps draws no tune that has no K: line.")
-    data = drawing(program, question.width, "\n".join([*header, "", *(line.readable for line in tune), ""]).encode())
+    drawn = drawing(program, question.width, "\n".join([*header, "", *(line.readable for line in tune), ""]).encode())
     try:
-        found = images_of(data)
+        found = images_of(drawn.data)
     except NoDrawing as error:
         raise NoScore(f"abcm2ps drew nothing that can be shown: {error}.") from error
     placed = [image for image in found if in_tune(image, len(header) + 2, tune)]
     if not placed:
         raise NoScore("This tune has no notes to draw.")
-    return placed
+    return Score(placed, NO_FILTER if drawn.is_unfiltered else "")
 
 
 def in_tune(node: Node, first: int, tune: list[TuneLine]) -> bool:
@@ -121,7 +137,7 @@ def form_of(width: Optional[int]) -> list[str]:
     return [*SCREEN, "--pagewidth", f"{pixels / 96:.3f}in", "-s", f"{scale:.2f}"]
 
 
-def drawing(program: str, width: Optional[int], text: bytes) -> bytes:
+def drawing(program: str, width: Optional[int], text: bytes) -> Drawing:
     """What `abcm2ps` writes for a text. It runs in an empty folder, in a group of processes that is killed at the end."""
     command = [sys.executable, "-I", "-S", LIMITS, program, *OPTIONS, *form_of(width), *TO_OUTPUT]
     try:
@@ -141,7 +157,8 @@ def drawing(program: str, width: Optional[int], text: bytes) -> bytes:
         raise NoScore(LATE)
     if process.returncode < 0:
         raise NoScore(f"abcm2ps failed on this tune: {signal.strsignal(-process.returncode)}.")
-    return data
+    walls, _, drawn = data.partition(b"\n")
+    return Drawing(drawn, walls == UNFILTERED)
 
 
 def read_output(process: "subprocess.Popen[bytes]") -> bytes:

@@ -1,4 +1,6 @@
-"""The SVG of `abcm2ps` as a tree of elements that a page may show, and the places of its notes in the text."""
+"""The SVG of `abcm2ps` as a tree of elements that a page may show, and the places of its notes in the text.
+
+score_tree.js makes elements of the tree. It has the same lists of elements and attributes, and leaves out any other."""
 
 import re
 from itertools import takewhile

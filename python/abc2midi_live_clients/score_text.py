@@ -24,6 +24,7 @@ QUOTED = re.compile(r'"([^"]*)("?)')
 LAST_BACKSLASH = re.compile(r"\\[ \t]*(?:%.*)?$")
 CONTROL = re.compile(r"[\x00-\x08\x0a-\x1f\x7f-\x9f\u2028\u2029\ufeff]")
 HALF = re.compile("[\ud800-\udfff]")
+ODD_BYTE = re.compile("[\udca0-\udcff]")  # as a window sends it
 
 STAVES = r"%%\s*(?:score|staves)\s[\w\s()\[\]{}|*+-]*"
 SWITCHES = "continueall|flatbeams|graceslurs|squarebreve|straightflags|timewarn|keywarn|linewarn|dblrepbar|measurebox|contbarnb"
@@ -89,8 +90,8 @@ def tune_lines(lines: Sequence[str]) -> list[TuneLine]:
 
 
 def printed(line: str) -> str:
-    """A line without controls, which may end lines, and without bytes that are no text."""
-    return HALF.sub("?", CONTROL.sub(" ", line))
+    """A line without controls, which may end lines. Bytes that are no text are letters of Latin-1."""
+    return HALF.sub("?", CONTROL.sub(" ", ODD_BYTE.sub(lambda odd: chr(ord(odd[0]) - 0xDC00), line)))
 
 
 def directive(line: str) -> str:

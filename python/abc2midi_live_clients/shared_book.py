@@ -1,10 +1,10 @@
 """A tune book that windows of a browser edit together: its lines as they see them, what each edit changed, and saving."""
 
 import os
+import re
 import secrets
 import threading
 import time
-from collections import deque
 from collections.abc import Iterator
 from contextlib import contextmanager, suppress
 from typing import Any, NamedTuple, Optional
@@ -15,16 +15,19 @@ from abc2midi_live.lines import without_empty_end
 from .book_file import BookFile
 from .copies import BadName, copy_path, save_copy
 from .hint_process import HintRow, Question
+from .midi_names import zip_of
 from .printing import printable
 from .program import LiveBook, Tune, files_of
+from .recent_changes import RecentChanges
 from .rows import NOTHING_FOUND, Json, Rows, difference, moved, shown_rows
 from .saving import BookChanged, NotSaved, digest, digest_of, read_book, save_book
-from .texts import Text, bytes_of, edits_of, with_ends
+from .texts import Text, edits_of
 from .windows import Windows
 
-MOST_CHANGES = 200  # for windows that did not see them yet
 SECONDS_OF_PATIENCE = 3  # with a program that does not answer, before the windows say so
 SECONDS_TO_END = 3  # for a program that is asked to end
+GONE = "the book is not on the disk any more"
+WINDOW = re.compile(r"[\w.-]{1,64}", re.ASCII)  # the name of a window
 
 
 class Refused(Exception):
@@ -67,8 +70,9 @@ class SharedBook:
         self.program, self.directory = program, directory
         self.turn, self.file_lock, self.moved = threading.Lock(), threading.Lock(), threading.Condition()
         self.run = secrets.token_hex(8)
-        self.version = 0
-        self.changes: deque[Json] = deque(maxlen=MOST_CHANGES)
+        self.version = self.moment = 0  # the moment counts saves and what is known of the file, too
+        self.has: dict[str, int] = {self.run: 0}  # the edits that are in the text: by author, the number of the last one
+        self.changes = RecentChanges()
         self.windows = Windows()
         self.hints: list[HintRow] = []
         self.hints_told = 0  # how often there were other ones
@@ -148,18 +152,21 @@ class SharedBook:
                 "faults": shown_rows(self.text, self.rows.faults),
                 "tunes": self.rows.tunes,
                 "hintRows": self.hints,
+                "has": dict(self.has),
                 **self.state(),
             }
 
     def state(self) -> Json:
-        """How the book is: `saved` is what the text was last, `disk` is what the file is now. `mark` and `returns` are what windows do
-        not see of the text."""
+        """How the book is: `saved` is what the text was last, `disk` is what the file is now. `mark`, `returns` and `letters` are
+        what windows do not see of the text. Of two states the later one has the larger `moment`."""
         since = self.asked_since
         return {
             "run": self.run,
             "version": self.version,
+            "moment": self.moment,
             "mark": bool(self.text.mark),
             "returns": self.text.returns,
+            "letters": self.text.letters.name(),
             "unsaved": self.is_unsaved or (self.disk.saved is not None and self.disk.present is None),
             "saved": self.disk.saved,
             "disk": self.disk.present,
@@ -237,19 +244,27 @@ class SharedBook:
             raise Refused(404, f"number {number} has no file")
         return data
 
+    def all_midi(self) -> bytes:
+        """The MIDI files of all numbers, in a .zip."""
+        with self.turn, self.asking():
+            owners = [(number, title) for _, number, title, has_file in self.rows.tunes if has_file]
+            found = [(number, title, self.book.midi(number)) for number, title in owners]
+        return zip_of((number, title, data) for number, title, data in found if data is not None)
+
     def edit(self, asked: Json) -> Json:
         """Replaces lines, for a window that saw all changes before; returns what that changed."""
         with self.turn:
             self.same_version(asked)
             start, stop, lines = self.checked(asked)
+            window, has = window_of(asked), edits_in(asked)
             since = time.perf_counter()
-            edit = with_ends(self.text, Edit(start, stop, [bytes_of(line) for line in lines]))
-            text = self.text._replace(lines=self.text.lines[: edit.start] + edit.lines + self.text.lines[edit.stop :])
+            edit = self.text.edit_of(start, stop, lines)
+            text = self.text.edited(edit)
             with self.asking():
                 self.hand_over(edit, text)
                 rows = self.ask()
             shown = {"start": start, "stop": stop, "lines": lines}
-            return self.publish([shown], Version(text, rows), asked.get("window"), since)[-1]
+            return self.publish([shown], Version(text, rows), window, since, has)[-1]
 
     def hand_over(self, edit: Edit, text: Text) -> None:
         """Lets the program have an edit that makes a text. An empty last line is none there."""
@@ -260,8 +275,11 @@ class SharedBook:
             start = min(edit.start, len(new_lines), len(self.book.lines))
             self.book.replace(start, len(self.book.lines), new_lines[start:])
 
-    def publish(self, made: list[Json], version: Version, window: object, since: float) -> list[Json]:
-        """Lets the windows see a text that edits made of the present one, the last ones of the text first."""
+    def publish(
+        self, made: list[Json], version: Version, window: Optional[str], since: float, has: Optional[dict[str, int]] = None
+    ) -> list[Json]:
+        """Lets the windows see a text that edits made of the present one, the last ones of the text first. `has` says which edits of
+        windows the text has in it since then; without it the author is this run of the server."""
         faults, tunes = self.rows
         changes: list[Json] = []
         for edit in made:
@@ -280,10 +298,15 @@ class SharedBook:
             self.disk = version.disk or self.disk  # a save may have changed it since the edit began
             self.is_unsaved = self.text.lines != self.disk.text.lines
             took = round(1000 * (time.perf_counter() - since), 1)
+            writing = f"{self.run} {self.version + 1}"
             for change in changes:
                 self.version += 1
+                self.moment += 1
                 self.hints = moved(self.hints, change["edit"])
-                change |= {"version": self.version, "unsaved": self.is_unsaved, "milliseconds": took}
+                new = has or {self.run: self.version}
+                self.has |= {author: max(number, self.has.get(author, 0)) for author, number in new.items()}
+                change |= {"version": self.version, "moment": self.moment, "has": new, "writing": writing}
+                change |= {"unsaved": self.is_unsaved, "milliseconds": took}
             self.changes.extend(changes)
             self.moved.notify_all()
         return changes
@@ -348,10 +371,14 @@ class SharedBook:
         finally:
             self.turn.release()
 
-    def take(self, data: bytes) -> None:
-        """Makes the content of the file the text, by few edits. Whoever calls this has the turn."""
-        since = time.perf_counter()
+    def take(self, data: bytes) -> list[Json]:
+        """Makes the content of the file the text, by few edits, and returns the changes. Whoever calls this has the turn."""
         text = Text.of(data)
+        return self.become(text, None, Disk(text, digest(data), digest(data)))
+
+    def become(self, text: Text, window: Optional[str], disk: Optional[Disk] = None) -> list[Json]:
+        """Makes a text that of the book, by few edits, and returns the changes. Whoever calls this has the turn."""
+        since = time.perf_counter()
         with self.asking():
             self.book.replace(0, len(self.book.lines), without_empty_end(text.lines))
             rows = self.ask()
@@ -359,7 +386,7 @@ class SharedBook:
             {"start": start, "stop": stop, "lines": [text.shown(line) for line in lines]}
             for start, stop, lines in reversed(edits_of(self.text, text))
         ]
-        self.publish(made, Version(text, rows, Disk(text, digest(data), digest(data))), None, since)
+        return self.publish(made, Version(text, rows, disk), window, since)
 
     def know(self, present: Optional[str], trouble: str = "") -> None:
         """Sends the windows the present state of the file."""
@@ -367,6 +394,7 @@ class SharedBook:
             disk = self.disk._replace(present=present, trouble=trouble)
             if disk != self.disk:
                 self.disk = disk
+                self.moment += 1
                 self.moved.notify_all()
 
     def remind(self) -> None:
@@ -376,7 +404,7 @@ class SharedBook:
                 self.moved.notify_all()
 
     def load(self, asked: Json) -> Json:
-        """Makes the content of the file the text, for a window that names this content."""
+        """Makes the content of the file the text, for a window that names this content; returns the changes too."""
         if not self.path:
             raise Refused(400, "no book was named")
         with self.file_lock, self.turn:
@@ -387,9 +415,10 @@ class SharedBook:
                 raise Refused(500, f"the book cannot be read: {error.strerror}") from error
             if data is None or digest(data) != asked.get("over"):
                 self.know(digest_of(data))
-                raise Refused(409, "the book on disk was changed once more", ask=digest_of(data))
-            self.take(data)
-            return self.now()
+                why = GONE if data is None else "the book on disk was changed once more"
+                raise Refused(409, why, ask=digest_of(data))
+            changes = self.take(data)
+            return {"changes": changes, **self.now()}
 
     def save(self, asked: Json) -> Json:
         """Writes the book, as a new file that replaces the old one. If the file is not the one that was read or saved last, it is
@@ -405,7 +434,8 @@ class SharedBook:
                 save_book(self.path, data, expected)
             except BookChanged as changed:
                 self.know(changed.present)
-                raise Refused(409, "the book on disk was changed by another program", ask=changed.present) from changed
+                why = GONE if changed.present is None else "the book on disk was changed by another program"
+                raise Refused(409, why, ask=changed.present) from changed
             except NotSaved as error:
                 raise Refused(500, str(error)) from error
             except OSError as error:
@@ -413,8 +443,24 @@ class SharedBook:
             with self.moved:
                 self.disk = Disk(text, digest(data), digest(data))
                 self.is_unsaved = self.text.lines != text.lines
+                self.moment += 1
                 self.moved.notify_all()
                 return self.state()
+
+    def save_in_utf8(self, asked: Json) -> Json:
+        """Writes the book in UTF-8, whatever its lines were."""
+        if not self.path:
+            raise Refused(400, "no book was named")
+        with self.turn:
+            self.same_version(asked)
+            self.become(self.text.in_utf8(), window_of(asked))
+            version = self.version
+        return self.save({**asked, "version": version})
+
+    def data(self) -> bytes:
+        """The bytes that a save writes."""
+        with self.moved:
+            return self.text.data()
 
     def save_as(self, asked: Json) -> Json:
         """Writes a copy of the text into the book's folder. The book is the same as before. A file that has the name already is
@@ -436,6 +482,24 @@ class SharedBook:
         except OSError as error:
             raise Refused(500, f"the copy cannot be saved: {error.strerror}") from error
         return self.now()
+
+
+def window_of(asked: Json) -> Optional[str]:
+    """The name of the window that asks, if it has one."""
+    window = asked.get("window")
+    if window is None or isinstance(window, str) and WINDOW.fullmatch(window):
+        return window
+    raise Refused(400, "this is no name of a window")
+
+
+def edits_in(asked: Json) -> Optional[dict[str, int]]:
+    """The edits that the text has with an edit, if the window that asks says so: by author, the number of the last one."""
+    has = asked.get("has")
+    if not has:
+        return None
+    if isinstance(has, dict) and all(WINDOW.fullmatch(author) and is_count(number) for author, number in has.items()):
+        return has
+    raise Refused(400, "these are no authors with the numbers of their edits")
 
 
 def is_count(value: object) -> bool:

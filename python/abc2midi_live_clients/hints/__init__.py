@@ -16,6 +16,7 @@ NAMES = (
     "NoTune",
     "LoneReturns",
     "FreeMusic",
+    "NotUtf8",
     "NotPlayed",  # words
     "TextBlock",
     "Overlay",
@@ -27,6 +28,7 @@ NAMES = (
     "LostEnding",
     "PartInRepeat",
     "MusicBeforeVoice",  # voices
+    "VoiceLengths",
     "BarLength",  # bars
     "ShortTuplet",
     "TieToOtherKey",  # ties

@@ -1,9 +1,10 @@
-"""Hints about a book as a whole: `SameNumber`, `NoTune`, `LoneReturns`, `FreeMusic`."""
+"""Hints about a book as a whole: `SameNumber`, `NoTune`, `LoneReturns`, `FreeMusic`, `NotUtf8`."""
 
 from __future__ import annotations
 
 import re
 from collections.abc import Iterator, Sequence
+from typing import Optional
 
 from abc2midi_live import Fault
 
@@ -13,6 +14,7 @@ from .lines import BLANK, FIELD, MUSIC, content, kind_of
 from .reading import Place
 
 LOOKED_AT = 400  # bytes by which a text in UTF-16 is known
+NOT_UTF8 = "NotUtf8"  # one for a book
 LEAST_NOTES = 3  # in what looks like a line of music
 
 _IN_TWO_BYTES = (b"\xff\xfe", b"\xfe\xff")
@@ -66,23 +68,43 @@ def lone_returns(lines: tuple[bytes, ...]) -> Iterator[TuneHint]:
                 yield TuneHint(Place(n, places[0]), "LoneReturns", f"{what}; save the book with line feeds")
 
 
+def not_utf8(lines: tuple[bytes, ...]) -> Iterator[TuneHint]:
+    """Yields the first line that is not UTF-8."""
+    for n, line in enumerate(lines):
+        place = None if line.isascii() else first_odd_byte(line)
+        if place is not None:
+            text = "this line is not UTF-8, and is shown as Latin-1; save the book in UTF-8"
+            yield TuneHint(Place(n, place), NOT_UTF8, text)
+            return
+
+
+def first_odd_byte(line: bytes) -> Optional[int]:
+    """Returns the place of the first byte that is not UTF-8, if there is one."""
+    try:
+        line.decode("utf-8")
+    except UnicodeDecodeError as error:
+        return error.start
+    return None
+
+
 def free_music(lines: tuple[bytes, ...], start: int, after_tune: bool) -> Iterator[TuneHint]:
     """Yields a hint at the first line of each block from a line on that looks like music and is in no tune. After a `K:` of
     its own every line of music does."""
-    is_open, has_key, fields = True, False, -1
+    is_open, has_key, has_fields = True, False, False
     for n in range(start, len(lines)):
         kind = kind_of(lines[n])
         if kind == BLANK:
-            is_open, has_key, fields = True, False, -1
+            is_open, has_key, has_fields = True, False, False
         elif kind == FIELD:
             has_key |= lines[n].startswith(b"K:")
-            fields = n if fields < 0 else fields
+            has_fields = True
         elif kind == MUSIC and is_open and (has_key or looks_like_music(content(lines[n]))):
             is_open = False
             if after_tune and not has_key:
                 text = "this music is in no tune: the blank line before it ends the tune; write a `%` on that line"
             else:
-                text = f"this music is in no tune; write a line `X:` with a new number before {'it' if fields < 0 else f'line {fields + 1}'}"
+                where = "the first field above it" if has_fields else "it"
+                text = f"this music is in no tune; write a line `X:` with a new number before {where}"
             yield TuneHint(Place(n, 0), "FreeMusic", text)
 
 

@@ -5,7 +5,6 @@ from __future__ import annotations
 from bisect import bisect_left
 from collections.abc import Callable, Iterator, Sequence
 from functools import lru_cache
-from itertools import chain
 from typing import NamedTuple
 
 from abc2midi_live import Fault
@@ -13,13 +12,13 @@ from abc2midi_live.lines import MOST_BYTES
 
 from ..program import Tune
 from .bars import bars, short_tuplets
-from .book import free_music, lone_returns, no_tune, same_numbers
+from .book import NOT_UTF8, free_music, lone_returns, no_tune, not_utf8, same_numbers
 from .directives import midi_lines, programs_without_voice
 from .hint import Hint, TuneHint
 from .reading import Defaults, TuneText, defaults_of
 from .repeats import repeats
 from .ties import ties
-from .voices import music_before_voice
+from .voices import OF_UNEVEN_VOICES, music_before_voice, voice_lengths
 from .words import bagpipe_keys, lost_sharps, not_played, overlays, text_blocks
 
 # The families of hints that look at one tune.
@@ -32,6 +31,7 @@ OF_A_TUNE: tuple[Callable[[TuneText], Iterator[TuneHint]], ...] = (
     programs_without_voice,
     repeats,
     music_before_voice,
+    voice_lengths,
     bars,
     short_tuplets,
     ties,
@@ -72,8 +72,22 @@ class Finder:
         defaults, found = read_opening(tuple(lines[: starts[0] if starts else len(lines)]), bool(tunes))
         known = self.known if self.known.defaults == defaults else NOTHING
         self.known = known = Known(lines, defaults, starts, hints_of_tunes(known, lines, defaults, starts))
-        everything = [*placed(found, 1), *chain.from_iterable(known.of_tunes)]
+        uneven = {fault.line for fault in faults if fault.name == "UnevenVoices"}
+        everything = list(kept([placed(found, 1), *known.of_tunes], [0, *starts], uneven))
         return sorted([*everything, *others]) if others else everything
+
+
+def kept(found: list[list[Hint]], starts: list[int], uneven: set[int]) -> Iterator[Hint]:
+    """Yields the hints on the lines before the tunes and on the tunes, each of which has its first line in `starts`, from 0. Of
+    `NotUtf8` the first one counts, and of `VoiceLengths` those of tunes whose line is in `uneven`, from 1."""
+    is_odd = False
+    for hint, start in ((hint, start) for of_tune, start in zip(found, starts) for hint in of_tune):
+        if hint.name == NOT_UTF8:
+            if not is_odd:
+                yield hint
+            is_odd = True
+        elif hint.name != OF_UNEVEN_VOICES or start + 1 in uneven:
+            yield hint
 
 
 def hints_of_tunes(known: Known, lines: list[bytes], defaults: Defaults, starts: list[int]) -> list[list[Hint]]:
@@ -130,7 +144,7 @@ def read_opening(lines: tuple[bytes, ...], has_tunes: bool) -> tuple[Defaults, t
     defaults, header = defaults_of(lines)
     found = [*lone_returns(lines), *midi_lines(lines, range(header))]
     if has_tunes:
-        found += free_music(lines, 0, after_tune=False)
+        found += [*not_utf8(lines), *free_music(lines, 0, after_tune=False)]
     return defaults, tuple(sorted(found))
 
 
@@ -141,5 +155,5 @@ def read_tune(lines: tuple[bytes, ...], defaults: Defaults) -> tuple[TuneHint, .
     tune = TuneText(lines, defaults)
     end = len(tune.lines)
     found = [hint for family in OF_A_TUNE for hint in family(tune)]
-    found += [*lone_returns(lines), *midi_lines(lines, range(end)), *free_music(lines, end, after_tune=True)]
+    found += [*lone_returns(lines), *not_utf8(lines), *midi_lines(lines, range(end)), *free_music(lines, end, after_tune=True)]
     return tuple(sorted(found))

@@ -3,6 +3,8 @@
 
 import { Layer, rowOf } from "./layer.js";
 
+/** @typedef {[start: number, end: number, name: string]} Part */
+
 const MOST = 5000; // characters of a line that is coloured
 const FAR = 3000; // lines before the first one in which the begin of its tune is looked for
 const FIELD = /^(?![A-Ga-gxz]:[|:])[A-Za-z+]:/;
@@ -18,7 +20,8 @@ const TOKENS = [
 ];
 const MUSIC = new RegExp(TOKENS.map(([, source]) => `(${source})`).join("|"), "g");
 
-/** The kinds of some lines: "field", "comment", "directive", "music", or "text" outside of tunes. */
+/** The kinds of some lines: "field", "comment", "directive", "music", or "text" outside of tunes.
+ * @type {(lines: string[], first: number, last: number) => string[]} */
 export function kindsOf(lines, first, last) {
   let isInTune = beginsInTune(lines, first);
   return lines.slice(first, last).map((line) => {
@@ -30,7 +33,8 @@ export function kindsOf(lines, first, last) {
   });
 }
 
-/** Whether a tune has begun before a line, and not ended. */
+/** Whether a tune has begun before a line, and not ended.
+ * @type {(lines: string[], line: number) => boolean} */
 function beginsInTune(lines, line) {
   for (let n = line - 1; n >= 0 && n > line - FAR; n -= 1) {
     if (lines[n].startsWith("X:")) return true;
@@ -39,7 +43,8 @@ function beginsInTune(lines, line) {
   return line >= FAR;
 }
 
-/** The parts of a line that have a colour, in order: begin, end, name. */
+/** The parts of a line that have a colour, in order: begin, end, name.
+ * @type {(line: string, kind: string) => Part[]} */
 export function partsOf(line, kind) {
   if (line.length > MOST || kind === "text") return [];
   if (kind === "comment" || kind === "directive") return [[0, line.length, kind]];
@@ -48,26 +53,31 @@ export function partsOf(line, kind) {
   return end < line.length ? [...parts, [end, line.length, "comment"]] : parts;
 }
 
+/** @type {(line: string, end: number) => Part[]} */
 function fieldOf(line, end) {
   const value = "wWs".includes(line[0]) ? "lyric" : "value";
-  return [[0, 2, "field"], ...(end > 2 ? [[2, end, value]] : [])];
+  return end > 2 ? [[0, 2, "field"], [2, end, value]] : [[0, 2, "field"]];
 }
 
+/** @type {(line: string) => Part[]} */
 function musicOf(line) {
   return [...line.matchAll(MUSIC)].map((match) => {
     const which = match.findIndex((text, n) => n > 0 && text !== undefined);
-    return [match.index, match.index + match[0].length, TOKENS[which - 1][0]];
+    const start = /** @type {number} */ (match.index);
+    return [start, start + match[0].length, TOKENS[which - 1][0]];
   });
 }
 
 export class Colours {
+  /** @param {import("./sheet.js").Sheet} sheet */
   constructor(sheet) {
     this.sheet = sheet;
     this.layer = new Layer(sheet, "colours");
     sheet.layers.push(this);
   }
 
-  /** Draws some lines. */
+  /** Draws some lines.
+   * @type {(first: number, last: number) => void} */
   draw(first, last) {
     const { lines } = this.sheet.text;
     const kinds = kindsOf(lines, first, last);

@@ -1,18 +1,24 @@
 // What the page says when there is nothing to show: no tune, no notes, no file.
 
+/** @typedef {import("./rows.js").TuneRow} TuneRow
+ * @typedef {import("./rows.js").FaultRow} FaultRow */
+
 /** A tune to begin with. */
 export const STARTER = ["X:1", "T:My first tune", "M:4/4", "L:1/8", "Q:1/4=120", "K:G", "|: G2 B2 d2 B2 | c2 A2 G4 :|", ""];
 
-/** Whether a text has nothing in it. */
+/** Whether a text has nothing in it.
+ * @type {(lines: string[]) => boolean} */
 const isBlank = (lines) => lines.length < 100 && lines.every((line) => !line.trim());
 
-/** What the page says over an empty sheet. `saved` is the digest of the file that was read or saved last, null if there was none. */
+/** What the page says over an empty sheet. `saved` is the digest of the file that was read or saved last, null if there was none.
+ * @type {(name: string, saved: string | null) => string} */
 export function whyBlank(name, saved) {
   return name && saved === null ? `There is no file ${name} yet. The first save makes it.` : "The book is empty.";
 }
 
 /** Why no tune, or no note of it, is to be seen or heard; nothing if there are notes. `row` is the tune of the caret, `notes` the
- * number of its notes, null if it is not known. */
+ * number of its notes, null if it is not known.
+ * @type {(seen: { lines: string[], rows: TuneRow[], faults: FaultRow[], row: TuneRow | null, notes: number | null }) => string} */
 export function whyNothing({ lines, rows, faults, row, notes }) {
   if (isBlank(lines)) return "The book is empty. A tune begins with a line X:1.";
   if (!rows.length) return "This text has no tune. A tune begins with a line X: and its number, as X:1.";
@@ -24,7 +30,8 @@ export function whyNothing({ lines, rows, faults, row, notes }) {
   return isUnread ? "This tune has no notes yet, and its number cannot be read. Write it as X:1." : `Tune ${number} has no notes yet.`;
 }
 
-/** Why a tune has no file. */
+/** Why a tune has no file.
+ * @type {(row: TuneRow, rows: TuneRow[], faults: FaultRow[]) => string} */
 function whyNoFile([line, number], rows, faults) {
   const owner = rows.find((row) => row[1] === number && row[3]);
   if (faults.some((fault) => fault[0] === line && fault[3] === "TuneTooLong")) return "This tune is too long; it has no file.";
@@ -34,16 +41,20 @@ function whyNoFile([line, number], rows, faults) {
 }
 
 export class Starter {
-  /** Offers a tune over an empty sheet. */
+  /** Offers a tune over an empty sheet.
+   * @param {import("./sheet.js").Sheet} sheet
+   * @param {HTMLElement} root */
   constructor(sheet, root) {
-    Object.assign(this, { sheet, root });
-    root.querySelector("button").addEventListener("click", () => this.insert());
+    this.sheet = sheet;
+    this.root = root;
+    root.querySelector("button")?.addEventListener("click", () => this.insert());
   }
 
-  /** The text became another one, or the book is there, or it was saved. */
+  /** The text became another one, or the book is there, or it was saved.
+   * @type {(name: string, saved: string | null) => void} */
   look(name, saved) {
     this.root.hidden = !isBlank(this.sheet.text.lines);
-    this.root.querySelector("p").textContent = whyBlank(name, saved);
+    this.root.querySelector("p")?.replaceChildren(whyBlank(name, saved));
   }
 
   /** Inserts the tune as an edit that can be undone, with its title selected. */

@@ -1,12 +1,32 @@
 // The book on disk: saving it, under another name too, loading it, and what to ask if another program changed it.
 
 import { blobOf } from "./blob.js";
+import { changedOnDisk, goneFromDisk } from "./situations.js";
+
+/** @typedef {import("./link.js").Failure} Failure
+ * The content of a file that may be replaced, by its digest; null if there must be none.
+ * @typedef {{ over?: string | null }} Over
+ * `book` has the name of the book; `say` shows a sentence; `doubt` returns the name of a question to be answered before a save, if
+ * there is one.
+ * @typedef {object} Parts
+ * @property {import("./text.js").Text} text
+ * @property {import("./link.js").Link} link
+ * @property {{ name: string }} book
+ * @property {import("./questions.js").Questions} questions
+ * @property {(words: string) => void} say
+ * @property {() => string | undefined} doubt
+ * @property {string} undoKey */
 
 export class Files {
-  /** `book` has the name of the book; `say` shows a sentence; `doubt` returns the name of a question to be answered before a
-   * save, if there is one. */
+  /** @param {Parts} parts */
   constructor({ text, link, book, questions, say, doubt, undoKey }) {
-    Object.assign(this, { text, link, book, questions, say, doubt, undoKey });
+    this.text = text;
+    this.link = link;
+    this.book = book;
+    this.questions = questions;
+    this.say = say;
+    this.doubt = doubt;
+    this.undoKey = undoKey;
   }
 
   /** Whether a question is to be answered before anything is saved: it gets the focus. */
@@ -17,35 +37,50 @@ export class Files {
     return Boolean(doubt);
   }
 
-  /** Saves the book, or offers it as a download if no book was named. */
+  /** Saves the book, or offers it as a download if no book was named.
+   * @param {Over} [over] */
   async save(over) {
     const { book, link, questions } = this;
     if (this.isAsked()) return;
     if (!book.name) return this.download();
     if (!over && questions.find("disk")) {
       questions.focus("disk");
-      return this.say(`Not saved: another program changed ${book.name}.`);
+      return this.say(link.known.disk === null ? `Not saved: ${book.name} is not on the disk any more.` : `Not saved: another program changed ${book.name}.`);
     }
     try {
       await link.file("save", over);
       questions.withdraw("failed");
       this.say(`Saved ${book.name}.`);
     } catch (error) {
-      this.failed("saved", error);
+      this.failed("saved", /** @type {Failure} */ (error));
     }
   }
 
-  /** Makes the book on disk the text. */
+  /** Saves the book in UTF-8. */
+  async saveInUtf8() {
+    if (this.isAsked()) return;
+    try {
+      await this.link.file("save-in-utf-8");
+      this.say(`Saved ${this.book.name} in UTF-8.`);
+    } catch (error) {
+      this.failed("saved", /** @type {Failure} */ (error));
+    }
+  }
+
+  /** Makes the book on disk the text.
+   * @type {(over: Over) => Promise<void>} */
   async load(over) {
     try {
-      await this.link.file("load", over);
-      this.say(`Loaded ${this.book.name} from the disk. ${this.undoKey} takes that back.`);
+      const changes = await this.link.file("load", over), step = this.text.history.last?.writing;
+      const back = changes.some(({ writing }) => writing === step) ? ` ${this.undoKey} takes that back.` : "";
+      this.say(`Loaded ${this.book.name} from the disk.${back}`);
     } catch (error) {
-      this.failed("loaded", error);
+      this.failed("loaded", /** @type {Failure} */ (error));
     }
   }
 
-  /** Says why the book is not saved or loaded. If there is nothing to ask, the text can be had as a file of the browser. */
+  /** Says why the book is not saved or loaded. If there is nothing to ask, the text can be had as a file of the browser.
+   * @type {(what: string, error: Failure) => void} */
   failed(what, error) {
     const { book, questions } = this;
     this.say(`Not ${what}: ${error.message}.`);
@@ -59,15 +94,13 @@ export class Files {
   /** Asks what to do if another program changed the file while the text has changes too. */
   askAboutTheFile() {
     const { book, link, questions } = this;
-    const { saved, disk } = link.state;
+    const { saved, disk } = link.known;
     const gone = disk === null;
     if (disk === saved || link.away || !(gone || link.isUnsaved)) return questions.withdraw("disk");
     questions.ask({
       name: "disk",
       about: disk,
-      words: gone
-        ? `${book.name} is not on the disk any more.`
-        : `Another program changed ${book.name} on the disk, and this text has changes that are not saved.`,
+      words: gone ? goneFromDisk(book.name) : changedOnDisk(book.name),
       answers: {
         [gone ? "Save this text" : "Save this text over it"]: () => this.save({ over: disk }),
         ...(!gone && { "Load the book from disk": () => this.load({ over: disk }) }),
@@ -76,10 +109,12 @@ export class Files {
     });
   }
 
-  /** Offers the text as a file of the browser, with the bytes that a save would write. */
-  download(name = this.book.name || "book.abc") {
+  /** Offers the text as a file of the browser, with the bytes that a save would write.
+   * @param {string} name */
+  async download(name = this.book.name || "book.abc") {
+    const bytes = await this.link.bytes().catch(() => null);
     const anchor = document.createElement("a");
-    anchor.href = URL.createObjectURL(blobOf(this.text.lines, this.link.state ?? {}));
+    anchor.href = URL.createObjectURL(bytes ? new Blob([bytes], { type: "text/vnd.abc" }) : blobOf(this.text.lines, this.link.state ?? {}));
     anchor.download = name;
     anchor.click();
     setTimeout(() => URL.revokeObjectURL(anchor.href), 60000);
@@ -88,12 +123,25 @@ export class Files {
 
 /** The question for another name. */
 export class SaveAs {
+  /** @param {Files} files
+   * @param {HTMLDialogElement} dialog
+   * @param {import("./sheet.js").Sheet} sheet */
   constructor(files, dialog, sheet) {
-    Object.assign(this, { files, dialog, sheet });
-    [this.words, this.name, this.wrong, this.saves, this.over, this.downloads, this.closes] = [
-      "words", "name", "wrong", "save", "over", "download", "close",
-    ].map((part) => dialog.querySelector(`#copy-${part}`));
-    dialog.querySelector("form").addEventListener("submit", (event) => {
+    const part = (/** @type {string} */ name) => /** @type {HTMLElement} */ (dialog.querySelector(`#copy-${name}`));
+    this.files = files;
+    this.dialog = dialog;
+    this.sheet = sheet;
+    this.words = part("words");
+    this.name = /** @type {HTMLInputElement} */ (part("name"));
+    this.wrong = part("wrong");
+    this.saves = part("save");
+    this.over = part("over");
+    this.downloads = part("download");
+    this.closes = part("close");
+    /** @type {HTMLElement} */
+    this.before = sheet.area; // what had the focus
+    this.selection = sheet.selection();
+    dialog.querySelector("form")?.addEventListener("submit", (event) => {
       event.preventDefault();
       if (this.files.book.name) this.save({});
       else this.download();
@@ -120,7 +168,7 @@ export class SaveAs {
     saves.hidden = !book.name;
     name.value = book.name ? book.name.replace(/(\.[^.]*)?$/, " copy$1") : "book.abc";
     this.complain("");
-    this.before = document.activeElement;
+    if (document.activeElement instanceof HTMLElement) this.before = document.activeElement;
     this.selection = this.sheet.selection();
     this.before.blur();
     dialog.showModal();
@@ -134,21 +182,24 @@ export class SaveAs {
     return !name || name.includes(".") ? name : `${name}.abc`;
   }
 
-  /** Says what is wrong; if `there` is the content of a file with this name, it may be replaced. */
+  /** Says what is wrong; if `there` is the content of a file with this name, it may be replaced.
+   * @param {string} words
+   * @param {string} [there] */
   complain(words, there) {
     this.wrong.textContent = words;
     this.over.hidden = there === undefined;
     this.over.onclick = () => this.save({ over: there });
   }
 
+  /** @param {Over} over */
   async save(over) {
     const { files, dialog, named } = this;
     try {
       await files.link.file("save-as", { name: named, ...over });
       dialog.close();
       files.say(`Saved a copy as ${named}. This page goes on with ${files.book.name}.`);
-    } catch (error) {
-      const { there } = error.told ?? {};
+    } catch (caught) {
+      const error = /** @type {Failure} */ (caught), { there } = error.told ?? {};
       if (there) this.complain(`There is a file ${named} in this folder.`, there);
       else this.complain(`Not saved: ${error.message}.`);
     }

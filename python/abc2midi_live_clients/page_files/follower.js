@@ -4,19 +4,44 @@
 import { placesOf } from "./places.js";
 import { nameOf } from "./roll_picture.js";
 
+/** @typedef {import("./midi.js").Score} Score
+ * @typedef {import("./midi.js").Note} Note
+ * @typedef {import("./places.js").Places} Places
+ * The tune in the roll: its score, its lines first..last of the book, and how many lines precede the first tune.
+ * @typedef {{ score: Score, first: number, last: number, before: number }} TuneInBook
+ * A place in the text.
+ * @typedef {{ line: number, from: number, to: number }} TextPlace */
+
 const PAUSE = 4000; // milliseconds for which the text stays where someone scrolls it
 const SOON = 80; // milliseconds after which the caret's notes are marked
+/** @type {Record<string, number>} */
 const STEPS = { C: 0, D: 2, E: 4, F: 5, G: 7, A: 9, B: 11 };
+/** @type {Record<number, string>} */
 const TIMES = { 2: "second", 3: "third" };
+/** @type {Record<number, string>} */
 const SIGNS = { "-2": "♭♭", "-1": "♭", 0: "", 1: "♯", 2: "♯♯" };
 
 export class Follower {
-  /** `tune` gives the tune in the roll, or null: { score, first, last, before }, its lines and how many precede the first tune. */
+  /** `tune` gives the tune in the roll, or null.
+   * @param {import("./text.js").Text} text
+   * @param {import("./sheet.js").Sheet} sheet
+   * @param {import("./roll.js").Roll} roll
+   * @param {() => TuneInBook | null} tune */
   constructor(text, sheet, roll, tune) {
-    Object.assign(this, { text, sheet, roll, tune });
+    this.text = text;
+    this.sheet = sheet;
+    this.roll = roll;
+    this.tune = tune;
+    this.first = 0; // line of the tune
+    /** @type {ReturnType<typeof setTimeout> | null} */
+    this.timer = null;
+    /** @type {{ score: Score | null, lines: string[] | null, own: string[], head: string[], places: Places | null }} */
     this.known = { score: null, lines: null, own: [], head: [], places: null };
+    /** @type {TextPlace[]} */
     this.sounding = []; // places in the text: { line, from, to }
+    /** @type {TextPlace[]} */
     this.picked = []; // where the caret's note is
+    /** @type {(places: TextPlace[]) => void} */
     this.lit = () => {}; // hears of the places that sound
     this.layer = Object.assign(document.createElement("div"), { className: "sounding", ariaHidden: "true" });
     sheet.here.after(this.layer);
@@ -35,25 +60,28 @@ export class Follower {
     this.first = tune.first;
     if (known.score === tune.score && known.lines === lines) return known.places;
     const own = lines.slice(tune.first, tune.last), head = lines.slice(0, tune.before);
-    const isSame = (a, b) => a.length === b.length && a.every((line, n) => line === b[n]);
+    const isSame = (/** @type {string[]} */ a, /** @type {string[]} */ b) => a.length === b.length && a.every((line, n) => line === b[n]);
     const places = known.score === tune.score && isSame(own, known.own) && isSame(head, known.head)
       ? known.places : placesOf(own, head, tune.score);
     this.known = { score: tune.score, lines, own, head, places };
     return places;
   }
 
-  /** The place in the book of a place in the tune. */
+  /** The place in the book of a place in the tune.
+   * @type {(place: TextPlace) => TextPlace} */
   inBook({ line, from, to }) {
     return { line: this.first + line, from, to };
   }
 
-  /** The name of a voice in the text, with a word before it if it is a number. */
+  /** The name of a voice in the text, with a word before it if it is a number.
+   * @type {(voice: number) => string} */
   voiceName(voice) {
     const name = this.places?.names.get(voice) ?? String(voice + 1);
     return /^\d+$/.test(name) ? `Voice ${name}` : name;
   }
 
-  /** Marks what sounds at a tick, or nothing. */
+  /** Marks what sounds at a tick, or nothing.
+   * @type {(tick: number | null) => void} */
   sound(tick) {
     const tokens = tick === null ? [] : this.places?.at(tick) ?? [];
     const sounding = tokens.map(({ mark }) => this.inBook(mark));
@@ -77,14 +105,17 @@ export class Follower {
   /** Marks lines and places in the text. */
   draw() {
     const { sheet } = this, rows = document.createDocumentFragment();
-    const seen = ({ line }) => line >= sheet.first && line < sheet.last;
+    const seen = (/** @type {TextPlace} */ { line }) => line >= sheet.first && line < sheet.last;
     for (const line of new Set(this.sounding.filter(seen).map((place) => place.line))) rows.append(this.row(line, "line"));
     for (const place of this.sounding.filter(seen)) rows.append(this.row(place.line, "note", place));
     if (document.activeElement !== sheet.area) for (const place of this.picked.filter(seen)) rows.append(this.row(place.line, "picked", place));
     this.layer.replaceChildren(rows);
   }
 
-  /** A row over a line of the text. The text before the place, not to be seen, moves the mark there. */
+  /** A row over a line of the text. The text before the place, not to be seen, moves the mark there.
+   * @param {number} line
+   * @param {string} className
+   * @param {TextPlace} [place] */
   row(line, className, place) {
     const row = Object.assign(document.createElement("div"), { className });
     row.style.top = `${(line - this.sheet.first) * this.sheet.height}px`;
@@ -109,7 +140,7 @@ export class Follower {
     const isSelected = JSON.stringify(this.sheet.selection().start) !== JSON.stringify(this.sheet.selection().end);
     const tokens = places && !isSelected ? places.under(line - this.first, column) : [];
     this.picked = tokens.slice(0, 1).map(({ mark }) => this.inBook(mark));
-    roll.pointedAt = tokens.length ? places.notesUnder(line - this.first, column) : new Set();
+    roll.pointedAt = places && tokens.length ? places.notesUnder(line - this.first, column) : new Set();
     roll.soon();
     this.draw();
   }
@@ -117,7 +148,7 @@ export class Follower {
   /** The tick at which the music at the caret begins, null if that is not known. */
   get tickOfCaret() {
     const { places } = this, { line, column } = this.sheet.caret(), tune = this.tune();
-    if (!places || line < tune.first || line >= tune.last) return null;
+    if (!places || !tune || line < tune.first || line >= tune.last) return null;
     return places.tickFrom(line - tune.first, column);
   }
 
@@ -129,16 +160,19 @@ export class Follower {
     return places.rangeOf(start.line - this.first, last - this.first);
   }
 
-  /** Puts the caret at the place of a note: of the tone that sounds at a tick, if several are tied. */
+  /** Puts the caret at the place of a note: of the tone that sounds at a tick, if several are tied.
+   * @type {(note: Note, tick: number) => void} */
   goTo(note, tick) {
     const tones = this.places?.tonesOf(note) ?? [];
-    const { token, tone } = tones.findLast((one) => one.token.start <= tick) ?? tones[0] ?? {};
-    if (!tone) return;
+    const found = tones.findLast((one) => one.token.start <= tick) ?? tones[0];
+    if (!found) return;
+    const { token, tone } = found;
     const place = { line: this.first + token.mark.line, column: tone.from };
     this.sheet.select(place, place);
   }
 
-  /** The name of a note, spelled as in the text if its place is known. */
+  /** The name of a note, spelled as in the text if its place is known.
+   * @type {(note: Note) => string} */
   noteName(note) {
     const tone = this.places?.tonesOf(note)[0]?.tone;
     const isSpelled = tone && (STEPS[tone.letter] + tone.alteration - note.key) % 12 === 0;
@@ -146,15 +180,18 @@ export class Follower {
     return `${tone.letter}${SIGNS[tone.alteration]}${Math.floor((note.key - tone.alteration) / 12) - 1}`;
   }
 
-  /** What a note is: its name, its voice, its bar and beat. */
+  /** What a note is: its name, its voice, its bar and beat.
+   * @type {(note: Note) => string} */
   describe(note) {
     const { score, grid } = this.roll;
+    if (!score || !grid) return this.noteName(note);
     const voice = score.voices > 1 ? `, ${this.voiceName(note.voice)}` : "";
     return `${this.noteName(note)}${voice}, ${momentName(grid.momentOf(note.start))}`;
   }
 }
 
-/** Where in the tune a moment is, in words. */
+/** Where in the tune a moment is, in words.
+ * @type {(moment: { bar: number, beat: number, pass: number }) => string} */
 export function momentName({ bar, beat, pass }) {
   const again = pass > 1 ? `, ${TIMES[pass] ?? `${pass}th`} time` : "";
   return bar ? `bar ${bar}${again}, beat ${beat}` : `pickup${again}, beat ${beat}`;

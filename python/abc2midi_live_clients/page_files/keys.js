@@ -1,8 +1,11 @@
 // The names of keys, which differ on a Mac; and the line at the bottom that has them.
 
-const isMac = /mac|iphone|ipad/i.test(globalThis.navigator?.userAgentData?.platform || globalThis.navigator?.platform || "");
+/** @type {{ userAgentData?: { platform: string }, platform?: string } | undefined} */
+const machine = globalThis.navigator; // only some browsers have `userAgentData`
+const isMac = /mac|iphone|ipad/i.test(machine?.userAgentData?.platform || machine?.platform || "");
 
-/** Keys as this machine names them: "Ctrl-S" is "⌘S" on a Mac. There Ctrl-H hides the program, and Ctrl-Space stays. */
+/** Keys as this machine names them: "Ctrl-S" is "⌘S" on a Mac. There Ctrl-H hides the program, and Ctrl-Space stays.
+ * @type {(name: string, onMac?: boolean) => string} */
 export function keysOf(name, onMac = isMac) {
   if (!onMac || name.endsWith("Space")) return name;
   if (name === "Ctrl-H") return "⌥⌘F";
@@ -10,15 +13,17 @@ export function keysOf(name, onMac = isMac) {
   return name.replace("Ctrl-", "⌘").replace("Shift-", "⇧").replace("Alt-", "⌥");
 }
 
-/** Words with the names of keys as this machine has them. */
+/** Words with the names of keys as this machine has them.
+ * @type {(words: string, onMac?: boolean) => string} */
 export const withKeys = (words, onMac = isMac) => words.replace(/\b(?:(?:Ctrl|Shift|Alt)-)+(?:Space|Enter|F\d+|[A-Z]\b)/g, (name) => keysOf(name, onMac));
 
-/** Names the keys in the titles of a page. */
+/** Names the keys in the titles of a page.
+ * @type {(root: Document) => void} */
 export function nameKeys(root) {
   if (!isMac) return;
-  for (const element of root.querySelectorAll("[title]")) element.title = withKeys(element.title);
-  for (const element of root.querySelectorAll("kbd")) element.textContent = keysOf(element.textContent);
+  for (const element of /** @type {NodeListOf<HTMLElement>} */ (root.querySelectorAll("[title]"))) element.title = withKeys(element.title);
+  for (const element of root.querySelectorAll("kbd")) element.textContent = keysOf(element.textContent ?? "");
   for (const element of root.querySelectorAll("[aria-keyshortcuts^=Control]:not([aria-keyshortcuts$=Space])")) {
-    element.setAttribute("aria-keyshortcuts", element.getAttribute("aria-keyshortcuts").replace("Control", "Meta"));
+    element.setAttribute("aria-keyshortcuts", element.getAttribute("aria-keyshortcuts")?.replace("Control", "Meta") ?? "");
   }
 }

@@ -1,6 +1,10 @@
 // Unisons: notes of several voices on one key at one time share the row of the key, each in a lane of its own.
 
-/** By note, if others are in unison with it: its lane, counted from above, and how many there are. */
+/** @typedef {import("./midi.js").Note} Note
+ * @typedef {{ lane: number, of: number }} Lane */
+
+/** By note, if others are in unison with it: its lane, counted from above, and how many there are.
+ * @type {(notes: Note[]) => Map<Note, Lane>} */
 export function lanesOf(notes) {
   const groups = new Map(); // by key: the notes that overlap, and the tick at which the last one ends
   const lanes = new Map();
@@ -18,7 +22,8 @@ export function lanesOf(notes) {
   return lanes;
 }
 
-/** Gives the voices of notes that overlap a lane each. */
+/** Gives the voices of notes that overlap a lane each.
+ * @type {(notes: Note[], lanes: Map<Note, Lane>) => void} */
 function share(notes, lanes) {
   const voices = [...new Set(notes.map(({ voice }) => voice))].sort((a, b) => a - b);
   if (voices.length < 2) return;

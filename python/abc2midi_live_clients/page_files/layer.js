@@ -1,16 +1,20 @@
 // A layer below the text area, with a row for each line about those that are seen.
 
-import { difference } from "./text.js";
+import { difference } from "./lines.js";
 
 export class Layer {
+  /** @param {import("./sheet.js").Sheet} sheet
+   * @param {string} className */
   constructor(sheet, className) {
     this.sheet = sheet;
     this.element = Object.assign(document.createElement("div"), { className, ariaHidden: "true" });
+    /** @type {string[]} */
     this.keys = []; // of the rows that are drawn
     sheet.area.before(this.element);
   }
 
-  /** Draws the rows of some lines. Each line has a key; `make` makes the row of the n-th. Rows with the same key stay. */
+  /** Draws the rows of some lines. Each line has a key; `make` makes the row of the n-th. Rows with the same key stay.
+   * @type {(first: number, keys: string[], make: (n: number) => Node) => void} */
   draw(first, keys, make) {
     this.element.style.top = `${(first - this.sheet.first) * this.sheet.height}px`;
     const edit = difference(this.keys, keys);
@@ -28,7 +32,8 @@ export class Layer {
   }
 }
 
-/** A row of a line, with some parts of it in elements: [start, end, class]. */
+/** A row of a line, with some parts of it in elements: [start, end, class].
+ * @type {(line: string, parts: [start: number, end: number, className: string][]) => HTMLElement} */
 export function rowOf(line, parts) {
   const row = document.createElement("div");
   let at = 0;

@@ -1,11 +1,31 @@
 // A Standard MIDI File as what is drawn and played: notes with moments in ticks, tempos, bars, voices.
 
+/** A note: from a tick to a tick, its key, how loud, the program of its voice, whether it is a drum, and its voice.
+ * @typedef {{ start: number, end: number, key: number, velocity: number, program: number, drum: boolean, voice: number }} Note
+ * A tempo: the tick and the second at which it begins, and the seconds of a tick.
+ * @typedef {{ tick: number, second: number, each: number }} Tempo
+ * @typedef {{ tick: number, over: number, under: number }} Meter
+ * @typedef {object} Score
+ * @property {number} division ticks of a quarter note
+ * @property {Note[]} notes
+ * @property {Tempo[]} tempos
+ * @property {Meter[]} meters
+ * @property {number[]} bars the ticks at which bars begin; the end is the last
+ * @property {number} end
+ * @property {number} voices how many
+ * @property {{ voice: number | null }[]} tracks
+ * A score while its file is read: its changes of the tempo, in microseconds of a quarter note.
+ * @typedef {Score & { changes: { tick: number, micros: number }[] }} FileScore
+ * @typedef {{ bytes: DataView, at: number, tick: number, status: number, programs: number[], open: Map<number, Note> }} Track */
+
 const DRUMS = 9;
 
-/** The score of a file's bytes: notes in order of their starts, each with the voice (track) it belongs to. */
+/** The score of a file's bytes: notes in order of their starts, each with the voice (track) it belongs to.
+ * @type {(buffer: ArrayBuffer) => Score} */
 export function scoreOf(buffer) {
   const bytes = new DataView(buffer);
-  const score = { division: bytes.getUint16(12), notes: [], tempos: [], meters: [], end: 0, voices: 0, tracks: [] };
+  /** @type {FileScore} */
+  const score = { division: bytes.getUint16(12), notes: [], changes: [], meters: [], tempos: [], bars: [], end: 0, voices: 0, tracks: [] };
   let at = 8 + bytes.getUint32(4);
   while (at + 8 <= bytes.byteLength) {
     const end = at + 8 + bytes.getUint32(at + 4);
@@ -13,12 +33,13 @@ export function scoreOf(buffer) {
     at = end;
   }
   score.notes.sort((a, b) => a.start - b.start || a.key - b.key);
-  score.tempos = timed(score.tempos, score.division);
+  score.tempos = timed(score.changes, score.division);
   score.bars = barsOf(score);
   return score;
 }
 
-/** Adds the events of a track. A track with notes is a voice. */
+/** Adds the events of a track. A track with notes is a voice.
+ * @type {(bytes: DataView, score: FileScore) => void} */
 function readTrack(bytes, score) {
   const track = { bytes, at: 0, tick: 0, status: 0, programs: new Array(16).fill(0), open: new Map() };
   const count = score.notes.length;
@@ -29,7 +50,8 @@ function readTrack(bytes, score) {
   if (hasNotes) score.voices += 1;
 }
 
-/** Adds the next event of a track. One without a status has that of the event before it. */
+/** Adds the next event of a track. One without a status has that of the event before it.
+ * @type {(track: Track, score: FileScore) => void} */
 function readEvent(track, score) {
   track.tick += readNumber(track);
   if (track.bytes.getUint8(track.at) & 128) track.status = track.bytes.getUint8(track.at++);
@@ -37,32 +59,36 @@ function readEvent(track, score) {
   else readMessage(track, score);
 }
 
-/** Reads a number of one or more bytes, of seven bits each. */
+/** Reads a number of one or more bytes, of seven bits each.
+ * @type {(track: Track) => number} */
 function readNumber(track) {
   let value = 0, byte;
   do { byte = track.bytes.getUint8(track.at++); value = value * 128 + (byte & 127); } while (byte & 128);
   return value;
 }
 
-/** Adds a tempo or a meter. Other events of the file, and messages to one system, are skipped. */
+/** Adds a tempo or a meter. Other events of the file, and messages to one system, are skipped.
+ * @type {(track: Track, score: FileScore) => void} */
 function readMeta(track, score) {
   const { bytes, tick } = track;
   const type = track.status === 0xff ? bytes.getUint8(track.at++) : 0;
   const length = readNumber(track), { at } = track;
-  if (type === 0x51) score.tempos.push({ tick, micros: bytes.getUint16(at) * 256 + bytes.getUint8(at + 2) });
+  if (type === 0x51) score.changes.push({ tick, micros: bytes.getUint16(at) * 256 + bytes.getUint8(at + 2) });
   if (type === 0x58) score.meters.push({ tick, over: bytes.getUint8(at), under: 2 ** bytes.getUint8(at + 1) });
   track.at += length;
 }
 
-/** Takes a message to a channel: a note begins or ends, or the program changes. */
+/** Takes a message to a channel: a note begins or ends, or the program changes.
+ * @type {(track: Track, score: FileScore) => void} */
 function readMessage(track, score) {
   const { bytes, tick, programs, open } = track, kind = track.status >> 4, channel = track.status & 15;
   const first = bytes.getUint8(track.at++);
   const second = kind === 12 || kind === 13 ? 0 : bytes.getUint8(track.at++);
   const id = channel * 128 + first;
   if (kind === 12) programs[channel] = first;
-  if ((kind === 8 || kind === 9) && open.has(id)) {
-    open.get(id).end = tick;
+  const sounding = open.get(id);
+  if ((kind === 8 || kind === 9) && sounding) {
+    sounding.end = tick;
     open.delete(id);
   }
   if (kind === 9 && second > 0) {
@@ -73,7 +99,8 @@ function readMessage(track, score) {
   }
 }
 
-/** The tempos in order, each with the second at which it begins and the seconds of a tick. */
+/** The tempos in order, each with the second at which it begins and the seconds of a tick.
+ * @type {(tempos: { tick: number, micros: number }[], division: number) => Tempo[]} */
 function timed(tempos, division) {
   const found = [{ tick: 0, second: 0, each: 0.5 / division }];
   for (const { tick, micros } of tempos.sort((a, b) => a.tick - b.tick)) {
@@ -85,7 +112,8 @@ function timed(tempos, division) {
   return found;
 }
 
-/** The ticks at which bars begin, by the meters from tick 0; the end is the last. */
+/** The ticks at which bars begin, by the meters from tick 0; the end is the last.
+ * @type {(score: Score) => number[]} */
 function barsOf(score) {
   const bars = [];
   const meters = score.meters.sort((a, b) => a.tick - b.tick);
@@ -102,13 +130,15 @@ function barsOf(score) {
   return bars;
 }
 
-/** The second at which a tick is played. */
+/** The second at which a tick is played.
+ * @type {(score: Score, tick: number) => number} */
 export function secondOf(score, tick) {
-  const tempo = score.tempos.findLast((one) => one.tick <= tick);
+  const tempo = score.tempos.findLast((one) => one.tick <= tick) ?? score.tempos[0];
   return tempo.second + (tick - tempo.tick) * tempo.each;
 }
 
-/** The tick that is played at a second. */
+/** The tick that is played at a second.
+ * @type {(score: Score, second: number) => number} */
 export function tickOf(score, second) {
   const tempo = score.tempos.findLast((one) => one.second <= second) ?? score.tempos[0];
   return tempo.tick + (second - tempo.second) / tempo.each;

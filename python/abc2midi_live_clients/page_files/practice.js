@@ -1,32 +1,54 @@
 // What one practises with: tempo, loop, count-in, voices, and playing from the caret.
 
+import { field, find } from "./elements.js";
 import { momentName } from "./follower.js";
 
 const REST = 100; // milliseconds after the last key
-const find = (id) => document.getElementById(id);
+
+/** @typedef {import("./midi.js").Score} Score
+ * @typedef {[from: number, to: number]} Range of ticks */
 
 export class Practice {
+  /** @param {import("./player.js").Player} player
+   * @param {import("./roll.js").Roll} roll
+   * @param {import("./follower.js").Follower} follower */
   constructor(player, roll, follower) {
-    Object.assign(this, { player, roll, follower });
+    this.player = player;
+    this.roll = roll;
+    this.follower = follower;
+    /** @type {ReturnType<typeof setTimeout> | undefined} */
+    this.timer = undefined;
+    /** @type {number | null | undefined} */
     this.number = null; // of the tune
+    /** @type {Range | null} */
     this.range = null; // [from, to] of the loop, in ticks
+    /** @type {Set<number>} */
     this.muted = new Set();
+    /** @type {Set<number>} */
     this.alone = new Set();
+    /** @type {Map<number, number>} */
+    this.volumes = new Map(); // by voice
+    /** @type {(tick: number) => void} */
     this.played = () => {}; // a tick: play from there
+    /** @type {(words: string) => void} */
     this.say = () => {};
     this.listen();
   }
 
   listen() {
-    const on = (id, name, act) => find(id).addEventListener(name, act);
+    const on = (/** @type {string} */ id, /** @type {string} */ name, /** @type {() => void} */ act) => find(id).addEventListener(name, act);
     on("practise", "click", () => this.fold());
     on("from-caret", "click", () => this.fromCaret());
-    on("tempo", "input", () => this.setTempo(Number(find("tempo").value)));
+    on("tempo", "input", () => this.setTempo(Number(field("tempo").value)));
     on("full-tempo", "click", () => this.setTempo(100));
     on("looping", "change", () => this.setLoop());
+    on("metronome", "change", () => this.setMetronome());
+    on("rise", "change", () => this.setRise());
     on("loop-lines", "click", () => this.loopLines());
     for (const id of ["loop-from", "loop-to"]) on(id, "change", () => this.loopBars());
-    for (const [id, step] of [["narrower", -1], ["wider", 1]]) on(id, "click", () => this.roll.zoom(step));
+    on("narrower", "click", () => this.roll.zoom(-1));
+    on("wider", "click", () => this.roll.zoom(1));
+    this.player.rose = (speed) => this.showTempo(Math.round(100 * speed));
     this.roll.stretched = (from, to) => this.loop([from, to]);
     this.roll.scroller.addEventListener("keydown", (event) => this.key(event));
     const narrow = matchMedia("(max-width: 620px)");
@@ -40,25 +62,28 @@ export class Practice {
     const isOpen = find("practice").hidden;
     find("practice").hidden = !isOpen;
     find("practise").setAttribute("aria-expanded", String(isOpen));
-    document.querySelector("main").classList.toggle("practising", isOpen);
+    document.querySelector("main")?.classList.toggle("practising", isOpen);
   }
 
-  /** Another tune, or its file has changed. */
+  /** Another tune, or its file has changed.
+   * @type {(score: Score | null, number: number | null | undefined) => void} */
   show(score, number) {
     const { roll, follower } = this, isOther = number !== this.number;
     this.number = number;
     roll.show(score, (score && follower.places?.grid) ?? undefined);
     if (isOther) {
       this.range = null;
-      find("looping").checked = false;
+      field("looping").checked = false;
       this.muted.clear();
       this.alone.clear();
+      this.volumes.clear();
     }
     if (this.range && !(score && this.range[1] <= score.end)) this.range = null;
     this.fillBars(isOther);
     this.setLoop();
-    this.showVoices(score?.voices ?? 0);
+    this.showVoices(score?.voices ?? 0, isOther);
     this.silence();
+    this.player.setVolumes(this.volumes);
     this.tell(roll.tick ?? 0);
     follower.caret();
   }
@@ -73,10 +98,11 @@ export class Practice {
     }, REST);
   }
 
-  /** How a tune begins: plays it, after a bar of clicks if that is wanted. */
+  /** How a tune begins: plays it, after a bar of clicks if that is wanted.
+   * @type {(score: Score, tick: number) => void} */
   play(score, tick) {
     const from = this.player.inLoop(tick);
-    this.player.play(score, from, find("count-in").checked ? this.roll.grid.countIn(from) : null);
+    this.player.play(score, from, (field("count-in").checked && this.roll.grid?.countIn(from)) || null);
   }
 
   fromCaret() {
@@ -85,32 +111,60 @@ export class Practice {
     else this.played(tick);
   }
 
+  /** @type {(percent: number) => void} */
   setTempo(percent) {
-    find("tempo").value = percent;
-    find("tempo").setAttribute("aria-valuetext", `${percent} percent`);
-    find("full-tempo").textContent = `${percent} %`;
     this.player.setSpeed(percent / 100);
+    this.showTempo(percent);
   }
 
-  /** Loops a stretch of ticks. */
+  /** Shows the tempo in percent, and in beats a minute at the cursor.
+   * @type {(percent: number) => void} */
+  showTempo(percent) {
+    field("tempo").value = String(percent);
+    find("tempo").setAttribute("aria-valuetext", `${percent} percent`);
+    find("full-tempo").textContent = `${percent} %`;
+    this.showBeats(this.roll.tick ?? 0);
+  }
+
+  /** @type {(tick: number) => void} */
+  showBeats(tick) {
+    const { score, grid } = this.roll, beats = score && grid ? Math.round(grid.tempoAt(tick, score) * this.player.speed) : 0;
+    find("beats").textContent = beats ? `${beats} beats a minute` : "";
+  }
+
+  /** Lets a click be heard at each beat, or none. */
+  setMetronome() {
+    this.player.metronome = field("metronome").checked ? (from, to) => this.roll.grid?.clicksIn(from, to) ?? [] : null;
+  }
+
+  /** Lets each round of the loop be faster. */
+  setRise() {
+    const rise = Math.min(50, Math.max(0, Number(field("rise").value) || 0));
+    field("rise").value = String(rise);
+    this.player.rise = rise / 100;
+  }
+
+  /** Loops a stretch of ticks.
+   * @type {(range: Range) => void} */
   loop(range) {
     this.range = range;
-    find("looping").checked = true;
+    field("looping").checked = true;
     this.fillBars(false);
     this.setLoop();
   }
 
   /** Turns the loop on or off, as its box says; without a stretch it is that of the bars in the two fields. */
   setLoop() {
-    const isOn = find("looping").checked;
+    const isOn = field("looping").checked;
     if (isOn && !this.range) this.range = this.rangeOfBars();
     this.roll.loop = isOn ? this.range : null;
     this.roll.soon();
     this.player.setLoop(this.roll.loop);
   }
 
+  /** @type {() => Range | null} */
   rangeOfBars() {
-    const [from, to] = ["loop-from", "loop-to"].map((id) => Number(find(id).value));
+    const [from, to] = ["loop-from", "loop-to"].map((id) => Number(field(id).value));
     return this.roll.grid?.rangeOf(Math.min(from, to), Math.max(from, to)) ?? null;
   }
 
@@ -127,52 +181,74 @@ export class Practice {
     else this.say("The place of these lines in the tune is not known.");
   }
 
-  /** Writes the bars of the loop, or those of the whole tune, into the two fields. */
+  /** Writes the bars of the loop, or those of the whole tune, into the two fields.
+   * @type {(isOther: boolean) => void} */
   fillBars(isOther) {
     const { grid } = this.roll, [from, to] = this.range ?? [0, grid?.end ?? 0];
-    const last = grid?.last ?? 1, isWhole = find("loop-from").value === "1" && find("loop-to").value === find("loop-to").max;
-    for (const id of ["loop-from", "loop-to"]) find(id).max = last;
+    const first = field("loop-from"), end = field("loop-to");
+    const last = grid?.last ?? 1, isWhole = first.value === "1" && end.value === end.max;
+    first.max = end.max = String(last);
     if (!isOther && !this.range && !isWhole) return;
-    find("loop-from").value = Math.max(1, (this.range && grid?.barAt(from)?.number) || 1);
-    find("loop-to").value = this.range ? Math.max(1, grid?.barAt(to - 1)?.number ?? 1) : last;
+    first.value = String(Math.max(1, (this.range && grid?.barAt(from)?.number) || 1));
+    end.value = String(this.range ? Math.max(1, grid?.barAt(to - 1)?.number ?? 1) : last);
   }
 
-  /** A row for each voice, with what mutes it and what lets it alone be heard. */
-  showVoices(count) {
+  /** A row for each voice, with what mutes it, what lets it alone be heard, and how loud it is.
+   * @type {(count: number, isOther: boolean) => void} */
+  showVoices(count, isOther) {
     const names = Array.from({ length: count > 1 ? count : 0 }, (_, voice) => this.follower.voiceName(voice));
     const parts = find("parts"), wanted = names.join("\n");
     parts.hidden = count < 2;
-    if (parts.dataset.names === wanted) return;
+    if (parts.dataset.names === wanted && !isOther) return;
     parts.dataset.names = wanted;
     parts.replaceChildren(...names.map((name, voice) => this.voiceRow(name, voice)));
   }
 
+  /** @type {(name: string, voice: number) => HTMLElement} */
   voiceRow(name, voice) {
     const row = Object.assign(document.createElement("span"), { className: "part" });
     const swatch = document.createElement("i"), words = Object.assign(document.createElement("span"), { textContent: name });
-    swatch.dataset.voice = voice;
-    const buttons = [["Mute", `Mute ${name}`, this.muted], ["Solo", `Play ${name} alone`, this.alone]].map(([words, label, voices]) => {
-      const button = Object.assign(document.createElement("button"), { type: "button", textContent: words, title: label, ariaLabel: label });
-      button.addEventListener("click", () => {
-        voices.delete(voice) || voices.add(voice);
-        this.silence();
-      });
-      return button;
-    });
-    row.append(swatch, words, ...buttons);
+    swatch.dataset.voice = String(voice);
+    const buttons = [this.voiceButton("Mute", `Mute ${name}`, voice, this.muted), this.voiceButton("Solo", `Play ${name} alone`, voice, this.alone)];
+    row.append(swatch, words, ...buttons, this.volume(name, voice));
     return row;
+  }
+
+  /** What makes a voice softer or louder.
+   * @type {(name: string, voice: number) => HTMLInputElement} */
+  volume(name, voice) {
+    const words = `Volume of ${name}`, range = Object.assign(document.createElement("input"), { type: "range", title: words, ariaLabel: words });
+    Object.assign(range, { min: "0", max: "150", step: "5", value: String(100 * (this.volumes.get(voice) ?? 1)) });
+    range.addEventListener("input", () => {
+      this.volumes.set(voice, Number(range.value) / 100);
+      this.player.setVolumes(this.volumes);
+    });
+    return range;
+  }
+
+  /** A button that puts a voice among others, or takes it away.
+   * @type {(words: string, label: string, voice: number, voices: Set<number>) => HTMLButtonElement} */
+  voiceButton(words, label, voice, voices) {
+    const button = Object.assign(document.createElement("button"), { type: "button", textContent: words, title: label, ariaLabel: label });
+    button.addEventListener("click", () => {
+      if (!voices.delete(voice)) voices.add(voice);
+      this.silence();
+    });
+    return button;
   }
 
   /** Lets those voices be heard that are not muted, and of these only those that are to be heard alone, if there are some. */
   silence() {
     const voices = [...document.querySelectorAll("#parts .part")];
-    const isSilent = (voice) => this.muted.has(voice) || (this.alone.size > 0 && !this.alone.has(voice));
+    const isSilent = (/** @type {number} */ voice) => this.muted.has(voice) || (this.alone.size > 0 && !this.alone.has(voice));
     const silent = new Set(voices.map((_, voice) => voice).filter(isSilent));
     voices.forEach((row, voice) => {
       const [mute, solo] = row.querySelectorAll("button");
       mute.ariaPressed = String(this.muted.has(voice));
       solo.ariaPressed = String(this.alone.has(voice));
-      row.querySelector("i").style.background = this.roll.colour(voice);
+      /** @type {HTMLElement | null} */
+      const swatch = row.querySelector("i");
+      if (swatch) swatch.style.background = this.roll.colour(voice);
       row.classList.toggle("silent-voice", silent.has(voice));
     });
     this.roll.silent = silent;
@@ -180,7 +256,8 @@ export class Practice {
     this.player.setSilent(silent);
   }
 
-  /** Keys of the roll: a loop begins and ends at the cursor, and is turned on and off. */
+  /** Keys of the roll: a loop begins and ends at the cursor, and is turned on and off.
+   * @type {(event: KeyboardEvent) => void} */
   key(event) {
     const { grid } = this.roll, tick = this.roll.tick ?? 0;
     if (!grid || event.ctrlKey || event.metaKey || event.altKey) return;
@@ -188,16 +265,18 @@ export class Practice {
     if (key === "a") this.loop([tick, to > tick ? to : grid.end]);
     else if (key === "b" && tick > 0) this.loop([from < tick ? from : 0, tick]);
     else if (key === "l") {
-      find("looping").checked = !find("looping").checked;
+      field("looping").checked = !field("looping").checked;
       this.setLoop();
     } else return;
     event.preventDefault();
   }
 
-  /** Announces the place of the cursor to those who do not see it. */
+  /** Announces the place of the cursor to those who do not see it.
+   * @type {(tick: number) => void} */
   tell(tick) {
     const { score, grid, scroller } = this.roll;
-    if (!score) return;
+    if (!score || !grid) return;
+    this.showBeats(tick);
     const names = score.notes.filter((note) => note.start <= tick && tick < note.end).map((note) => this.follower.noteName(note));
     scroller.ariaValueMax = String(Math.round(score.end));
     scroller.ariaValueNow = String(Math.round(tick));

@@ -1,21 +1,42 @@
 // Questions in a line above the text. One is shown at a time; the others wait for its answer, so that none is lost.
 
+import { hide } from "./elements.js";
+
+/** What each answer does; null puts the question off.
+ * @typedef {Record<string, (() => void) | null>} Answers
+ * @typedef {{ name: string, about: unknown, words: string, answers: Answers }} Question */
+
 const TOO_SOON = 400; // milliseconds in which a click is meant for the question before
 
 export class Questions {
-  /** `notice` shows a question, `later` is the button of those that are put off; `back` takes the focus after an answer. */
+  /** `notice` shows a question, `later` is the button of those that are put off; `back` takes the focus after an answer.
+   * @param {HTMLElement} notice
+   * @param {HTMLElement} later
+   * @param {HTMLElement} back */
   constructor(notice, later, back) {
-    Object.assign(this, { notice, later, back, queue: [], putOff: [] });
+    this.notice = notice;
+    this.later = later;
+    this.back = back;
+    /** @type {Question[]} */
+    this.queue = [];
+    /** @type {Question[]} */
+    this.putOff = [];
+    /** @type {Question | undefined} */
+    this.shown = undefined;
+    /** @type {Element | null} */
+    this.before = null; // what had the focus
     later.addEventListener("click", () => this.recall());
   }
 
-  /** The question of a name, also one that waits or was put off. */
+  /** The question of a name, also one that waits or was put off.
+   * @type {(name: string) => Question | undefined} */
   find(name) {
     return [...this.queue, ...this.putOff].find((one) => one.name === name);
   }
 
   /** Asks `words`, with a function for each answer; null puts the question off. A question of the same name about the same
-   * thing is not asked twice; one about another thing takes its place. */
+   * thing is not asked twice; one about another thing takes its place.
+   * @type {(question: { name: string, about?: unknown, words: string, answers: Answers, focus?: boolean }) => void} */
   ask({ name, about = null, words, answers, focus = false }) {
     const known = this.find(name);
     if (!known || known.about !== about) {
@@ -26,7 +47,8 @@ export class Questions {
     if (focus) this.focus(name);
   }
 
-  /** Takes back a question that has no point any more. */
+  /** Takes back a question that has no point any more.
+   * @type {(name: string) => void} */
   withdraw(name) {
     if (!this.find(name)) return;
     this.queue = this.queue.filter((one) => one.name !== name);
@@ -34,16 +56,19 @@ export class Questions {
     this.show();
   }
 
-  /** Shows a question first, and gives it the focus. */
+  /** Shows a question first, and gives it the focus.
+   * @type {(name: string) => void} */
   focus(name) {
     const one = this.find(name);
+    if (!one) return;
     this.putOff = this.putOff.filter((other) => other !== one);
     this.queue = [one, ...this.queue.filter((other) => other !== one)];
     this.show();
     this.enter();
   }
 
-  /** Gives the focus to the question that is shown; whether there is one. */
+  /** Gives the focus to the question that is shown; whether there is one.
+   * @type {() => boolean} */
   enter() {
     const button = this.notice.querySelector("button");
     if (!button) return false;
@@ -64,7 +89,7 @@ export class Questions {
   /** Shows the first question. */
   show() {
     const [one] = this.queue;
-    this.later.hidden = !this.putOff.length;
+    hide(this.later, !this.putOff.length, this.back);
     this.later.textContent = this.putOff.length === 1 ? "1 question" : `${this.putOff.length} questions`;
     if (one !== this.shown) this.replace(one);
     const more = this.queue.length - 1;
@@ -72,6 +97,7 @@ export class Questions {
     if (count) count.textContent = more > 0 ? `${more} more ${more === 1 ? "question" : "questions"} after this` : "";
   }
 
+  /** @type {(one: Question | undefined) => void} */
   replace(one) {
     const hadFocus = this.notice.contains(document.activeElement);
     const wasShown = Boolean(this.shown);
@@ -85,6 +111,7 @@ export class Questions {
     this.notice.append(words, ...buttons, document.createElement("small"));
   }
 
+  /** @type {(one: Question, name: string, act: (() => void) | null, wasShown: boolean) => HTMLButtonElement} */
   button(one, name, act, wasShown) {
     const button = Object.assign(document.createElement("button"), { type: "button", textContent: name, disabled: wasShown });
     if (wasShown) setTimeout(() => (button.disabled = false), TOO_SOON);
@@ -102,7 +129,7 @@ export class Questions {
   leave() {
     const { before } = this;
     this.before = null;
-    const isThere = before?.isConnected && before !== document.body && !before.disabled;
+    const isThere = before instanceof HTMLElement && before.isConnected && before !== document.body && !before.matches(":disabled");
     (isThere ? before : this.back).focus({ preventScroll: true });
   }
 }

@@ -3,33 +3,64 @@
 
 import { Grid } from "./grid.js";
 import { lanesOf } from "./lanes.js";
+import { onResize } from "./resizing.js";
 import { FOOT, HEAD, SIDE, drawRoll, nameOf } from "./roll_picture.js";
 import { Shades } from "./shades.js";
+
+/** @typedef {import("./midi.js").Score} Score
+ * @typedef {import("./midi.js").Note} Note */
 
 const QUARTER = 44, NARROWEST = 8, WIDEST = 360; // pixels of a quarter note
 const LEAST_ROW = 5, MOST_ROW = 26; // pixels of a key
 const ZOOM = 1.25; // a step of the zoom
 const TOLD = 2500; // milliseconds for which a note that was touched is named
+const LOWEST = 58, HIGHEST = 74; // keys that are drawn without a tune
+/** @type {Record<string, number>} */
+const ZOOMS = { "+": 1, "=": 1, "-": -1, 0: 0 }; // by key: steps
 const DRAG = 6; // pixels that make a click a stretch
 
 export { nameOf };
 
 export class Roll {
+  /** @param {HTMLElement} scroller
+   * @param {HTMLCanvasElement} canvas */
   constructor(scroller, canvas) {
     this.scroller = scroller;
     this.canvas = canvas;
-    this.space = scroller.querySelector(".space");
+    this.space = /** @type {HTMLElement} */ (scroller.querySelector(".space"));
     this.dark = matchMedia("(prefers-color-scheme: dark)");
     this.quarter = QUARTER;
-    this.score = this.grid = this.tick = this.loop = null;
+    /** @type {Score | null} */
+    this.score = null;
+    /** @type {Grid | null} */
+    this.grid = null;
+    /** @type {number | null} */
+    this.tick = null; // of the cursor
+    /** @type {[from: number, to: number] | null} */
+    this.loop = null;
+    this.lowest = this.highest = 60; // keys that sound
+    this.low = LOWEST; // keys that are drawn
+    this.high = HIGHEST;
+    this.row = LEAST_ROW; // pixels of a key
+    /** @type {{ from: number, range: [from: number, to: number] | null } | null} */
+    this.dragged = null;
+    /** @type {number | null} */
+    this.frame = null;
+    /** @type {Map<Note, import("./lanes.js").Lane>} */
     this.lanes = new Map();
+    /** @type {Set<Note>} */
     this.pointedAt = new Set(); // notes of the caret
+    /** @type {Set<number>} */
     this.silent = new Set(); // voices
+    /** @type {(tick: number, note: Note | null) => void} */
     this.picked = () => {}; // a tick, and the note there
+    /** @type {(from: number, to: number) => void} */
     this.stretched = () => {}; // from a tick, to a tick
+    /** @type {(note: Note | null, event?: MouseEvent) => void} */
     this.pointed = () => {}; // a note or null, and where the mouse is
     this.recoloured = () => {};
-    this.shades = { name: "" };
+    /** @type {{ name: string, shades: Shades } | null} */
+    this.shades = null; // on the present grounds
     this.listen();
   }
 
@@ -38,7 +69,7 @@ export class Roll {
     scroller.addEventListener("scroll", () => this.soon());
     scroller.addEventListener("pointerdown", (event) => this.press(event));
     scroller.addEventListener("pointerup", () => this.dragged?.range && this.stretched(...this.dragged.range));
-    scroller.addEventListener("click", (event) => this.release(event));
+    scroller.addEventListener("click", (event) => this.release(/** @type {PointerEvent} */ (event)));
     scroller.addEventListener("pointermove", (event) => this.move(event));
     scroller.addEventListener("pointerleave", () => this.pointed(null));
     scroller.addEventListener("wheel", (event) => this.turn(event), { passive: false });
@@ -47,23 +78,26 @@ export class Roll {
       this.soon();
       this.recoloured();
     });
-    new ResizeObserver(() => this.measure()).observe(scroller);
+    onResize(scroller, () => this.measure());
   }
 
   /** The colours of the voices on the present background. */
   get colours() {
     const style = getComputedStyle(this.scroller);
     const grounds = ["paper", "row", "loop"].map((name) => style.getPropertyValue(`--${name}`).trim() || "#ffffff");
-    if (this.shades.name !== grounds.join()) this.shades = { name: grounds.join(), shades: new Shades(grounds) };
+    const name = grounds.join();
+    if (this.shades?.name !== name) this.shades = { name, shades: new Shades(grounds) };
     return this.shades.shades;
   }
 
-  /** The colour of a voice. */
+  /** The colour of a voice.
+   * @type {(voice: number) => string} */
   colour(voice) {
     return this.colours.of(voice);
   }
 
-  /** Draws another score, or none, with its bars and beats. */
+  /** Draws another score, or none, with its bars and beats.
+   * @type {(score: Score | null, grid?: Grid | null) => void} */
   show(score, grid = score && Grid.ofMeters(score)) {
     const notes = score?.notes ?? [];
     this.grid = grid;
@@ -72,36 +106,41 @@ export class Roll {
       this.lanes = lanesOf(notes);
       this.lowest = notes.reduce((key, note) => Math.min(key, note.key), 127);
       this.highest = notes.reduce((key, note) => Math.max(key, note.key), 0);
-      [this.low, this.high] = notes.length ? [this.lowest - 1, this.highest + 1] : [58, 74];
+      this.low = notes.length ? this.lowest - 1 : LOWEST;
+      this.high = notes.length ? this.highest + 1 : HIGHEST;
     }
     this.measure();
   }
 
   /** How high the row of a key is, and how far the roll scrolls. */
   measure() {
-    const keys = (this.high ?? 74) - (this.low ?? 58) + 1, room = this.scroller.clientHeight - HEAD - FOOT;
+    const keys = this.high - this.low + 1, room = this.scroller.clientHeight - HEAD - FOOT;
     this.row = Math.max(LEAST_ROW, Math.min(MOST_ROW, room / keys));
     this.space.style.width = this.score ? `${this.along(this.score.end) + 24}px` : "0";
     this.space.style.height = this.score ? `${HEAD + FOOT + Math.floor(keys * this.row)}px` : "0";
     this.soon();
   }
 
-  /** How far from the left end a tick is. */
+  /** How far from the left end a tick is.
+   * @type {(tick: number) => number} */
   along(tick) {
-    return SIDE + (tick / this.score.division) * this.quarter;
+    return this.score ? SIDE + (tick / this.score.division) * this.quarter : SIDE;
   }
 
-  /** How far below the top end the row of a key is. */
+  /** How far below the top end the row of a key is.
+   * @type {(key: number) => number} */
   down(key) {
     return HEAD + (this.high - key) * this.row;
   }
 
-  /** The tick at a number of pixels from the left end. */
+  /** The tick at a number of pixels from the left end.
+   * @type {(x: number) => number} */
   tickAt(x) {
-    return Math.max(0, Math.min(this.score.end, ((x - SIDE) / this.quarter) * this.score.division));
+    return this.score ? Math.max(0, Math.min(this.score.end, ((x - SIDE) / this.quarter) * this.score.division)) : 0;
   }
 
-  /** Makes the roll wider or narrower; what is at a number of pixels in the view stays there. */
+  /** Makes the roll wider or narrower; what is at a number of pixels in the view stays there.
+   * @type {(steps: number, at?: number) => void} */
   zoom(steps, at = this.middle()) {
     if (!this.score) return;
     const tick = this.tickAt(this.scroller.scrollLeft + at);
@@ -117,7 +156,8 @@ export class Roll {
     return x >= SIDE && x <= wide ? x : wide / 2;
   }
 
-  /** Puts the cursor at a tick, or takes it away; it is kept in view. */
+  /** Puts the cursor at a tick, or takes it away; it is kept in view.
+   * @type {(tick: number | null) => void} */
   cursor(tick) {
     this.tick = tick;
     if (tick !== null && this.score) {
@@ -127,22 +167,25 @@ export class Roll {
     this.soon();
   }
 
-  /** Where in the roll an event is, and the note there: the one that is drawn last. */
+  /** Where in the roll an event is, and the note there: the one that is drawn last.
+   * @type {(event: MouseEvent) => { x: number, tick: number, note: Note | null, isHead: boolean }} */
   under(event) {
     const { left, top } = this.scroller.getBoundingClientRect();
     const [seenX, seenY] = [event.clientX - left, event.clientY - top];
     const [x, y] = [seenX + this.scroller.scrollLeft, seenY + this.scroller.scrollTop];
-    const note = seenX < SIDE || seenY < HEAD ? undefined : this.score.notes.findLast((one) => this.covers(one, x, y));
+    const note = seenX < SIDE || seenY < HEAD ? undefined : this.score?.notes.findLast((one) => this.covers(one, x, y));
     return { x, tick: this.tickAt(x), note: note ?? null, isHead: seenY < HEAD };
   }
 
-  /** Whether a note is drawn at a place; a short one is as wide as a finger of the mouse. */
+  /** Whether a note is drawn at a place; a short one is as wide as a finger of the mouse.
+   * @type {(note: Note, x: number, y: number) => boolean} */
   covers(note, x, y) {
     const { lane, of } = this.lanes.get(note) ?? { lane: 0, of: 1 };
     const top = this.down(note.key) + (lane * this.row) / of;
     return y >= top && y < top + this.row / of && x >= this.along(note.start) && x < Math.max(this.along(note.end), this.along(note.start) + 3);
   }
 
+  /** @type {(event: PointerEvent) => void} */
   press(event) {
     this.dragged = null;
     if (!this.score || event.pointerType === "touch" || event.button !== 0) return;
@@ -152,24 +195,29 @@ export class Roll {
     this.scroller.setPointerCapture(event.pointerId);
   }
 
-  /** The mouse points at a note, or draws a stretch along the numbers of the bars. */
+  /** The mouse points at a note, or draws a stretch along the numbers of the bars.
+   * @type {(event: PointerEvent) => void} */
   move(event) {
     if (!this.score) return;
     if (this.dragged && event.buttons & 1) this.stretch(this.under(event).x);
     else if (event.pointerType !== "touch") this.pointed(this.under(event).note, event);
   }
 
-  /** Shows the stretch up to where the mouse is. It begins and ends with a beat. */
+  /** Shows the stretch up to where the mouse is. It begins and ends with a beat.
+   * @type {(x: number) => void} */
   stretch(x) {
+    if (!this.dragged || !this.grid) return;
     const [from, to] = [this.dragged.from, x].sort((a, b) => a - b);
     if (to - from < DRAG) return;
+    /** @type {[from: number, to: number]} */
     const range = [this.grid.before(this.tickAt(from) + 1, false), this.grid.after(this.tickAt(to) - 1, false)];
     if (range[0] >= range[1]) return;
     this.dragged.range = this.loop = range;
     this.soon();
   }
 
-  /** Someone points at a moment or at a note. */
+  /** Someone points at a moment or at a note.
+   * @type {(event: PointerEvent) => void} */
   release(event) {
     if (!this.score || this.dragged?.range) return;
     const { tick, note } = this.under(event);
@@ -178,25 +226,30 @@ export class Roll {
     this.picked(note ? note.start : tick, note);
   }
 
-  /** The wheel zooms while Ctrl is held. */
+  /** The wheel zooms while Ctrl is held.
+   * @type {(event: WheelEvent) => void} */
   turn(event) {
     if (!event.ctrlKey) return;
     event.preventDefault();
     this.zoom(event.deltaY < 0 ? 1 : -1, event.clientX - this.scroller.getBoundingClientRect().left);
   }
 
-  /** Keys move the cursor by beats and by bars, and zoom. */
+  /** Keys move the cursor by beats and by bars, and zoom.
+   * @type {(event: KeyboardEvent) => void} */
   key(event) {
-    if (!this.score || event.altKey) return;
+    const { score, grid } = this;
+    if (!score || !grid || event.altKey) return;
     const tick = this.tick ?? 0, byBar = event.ctrlKey || event.metaKey || event.shiftKey;
-    const to = {
-      ArrowRight: () => this.grid.after(tick, byBar),
-      ArrowLeft: () => this.grid.before(tick, byBar),
+    /** @type {Record<string, () => number>} */
+    const moves = {
+      ArrowRight: () => grid.after(tick, byBar),
+      ArrowLeft: () => grid.before(tick, byBar),
       Home: () => 0,
-      End: () => this.grid.before(this.score.end, true),
-    }[event.key]?.();
-    const steps = event.ctrlKey || event.metaKey ? undefined : { "+": 1, "=": 1, "-": -1, 0: 0 }[event.key];
-    if (to !== undefined) this.picked(Math.min(to, this.score.end), null);
+      End: () => grid.before(score.end, true),
+    };
+    const to = moves[event.key]?.();
+    const steps = event.ctrlKey || event.metaKey ? undefined : ZOOMS[event.key];
+    if (to !== undefined) this.picked(Math.min(to, score.end), null);
     else if (steps !== undefined) this.zoom(steps);
     else return;
     event.preventDefault();

@@ -20,7 +20,16 @@
 // The element that is given has the attribute `aria-busy` while a drawing is asked for, and `document.body.dataset.score` is
 // "missing" if there is no `abcm2ps`.
 
+import { onResize } from "./resizing.js";
 import { laidOut } from "./score_tree.js";
+
+/** The tune that is to be drawn.
+ * @typedef {{ first: number, lines: string[], header: string[] }} DrawnTune
+ * What the server answers: the drawing, why there is none, a note about it, whether `abcm2ps` is missing.
+ * @typedef {{ images?: import("./score_tree.js").Node[], why?: string, note?: string, missing?: boolean }} Answer
+ * @typedef {import("./score_tree.js").Page} Page
+ * @typedef {import("./selection.js").Place} Place
+ * @typedef {Element & { note?: Note }} Cover the element of a note */
 
 const REST = 200; // milliseconds after the last key
 const BETWEEN = 50; // milliseconds between pages that are not seen
@@ -32,38 +41,59 @@ const PRECEDES = /^(?!%%)[ \t]*(?:%|$)/; // a comment or a blank line, which may
 const LENGTH = /(?:[_^=]{0,2}[A-Ga-gxyzXZ][',]*|\[[^\]|]*\])\d*\/*\d*|/y; // of a note, a rest or a chord
 
 export class Score {
-  /** `ask` asks the server for a drawing: it gives the answer, or throws. */
+  /** `ask` asks the server for a drawing: it gives the answer, or throws.
+   * @param {HTMLElement} view
+   * @param {(question: { header: string[], tune: string[], width: number | null }) => Promise<Answer>} ask */
   constructor(view, ask) {
     this.view = view;
     this.ask = ask;
+    /** @type {DrawnTune | null} */
     this.seen = null; // the tune that is to be drawn
+    /** @type {DrawnTune | null} */
     this.shown = null; // the one that is drawn
+    /** @type {Note[]} */
     this.notes = [];
+    /** @type {Map<number, Note[]>} */
     this.rows = new Map(); // the notes of each line of the tune, by its number
+    /** @type {Page[]} */
     this.pages = []; // the parts of the score, some of which may not be in the page yet
+    /** @type {Set<Note>} */
     this.lit = new Set();
+    /** @type {Note | undefined} */
+    this.here = undefined; // the note of the caret
+    /** @type {number | null} */
+    this.frame = null;
+    /** @type {ReturnType<typeof setTimeout> | undefined} */
+    this.timer = undefined;
     this.width = 0; // that was asked for last
     this.isFailed = false; // the server did not answer
     this.asking = false;
     this.at = { line: -1, column: 0 }; // the caret
     this.doubts = Object.assign(document.createElement("p"), { className: "doubt", textContent: DOUBT });
     this.drawn = () => {};
+    /** @type {(line: number, column: number) => void} */
     this.picked = () => {};
+    /** @type {(tune: DrawnTune) => boolean} */
     this.hasFaults = () => false;
-    view.addEventListener("click", ({ target }) => target.note && this.picked(target.note.line, target.note.column));
+    view.addEventListener("click", ({ target }) => {
+      const { note } = /** @type {Cover} */ (target);
+      if (note) this.picked(note.line, note.column);
+    });
     document.addEventListener("visibilitychange", () => this.shown !== this.seen && this.soon());
-    new ResizeObserver(() => this.seen && Math.abs(this.room() - this.width) >= LEAST && this.soon()).observe(view);
+    onResize(view, () => this.seen && Math.abs(this.room() - this.width) >= LEAST && this.soon());
   }
 
+  /** @type {(tune: DrawnTune | null) => void} */
   see(tune) {
     if (isSame(tune, this.seen)) {
-      if (tune) this.seen.first = tune.first;
+      if (tune && this.seen) this.seen.first = tune.first;
       if (!this.isFailed) return;
     }
     this.seen = tune;
     this.soon();
   }
 
+  /** @type {(place: Place) => void} */
   caret(place) {
     this.at = place;
     this.frame ??= requestAnimationFrame(() => {
@@ -72,6 +102,7 @@ export class Score {
     });
   }
 
+  /** @type {(places: Place[], scroll?: boolean) => void} */
   mark(places, scroll = false) {
     const lit = new Set(places.flatMap((place) => this.noteAt(place, true) ?? []));
     for (const note of this.lit) if (!lit.has(note)) note.element.classList.remove("score-lit");
@@ -87,17 +118,18 @@ export class Score {
   /** Another tune that is to be drawn leaves the words as they are till it is there. */
   doubt() {
     if (this.shown !== this.seen) return;
-    if (this.notes.length && this.hasFaults(this.shown)) this.view.append(this.doubts);
+    if (this.shown && this.notes.length && this.hasFaults(this.shown)) this.view.append(this.doubts);
     else this.doubts.remove();
   }
 
   async print() {
-    const answer = this.seen && this.notes.length ? await this.ask({ ...this.lines(), width: null }).catch(() => null) : null;
+    const answer = this.seen && this.notes.length ? await this.ask({ ...linesOf(this.seen), width: null }).catch(() => null) : null;
     if (answer?.images) this.layOut(answer.images);
     window.print();
   }
 
-  /** Lays out pages of paper, which are there till they are printed. */
+  /** Lays out pages of paper, which are there till they are printed.
+   * @type {(images: import("./score_tree.js").Node[]) => void} */
   layOut(images) {
     document.getElementById("paper")?.remove();
     const paper = Object.assign(document.createElement("div"), { id: "paper" });
@@ -110,11 +142,6 @@ export class Score {
       paper.remove();
       delete document.body.dataset.paper;
     }, { once: true });
-  }
-
-  /** The lines that the server draws. */
-  lines() {
-    return { header: this.seen.header, tune: this.seen.lines };
   }
 
   /** How many pixels wide a drawing may be. */
@@ -136,32 +163,35 @@ export class Score {
     if (!tune) return this.show({ images: [] }, null);
     this.wait(true);
     this.width = this.room();
-    const answer = await this.ask({ ...this.lines(), width: this.width }).catch(() => null);
+    const answer = await this.ask({ ...linesOf(tune), width: this.width }).catch(() => null);
     this.wait(false);
     this.isFailed = !answer;
     if (answer && this.seen === tune) this.show(answer, tune);
   }
 
-  /** Waits for an answer, or does so no more. */
+  /** Waits for an answer, or does so no more.
+   * @type {(asking: boolean) => void} */
   wait(asking) {
     this.asking = asking;
-    this.view.ariaBusy = String(asking);
+    this.view.setAttribute("aria-busy", String(asking));
   }
 
-  /** Shows a drawing, or why there is none. */
-  show({ images = [], why = "", missing = false }, tune) {
+  /** Shows a drawing with a note below it, or why there is none.
+   * @type {(answer: Answer, tune: DrawnTune | null) => void} */
+  show({ images = [], why = "", note = "", missing = false }, tune) {
     this.shown = tune;
     this.lit = new Set();
     const { pages, places } = laidOut(images);
-    this.notes = places.map((place) => new Note(tune, place));
+    this.notes = tune ? places.map((place) => new Note(tune, place)) : [];
     this.rows = new Map();
     for (const note of this.notes) {
-      if (!this.rows.has(note.row)) this.rows.set(note.row, []);
-      this.rows.get(note.row).push(note);
-      note.element.note = note;
+      const those = this.rows.get(note.row) ?? [];
+      those.push(note);
+      this.rows.set(note.row, those);
+      /** @type {Cover} */ (note.element).note = note;
     }
-    const told = Object.assign(document.createElement("p"), { className: "why", textContent: why });
-    this.view.replaceChildren(...(why ? [told] : pages.map(({ element }) => element)));
+    const told = Object.assign(document.createElement("p"), { className: "why", textContent: why || note });
+    this.view.replaceChildren(...(why ? [] : pages.map(({ element }) => element)), ...(why || note ? [told] : []));
     this.fill(pages);
     document.body.dataset.score = missing ? "missing" : "here";
     this.markCaret();
@@ -169,10 +199,12 @@ export class Score {
     this.drawn();
   }
 
-  /** Fills the pages that are seen, and the others one after another, so that no key waits long. */
+  /** Fills the pages that are seen, and the others one after another, so that no key waits long.
+   * @type {(pages: Page[]) => void} */
   fill(pages) {
     this.pages = pages;
     const { top, bottom } = this.view.getBoundingClientRect();
+    /** @type {Page[]} */
     const later = [];
     for (const page of pages) {
       const place = page.element.getBoundingClientRect();
@@ -181,18 +213,20 @@ export class Score {
     }
     const next = () => {
       if (this.pages !== pages || !later.length) return;
-      later.shift().fill();
+      later.shift()?.fill();
       setTimeout(next, BETWEEN);
     };
     setTimeout(next, BETWEEN);
   }
 
   /** The last note of a line that begins at a place or before it, or undefined; one that ends before it does not count if the
-   * place is to be inside. */
+   * place is to be inside.
+   * @type {(place: Place, inside: boolean) => Note | undefined} */
   noteAt({ line, column }, inside) {
+    /** @type {Note | undefined} */
     let found;
-    for (const note of this.rows.get(line - this.shown?.first) ?? []) {
-      if (note.column <= column && !(found?.column > note.column)) found = note;
+    for (const note of (this.shown && this.rows.get(line - this.shown.first)) ?? []) {
+      if (note.column <= column && !(found && found.column > note.column)) found = note;
     }
     return inside && found && column >= found.column + found.length ? undefined : found;
   }
@@ -207,7 +241,8 @@ export class Score {
     if (here) this.reveal(here);
   }
 
-  /** Scrolls no farther than a note wants to be seen. */
+  /** Scrolls no farther than a note wants to be seen.
+   * @type {(note: Note) => void} */
   reveal({ page, element }) {
     page.fill();
     const { top, bottom } = element.getBoundingClientRect(), view = this.view.getBoundingClientRect();
@@ -218,9 +253,15 @@ export class Score {
 
 /** A note of a drawn tune: its line moves with the tune. */
 class Note {
-  constructor(tune, place) {
+  /** @param {DrawnTune} tune
+   * @param {import("./score_tree.js").DrawnPlace} place */
+  constructor(tune, { row, column, kind, element, page }) {
     this.tune = tune;
-    Object.assign(this, place); // row, column, kind, element, page
+    this.row = row;
+    this.column = column;
+    this.kind = kind;
+    this.element = element;
+    this.page = page;
   }
 
   get line() {
@@ -229,11 +270,18 @@ class Note {
 
   get length() {
     LENGTH.lastIndex = this.column;
-    return LENGTH.exec(this.tune.lines[this.row])[0].length;
+    return LENGTH.exec(this.tune.lines[this.row])?.[0].length ?? 0;
   }
 }
 
-/** The tune of a row, up to the first blank line, with the file header; null if there is no such row. */
+/** The lines that the server draws.
+ * @type {(tune: DrawnTune) => { header: string[], tune: string[] }} */
+function linesOf({ header, lines }) {
+  return { header, tune: lines };
+}
+
+/** The tune of a row, up to the first blank line, with the file header; null if there is no such row.
+ * @type {(lines: string[], rows: import("./rows.js").TuneRow[], at: number) => DrawnTune | null} */
 export function tuneOf(lines, rows, at) {
   if (at < 0) return null;
   const [first] = rows[at];
@@ -242,7 +290,8 @@ export function tuneOf(lines, rows, at) {
   return { first, lines: run(lines, first, rows[at + 1]?.[0] ?? lines.length), header: run(lines, top, rows[0][0]) };
 }
 
-/** The lines from one place to another, up to the first blank one. */
+/** The lines from one place to another, up to the first blank one.
+ * @type {(lines: string[], from: number, to: number) => string[]} */
 function run(lines, from, to) {
   const most = Math.min(to, from + MOST_LINES);
   let end = from;
@@ -250,12 +299,14 @@ function run(lines, from, to) {
   return lines.slice(from, end);
 }
 
-/** Whether two tunes are drawn alike. */
+/** Whether two tunes are drawn alike.
+ * @type {(one: DrawnTune | null, other: DrawnTune | null) => boolean} */
 function isSame(one, other) {
   if (!one || !other) return one === other;
   return areSame(one.lines, other.lines) && areSame(one.header, other.header);
 }
 
+/** @type {(some: string[], others: string[]) => boolean} */
 function areSame(some, others) {
   return some.length === others.length && some.every((line, n) => line === others[n]);
 }

@@ -1,5 +1,10 @@
 // Elements of a drawing, made one by one of what the server sends: those that are listed here, with attributes that are listed
-// here. No text is ever read as markup.
+// here. No text is ever read as markup. score_markup.py makes what the server sends.
+
+/** A node of a drawing, as the server sends it: its tag, its attributes, and what is in it; or a text.
+ * @typedef {[tag: string, attributes: Record<string, any>, ...inside: any[]]} Node
+ * @typedef {string | Node} Content
+ * @typedef {{ element: SVGElement, row: number, column: number, kind: string, page: Page }} DrawnPlace */
 
 const SVG = "http://www.w3.org/2000/svg";
 const TAGS = new Set(["g", "defs", "path", "ellipse", "circle", "line", "rect", "text", "tspan", "use"]);
@@ -9,15 +14,19 @@ const ATTRIBUTES = new Set([
 ]);
 
 /** An image of a drawing: its element is there at once, what is in it when it is filled. */
-class Page {
+export class Page {
+  /** @param {Node} node
+   * @param {DrawnPlace[]} places */
   constructor([, attributes, ...inside], places) {
     this.inside = inside;
+    /** @type {Map<Content, SVGElement>} */
     this.covers = new Map(); // by the node of a note: the element that covers it
     this.element = made("svg", attributes);
     this.cover(inside, places);
   }
 
-  /** Makes the elements that cover notes. */
+  /** Makes the elements that cover notes.
+   * @type {(nodes: Content[], places: DrawnPlace[]) => void} */
   cover(nodes, places) {
     for (const node of nodes) {
       const [tag, attributes, ...inside] = node;
@@ -38,13 +47,17 @@ class Page {
     this.inside = [];
   }
 
+  /** @type {(nodes: Content[]) => (string | SVGElement)[]} */
   contents(nodes) {
-    return nodes.map((node) => this.content(node)).filter((child) => child !== null);
+    return nodes.flatMap((node) => this.content(node) ?? []);
   }
 
-  /** A text, or the element of a node; null if it is not to be shown. */
+  /** A text, or the element of a node; null if it is not to be shown.
+   * @type {(node: Content) => string | SVGElement | null} */
   content(node) {
-    if (typeof node === "string" || this.covers.has(node)) return this.covers.get(node) ?? node;
+    if (typeof node === "string") return node;
+    const cover = this.covers.get(node);
+    if (cover) return cover;
     const [tag, attributes, ...inside] = node;
     if (!TAGS.has(tag)) return null;
     const element = made(tag, attributes);
@@ -53,7 +66,8 @@ class Page {
   }
 }
 
-/** An element, with those of its attributes that are known. */
+/** An element, with those of its attributes that are known.
+ * @type {(tag: string, attributes: Record<string, any>) => SVGElement} */
 function made(tag, attributes) {
   const element = document.createElementNS(SVG, tag);
   for (const [name, value] of Object.entries(attributes)) {
@@ -62,8 +76,10 @@ function made(tag, attributes) {
   return element;
 }
 
-/** The pages of a drawing, not filled yet; and the places of its notes, each with its page and the element that covers it. */
+/** The pages of a drawing, not filled yet; and the places of its notes, each with its page and the element that covers it.
+ * @type {(images: Node[]) => { pages: Page[], places: DrawnPlace[] }} */
 export function laidOut(images) {
+  /** @type {DrawnPlace[]} */
   const places = [];
   const pages = images.filter(([tag]) => tag === "svg").map((image) => new Page(image, places));
   return { pages, places };

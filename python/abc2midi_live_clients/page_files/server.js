@@ -3,10 +3,14 @@
 
 const PATIENCE = 5000; // milliseconds for a proof
 const SILENCE = 8000; // milliseconds without a word, after which the server counts as lost: it says one every three seconds
+/** @type {{ timeout: (milliseconds: number) => AbortSignal }} */
+const signals = /** @type {any} */ (AbortSignal); // the types of an older compiler lack `timeout`
 const NO_ANSWER = "it does not answer";
 
 export class Server {
-  /** `key` is the secret of the book, which came with the page. */
+  /** `key` is the secret of the book, which came with the page.
+   * @param {{ pathname: string, port: string }} location
+   * @param {string} key */
   constructor({ pathname, port }, key) {
     this.token = pathname.split("/")[1];
     this.port = port || "80";
@@ -20,26 +24,33 @@ export class Server {
     return Boolean(this.key && globalThis.crypto?.subtle);
   }
 
-  /** The address of a name. */
+  /** The address of a name.
+   * @type {(name: string) => string} */
   address(name) {
     return `/${this.token}/${name}`;
   }
 
-  /** Asks the server; its answer, or an error with its status. */
+  /** Asks the server; its answer, or an error with its status.
+   * @param {string} name
+   * @param {object} [body]
+   * @returns {Promise<any>} */
   async ask(name, body) {
     const answer = await fetchOrFail(this.address(name), this.lost.signal, body && { method: "POST", body: JSON.stringify(body) });
     return objectOf(answer);
   }
 
-  /** The bytes of a file, or null. */
+  /** The bytes of a file, or null.
+   * @type {(name: string) => Promise<ArrayBuffer | null>} */
   async bytes(name) {
     const answer = await fetchOrFail(this.address(name), this.lost.signal);
     return answer.ok ? answer.arrayBuffer() : null;
   }
 
-  /** Hears the objects that the server sends, one after another; throws when it says no more, which also aborts `control`. */
+  /** Hears the objects that the server sends, one after another; throws when it says no more, which also aborts `control`.
+   * @type {(name: string, control: AbortController, heard: (news: any) => void) => Promise<void>} */
   async hear(name, control, heard) {
-    let timer = null;
+    /** @type {ReturnType<typeof setTimeout> | undefined} */
+    let timer = undefined;
     const wait = () => {
       clearTimeout(timer);
       timer = setTimeout(() => control.abort(), SILENCE);
@@ -48,17 +59,18 @@ export class Server {
     try {
       const answer = await fetchOrFail(this.address(name), control.signal);
       if (!answer.ok) await objectOf(answer);
+      if (!answer.body) throw new Error(NO_ANSWER);
       const reader = answer.body.pipeThrough(new TextDecoderStream()).getReader();
       for (let rest = ""; ; ) {
         const { done, value } = await reader.read();
         if (done) throw new Error(NO_ANSWER);
         wait();
         const lines = (rest + value).split("\n");
-        rest = lines.pop();
+        rest = lines.pop() ?? "";
         for (const line of lines) if (line && !control.signal.aborted) heard(JSON.parse(line));
       }
     } catch (error) {
-      throw error.status ? error : new Error(NO_ANSWER);
+      throw statusOf(error) ? error : new Error(NO_ANSWER);
     } finally {
       clearTimeout(timer);
       control.abort();
@@ -79,7 +91,7 @@ export class Server {
     const { run, proof } = await askWithoutToken(`/proof/${nonce}`);
     if (!/^[0-9a-f]{16}$/.test(run) || !/^[0-9a-f]{64}$/.test(proof)) throw stranger();
     const key = await crypto.subtle.importKey("raw", bytes(this.key), { name: "HMAC", hash: "SHA-256" }, false, ["sign", "verify"]);
-    const message = (who) => new TextEncoder().encode(`${who} ${this.port} ${run} ${nonce}`);
+    const message = (/** @type {string} */ who) => new TextEncoder().encode(`${who} ${this.port} ${run} ${nonce}`);
     if (!(await crypto.subtle.verify("HMAC", key, bytes(proof), message("server")))) throw stranger();
     const own = hex(new Uint8Array(await crypto.subtle.sign("HMAC", key, message("page"))));
     const { token } = await askWithoutToken(`/proof/${nonce}/${own}`);
@@ -89,27 +101,38 @@ export class Server {
   }
 }
 
-/** Asks without a token. */
+/** Asks without a token. Who answers something else is a stranger; an answer that does not come to its end is none.
+ * @type {(path: string) => Promise<any>} */
 async function askWithoutToken(path) {
-  const answer = await fetchOrFail(path, AbortSignal.timeout(PATIENCE));
-  try {
-    return { ...(await objectOf(answer)) };
-  } catch {
-    throw stranger();
-  }
+  const answer = await fetchOrFail(path, signals.timeout(PATIENCE));
+  const object = await answer.json().catch((error) => {
+    throw error instanceof SyntaxError ? stranger() : new Error(NO_ANSWER);
+  });
+  if (!answer.ok) throw stranger();
+  return { ...object };
+}
+
+/** The status of an answer that was an error, undefined if there was no answer.
+ * @type {(error: unknown) => number | undefined} */
+export function statusOf(error) {
+  return error instanceof Error && "status" in error ? /** @type {{ status: number }} */ (error).status : undefined;
 }
 
 function stranger() {
   return new Error("another program has its port. Nothing is sent to that one; do not load this page anew");
 }
 
+/** @param {string} path
+ * @param {AbortSignal} signal
+ * @param {RequestInit} [options] */
 async function fetchOrFail(path, signal, options) {
   return fetch(path, { ...options, signal, redirect: "error" }).catch(() => {
     throw new Error(NO_ANSWER);
   });
 }
 
-/** The object of an answer. */
+/** The object of an answer.
+ * @type {(answer: Response) => Promise<any>} */
 async function objectOf(answer) {
   const object = await answer.json().catch(() => {
     throw new Error(NO_ANSWER);
@@ -118,5 +141,6 @@ async function objectOf(answer) {
   return object;
 }
 
+/** @type {(numbers: Uint8Array) => string} */
 const hex = (numbers) => [...numbers].map((number) => number.toString(16).padStart(2, "0")).join("");
-const bytes = (digits) => Uint8Array.from(digits.match(/../g), (pair) => parseInt(pair, 16));
+const bytes = (/** @type {string} */ digits) => Uint8Array.from(digits.match(/../g) ?? [], (pair) => parseInt(pair, 16));

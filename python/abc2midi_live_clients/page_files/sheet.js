@@ -1,27 +1,56 @@
 // The text box. A text area has the lines about those that are seen, and no others, so that a long book is as quick as
 // a short one. Line numbers are beside it; marks of faults and the layers of other modules are below it.
 
-import { difference } from "./text.js";
+import { difference } from "./lines.js";
+import { onResize } from "./resizing.js";
+import { movedSelection } from "./selection.js";
+
+/** @typedef {import("./selection.js").Place} Place
+ * @typedef {import("./selection.js").Selection} Selection
+ * @typedef {import("./lines.js").Replacement} Replacement
+ * @typedef {import("./rows.js").FaultRow} FaultRow
+ * A mark in the text, with its fault.
+ * @typedef {HTMLElement & { fault: FaultRow }} Mark */
 
 const MARGIN = 100; // lines above and below those that are seen
 const EDGE = 6; // lines that the caret keeps from the edge of the area
 const ROOM = 8; // pixels above the first line and below the last
 
 export class Sheet {
+  /** @param {import("./text.js").Text} text
+   * @param {ParentNode} root */
   constructor(text, root) {
+    const part = (/** @type {string} */ name) => /** @type {HTMLElement} */ (root.querySelector(name));
     this.text = text;
-    this.scroller = root.querySelector(".scroller");
-    [this.view, this.paper, this.leaf, this.numbers, this.marks, this.here, this.area] = [
-      ".view", ".paper", ".leaf", ".numbers", ".marks", ".here", "textarea",
-    ].map((name) => root.querySelector(name));
+    this.scroller = part(".scroller");
+    this.view = part(".view");
+    this.paper = part(".paper");
+    this.leaf = part(".leaf");
+    this.numbers = part(".numbers");
+    this.marks = part(".marks");
+    this.here = part(".here");
+    this.area = /** @type {HTMLTextAreaElement} */ (part("textarea"));
+    /** @type {{ draw: (first: number, last: number) => void }[]} */
     this.layers = []; // each draws the lines about those that are seen: draw(first, last)
     this.first = this.last = 0;
+    /** @type {[first: number, last: number]} */
     this.drawn = [0, 0]; // the lines that the layers have drawn
+    /** @type {Selection | null} */
     this.away = null; // the selection, while its lines are not in the area
+    /** @type {(first: number, last: number) => FaultRow[]} */
     this.faultsOf = () => []; // from a line, to a line
+    /** @type {(line: number) => void} */
     this.moved = () => {}; // the caret is in another line, or lines became others
+    /** @type {(place: Place) => void} */
     this.placed = () => {}; // the place of the caret
+    /** @type {(faults: FaultRow[], event?: PointerEvent) => void} */
     this.pointed = () => {};
+    /** @type {Selection | null} */
+    this.before_input = null; // the selection before what is typed
+    this.composing = false; // the browser composes a letter: the area is left alone
+    /** @type {(isComposing: boolean) => void} */
+    this.composed = () => {}; // a letter is composed, or no more
+    this.changed = false; // since the caret was watched last
     this.line = -1;
     this.high = 0; // of the view
     this.height = parseFloat(getComputedStyle(this.area).lineHeight);
@@ -30,10 +59,14 @@ export class Sheet {
 
   listen() {
     const area = this.area;
+    this.text.followed = (edit) => this.follow(edit);
+    this.text.selected = () => this.selection();
     this.scroller.addEventListener("scroll", () => this.look());
-    new ResizeObserver(() => this.resize()).observe(this.scroller);
+    onResize(this.scroller, () => this.resize());
     area.addEventListener("input", () => this.read());
-    area.addEventListener("compositionend", () => this.look());
+    area.addEventListener("compositionstart", () => this.compose(true));
+    area.addEventListener("compositionend", () => this.compose(false));
+    area.addEventListener("blur", () => this.compose(false));
     area.addEventListener("beforeinput", (event) => this.before(event));
     area.addEventListener("keydown", (event) => this.key(event));
     area.addEventListener("pointerdown", () => this.here_again());
@@ -49,30 +82,32 @@ export class Sheet {
     document.addEventListener("selectionchange", () => this.watch());
   }
 
-  /** The lines that are seen: from, to. */
+  /** The lines that are seen: from, to.
+   * @type {() => [first: number, last: number]} */
   seen() {
     const first = Math.max(0, Math.floor((this.scroller.scrollTop - ROOM) / this.height));
     return [first, first + Math.ceil(this.scroller.clientHeight / this.height) + 1];
   }
 
-  /** The place of an offset in the area. */
+  /** The place of an offset in the area.
+   * @type {(offset: number) => Place} */
   place(offset) {
     const before = this.area.value.slice(0, offset);
     return { line: this.first + before.split("\n").length - 1, column: offset - before.lastIndexOf("\n") - 1 };
   }
 
-  /** The offset of a place in the area. */
+  /** The offset of a place in the area.
+   * @type {(place: Place) => number} */
   offset({ line, column }) {
     let offset = 0;
     for (let n = this.first; n < line; n += 1) offset += this.text.lines[n].length + 1;
     return offset + Math.min(column, this.text.lines[line].length);
   }
 
-  /** Where the selection begins and ends, and its direction. */
+  /** Where the selection begins and ends, and its direction.
+   * @type {() => Selection} */
   selection() {
-    if (this.away) return this.away;
-    const { selectionStart, selectionEnd, selectionDirection } = this.area;
-    return { start: this.place(selectionStart), end: this.place(selectionEnd), direction: selectionDirection };
+    return this.away ?? this.typed();
   }
 
   /** The place of the caret. */
@@ -81,7 +116,8 @@ export class Sheet {
     return direction === "backward" ? start : end;
   }
 
-  /** Puts these lines into the area, and those that are selected if they are several. */
+  /** Puts these lines into the area, and those that are selected if they are several.
+   * @type {(first: number, last: number, selection?: Selection) => void} */
   load(first, last, selection = this.selection()) {
     const lines = this.text.lines;
     const { start, end, direction } = within(selection, lines);
@@ -96,7 +132,7 @@ export class Sheet {
     this.before_input = null;
     this.away = inside ? null : { start, end, direction };
     this.area.classList.toggle("away", !inside);
-    if (inside) this.area.setSelectionRange(this.offset(start), this.offset(end), direction);
+    if (inside) this.area.setSelectionRange(this.offset(start), this.offset(end), /** @type {"forward" | "backward"} */ (direction));
     else this.area.setSelectionRange(0, 0);
     this.draw();
   }
@@ -132,12 +168,46 @@ export class Sheet {
     this.view.classList.toggle("wide", scrollWidth - clientWidth - scrollLeft > 4);
   }
 
-  /** The lines were changed from elsewhere. */
+  /** The browser begins to compose a letter, or ends it. What it composed is read before anything else comes into the area.
+   * @type {(isComposing: boolean) => void} */
+  compose(isComposing) {
+    if (isComposing === this.composing) return;
+    if (!isComposing) this.read();
+    this.composing = isComposing;
+    this.composed(isComposing);
+    if (!isComposing) this.look();
+  }
+
+  /** Lines became others elsewhere. The selection stays with its text, and the lines that are seen stay where they are.
+   * @type {(edit: Replacement) => void} */
+  follow(edit) {
+    const selection = this.selection(), [top, bottom] = this.seen(), { line } = this.caret();
+    const more = edit.put.length - edit.taken.length;
+    this.stretch();
+    if (edit.start + edit.taken.length <= top) this.scroller.scrollTop += more * this.height;
+    const [first, last] = this.seen();
+    this.load(first - MARGIN, last + MARGIN, movedSelection(selection, edit));
+    if (top <= line && line < bottom) this.reveal(this.caret().line);
+    this.watch();
+  }
+
+  /** The lines were changed from elsewhere.
+   * @type {(selection: Selection) => void} */
   refresh(selection) {
     const [first, last] = this.seen();
     this.load(first - MARGIN, last + MARGIN, selection);
     if (selection) this.reveal(this.caret().line);
     this.watch();
+  }
+
+  /** Replaces lines in a step of its own, with the caret after them.
+   * @type {(edit: import("./lines.js").Replacement) => void} */
+  replace(edit) {
+    const place = { line: edit.start + edit.put.length - 1, column: edit.put[edit.put.length - 1].length };
+    const after = { start: place, end: place, direction: "forward" };
+    this.text.change([edit], this.selection(), after);
+    this.refresh(after);
+    this.area.focus({ preventScroll: true });
   }
 
   /** What was typed becomes an edit of the text. */
@@ -147,17 +217,21 @@ export class Sheet {
     const before = this.before_input ?? this.selection();
     this.last += edit.put.length - (edit.stop - edit.start);
     const from = this.first + edit.start;
-    const { selectionStart, selectionEnd, selectionDirection } = this.area;
-    this.text.edit(from, this.first + edit.stop, edit.put, before, null);
-    const after = { start: this.place(selectionStart), end: this.place(selectionEnd), direction: selectionDirection };
-    this.text.history.last.after = after;
+    this.text.edit(from, this.first + edit.stop, edit.put, before, this.typed());
     this.draw();
     this.watch();
   }
 
-  /** Before the browser changes the area. */
+  /** The selection in the area, after something was typed there.
+   * @returns {Selection} */
+  typed() {
+    const { selectionStart, selectionEnd, selectionDirection } = this.area;
+    return { start: this.place(selectionStart), end: this.place(selectionEnd), direction: selectionDirection };
+  }
+
+  /** Before the browser changes the area.
+   * @type {(event: InputEvent) => void} */
   before(event) {
-    this.composing = event.isComposing;
     if (event.inputType === "historyUndo" || event.inputType === "historyRedo") {
       event.preventDefault();
       this.history(event.inputType === "historyUndo");
@@ -166,25 +240,28 @@ export class Sheet {
     }
   }
 
-  /** Undoes, or does again. */
+  /** Undoes, or does again.
+   * @type {(back: boolean) => void} */
   history(back) {
     const selection = back ? this.text.undo() : this.text.redo();
     if (selection) this.refresh(selection);
   }
 
-  /** Keys that go farther than the area does. */
+  /** Keys that go farther than the area does.
+   * @type {(event: KeyboardEvent) => void} */
   key(event) {
-    this.composing = event.isComposing;
     const command = event.ctrlKey || event.metaKey;
     const key = event.key.length === 1 ? event.key.toLowerCase() : event.key;
     const page = this.seen()[1] - this.seen()[0] - 3;
     const { line, column } = this.caret();
     const end = this.text.lines.length - 1;
-    const goes = {
+    /** @type {Record<string, [line: number, column: number]>} */
+    const places = {
       PageUp: [line - page, column],
       PageDown: [line + page, column],
       ...(command && { Home: [0, 0], End: [end, Infinity] }),
-    }[key];
+    };
+    const goes = places[key];
     if (goes && !event.altKey) this.move(...goes, event.shiftKey);
     else if (command && key === "a") this.select({ line: 0, column: 0 }, { line: end, column: Infinity });
     else if (command && key === "z") this.history(!event.shiftKey);
@@ -197,14 +274,16 @@ export class Sheet {
     event.preventDefault();
   }
 
-  /** Moves the caret, or the end of the selection, to a place. */
+  /** Moves the caret, or the end of the selection, to a place.
+   * @type {(line: number, column: number, extend: boolean) => void} */
   move(line, column, extend) {
     const { start, end, direction } = this.selection();
     const to = { line: Math.max(0, Math.min(this.text.lines.length - 1, line)), column };
     this.select(extend ? (direction === "backward" ? end : start) : to, to);
   }
 
-  /** Selects from a place to the place of the caret. */
+  /** Selects from a place to the place of the caret.
+   * @type {(from: Place, to: Place) => void} */
   select(from, to) {
     const backward = to.line < from.line || (to.line === from.line && to.column < from.column);
     const [start, end] = backward ? [to, from] : [from, to];
@@ -216,7 +295,8 @@ export class Sheet {
 
   /** Brings the caret back into view before a key acts there. */
   back() {
-    this.select(this.away.direction === "backward" ? this.away.end : this.away.start, this.caret());
+    const { start, end, direction } = this.selection();
+    this.select(direction === "backward" ? end : start, this.caret());
   }
 
   /** Someone points into the area, which is where the caret goes. */
@@ -230,7 +310,8 @@ export class Sheet {
     this.paper.style.height = `${this.text.lines.length * this.height + 2 * ROOM}px`;
   }
 
-  /** Scrolls no farther than a line wants to be seen. */
+  /** Scrolls no farther than a line wants to be seen.
+   * @type {(line: number) => void} */
   reveal(line) {
     const top = line * this.height + ROOM, { scrollTop, clientHeight } = this.scroller;
     this.stretch();
@@ -238,12 +319,14 @@ export class Sheet {
     else if (top + 2 * this.height > scrollTop + clientHeight) this.scroller.scrollTop = this.aligned(top + 2 * this.height - clientHeight);
   }
 
-  /** The top at or after a place at which a line begins. */
+  /** The top at or after a place at which a line begins.
+   * @type {(top: number) => number} */
   aligned(top) {
     return top <= 0 ? 0 : Math.ceil((top - ROOM) / this.height) * this.height + ROOM;
   }
 
-  /** Scrolls a line that is not seen to a third of the view. */
+  /** Scrolls a line that is not seen to a third of the view.
+   * @type {(line: number) => void} */
   bring(line) {
     const { scrollTop, clientHeight } = this.scroller, top = line * this.height + ROOM;
     if (top >= scrollTop && top + 2 * this.height <= scrollTop + clientHeight) return;
@@ -251,13 +334,14 @@ export class Sheet {
     this.scroller.scrollTop = this.aligned(top - clientHeight / 3);
   }
 
-  /** Goes to a place, some lines below the top. A fault that begins there is visible, even if its line is longer than the view. */
+  /** Goes to a place, some lines below the top. A fault that begins there is visible, even if its line is longer than the view.
+   * @type {(line: number, column?: number, focus?: boolean) => void} */
   go(line, column = 0, focus = false) {
     this.stretch();
     this.scroller.scrollTop = line < 3 ? 0 : (line - 2) * this.height + ROOM;
     this.select({ line, column }, { line, column });
     this.scroller.scrollLeft = 0;
-    const marks = [...this.marks.querySelectorAll("mark")];
+    const marks = /** @type {Mark[]} */ ([...this.marks.querySelectorAll("mark")]);
     marks.find(({ fault }) => fault[0] === line && fault[1] === column)?.scrollIntoView({ block: "nearest", inline: "nearest" });
     if (focus) this.area.focus({ preventScroll: true });
   }
@@ -280,7 +364,7 @@ export class Sheet {
   draw() {
     const { first, last, height, text } = this;
     this.stretch();
-    this.paper.style.setProperty("--digits", String(text.lines.length).length);
+    this.paper.style.setProperty("--digits", String(String(text.lines.length).length));
     this.leaf.style.top = `${first * height + ROOM}px`;
     this.area.style.height = `${(last - first) * height}px`;
     let widest = 0;
@@ -300,6 +384,7 @@ export class Sheet {
     for (const layer of this.layers) layer.draw(...this.drawn);
   }
 
+  /** @type {(faults: FaultRow[]) => void} */
   drawFaults(faults) {
     const numbers = document.createDocumentFragment(), marks = document.createDocumentFragment();
     const faulty = new Map(); // by line: whether all that is there are hints
@@ -308,7 +393,7 @@ export class Sheet {
     for (let line = this.first; line < this.last; line += 1) {
       if (faulty.has(line)) {
         const className = faulty.get(line) ? "hint" : "";
-        numbers.append(plain, Object.assign(document.createElement("b"), { textContent: line + 1, className }), "\n");
+        numbers.append(plain, Object.assign(document.createElement("b"), { textContent: String(line + 1), className }), "\n");
         plain = "";
       } else {
         plain += `${line + 1}\n`;
@@ -320,28 +405,31 @@ export class Sheet {
     this.marks.replaceChildren(marks);
   }
 
-  /** A mark below the place of a fault: the text before it, not to be seen, gives its place. */
+  /** A mark below the place of a fault: the text before it, not to be seen, gives its place.
+   * @type {(fault: FaultRow) => HTMLElement} */
   mark(fault) {
     const [number, start, end] = fault;
     const line = this.text.lines[number] ?? "";
-    const row = document.createElement("div"), mark = document.createElement("mark");
+    const row = document.createElement("div"), mark = Object.assign(document.createElement("mark"), { fault });
     row.style.top = `${(number - this.first) * this.height}px`;
     mark.textContent = line.slice(start, Math.max(end, start + 1)) || " ";
-    mark.fault = fault;
     if (fault[4]) mark.className = "hint";
     row.append(line.slice(0, start), mark);
     return row;
   }
 
-  /** The faults at which a mouse points. */
+  /** The faults at which a mouse points.
+   * @type {(event: PointerEvent) => FaultRow[]} */
   faultUnder({ clientX, clientY }) {
-    return document.elementsFromPoint(clientX, clientY).flatMap((element) => element.fault ? [element.fault] : []);
+    const those = /** @type {(Element & { fault?: FaultRow })[]} */ (document.elementsFromPoint(clientX, clientY));
+    return those.flatMap(({ fault }) => (fault ? [fault] : []));
   }
 }
 
-/** A selection that fits into these lines. */
+/** A selection that fits into these lines.
+ * @type {(selection: Selection, lines: string[]) => Selection} */
 function within({ start, end, direction }, lines) {
-  const fit = ({ line, column }) => {
+  const fit = (/** @type {Place} */ { line, column }) => {
     const number = Math.max(0, Math.min(lines.length - 1, line));
     return { line: number, column: Math.max(0, Math.min(lines[number].length, column)) };
   };

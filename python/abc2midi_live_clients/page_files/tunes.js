@@ -2,31 +2,46 @@
 // the press and the release of a click meet the same one.
 
 import { Filter, folded } from "./filter.js";
+import { onResize } from "./resizing.js";
+
+/** @typedef {import("./rows.js").TuneRow} TuneRow */
 
 const BEYOND = 2; // rows drawn above and below those that are seen
 const LIGHT = 1600; // milliseconds
 
 export class Tunes {
+  /** @param {HTMLElement} list */
   constructor(list) {
     this.list = list;
-    this.space = list.querySelector(".space");
+    this.space = /** @type {HTMLElement} */ (list.querySelector(".space"));
+    /** @type {TuneRow[]} */
     this.all = []; // the tunes of the book
+    /** @type {TuneRow[]} */
     this.rows = []; // those that the filter lets through
     this.filter = new Filter();
+    /** @type {TuneRow | undefined} */
+    this.shown = undefined;
+    /** @type {(row: TuneRow) => number} */
     this.faultsOf = () => 0; // of a tune: how many faults it has
+    /** @type {Map<number, HTMLElement>} */
     this.drawn = new Map(); // by place: the element of its row
     this.here = -1; // the tune that is shown
     this.at = -1; // the one with the frame of the keyboard
+    /** @type {Map<number, string>} */
     this.lit = new Map(); // by number: "written" or "removed"
+    /** @type {(row: TuneRow) => void} */
     this.chosen = () => {};
+    /** @type {ReturnType<typeof setTimeout> | undefined} */
+    this.timer = undefined;
     list.addEventListener("scroll", () => this.draw());
     list.addEventListener("keydown", (event) => this.key(event));
     list.addEventListener("focus", () => list.matches(":focus-visible") && this.frame(Math.max(0, this.here)));
     list.addEventListener("click", (event) => {
-      const row = event.target.closest("[role=option]");
-      if (row) this.chosen(this.rows[row.dataset.at]);
+      /** @type {HTMLElement | null} */
+      const row = /** @type {Element} */ (event.target).closest("[role=option]");
+      if (row) this.chosen(this.rows[Number(row.dataset.at)]);
     });
-    new ResizeObserver(() => this.draw()).observe(list);
+    onResize(list, () => this.draw());
   }
 
   /** The height of a row, which goes by the width of the window. */
@@ -34,30 +49,34 @@ export class Tunes {
     return parseFloat(getComputedStyle(this.list).getPropertyValue("--row-height"));
   }
 
-  /** Other tunes, of which one is shown. */
+  /** Other tunes, of which one is shown.
+   * @type {(all: TuneRow[], at: number) => void} */
   show(all, at) {
     this.all = all;
     this.shown = all[at];
     this.rows = this.filter.rows(all);
-    const here = this.rows.indexOf(this.shown), moved = here !== this.here;
+    const here = this.shown ? this.rows.indexOf(this.shown) : -1, moved = here !== this.here;
     this.here = here;
     if (moved && here >= 0) this.frame(here);
     else this.draw();
   }
 
-  /** Shows the tunes alone that have these words. */
+  /** Shows the tunes alone that have these words.
+   * @type {(words: string) => void} */
   sift(words) {
     this.filter.words = folded(words).split(/\s+/).filter(Boolean);
     this.here = -1;
     this.list.scrollTop = 0;
     this.at = 0;
-    this.show(this.all, this.all.indexOf(this.shown));
+    this.show(this.all, this.shown ? this.all.indexOf(this.shown) : -1);
   }
 
-  /** Lights up numbers for a moment. Those that are alight already go out first, which lets them begin anew. */
+  /** Lights up numbers for a moment. Those that are alight already go out first, which lets them begin anew.
+   * @type {(written: number[], removed: number[]) => void} */
   light(written, removed) {
     this.putOut();
-    this.lit = new Map([...written.map((number) => [number, "written"]), ...removed.map((number) => [number, "removed"])]);
+    for (const number of written) this.lit.set(number, "written");
+    for (const number of removed) this.lit.set(number, "removed");
     this.timer = setTimeout(() => this.putOut(), LIGHT);
     this.draw();
   }
@@ -68,7 +87,8 @@ export class Tunes {
     this.draw();
   }
 
-  /** Moves the keyboard's place, and keeps it in view. */
+  /** Moves the keyboard's place, and keeps it in view.
+   * @type {(at: number) => void} */
   frame(at) {
     this.at = Math.max(0, Math.min(this.rows.length - 1, at));
     this.stretch();
@@ -78,16 +98,19 @@ export class Tunes {
     this.draw();
   }
 
+  /** @type {(event: KeyboardEvent) => void} */
   key(event) {
     const page = Math.floor(this.list.clientHeight / this.height) - 1;
-    const to = {
+    /** @type {Record<string, number>} */
+    const places = {
       ArrowUp: this.at - 1,
       ArrowDown: this.at + 1,
       PageUp: this.at - page,
       PageDown: this.at + page,
       Home: 0,
       End: this.rows.length - 1,
-    }[event.key];
+    };
+    const to = places[event.key];
     if (to !== undefined) this.frame(to);
     else if (event.key === "Enter" && this.rows[this.at]) this.chosen(this.rows[this.at]);
     else return;
@@ -110,8 +133,10 @@ export class Tunes {
     const [first, last] = this.seen();
     this.stretch();
     for (const [at, row] of this.drawn) if (at < first || at >= last) this.takeOut(at, row);
+    /** @type {HTMLElement | null} */
     let next = null; // the row after it: a new row is inserted before that, so none is moved
     for (let at = last - 1; at >= first; at -= 1) {
+      /** @type {HTMLElement} */
       const row = this.drawn.get(at) ?? this.putIn(at, next);
       this.write(row, at);
       next = row;
@@ -120,25 +145,28 @@ export class Tunes {
     else this.list.removeAttribute("aria-activedescendant");
   }
 
+  /** @type {(at: number, row: HTMLElement) => void} */
   takeOut(at, row) {
     this.drawn.delete(at);
     row.remove();
   }
 
-  /** Puts in the row of a place, before another one. */
+  /** Puts in the row of a place, before another one.
+   * @type {(at: number, next: HTMLElement | null) => HTMLElement} */
   putIn(at, next) {
     const row = document.createElement("div");
     row.id = `tune-${at}`;
-    row.role = "option";
-    row.dataset.at = at;
-    row.style.setProperty("--at", at);
+    row.setAttribute("role", "option");
+    row.dataset.at = String(at);
+    row.style.setProperty("--at", String(at));
     row.ariaPosInSet = String(at + 1);
     row.append(document.createElement("b"), document.createElement("span"));
     this.drawn.set(at, row);
     return this.space.insertBefore(row, next);
   }
 
-  /** Writes into a row what its tune is now. */
+  /** Writes into a row what its tune is now.
+   * @type {(row: HTMLElement, at: number) => void} */
   write(row, at) {
     const [, number, title, hasFile] = this.rows[at];
     row.ariaSelected = String(at === this.here);
@@ -146,8 +174,8 @@ export class Tunes {
     const faults = this.faultsOf(this.rows[at]), counted = faults ? `${faults} fault${faults === 1 ? "" : "s"}` : "";
     row.className = `${this.lit.get(number) ?? ""} ${at === this.at ? "at" : ""} ${hasFile ? "" : "silent"} ${faults ? "faulty" : ""}`;
     row.title = hasFile ? [title, counted].filter(Boolean).join(": ") : "This tune has no file: it is too long, or another one has its number.";
-    row.ariaDescription = counted;
-    row.firstChild.textContent = number;
-    row.lastChild.textContent = title || "(no title)";
+    row.setAttribute("aria-description", counted);
+    row.children[0].textContent = String(number);
+    row.children[1].textContent = title || "(no title)";
   }
 }

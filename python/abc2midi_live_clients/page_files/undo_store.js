@@ -3,13 +3,26 @@
 const MOST = 1_000_000; // characters
 const REST = 400; // milliseconds without an edit, after which it is kept
 
+/** @typedef {import("./link.js").Change} Change */
+
 export class UndoStore {
-  /** `ask` returns the changes of the server after a version; the store is that of the browser, but for tests. */
+  /** `ask` returns the changes of the server after a version; the store is that of the browser, but for tests.
+   * @param {import("./text.js").Text} text
+   * @param {{ state: { run: string, version: number } | null, isSettled: boolean }} link
+   * @param {(version: number) => Promise<{ changes: Change[] }>} ask
+   * @param {Pick<Storage, "getItem" | "setItem"> | null} store */
   constructor(text, link, ask, store = null) {
-    Object.assign(this, { text, link, ask, store, key: null });
+    this.text = text;
+    this.link = link;
+    this.ask = ask;
+    this.store = store;
+    this.key = "";
+    /** @type {ReturnType<typeof setTimeout> | undefined} */
+    this.timer = undefined;
   }
 
-  /** The page has the book. What was kept for its text is taken; if the text changed meanwhile, it is moved over the changes. */
+  /** The page has the book. What was kept for its text is taken; if the text changed meanwhile, it is moved over the changes.
+   * @type {(book: string) => Promise<void>} */
   async open(book) {
     this.key = `abc2midi_live undo ${book}`;
     const kept = this.read();
@@ -22,10 +35,11 @@ export class UndoStore {
     for (const { edit } of changes) this.text.history.others(edit.start, edit.stop, edit.lines.length);
   }
 
-  /** The changes that made this window's text of that of a version, null if the server does not have them. */
+  /** The changes that made this window's text of that of a version, null if the server does not have them.
+   * @type {(run: string, version: number) => Promise<Change[] | null>} */
   async changes(run, version) {
-    if (run !== this.link.state.run) return null;
-    const { changes } = await this.ask(version).catch(() => ({ changes: [] }));
+    if (run !== this.link.state?.run) return null;
+    const { changes } = await this.ask(version).catch(() => ({ changes: /** @type {Change[]} */ ([]) }));
     const now = this.link.state;
     const those = changes.filter((change) => change.version <= now.version);
     return run === now.run && those.length === now.version - version ? those : null;
@@ -33,7 +47,7 @@ export class UndoStore {
 
   read() {
     try {
-      return JSON.parse((this.store ?? sessionStorage).getItem(this.key));
+      return JSON.parse((this.store ?? sessionStorage).getItem(this.key) ?? "null");
     } catch {
       return null;
     }
@@ -59,7 +73,8 @@ export class UndoStore {
   }
 }
 
-/** A short name of a text, so that one text is known from another. */
+/** A short name of a text, so that one text is known from another.
+ * @type {(lines: string[]) => string} */
 export function printOf(lines) {
   let one = 0xdeadbeef, other = 0x41c6ce57;
   for (const line of lines) {

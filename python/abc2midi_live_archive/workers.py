@@ -1,0 +1,39 @@
+"""What does units of work, whichever way: a pool of processes here, or a cluster."""
+
+from __future__ import annotations
+
+from abc import ABC, abstractmethod
+from collections.abc import Iterator
+from typing import NamedTuple
+
+from .units import Outcome, Result, Unit
+
+MOST_DEATHS = 3  # of workers over one unit that is alone
+DIED = "each worker that compiled it died; it may be out of memory"
+
+
+class Done(NamedTuple):
+    """A unit and what came of it."""
+
+    unit: Unit
+    result: Result
+
+
+class Workers(ABC):
+    """Workers. `under_way` has the units that they were given and have not done, by the names of their books."""
+
+    def __init__(self) -> None:
+        self.under_way: dict[str, Unit] = {}
+
+    @abstractmethod
+    def do(self, units: Iterator[Unit]) -> Iterator[Done]:
+        """Yields units as they are done, in any order, and takes more only as fast as they are."""
+
+    @abstractmethod
+    def stop(self) -> None:
+        """Ends the workers, also in the middle of a unit."""
+
+
+def died(unit: Unit) -> Done:
+    """Returns the result of a unit over which too many workers died."""
+    return Done(unit, Result(Outcome.FAILED, DIED))

@@ -1,0 +1,27 @@
+// The link to the MIDI files of the whole book, in a .zip.
+
+import { find } from "./elements.js";
+
+export class AllMidi {
+  /** @param {import("./server.js").Server} server
+   * @param {import("./link.js").Link} link
+   * @param {{ name: string }} book
+   * @param {import("./findings.js").Findings} findings */
+  constructor(server, link, book, findings) {
+    this.server = server;
+    this.link = link;
+    this.book = book;
+    this.findings = findings;
+    find("all-midi").addEventListener("click", ({ currentTarget }) => {
+      const anchor = /** @type {HTMLAnchorElement} */ (currentTarget);
+      if (anchor.href) anchor.closest("dialog")?.close();
+    });
+  }
+
+  /** Links to the files, while there are some and the server is there. */
+  show() {
+    const { server, link, book, findings } = this, anchor = find("all-midi"), name = book.name.replace(/\.[^.]*$/, "") || "book";
+    if (!link.away && findings.tunes.some(([, , , hasFile]) => hasFile)) Object.assign(anchor, { href: server.address("midi.zip"), download: `${name} MIDI.zip` });
+    else anchor.removeAttribute("href");
+  }
+}

@@ -1,0 +1,69 @@
+// The faults, hints and tunes of the book at their places in this window's text, which the server may not have yet.
+
+import { placeOf, rowsIn, without } from "./rows.js";
+
+/** @typedef {import("./rows.js").FaultRow} FaultRow
+ * @typedef {import("./rows.js").TuneRow} TuneRow */
+
+export class Findings {
+  /** @param {import("./text.js").Text} text
+   * @param {import("./link.js").Link} link
+   * @param {import("./book.js").Book} book */
+  constructor(text, link, book) {
+    this.text = text;
+    this.link = link;
+    this.book = book;
+    /** @type {FaultRow[]} */
+    this.faults = [];
+    /** @type {FaultRow[]} */
+    this.hints = [];
+    /** @type {TuneRow[]} */
+    this.tunes = [];
+  }
+
+  /** Renews all places: the text or the book became another one. */
+  renew() {
+    this.faults = this.placed(this.book.faults);
+    this.hints = this.placed(this.book.hints);
+    this.tunes = this.placed(this.book.tunes);
+  }
+
+  /** Rows of the server's text, as they are in this window's.
+   * @template {[line: number, ...more: any[]]} R
+   * @param {R[]} rows */
+  placed(rows) {
+    return this.unsent.reduce((those, { start, stop, count }) => {
+      return without(those, start + Math.min(count, stop - start), stop, count - (stop - start));
+    }, rows);
+  }
+
+  /** The edits that the server does not have, or may not have. */
+  get unsent() {
+    const { sent } = this.link, { pending } = this.text;
+    return [...(sent ? [{ ...sent, count: sent.lines.length }] : []), ...(pending ? [pending] : [])];
+  }
+
+  /** Faults and hints of some lines, in order.
+   * @type {(first: number, last: number) => FaultRow[]} */
+  remarksIn(first, last) {
+    return rowsIn(this.faults, first, last).concat(rowsIn(this.hints, first, last)).sort((a, b) => a[0] - b[0] || a[1] - b[1]);
+  }
+
+  /** How many faults some lines have.
+   * @type {(first: number, last: number) => number} */
+  faultsIn(first, last) {
+    return rowsIn(this.faults, first, last).length;
+  }
+
+  /** The place among the tunes of the one that has a line, -1 before the first tune.
+   * @type {(line: number) => number} */
+  tuneAt(line) {
+    return placeOf(this.tunes, line + 1) - 1;
+  }
+
+  /** The line after a tune.
+   * @type {(at: number) => number} */
+  endOf(at) {
+    return this.tunes[at + 1]?.[0] ?? this.text.lines.length;
+  }
+}

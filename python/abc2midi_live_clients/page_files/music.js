@@ -1,0 +1,77 @@
+// The music of a tune: its file in the roll, what plays it, and what is said of it.
+
+import { find } from "./elements.js";
+import { Follower } from "./follower.js";
+import { Player } from "./player.js";
+import { Practice } from "./practice.js";
+import { Roll } from "./roll.js";
+import { ShownTune } from "./shown_tune.js";
+import { Transport } from "./transport.js";
+import { TuneBar } from "./tune_bar.js";
+
+/** @typedef {import("./rows.js").TuneRow} TuneRow
+ * `say` shows a sentence.
+ * @typedef {object} Parts
+ * @property {import("./server.js").Server} server
+ * @property {import("./link.js").Link} link
+ * @property {import("./sheet.js").Sheet} sheet
+ * @property {import("./findings.js").Findings} findings
+ * @property {import("./caret_tune.js").CaretTune} caretTune
+ * @property {import("./tip.js").Tip} tip
+ * @property {(words: string) => void} say */
+
+export class Music {
+  /** @param {Parts} parts */
+  constructor({ server, link, sheet, findings, caretTune, tip, say }) {
+    this.caretTune = caretTune;
+    this.shown = new ShownTune(server, link, findings);
+    this.roll = new Roll(find("roll"), /** @type {HTMLCanvasElement} */ (document.querySelector("canvas")));
+    this.player = new Player();
+    this.follower = new Follower(sheet.text, sheet, this.roll, () => this.shown.inBook);
+    this.practice = new Practice(this.player, this.roll, this.follower);
+    this.transport = new Transport(this.shown, this.player, this.roll, this.follower, this.practice);
+    this.bar = new TuneBar(this.shown, this.roll, this.follower);
+    this.practice.say = say;
+    this.shown.asks = (isOther) => this.transport.rewind(isOther);
+    this.shown.came = () => this.take();
+    this.roll.pointed = (note, event) => tip.show(note ? [this.follower.describe(note)] : [], event);
+    this.roll.recoloured = () => {
+      this.describe();
+      this.practice.silence();
+    };
+  }
+
+  /** Shows the tune at the caret, unless another one plays. */
+  follow() {
+    if (!this.player.playing) this.show(this.caretTune.row);
+  }
+
+  /** Shows a tune in the roll, or why it has no file.
+   * @type {(row: TuneRow | null) => void} */
+  show(row) {
+    const number = row?.[3] ? row[1] : null;
+    this.bar.title(row);
+    if (number !== this.shown.number) this.shown.load(number);
+    this.bar.explain(row);
+  }
+
+  /** Takes the score that came. */
+  take() {
+    const { shown, player } = this;
+    this.practice.show(shown.score, shown.owner);
+    if (player.playing) this.transport.change();
+    else this.bar.explain(this.caretTune.row);
+    this.describe();
+  }
+
+  /** Says what is in the roll. */
+  describe() {
+    this.bar.describe();
+    this.transport.refresh();
+  }
+
+  /** The place among the tunes of the one that is seen: the one that plays, or that of the caret. */
+  get seen() {
+    return this.player.playing ? this.shown.at : this.caretTune.at;
+  }
+}

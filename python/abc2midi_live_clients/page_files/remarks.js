@@ -1,0 +1,116 @@
+// The faults and hints of a tune below the text, and what a mark says when someone points at it.
+
+/** @typedef {import("./rows.js").FaultRow} FaultRow
+ * @typedef {import("./mends.js").Mend} Mend
+ * Remarks that are one entry: the first of them, their sign, and how many there are.
+ * @typedef {{ fault: FaultRow, sign: string, count: number }} Group
+ * An entry of the list, with its fault or hint.
+ * @typedef {HTMLLIElement & { fault: FaultRow }} Item */
+
+const MOST = 50; // in the list
+const MOST_OF_A_SIGN = 24; // characters
+const ODD = /^[^ -~]/; // a sign that is no letter of ASCII
+
+/** Remarks that say the same of the same sign, as one: the first of them, the sign, and how many there are. Letters that ABC does
+ * not have are one sign, so that a word in another script is one remark.
+ * @type {(faults: FaultRow[], lines: string[]) => Group[]} */
+export function grouped(faults, lines) {
+  /** @type {Map<string, { fault: FaultRow, signs: Set<string>, count: number }>} */
+  const groups = new Map();
+  for (const fault of faults) {
+    const [line, start, end, name, hint] = fault;
+    const sign = (lines[line] ?? "").slice(start, end).trim();
+    const key = JSON.stringify([name, hint, name === "BadByte" && ODD.test(sign) ? null : short(sign)]);
+    const group = groups.get(key) ?? { fault, signs: new Set(), count: 0 };
+    group.signs.add(sign);
+    group.count += 1;
+    groups.set(key, group);
+  }
+  return [...groups.values()].map(({ fault, signs, count }) => ({ fault, sign: short([...signs].join(" ")), count }));
+}
+
+/** The begin of a sign, if it is long.
+ * @type {(sign: string) => string} */
+function short(sign) {
+  return sign.length > MOST_OF_A_SIGN ? `${sign.slice(0, MOST_OF_A_SIGN)}…` : sign;
+}
+
+export class Remarks {
+  /** `go` goes to a line and a column.
+   * @param {HTMLElement} list
+   * @param {import("./tip.js").Tip} tip
+   * @param {(line: number, column: number) => void} go */
+  constructor(list, tip, go) {
+    this.list = list;
+    this.tip = tip;
+    this.go = go;
+    /** @type {(fault: FaultRow) => Mend | null} */
+    this.mendOf = () => null; // what mends a fault, if one change does
+    /** @type {(mend: Mend) => void} */
+    this.mended = () => {}; // a mend is wanted
+    /** @type {Record<string, string[]>} */
+    this.sentences = {}; // by the name of a fault: the problem, and the remedy
+  }
+
+  /** Shows those of a tune, those of the caret's line first.
+   * @type {(faults: FaultRow[], lines: string[], here: number) => void} */
+  show(faults, lines, here) {
+    const nearest = [...faults].sort((a, b) => Number(a[0] !== here) - Number(b[0] !== here) || Number(Boolean(a[4])) - Number(Boolean(b[4])));
+    const items = grouped(nearest, lines).slice(0, MOST).map((group) => this.item(group));
+    const same = items.length === this.list.children.length && items.every((item, n) => item.isEqualNode(this.list.children[n]));
+    if (!same) this.list.replaceChildren(...items);
+    else items.forEach((item, n) => (/** @type {Item} */ (this.list.children[n]).fault = item.fault));
+  }
+
+  /** The place, the sign, the problem, the remedy, and a button that mends it.
+   * @type {(group: Group) => Item} */
+  item({ fault, sign, count }) {
+    const [line, , , , hint] = fault, mend = this.mendOf(fault);
+    const item = Object.assign(document.createElement("li"), { fault });
+    const button = document.createElement("button");
+    const place = Object.assign(document.createElement("b"), { textContent: `Line ${line + 1}${hint ? ", hint" : ""}` });
+    button.type = "button";
+    item.classList.toggle("hint", Boolean(hint));
+    button.append(place, ...(sign ? [code(sign), " "] : []), ...this.words(fault));
+    if (count > 1) button.append(Object.assign(document.createElement("small"), { textContent: ` ${count} times` }));
+    button.addEventListener("click", () => this.go(item.fault[0], item.fault[1]));
+    item.append(button);
+    if (mend) item.append(this.mendButton(item, mend));
+    return item;
+  }
+
+  /** @type {(item: Item, mend: Mend) => HTMLButtonElement} */
+  mendButton(item, { words }) {
+    const button = Object.assign(document.createElement("button"), { type: "button", className: "mend", textContent: words });
+    button.addEventListener("click", () => {
+      const mend = this.mendOf(item.fault);
+      if (mend) this.mended(mend);
+    });
+    return button;
+  }
+
+  /** The problem of a fault and its remedy, or a hint, with what is in backquotes as code.
+   * @type {(fault: FaultRow) => (string | HTMLElement)[]} */
+  words([, , , name, hint]) {
+    const [problem, remedy] = hint ? [hint] : (this.sentences[name] ?? [name]);
+    const parts = [["problem", problem], ["remedy", remedy]].filter(([, words]) => words);
+    return parts.flatMap(([className, words], n) => {
+      const part = Object.assign(document.createElement("span"), { className });
+      part.append(...words.split("`").map((piece, at) => (at % 2 ? code(piece) : piece)));
+      return n ? [" ", part] : [part];
+    });
+  }
+
+  /** Shows what the faults say at which someone points, beside the mouse.
+   * @param {FaultRow[]} faults
+   * @param {MouseEvent} [event] */
+  point(faults, event) {
+    const different = [...new Map(faults.map((fault) => [`${fault[3]} ${fault[4]}`, fault])).values()];
+    this.tip.show(different.flatMap((fault) => [...this.words(fault), " "]), event);
+  }
+}
+
+/** @type {(words: string) => HTMLElement} */
+function code(words) {
+  return Object.assign(document.createElement("code"), { textContent: words });
+}

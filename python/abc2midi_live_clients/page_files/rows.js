@@ -1,0 +1,59 @@
+// Rows of what the server finds in the text: sorted lists of [line, ..] that move with their lines. The server has the same in
+// rows.py, which mirrors `without` and `changed`: tests/clients/test_rows.py compares the two.
+
+/** A fault or a hint: its line, where it begins and ends there, its name, and the sentence of a hint.
+ * @typedef {[line: number, start: number, end: number, name: string, hint?: string]} FaultRow */
+/** A tune: its line, its number, its title, and whether it has the file of the number.
+ * @typedef {[line: number, number: number, title: string, hasFile: boolean]} TuneRow */
+/** Lines start..stop became others.
+ * @typedef {{ start: number, stop: number, lines: string[] }} Edit */
+/** Some rows at a place became others.
+ * @template R
+ * @typedef {{ at: number, out: number, put: R[] }} Difference */
+
+/** The place in rows of the first that is at a line or after it.
+ * @template {[line: number, ...more: any[]]} R
+ * @param {R[]} rows
+ * @param {number} line */
+export function placeOf(rows, line) {
+  let low = 0, high = rows.length;
+  while (low < high) {
+    const middle = (low + high) >> 1;
+    if (rows[middle][0] < line) low = middle + 1;
+    else high = middle;
+  }
+  return low;
+}
+
+/** The rows of some lines.
+ * @template {[line: number, ...more: any[]]} R
+ * @param {R[]} rows
+ * @param {number} first
+ * @param {number} last */
+export function rowsIn(rows, first, last) {
+  return rows.slice(placeOf(rows, first), placeOf(rows, last));
+}
+
+/** Rows but for those of some lines; those after them are moved.
+ * @template {[line: number, ...more: any[]]} R
+ * @param {R[]} rows
+ * @param {number} start
+ * @param {number} stop
+ * @param {number} more
+ * @returns {R[]} */
+export function without(rows, start, stop, more) {
+  const from = placeOf(rows, start), to = placeOf(rows, stop);
+  if (from === to && !more) return rows;
+  return rows.slice(0, from).concat(more ? rows.slice(to).map(([line, ...row]) => /** @type {R} */ ([line + more, ...row])) : rows.slice(to));
+}
+
+/** Rows after a change of the text: those of new lines are put in, at a place.
+ * @template {[line: number, ...more: any[]]} R
+ * @param {R[]} old
+ * @param {Edit} edit
+ * @param {Difference<R>} difference
+ * @returns {R[]} */
+export function changed(old, { start, stop, lines }, { at, out, put }) {
+  const found = without(old, start, stop, lines.length - (stop - start));
+  return found.slice(0, at).concat(put, found.slice(at + out));
+}

@@ -1,0 +1,69 @@
+// The tune that is shown: its file, which the server has, as a score.
+
+import { scoreOf } from "./midi.js";
+
+export class ShownTune {
+  /** @param {import("./server.js").Server} server
+   * @param {import("./link.js").Link} link
+   * @param {import("./findings.js").Findings} findings */
+  constructor(server, link, findings) {
+    this.server = server;
+    this.link = link;
+    this.findings = findings;
+    /** @type {number | null | undefined} */
+    this.number = null; // null without a file, undefined if the file may be another one
+    /** @type {import("./midi.js").Score | null} */
+    this.score = null;
+    /** @type {number | null} */
+    this.owner = null; // the number of the score, while that of another number is read
+    this.asked = 0; // how often a file was asked for
+    /** @type {(isOther: boolean) => void} */
+    this.asks = () => {}; // the file of a number is asked for, which may be another number
+    this.came = () => {}; // a score is there, or there is none
+  }
+
+  /** Reads the file of a number; one that is asked for later comes in its place.
+   * @type {(number: number | null) => Promise<void>} */
+  async load(number) {
+    const asked = (this.asked += 1);
+    this.asks(number !== this.number);
+    this.number = number;
+    let score = null;
+    try {
+      if (number !== null && this.link.away) throw new Error(this.link.away);
+      const bytes = number === null ? null : await this.server.bytes(`midi/${number}`);
+      if (bytes) score = scoreOf(bytes);
+    } catch {
+      if (this.asked === asked) this.number = null;
+      return;
+    }
+    if (this.asked !== asked) return;
+    this.score = score;
+    this.owner = number;
+    this.came();
+  }
+
+  /** Reads the file again if it is one of these numbers.
+   * @type {(numbers: number[]) => void} */
+  reload(numbers) {
+    if (typeof this.number === "number" && numbers.includes(this.number)) this.load(this.number);
+  }
+
+  /** Forgets which file it is: the next look at the tune reads it. */
+  doubt() {
+    this.number = undefined;
+  }
+
+  /** The place among the tunes of the one that is shown, -1 if the text has it no more. */
+  get at() {
+    return this.findings.tunes.findIndex((row) => row[1] === this.number && row[3]);
+  }
+
+  /** The score with its lines in the book, and how many lines precede the first tune; null without.
+   * @returns {import("./follower.js").TuneInBook | null} */
+  get inBook() {
+    const { score, owner, findings } = this, { tunes } = findings;
+    const at = score ? tunes.findIndex((row) => row[1] === owner && row[3]) : -1;
+    return score && at >= 0 ? { score, first: tunes[at][0], last: findings.endOf(at), before: tunes[0][0] } : null;
+  }
+}

@@ -1,0 +1,28 @@
+// The line at the bottom: the latest sentence of the page, and the place of the caret.
+
+import { find } from "./elements.js";
+
+export class StatusBar {
+  constructor() {
+    this.line = find("status");
+    this.isAway = false; // the server is shown to be away
+  }
+
+  /** @type {(words: string) => void} */
+  say(words) {
+    this.line.textContent = words;
+  }
+
+  /** Shows that the server is away, or is there.
+   * @type {(isAway: boolean) => void} */
+  mark(isAway) {
+    this.isAway = isAway;
+    this.line.classList.toggle("away", isAway);
+  }
+
+  /** Shows the place of the caret.
+   * @type {(place: import("./selection.js").Place) => void} */
+  place({ line, column }) {
+    find("place").textContent = `Line ${line + 1}, column ${column + 1}`;
+  }
+}

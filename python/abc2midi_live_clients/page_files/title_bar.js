@@ -1,0 +1,33 @@
+// The bar at the top: the name of the book, whether it is saved, and who else has it.
+
+import { find, hide } from "./elements.js";
+
+export class TitleBar {
+  /** `back` takes the focus of a button that goes.
+   * @param {import("./link.js").Link} link
+   * @param {import("./book.js").Book} book
+   * @param {HTMLElement} back */
+  constructor(link, book, back) {
+    this.link = link;
+    this.book = book;
+    this.back = back;
+  }
+
+  show() {
+    const { state } = this.link, { name } = this.book, windows = state?.windows ?? 0;
+    this.showUnsaved();
+    find("name").textContent = name || "Tune book";
+    find("save").textContent = name || !state ? "Save" : "Download";
+    find("windows").hidden = windows < 2;
+    hide(find("utf-8"), !name || !state || state.letters === "utf-8", this.back);
+    find("windows").textContent = `${windows} windows have this book`;
+  }
+
+  /** Shows whether the text has what the file does not have. */
+  showUnsaved() {
+    const { isUnsaved } = this.link;
+    find("unsaved").hidden = !isUnsaved;
+    const title = `${isUnsaved ? "● " : ""}${this.book.name || "Tune book"} – abc2midi_live`;
+    if (document.title !== title) document.title = title;
+  }
+}

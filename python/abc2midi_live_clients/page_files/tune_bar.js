@@ -1,0 +1,73 @@
+// What the page says of the tune that is shown: its title, its voices, its file, and why there is nothing to see.
+
+import { clock } from "./clock.js";
+import { find } from "./elements.js";
+import { whyNothing } from "./empty.js";
+import { secondOf } from "./midi.js";
+import { midiName } from "./midi_names.js";
+import { nameOf } from "./roll.js";
+
+/** @typedef {import("./midi.js").Score} Score
+ * @typedef {import("./rows.js").TuneRow} TuneRow */
+
+export class TuneBar {
+  /** @param {import("./shown_tune.js").ShownTune} shown
+   * @param {import("./roll.js").Roll} roll
+   * @param {import("./follower.js").Follower} follower */
+  constructor(shown, roll, follower) {
+    this.shown = shown;
+    this.roll = roll;
+    this.follower = follower;
+  }
+
+  /** Shows the number and the title of a tune.
+   * @type {(row: TuneRow | null) => void} */
+  title(row) {
+    find("tune").textContent = row ? `${row[1]} ${row[2]}` : "";
+  }
+
+  /** Says why the roll is empty while the caret is in this tune, or before all tunes.
+   * @type {(row: TuneRow | null) => void} */
+  explain(row) {
+    const { score, owner, findings } = this.shown;
+    const notes = row?.[3] && row[1] === owner && score ? score.notes.length : null;
+    const why = whyNothing({ lines: findings.text.lines, rows: findings.tunes, faults: findings.faults, row, notes });
+    find("empty").textContent = why;
+    find("empty").hidden = !why;
+  }
+
+  /** Says what is in the roll. */
+  describe() {
+    const { score } = this.shown;
+    this.link();
+    find("roll").setAttribute("aria-label", score ? this.label(score) : "No tune is here");
+    const voices = Array.from({ length: score && score.voices > 1 ? score.voices : 0 }, (_, voice) => this.voice(voice));
+    find("voices").replaceChildren(...voices);
+  }
+
+  /** Links to the file, while the server is there. */
+  link() {
+    const { score, owner, findings, server, link } = this.shown, midi = find("midi");
+    const title = findings.tunes.find(([, number, , hasFile]) => number === owner && hasFile)?.[2] ?? "";
+    if (score && owner !== null && !link.away) Object.assign(midi, { href: server.address(`midi/${owner}`), download: midiName(owner, title) });
+    else midi.removeAttribute("href");
+  }
+
+  /** The roll in words.
+   * @type {(score: Score) => string} */
+  label(score) {
+    const { roll } = this, { voices } = score;
+    const range = score.notes.length ? `, from ${nameOf(roll.lowest)} to ${nameOf(roll.highest)}` : "";
+    const counted = `${voices} voice${voices === 1 ? "" : "s"}, ${roll.grid?.count} bars`;
+    return `Piano roll of tune ${this.shown.number}: ${counted}, ${clock(secondOf(score, score.end))}${range}`;
+  }
+
+  /** The colour and the name of a voice.
+   * @type {(voice: number) => HTMLElement} */
+  voice(voice) {
+    const swatch = document.createElement("i"), name = document.createElement("span");
+    swatch.style.background = this.roll.colour(voice);
+    name.append(swatch, this.follower.voiceName(voice));
+    return name;
+  }
+}

@@ -1,0 +1,132 @@
+"""The text of a tune book: bytes on disk, lines in windows."""
+
+from collections.abc import Sequence
+from contextlib import suppress
+from typing import NamedTuple
+
+from abc2midi_live.edits import Edit, common_front, edits, merge_edits
+
+from .places import LinePlaces, text_of
+
+MARK = b"\xef\xbb\xbf"
+MOST_EDITS = 20  # that one writing of another program becomes
+# Halves of pairs show these bytes, since no text has halves. places.py, score_text.py and the page's blob.js know them.
+CONTROLS = {byte: 0xDC00 + byte for byte in range(32) if byte not in b"\t\n"}
+CHARACTERS = {half: byte for byte, half in CONTROLS.items()} | {0xDC00 + byte: byte for byte in range(128, 256)}
+
+
+class Letters(NamedTuple):
+    """How many lines have letters beyond ASCII in Latin-1, and how many in UTF-8."""
+
+    latin1: int = 0
+    utf8: int = 0
+
+    @classmethod
+    def of(cls, lines: Sequence[bytes]) -> "Letters":
+        """Those of some lines."""
+        wide = [is_utf8(line) for line in lines if not line.isascii()]
+        return cls(wide.count(False), wide.count(True))
+
+    def name(self) -> str:
+        """The name of the encoding that the lines have."""
+        if not self.latin1:
+            return "utf-8"
+        return "both" if self.utf8 else "latin-1"
+
+
+class Text(NamedTuple):
+    """The text of a book as bytes: a mark at its start, its lines, and whether they end in carriage returns. The last line is
+    empty if the text ends with a line feed. A line that is not UTF-8 is read as Latin-1."""
+
+    mark: bytes
+    lines: list[bytes]
+    returns: bool
+    letters: Letters = Letters()
+
+    @classmethod
+    def of(cls, data: bytes) -> "Text":
+        """The text of a book."""
+        mark = MARK if data.startswith(MARK) else b""
+        lines = data[len(mark) :].split(b"\n")
+        return cls(mark, lines, len(lines) > 1 and lines[0].endswith(b"\r"), Letters.of(lines))
+
+    def data(self) -> bytes:
+        """The bytes of the book."""
+        return self.mark + b"\n".join(self.lines)
+
+    def shown(self, line: bytes) -> str:
+        """A line as windows see it: each control is a half of a pair."""
+        return text_of(self.content(line)).translate(CONTROLS)
+
+    def content(self, line: bytes) -> bytes:
+        """A line without the carriage return that all lines have."""
+        return line.removesuffix(b"\r") if self.returns else line
+
+    def places(self, line: bytes) -> LinePlaces:
+        """The places of a line as windows see it."""
+        return LinePlaces(self.shown(line), is_latin1=not is_utf8(line))
+
+    def edit_of(self, start: int, stop: int, lines: Sequence[str]) -> Edit:
+        """The edit that makes some lines those that a window shows. One that was there keeps its bytes. New ones are Latin-1 if
+        the book is, or if one of the replaced lines is."""
+        old = self.lines[start:stop]
+        shown = [self.shown(line) for line in old]
+        known = dict(zip(shown, map(self.content, old)))
+        is_latin1 = self.letters.name() == "latin-1" or not all(map(is_utf8, old))
+        put = [known[line] if line in known else bytes_of(line, is_latin1) for line in lines]
+        front, back = common_front(shown, lines), common_front(shown[::-1], lines[::-1])
+        put[:front] = map(self.content, old[:front])
+        put[len(put) - back :] = map(self.content, old[len(old) - back :])
+        return with_ends(self, Edit(start, stop, put))
+
+    def edited(self, edit: Edit) -> "Text":
+        """The text after an edit."""
+        gone, come = Letters.of(self.lines[edit.start : edit.stop]), Letters.of(edit.lines)
+        letters = Letters(self.letters.latin1 - gone.latin1 + come.latin1, self.letters.utf8 - gone.utf8 + come.utf8)
+        lines = self.lines[: edit.start] + edit.lines + self.lines[edit.stop :]
+        return self._replace(lines=lines, letters=letters)
+
+    def in_utf8(self) -> "Text":
+        """The same letters in UTF-8."""
+        lines = [text_of(line).encode() for line in self.lines]
+        return self._replace(lines=lines, letters=Letters.of(lines))
+
+
+def is_utf8(line: bytes) -> bool:
+    """Whether bytes are UTF-8."""
+    with suppress(UnicodeDecodeError):
+        line.decode()
+        return True
+    return False
+
+
+def bytes_of(text: str, is_latin1: bool = False) -> bytes:
+    """The bytes of a line that a window shows: in UTF-8; or in Latin-1 if they are to be, and are read as the same letters."""
+    plain = text.translate(CHARACTERS)
+    if is_latin1:
+        with suppress(UnicodeEncodeError):
+            data = plain.encode("latin-1")
+            if text_of(data) == plain:
+                return data
+    return plain.encode("utf-8", "replace")
+
+
+def edits_of(old: Text, new: Text) -> list[Edit]:
+    """Few edits that make one text of another, as windows see their lines."""
+    if old.returns != new.returns:
+        return [Edit(0, len(old.lines), new.lines)]
+    return merge_edits(edits(old.lines, new.lines), old.lines, MOST_EDITS)
+
+
+def with_ends(text: Text, edit: Edit) -> Edit:
+    """An edit with the carriage returns of the book: the last line has none. So the one before the edit changes if it was the
+    last one, or becomes it."""
+    start, stop, lines = edit
+    if not text.returns:
+        return edit
+    at_end = stop == len(text.lines)
+    if at_end and start > 0 and (not lines or start == len(text.lines)):
+        start -= 1
+        lines = [text.lines[start].removesuffix(b"\r"), *lines]
+    lines = [line + b"\r" for line in lines[:-1]] + [line + (b"" if at_end else b"\r") for line in lines[-1:]]
+    return Edit(start, stop, lines)
