@@ -17,7 +17,11 @@ AudioScheduledSourceNode.prototype.start = function (when) {
   return start.call(this, when);
 };
 addEventListener("beforeunload", (event) => event.stopImmediatePropagation());
-"""  # Web Audio by a clock that the test moves, and each note that it gets: when, and its key; no page asks to stay
+Object.defineProperty(AudioContext.prototype, "outputLatency", { get: () => 0 });
+window.wrong = [];
+addEventListener("error", ({ message }) => window.wrong.push(message));
+addEventListener("unhandledrejection", ({ reason }) => window.wrong.push(String(reason)));
+"""  # Web Audio by a clock that the test moves, and each note that it gets: when, and its key; no page asks to stay; what went wrong
 
 
 def lacking() -> str:

@@ -3,6 +3,7 @@
 import shutil
 import subprocess
 import unittest
+from collections.abc import Sequence
 from pathlib import Path
 
 import trial
@@ -17,19 +18,19 @@ class PageScripts(trial.Folder):
 
     def setUp(self) -> None:
         super().setUp()
-        for path in (trial.CLIENTS / "abc2midi_live_clients/page_files").glob("*.js"):
+        for path in (trial.PACKAGES / "abc2midi_live_clients/page_files").glob("*.js"):
             shutil.copy(path, self.files)
         (self.files / "package.json").write_text('{"type": "module"}')
 
-    def node(self, script: str, words: str = "") -> list[str]:
+    def node(self, script: str, words: str = "", arguments: Sequence[str] = ()) -> list[str]:
         """The lines that a script prints."""
-        command = [NODE or "node", str(TESTS / script), str(self.files)]
+        command = [NODE or "node", str(TESTS / script), str(self.files), *arguments]
         ran = subprocess.run(command, input=words, capture_output=True, text=True, timeout=trial.SECONDS)
         self.assertEqual(ran.returncode, 0, ran.stderr)
         return ran.stdout.splitlines()
 
-    def assert_ok(self, script: str, least: int) -> None:
+    def assert_ok(self, script: str, least: int, *arguments: str) -> None:
         """All tests of a script pass, and there are at least `least` of them."""
-        lines = self.node(script)
+        lines = self.node(script, arguments=arguments)
         self.assertEqual([line for line in lines if not line.startswith("ok ")], [])
         self.assertGreaterEqual(len(lines), least)

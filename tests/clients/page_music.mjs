@@ -227,6 +227,11 @@ const tests = {
     ]);
     same([jig.after(0, false), jig.after(240, false), jig.after(240, true), jig.after(2000, true)], [240, 960, 1680, 2400]);
     same([jig.before(1700, false), jig.before(1680, false), jig.before(1680, true), jig.before(0, true)], [1680, 960, 240, 0]);
+    same([jig.clicksIn(0, 1680), jig.clicksIn(241, 961)], [
+      [{ at: 0, isFirst: false }, { at: 240, isFirst: true }, { at: 960, isFirst: false }], [{ at: 960, isFirst: false }],
+    ]);
+    const tempos = [{ tick: 0, second: 0, each: 0.5 / 480 }, { tick: 960, second: 1, each: 0.25 / 480 }];
+    same([0, 240, 960].map((tick) => Math.round(jig.tempoAt(tick, { tempos }))), [80, 80, 160]);
     same([jig.rangeOf(1, 1), jig.rangeOf(1, 2), jig.rangeOf(3, 3), jig.last, jig.count], [[240, 1680], [240, 2400], null, 2, 2]);
   },
 

@@ -1,5 +1,6 @@
-// Aligns tunes with their files, as the page does: the folder of its scripts is the argument, and a list of { lines, header, file }
-// comes in. For each tune a line goes out: how many voices it has, and how many of these are known from beginning to end.
+// For test_page_music.py: aligns tunes with their files, as the page does. The folder of the page's scripts is the argument, and a list
+// of { lines, header, file } comes in. For each tune a line goes out: how many voices it has, how many of these are known from
+// beginning to end, how many notes these have, and how many the file has.
 
 import { readFileSync } from "node:fs";
 import { pathToFileURL } from "node:url";

@@ -3,10 +3,14 @@
 
 import { pathToFileURL } from "node:url";
 
+import { Book, KEY, PORT, RUN, answerOf } from "./book_server.mjs";
 import { run, same } from "./testing.mjs";
 
 const folder = process.argv[2];
+const { Ancestry } = await import(pathToFileURL(`${folder}/ancestry.js`));
+const { hunksOf } = await import(pathToFileURL(`${folder}/hunks.js`));
 const { Drafts } = await import(pathToFileURL(`${folder}/drafts.js`));
+const { Files } = await import(pathToFileURL(`${folder}/files.js`));
 const { Link } = await import(pathToFileURL(`${folder}/link.js`));
 const { Server } = await import(pathToFileURL(`${folder}/server.js`));
 const { Text } = await import(pathToFileURL(`${folder}/text.js`));
@@ -17,140 +21,12 @@ const speed = { silence: 1, other: 10 }; // by which the scripts wait less
 globalThis.setTimeout = (act, time) => wait(act, time / (time === SILENCE ? speed.silence : speed.other));
 const PLACE = { start: { line: 0, column: 0 }, end: { line: 0, column: 0 }, direction: "forward" };
 
-const KEY = "0123456789abcdef".repeat(4), OTHER = "fedcba9876543210".repeat(4);
-const PORT = "20000", RUN = "0000000000000001";
-
-/** A server of one book, as the page's own answers; `lose` says what becomes of the next edit. */
-class Book {
-  constructor(...lines) {
-    this.lines = lines;
-    this.token = "first";
-    this.run = RUN;
-    this.changes = [];
-    this.streams = new Set();
-    this.edits = 0; // that were asked for
-    this.lose = null; // "answer", "edit", or "late": it arrives when it was given up
-    this.most = 500; // bytes of an edit
-    this.key = KEY; // of whoever has the port
-    this.port = PORT; // that its proofs name
-    this.isFull = false;
-    this.saved = "a";
-    this.disk = "a";
-    this.unsaved = false;
-    this.isDown = false;
-    this.asked = []; // the paths that were asked for
-  }
-
-  get state() {
-    const { run, saved, disk, unsaved } = this;
-    return { run, version: this.changes.length, unsaved, saved, disk, trouble: "", slow: false, windows: 1, hints: 0 };
-  }
-
-  put(window, { start, stop, lines }) {
-    this.lines = this.lines.slice(0, start).concat(lines, this.lines.slice(stop));
-    this.unsaved = true;
-    const change = { version: this.changes.length + 1, window, edit: { start, stop, lines }, unsaved: true };
-    this.changes.push(change);
-    for (const stream of this.streams) stream({ change });
-    return change;
-  }
-
-  /** Ends all streams. */
-  cut() {
-    for (const stream of this.streams) stream(null);
-  }
-
-  /** Another start over these lines. */
-  restart(...lines) {
-    this.cut();
-    Object.assign(this, { lines, token: "second", run: "0000000000000002", changes: [], unsaved: false });
-  }
-
-  /** What answers a request: a status and an object; or nothing answers it. */
-  async answer(path, { method, body } = {}) {
-    this.asked.push(path);
-    if (this.isDown) throw new Error("down");
-    const [token, ...words] = path.slice(1).split("/");
-    if (token === "proof") return this.prove(...words);
-    if (token !== this.token) return [403, { error: "another token" }];
-    const name = words.join("/");
-    if (name === "book") return [200, { lines: this.lines, ...this.state }];
-    if (name === "state") return [200, this.state];
-    if (words[0] === "events") return this.isFull ? [503, { error: "many windows", full: true }] : [200, null];
-    if (words[0] === "news") return [200, { changes: this.changes.slice(Number(words[1])), state: this.state, room: !this.isFull }];
-    if (method !== "POST") throw new Error(name);
-    const asked = JSON.parse(body);
-    if (name === "edit") this.edits += 1;
-    if (body.length > this.most) return [413, { error: "too long" }];
-    if (asked.version !== this.changes.length) return [409, { error: "another", changes: this.changes.slice(asked.version), ...this.state }];
-    if (name === "save") return this.save(asked);
-    return this.edit(asked);
-  }
-
-  save({ over }) {
-    if (this.disk !== (over ?? this.saved)) return [409, { error: "changed on disk", ask: this.disk }];
-    this.saved = this.disk = this.lines.join();
-    this.unsaved = false;
-    return [200, this.state];
-  }
-
-  edit({ window, start, stop, lines }) {
-    const { lose } = this;
-    this.lose = null;
-    if (lose === "edit") this.cut();
-    if (lose === "edit") throw new Error("lost");
-    const edit = { start, stop, lines };
-    if (lose === "late") this.late = () => this.put(window, edit);
-    const change = lose === "late" ? null : this.put(window, edit);
-    if (!lose) return [200, change];
-    this.cut();
-    throw new Error("lost");
-  }
-
-  async prove(nonce, page) {
-    if (!page) return [200, { run: this.run, proof: await this.proof("server", nonce) }];
-    return page === (await this.proof("page", nonce)) ? [200, { token: this.token }] : [403, { error: "no page of this book" }];
-  }
-
-  async proof(who, nonce) {
-    const hash = { name: "HMAC", hash: "SHA-256" };
-    const key = await crypto.subtle.importKey("raw", Buffer.from(this.key, "hex"), hash, false, ["sign"]);
-    return Buffer.from(await crypto.subtle.sign("HMAC", key, Buffer.from(`${who} ${this.port} ${this.run} ${nonce}`))).toString("hex");
-  }
-
-  /** The body of an answer that tells changes after a version, and what comes then. */
-  stream(version, signal) {
-    return new ReadableStream({
-      start: (control) => {
-        const encode = (news) => new TextEncoder().encode(`${JSON.stringify(news)}\n\n`);
-        const end = () => {
-          this.streams.delete(tell);
-          try {
-            control.close();
-          } catch {
-            // it is closed
-          }
-        };
-        const tell = (news) => setTimeout(() => {
-          if (news && this.streams.has(tell)) control.enqueue(encode(news));
-          else if (!news) end();
-        }, 5);
-        this.streams.add(tell);
-        signal.addEventListener("abort", end);
-        tell({ state: this.state });
-        for (const change of this.changes.slice(version)) tell({ change });
-      },
-    });
-  }
-}
+const OTHER = "fedcba9876543210".repeat(4);
 
 let server = null;
 globalThis.fetch = async (path, options) => {
   await new Promise((done) => setTimeout(done, 1));
-  const [status, told] = await server.answer(path, options);
-  const json = async () => JSON.parse(JSON.stringify(told));
-  const body = told === null ? server.stream(Number(path.split("/")[3]), options.signal) : null;
-  return { ok: status === 200, status, json, body };
+  return answerOf(server, path, options);
 };
 
 /** Waits till something comes about. */
@@ -167,7 +43,6 @@ async function opened(...lines) {
   server = new Book(...lines);
   const text = new Text(), link = new Link(text, new Server({ pathname: "/first/", port: PORT }, KEY));
   link.refusals = link.doubts = link.doubles = 0;
-  link.opened = (book) => book && text.open(book.lines);
   link.refused = () => (link.refusals += 1);
   link.doubted = (mine) => {
     link.doubts += 1;
@@ -186,10 +61,8 @@ const links = []; // of the present test
 /** Closes the windows of a test. */
 function close() {
   for (const link of links.splice(0)) {
-    link.absent = link.open = link.send = () => {};
-    link.hearing?.abort();
-    link.hearing = null;
-    clearTimeout(link.retry);
+    link.lose = link.join = link.send = () => {};
+    link.enter({ name: "lost", away: "the test is over", retry: null });
   }
 }
 
@@ -293,6 +166,21 @@ const tests = {
     same(seen, [false, true, true, false]);
   },
 
+  async "'unsaved' follows the latest news, in whatever order they come"() {
+    const [link, text] = await opened("a");
+    const before = server.state, edit = { start: 0, stop: 0, lines: ["new"] };
+    for (const stream of server.streams) server.streams.delete(stream);
+    const change = server.put("other", edit);
+    await server.answer(`/first/save`, { method: "POST", body: JSON.stringify({ run: RUN, version: 1 }) });
+    link.hear({ state: server.state });
+    link.hear({ change });
+    same([text.lines, link.isUnsaved], [["new", "a"], false]); // another window edited and saved, and the state came first
+    link.hear({ state: { ...before, unsaved: true } });
+    same([link.isUnsaved, link.state.saved], [false, "new,a"]);
+    link.hear({ state: { ...server.state, moment: server.moment + 1, disk: "another" } });
+    same(link.state.disk, "another");
+  },
+
   async "a book that another program changed is not saved over"() {
     const [link, text] = await opened("a");
     text.edit(1, 1, ["b"], PLACE, PLACE);
@@ -302,6 +190,21 @@ const tests = {
     same([link.why, link.state.disk, link.state.saved], ["changed on disk", "another", "a"]);
     await link.file("save", { over: "another" });
     same([link.state.disk, link.isUnsaved], ["a,b", false]);
+  },
+
+  async "what a load replaces can be taken back, and the page says so if the text was another one"() {
+    const [link, text] = await opened("X:1", "K:C");
+    const said = [], questions = { find: () => undefined };
+    const files = new Files({ text, link, book: { name: "book.abc" }, questions, say: (words) => said.push(words), doubt: () => undefined, undoKey: "Ctrl-Z" });
+    text.edit(1, 2, ["K:D"], PLACE, PLACE);
+    for (const lines of [["X:1", "K:G"], ["X:1", "K:G"]]) {
+      server.write(...lines);
+      await files.load({ over: server.disk });
+      same([text.lines, link.isUnsaved], [lines, false]);
+    }
+    same(said, ["Loaded book.abc from the disk. Ctrl-Z takes that back.", "Loaded book.abc from the disk."]);
+    text.undo();
+    same(text.lines, ["X:1", "K:D"]);
   },
 
   async "a server that was started again proves itself, and text that only the page has goes to it"() {
@@ -338,11 +241,25 @@ const tests = {
     for (const nonsense of [{}, { run: RUN, proof: "" }, { run: [RUN], proof: 7 }, { run: "x y", proof: "0".repeat(64) }]) {
       server.prove = async (nonce, page) => (page ? [500, {}] : [200, nonsense]);
       server.asked = [];
-      link.away = "";
       server.cut();
-      await until(() => link.away.includes("another program"));
+      await until(() => server.asked.length > 1);
+      same(link.away.includes("another program"), true);
       same(server.asked.filter((path) => !/^\/proof\/[0-9a-f]{32}$/.test(path)), []);
     }
+  },
+
+  async "a proof that does not come to its end makes no stranger, and one that is no JSON does"() {
+    const [link] = await opened("a");
+    for (const [name, why] of [["TimeoutError", "it does not answer"], ["AbortError", "it does not answer"], ["TypeError", "it does not answer"], ["SyntaxError", "another program"]]) {
+      const error = name === "SyntaxError" ? new SyntaxError("nonsense") : Object.assign(new Error("cut"), { name });
+      server.breaks = (path) => path.startsWith("/proof/") && error;
+      server.asked = [];
+      server.cut();
+      await until(() => server.asked.length > 1);
+      same(link.away.includes(why), true);
+    }
+    server.breaks = null;
+    await until(() => !link.away);
   },
 
   async "a window too many asks for news again and again"() {
@@ -384,13 +301,41 @@ const tests = {
     await agree(link, text, "a", "typed");
   },
 
+  "what two texts have in common"() {
+    const texts = new Ancestry({ lines: ["a"], has: { run: 0 } });
+    texts.edit({ start: 1, stop: 1, lines: ["b"] }, { run: 0, one: 1 });
+    texts.edit({ start: 1, stop: 2, lines: ["B"] }, { run: 0, one: 1, other: 1 });
+    const shared = (has, ...lines) => texts.sharedWith({ lines, has })?.lines;
+    same([shared({ run: 0, one: 2 }, "x"), shared({ run: 0, one: 1, other: 4 }, "x"), shared({ run: 0, more: 1 }, "x")], [["a", "b"], ["a", "B"], ["a"]]);
+    same([shared({ next: 0 }, "a", "b"), shared({ next: 0 }, "x"), shared({ next: 0, one: 2, other: 2 }, "x")], [["a", "b"], undefined, undefined]);
+    texts.suppose({ start: 0, stop: 0, lines: ["own"] }, { run: 0, one: 1, other: 1, own: 1 });
+    same([texts.lines, shared({ run: 0, one: 1, other: 1, own: 3 }, "x"), shared({ run: 0, one: 1, other: 2 }, "x")], [["a", "B"], ["own", "a", "B"], ["a", "B"]]);
+    texts.rejoin({ lines: ["a", "b", "more"], has: { next: 0, run: 0, one: 1, more: 1 } }, ["a", "b"]);
+    same(texts.tops.map(({ lines, has }) => [lines.join(" "), Object.keys(has).sort().join(" ")]), [["own a B more", "more next one other own run"], ["a B more", "more next one other run"]]);
+    texts.edit({ start: 1, stop: 2, lines: ["B"] }, { next: 0, run: 0, one: 1, more: 1, other: 1, own: 2 });
+    same([texts.tops, texts.lines], [[], ["a", "B", "more"]]);
+    for (let n = 0; n < 1500; n += 1) texts.edit({ start: 0, stop: 0, lines: [`line ${n}`] }, { ...texts.has, many: n });
+    same([texts.steps.length, shared({ next: 0, run: 0, one: 1 }, "x"), texts.sharedWith({ lines: texts.lines, has: {} }).lines.length], [1000, undefined, 1503]);
+  },
+
+  "where lists differ"() {
+    const found = (old, now) => hunksOf(old, now).map(({ start, stop, from, to }) => `${old.slice(start, stop)}>${now.slice(from, to)}`);
+    same([found("abcd", "abcd"), found("", "ab"), found("ab", ""), found("abcdef", "xabdezf")], [[], [">ab"], ["ab>"], [">x", "c>", ">z"]]);
+    same([found("abc", "axc"), found("aab", "aaab"), found("abcabba", "cbabac").length > 1], [["b>x"], [">a"], true]);
+    for (let seed = 1; seed <= 300; seed += 1) {
+      const [old, now] = [seed, seed * 7].map((n) => Array.from({ length: n % 13 }, (_, at) => "abc"[(n * (at + 3) * (at + seed)) % 3]).join(""));
+      const hunks = hunksOf(old, now), build = hunks.reduceRight((text, { start, stop, from, to }) => text.slice(0, start) + now.slice(from, to) + text.slice(stop), old);
+      same([build, hunks.every((hunk, n) => !n || (hunk.start > hunks[n - 1].stop && hunk.from > hunks[n - 1].to))], [now, true]);
+    }
+  },
+
   "what came from disk can be undone"() {
     const text = new Text();
     text.open(["a", "b"]);
     text.edit(0, 1, ["A"], PLACE, PLACE);
     text.take();
-    text.others(1, 2, ["x", "y"], true);
-    text.others(0, 1, [], true);
+    text.others(1, 2, ["x", "y"], "one");
+    text.others(0, 1, [], "other");
     same(text.lines, ["x", "y"]);
     text.undo();
     same(text.lines, ["A", "x", "y"]);

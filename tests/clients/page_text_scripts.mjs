@@ -1,7 +1,9 @@
 // Tries those scripts of the page that work on the text, without a browser: what can be undone, find and replace, colours, the
 // filter, and what the page says. The folder that has them is the argument. Each test prints `ok` or `FAILED`, with its name.
 
+import { readFileSync } from "node:fs";
 import { pathToFileURL } from "node:url";
+import { runInNewContext } from "node:vm";
 
 import { run, same } from "./testing.mjs";
 
@@ -11,14 +13,18 @@ const { blobOf } = await from("blob");
 const { kindsOf, partsOf } = await from("colours");
 const { STARTER, whyBlank, whyNothing } = await from("empty");
 const { Filter, folded } = await from("filter");
-const { Matches, matchesIn, replacedIn, sought } = await from("find");
-const { applyEdits, inverse } = await from("history");
+const { Matches, matchesIn, matchesNothing, replacedIn, sought } = await from("find");
+const { inverse } = await from("history");
 const { keysOf, withKeys } = await from("keys");
 const { grouped } = await from("remarks");
+const { applyEdits } = await from("lines");
 const { changed, placeOf, without } = await from("rows");
+const { replacedWords } = await from("search");
+const { bothChanged, changedOnDisk, firstDifference, goneFromDisk, keptByBrowser } = await from("situations");
 const { Text } = await from("text");
 const { UndoStore, printOf } = await from("undo_store");
 
+const again = readFileSync(`${folder}/again.js`, "utf8");
 const PLACE = { start: { line: 0, column: 0 }, end: { line: 0, column: 0 }, direction: "forward" };
 
 /** Numbers below a limit, the same ones in each run. */
@@ -50,7 +56,8 @@ function undone(text, count = 1) {
 }
 
 const what = (words, { matchesCase = false, isWhole = false, isRegular = false } = {}) => sought({ words, matchesCase, isWhole, isRegular });
-const textsOf = (line, ...words) => matchesIn(line, what(...words)).map((match) => [match.index, match[0]]);
+const textsOf = (line, ...words) => matchesIn(line, what(...words)).map(({ start, texts }) => [start, texts[0]]);
+const replaced = (line, sought, put) => replacedIn(line, matchesIn(line, sought), put, sought);
 const coloured = (line, kind = "music") => partsOf(line, kind).map(([start, end, name]) => [line.slice(start, end), name]);
 
 /** A store as the browser's. */
@@ -123,7 +130,7 @@ const tests = {
   "steps of several edits"() {
     const text = opened("a", "b", "c", "d", "e");
     text.change([{ start: 0, taken: ["a"], put: ["1", "2"] }, { start: 3, taken: ["d"], put: [] }], PLACE, PLACE);
-    same([text.lines.join(""), text.pending], ["12bce", { start: 0, stop: 4, count: 4 }]);
+    same([text.lines.join(""), text.pending], ["12bce", { start: 0, stop: 4, count: 4, taken: ["a", "b", "c", "d"] }]);
     text.take();
     text.others(2, 3, ["B", "B"]);
     same([text.lines.join(""), undone(text)], ["12BBce", "aBBcde"]);
@@ -179,6 +186,32 @@ const tests = {
       for (let n = 0; n < steps; n += 1) text.redo();
       same([seed, text.lines], [seed, before]);
     }
+  },
+
+  "all that another program wrote at once is one step"() {
+    for (let seed = 1; seed <= 100; seed += 1) {
+      const chance = chances(seed), old = Array.from({ length: 12 }, (_, n) => `old.${n}`), text = opened(...old);
+      typed(text, 0, 1, "typed");
+      const before = text.lines;
+      for (let stop = text.lines.length; stop > 0; stop -= 1 + chance(4)) {
+        const start = Math.max(0, stop - chance(3)), put = Array.from({ length: chance(3) }, (_, n) => `new ${stop}.${n}`);
+        if (start < stop || put.length) text.others(start, stop, put, "a writing");
+        stop = start;
+      }
+      const now = text.lines;
+      text.undo();
+      same([seed, text.lines], [seed, before]);
+      text.redo();
+      same([seed, text.lines], [seed, now]);
+      same([seed, undone(text, 2)], [seed, old.join("")]);
+    }
+  },
+
+  "what another program wrote at two times is two steps"() {
+    const text = opened("a", "b", "c");
+    text.others(2, 3, ["C"], "one");
+    text.others(0, 1, ["A"], "other");
+    same([undone(text), undone(text)], ["abC", "abc"]);
   },
 
   "a step and its inverse"() {
@@ -247,7 +280,24 @@ const tests = {
     same(textsOf("a.b axb", "a.b"), [[0, "a.b"]]);
     same(textsOf("C2 D C4", "[A-G](\\d)", { isRegular: true }), [[0, "C2"], [5, "C4"]]);
     same(textsOf("abc", "x*", { isRegular: true }), []);
+    same(textsOf("C2|D", "C2|", { isRegular: true }), [[0, "C2"]]);
     same(textsOf("𝄞a", ".", { isRegular: true }), [[0, "𝄞"], [2, "a"]]);
+  },
+
+  "an expression of places matches them, and another one only characters"() {
+    const placesOf = (line, words, more = {}) => matchesIn(line, what(words, { isRegular: true, ...more })).map(({ start, end }) => [start, end]);
+    same([placesOf("CDE", "^"), placesOf("CDE", "$"), placesOf("", "^$"), placesOf("C", "^$")], [[[0, 0]], [[3, 3]], [[0, 0]], []]);
+    same([placesOf("a b", "\\b"), placesOf("CDC", "(?=C)"), placesOf("CDC", "(?<!^)(?=[(C)](?:D|$))")], [[[0, 0], [1, 1], [2, 2], [3, 3]], [[0, 0], [2, 2]], [[2, 2]]]);
+    same([placesOf("CDE", "^", { isWhole: true }), placesOf("a^b", "^", { isRegular: false }), placesOf("CDE", "()")], [[[0, 0]], [[1, 2]], []]);
+    same([placesOf("CDE", "^C"), placesOf("CDE", "(?=D)x*"), placesOf("CDE", "[^]"), placesOf("CDE", "|")], [[[0, 1]], [], [[0, 1], [1, 2], [2, 3]], []]);
+    same([replaced("CDE", what("^", { isRegular: true }), "% "), replaced("C D", what("$", { isRegular: true }), "|")], [["% CDE"], ["C D|"]]);
+    same(["x*", "|", "^", "(?=C)", "C", "^ *$"].map((words) => matchesNothing(what(words, { isRegular: true }))), [true, true, false, false, false, true]);
+  },
+
+  "what comes of replacing all is said as it is"() {
+    const words = [[0, false], [2, false], [1, true], [2, true]].map(([count, isOther]) => replacedWords(count, isOther, "Ctrl-Z"));
+    same(words, ["Nothing found, so nothing is replaced.", "Nothing is replaced: the new words are those that were found.",
+      "1 replaced. Ctrl-Z takes it back.", "2 replaced. Ctrl-Z takes them back."]);
   },
 
   "a bad expression has a name"() {
@@ -262,11 +312,11 @@ const tests = {
   },
 
   "replacements"() {
-    same(replacedIn("C D C", what("c"), "$1"), { lines: ["$1 D $1"], count: 2 });
+    same(replaced("C D C", what("c"), "$1"), ["$1 D $1"]);
     const groups = what("([A-G])(\\d)", { isRegular: true });
-    same(replacedIn("C2 D E4", groups, "$2$1$$$&"), { lines: ["2C$C2 D 4E$E4"], count: 2 });
-    same(replacedIn("a|b|c", what("\\|", { isRegular: true }), "|\\n"), { lines: ["a|", "b|", "c"], count: 2 });
-    same(replacedIn("a", what("(?<name>a)", { isRegular: true }), "$<name>$7"), { lines: ["a$7"], count: 1 });
+    same(replaced("C2 D E4", groups, "$2$1$$$&"), ["2C$C2 D 4E$E4"]);
+    same(replaced("a|b|c", what("\\|", { isRegular: true }), "|\\n"), ["a|", "b|", "c"]);
+    same(replaced("a", what("(?<name>a)", { isRegular: true }), "$<name>$7"), ["a$7"]);
   },
 
   "the count follows edits, and goes on in slices"() {
@@ -324,6 +374,13 @@ const tests = {
     same(grouped(faults, lines), [{ fault: faults[0], sign: "-", count: 3 }, { fault: faults[3], sign: "&", count: 1 }, { fault: faults[4], sign: "&", count: 1 }]);
   },
 
+  "letters that ABC does not have are one remark"() {
+    const lines = ["C é è &", "и"], faults = [[0, 2, 3, "BadByte"], [0, 4, 5, "BadByte"], [0, 6, 7, "BadByte"], [1, 0, 1, "BadByte"]];
+    same(grouped(faults, lines), [{ fault: faults[0], sign: "é è и", count: 3 }, { fault: faults[2], sign: "&", count: 1 }]);
+    const odd = ["\udc01\udc02\udc01"], those = [0, 1, 2].map((n) => [0, n, n + 1, "BadByte"]);
+    same(grouped(those, odd), [{ fault: those[0], sign: "\udc01 \udc02", count: 3 }]);
+  },
+
   "why there is nothing to see"() {
     const why = (more) => whyNothing({ lines: ["X:1", "C"], rows: [[4, 7, "", true]], faults: [], row: null, notes: null, ...more });
     const tunes = [[4, 7, "", true], [9, 7, "", false], [20, 0, "", true], [30, 0, "", false]];
@@ -345,12 +402,47 @@ const tests = {
   },
 
   async "a download has the bytes of the book"() {
-    const halves = Array.from({ length: 256 }, (_, n) => n).filter((n) => n > 127 || (n < 32 && n !== 9 && n !== 10));
+    const halves = Array.from({ length: 256 }, (_, n) => n).filter((n) => n < 32 && n !== 9 && n !== 10);
     const lines = ["a\t\u00e9\ud834\udd1e", String.fromCharCode(...halves.map((n) => 0xdc00 + n)), "\udc0a\udc41\ud800", ""];
     const text = [97, 9, 0xc3, 0xa9, 0xf0, 0x9d, 0x84, 0x9e], sign = [0xef, 0xbf, 0xbd], mark = [0xef, 0xbb, 0xbf];
     const bytes = async (state) => [...new Uint8Array(await blobOf(lines, state).arrayBuffer())];
     same(await bytes({ mark: false, returns: false }), [...text, 10, ...halves, 10, ...sign, ...sign, ...sign, 10]);
     same(await bytes({ mark: true, returns: true }), [...mark, ...text, 13, 10, ...halves, 13, 10, ...sign, ...sign, ...sign, 13, 10]);
+    const latin1 = await blobOf(["T:\u00e9\udc01", "\u00ff", "\u2019\u00e9"], { mark: false, returns: true, letters: "latin-1" }).arrayBuffer();
+    same([...new Uint8Array(latin1)], [84, 58, 0xe9, 1, 13, 10, 0xff, 13, 10, 0xe2, 0x80, 0x99, 0xc3, 0xa9]);
+  },
+
+  "questions about texts name their situation, and what each answer does"() {
+    const book = ["X:1", "K:C", "C"], mine = ["X:1", "K:C", "DEF", "G"];
+    same([firstDifference(mine, book), firstDifference(["X:1", "K:C"], book), firstDifference(["", ...book], book)],
+      ["from line 3 on, “DEF”", "from line 3 on", "from line 1 on"]);
+    same(firstDifference(["x".repeat(50)], book), `from line 1 on, “${"x".repeat(40)}…”`);
+    const doubts = [["10:42:07", mine], ["10:42:07", ["X:2"]], ["10:50:00", mine]].map(([when, text]) => bothChanged("reels.abc", when, text, book));
+    const all = [...doubts, keptByBrowser("10:42:07", mine, book), changedOnDisk("reels.abc"), goneFromDisk("reels.abc")];
+    same(new Set(all).size, all.length);
+    same(doubts[0], "While the server was away reels.abc changed, and so did your text of 10:42:07: it differs from line 3 on, “DEF”. " +
+      "The book is shown. Keeping your text replaces it, and Ctrl-Z takes that back. Taking the book drops your text.");
+    same(all.map((words) => [/Sav|Keep|Tak/.test(words), /Ctrl-Z/.test(words)]), [...Array(5).fill([true, true]), [true, false]]);
+  },
+
+  "a page of which a part does not arrive is loaded again three times, and later once more if it was whole meanwhile"() {
+    const stored = new Map(), loads = [];
+    const storage = { getItem: (key) => stored.get(key) ?? null, setItem: (key, value) => stored.set(key, value), removeItem: (key) => stored.delete(key) };
+    const Part = class {}, Other = class {};
+    const load = (...missing) => {
+      const acts = {}, location = { reload: () => loads.push("again") };
+      const addEventListener = (name, act) => (acts[name] = act);
+      const setTimeout = (act, pause) => loads.push(pause) && act();
+      runInNewContext(again, { addEventListener, location, setTimeout, sessionStorage: storage, HTMLScriptElement: Part, HTMLLinkElement: Part });
+      for (const target of missing) acts.error({ target });
+      acts.load();
+    };
+    load(new Other());
+    for (let n = 0; n < 4; n += 1) load(new Part(), new Part());
+    same(loads.splice(0), [1000, "again", 5000, "again", 20000, "again"]);
+    load();
+    load(new Part());
+    same(loads, [1000, "again"]);
   },
 
   "names of keys on a Mac"() {

@@ -1,5 +1,6 @@
 """The hints of the page while the process that finds them ends."""
 
+import errno
 import unittest
 from typing import cast
 from unittest import mock
@@ -63,3 +64,13 @@ class Keeping(unittest.TestCase):
         with self.assertRaises(Ended):
             HintKeeper(cast(SharedBook, book)).keep()
         self.assertEqual((book.asked, book.hints), ([0, 1, 1, 2, 2, 3, 4], [[HINT], [HINT], [], [HINT]]))
+
+    @mock.patch.object(page_server, "SECONDS_OF_REST", 0)
+    @mock.patch.object(Process, "ends", {1: 2})
+    def test_a_process_that_cannot_be_started(self) -> None:
+        """The version has no hints, and a later one has them when it can be started again."""
+        full = OSError(errno.EAGAIN, "Resource temporarily unavailable")
+        book = Book(4)
+        with mock.patch.object(page_server, "HintProcess", side_effect=[Process(), full, Process()]), self.assertRaises(Ended):
+            HintKeeper(cast(SharedBook, book)).keep()
+        self.assertEqual((book.asked, book.hints), ([0, 1, 1, 2, 3, 4], [[HINT], [], [HINT], [HINT]]))

@@ -61,12 +61,12 @@ FADES = "return getComputedStyle(document.querySelector('.view'), '::after').bac
 class Colours(test_page_in_browser.Browser):
     """The layers below the text."""
 
-    def emulate(self, scheme: str):
+    def emulate(self, scheme: str) -> None:
         feature = {"name": "prefers-color-scheme", "value": scheme}
         self.driver.execute_cdp_cmd("Emulation.setEmulatedMedia", {"features": [feature]})
         self.addCleanup(lambda: self.driver and self.driver.execute_cdp_cmd("Emulation.setEmulatedMedia", {"features": []}))
 
-    def test_parts_of_lines(self):
+    def test_parts_of_lines(self) -> None:
         self.edit(0, 1, *TEXT)
         self.load()
         wanted = [
@@ -86,7 +86,7 @@ class Colours(test_page_in_browser.Browser):
         wanted += [[["X:", "field"], ["2", "value"]], [["K:", "field"], ["C", "value"]], [['"C"', "chord"]]]
         self.wait(lambda: self.run_script(COLOURED) == wanted)
 
-    def test_the_layer_is_below_the_text(self):
+    def test_the_layer_is_below_the_text(self) -> None:
         """It has the same letters at the same places, after scrolling and edits too, and is none for those who listen."""
         lines = [line for number in range(1, 400) for line in (f"X:{number}", "T:\tTab é 𝄞 \ufffd", "K:C", "|:C2\tD|", "")]
         self.edit(0, 1, *lines)
@@ -99,13 +99,13 @@ class Colours(test_page_in_browser.Browser):
         self.type("\n\nabc")
         self.same_places()
 
-    def same_places(self):
+    def same_places(self) -> None:
         """Waits till the layer has what the text area has."""
         self.wait(lambda: (found := self.run_script(PLACES))["text"] == found["value"] and self.run_script(COVERS))
         found = self.run_script(PLACES)
         self.assertEqual((found["left"], found["top"], found["high"], found["same"], found["hidden"]), (0, 0, 0, True, "true"))
 
-    def test_a_long_selection(self):
+    def test_a_long_selection(self) -> None:
         """Only lines about those that are seen have colours, also if all are selected."""
         self.edit(0, 1, *["C|"] * 5000)
         self.load()
@@ -116,7 +116,7 @@ class Colours(test_page_in_browser.Browser):
             self.wait(lambda: self.run_script(COVERS))
             self.assertLess(self.run_script("return document.querySelectorAll('.colours div').length"), 400)
 
-    def test_contrasts(self):
+    def test_contrasts(self) -> None:
         """At least 4.5 to 1 for text on each background that it may have, and 3 to 1 for borders, by day and by night."""
         self.edit(0, 1, *TEXT)
         for scheme in ("light", "dark"):
@@ -131,7 +131,7 @@ class Colours(test_page_in_browser.Browser):
             self.assertEqual([one for one in found["edges"] if one[1] < 3], [], scheme)
             self.assertEqual([one for one in found["quiet"] if one[1] < 4.5], [], scheme)
 
-    def test_no_line_is_cut_at_the_bottom(self):
+    def test_no_line_is_cut_at_the_bottom(self) -> None:
         """Whatever the height of the view, and wherever it is scrolled to."""
         self.edit(0, 1, *["C|"] * 300)
         self.load()
@@ -141,7 +141,7 @@ class Colours(test_page_in_browser.Browser):
                 self.run_script("document.querySelector('.scroller').scrollTop = arguments[0]", top)
                 self.wait(lambda: (found := self.run_script(BOTTOM))["cut"] == 0 and found["shown"] > 5 and found["cover"] < 21)
 
-    def test_the_line_of_the_caret_stays_in_view(self):
+    def test_the_line_of_the_caret_stays_in_view(self) -> None:
         """Faults that appear below the text make its view lower."""
         self.edit(0, 1, "X:1", "K:C", *["C|"] * 60)
         self.load()
@@ -156,13 +156,13 @@ class Colours(test_page_in_browser.Browser):
         """
         self.wait(lambda: self.run_script(seen))
 
-    def test_room_above_the_first_line(self):
+    def test_room_above_the_first_line(self) -> None:
         self.edit(0, 1, *TEXT)
         self.load()
         room = "return document.querySelector('textarea').getBoundingClientRect().top - document.querySelector('.scroller').getBoundingClientRect().top"
         self.assertGreaterEqual(self.run_script(room), 6)
 
-    def test_long_lines_fade(self):
+    def test_long_lines_fade(self) -> None:
         """Their ends fade at the right side of a telephone till they are scrolled to, and short lines do not."""
         self.size(390, 844)
         self.edit(0, 1, "X:1", "K:C", "C")

@@ -1,31 +1,33 @@
 """Copies of the book in its folder, by plain requests to the server of the page."""
 
 import os
+from typing import Any
 
 import test_page
 from abc2midi_live_clients import saving
+from abc2midi_live_clients.rows import Json
 
 
 class Copies(test_page.Page):
     """What `save-as` writes, and what it refuses."""
 
-    def copy(self, name, **more) -> dict:
+    def copy(self, name: Any, **more: Any) -> Json:
         """What answers a copy of the present text."""
         state = self.ask("state")
         return self.ask("save-as", {"run": state["run"], "version": state["version"], "name": name, **more})
 
-    def refused(self, name, sentence: str, **more):
+    def refused(self, name: Any, sentence: str, **more: Any) -> None:
         """A copy is refused by a sentence, and nothing in the folder is another."""
         before = self.listing()
         answer = self.copy(name, **more)
         self.assertEqual((answer.get("error"), answer.get("status"), self.listing()), (sentence, 400, before), name)
 
-    def listing(self) -> dict:
+    def listing(self) -> dict[str, int]:
         """The files below the folder, with what they have."""
         found = (os.path.join(folder, name) for folder, _, names in os.walk(self.folder) for name in names)
         return {path: os.stat(path).st_size for path in found}
 
-    def test_a_copy(self):
+    def test_a_copy(self) -> None:
         """It has the text of the windows; the book stays as it was, unsaved."""
         self.edit(0, 0, "% é 𝄞")
         state = self.copy("other name.abc")
@@ -35,7 +37,7 @@ class Copies(test_page.Page):
         self.save()
         self.finish()
 
-    def test_bytes_of_the_book(self):
+    def test_bytes_of_the_book(self) -> None:
         """Carriage returns, a mark, and bytes that are no text are the same in the copy."""
         self.finish()
         data = b"\xef\xbb\xbfX:1\r\nT:\xe9\x01\r\nK:C\r\n"
@@ -45,11 +47,12 @@ class Copies(test_page.Page):
         self.assertEqual((self.folder / "copy.abc").read_bytes(), data)
         self.finish()
 
-    def test_a_file_that_is_there(self):
+    def test_a_file_that_is_there(self) -> None:
         """It is replaced only if the window names its content."""
         there = self.folder / "there.abc"
         there.write_bytes(b"mine")
-        for more in ({}, {"over": "another"}, {"over": None}, {"over": True}, {"over": 1}):
+        others: list[Json] = [{}, {"over": "another"}, {"over": None}, {"over": True}, {"over": 1}]
+        for more in others:
             asked = self.copy("there.abc", **more)
             self.assertEqual((asked["status"], asked["error"]), (409, "there is a file of this name"))
             self.assertEqual((asked["there"], there.read_bytes()), (saving.digest(b"mine"), b"mine"))
@@ -61,7 +64,7 @@ class Copies(test_page.Page):
         self.assertFalse((self.folder / "gone.abc").exists())
         self.finish()
 
-    def test_no_way_out_of_the_folder(self):
+    def test_no_way_out_of_the_folder(self) -> None:
         (self.folder / "below").mkdir()
         slash = "a name has no slash: the copy goes into the folder of the book"
         out = f"out of {self.folder.name}.abc"
@@ -72,7 +75,7 @@ class Copies(test_page.Page):
             self.refused(name, "a name does not begin with a dot")
         self.finish()
 
-    def test_names_that_are_none(self):
+    def test_names_that_are_none(self) -> None:
         for name in ("", "  ", None, 7, ["a.abc"], {"a": 1}, True):
             self.refused(name, "the copy needs a name")
         for name in ("a\0b.abc", "a\nb.abc", "\x1b[31m.abc", "\ud800.abc", "\udc0a.abc", "a\u202eb.abc"):
@@ -82,40 +85,41 @@ class Copies(test_page.Page):
         self.assertFalse("error" in self.copy(251 * "n" + ".abc"))
         self.finish()
 
-    def test_the_book_itself(self):
+    def test_the_book_itself(self) -> None:
         self.edit(0, 0, "%")
         self.refused("book.abc", "this is the book itself: save it")
         os.link(self.path, self.folder / "same.abc")
         self.refused("same.abc", "this is the book itself: save it", over=saving.digest(test_page.BOOK))
         self.finish()
 
-    def test_what_is_no_regular_file(self):
+    def test_what_is_no_regular_file(self) -> None:
         """Links and folders of the name stay, and what a link names stays as it is."""
         (self.folder / "folder.abc").mkdir()
         outside = self.folder / "files/outside"
         outside.write_bytes(b"outside")
         (self.folder / "link.abc").symlink_to(outside)
         for name in ("folder.abc", "link.abc"):
-            for more in ({}, {"over": saving.digest(b"outside")}):
+            named: list[Json] = [{}, {"over": saving.digest(b"outside")}]
+            for more in named:
                 asked = self.copy(name, **more)
                 self.assertEqual((asked["status"], asked["error"]), (500, "the copy cannot be saved: it is not a regular file"))
         self.assertEqual((outside.read_bytes(), (self.folder / "link.abc").is_symlink()), (b"outside", True))
         outside.unlink()
 
-    def test_a_copy_over_a_file_that_is_read_only(self):
+    def test_a_copy_over_a_file_that_is_read_only(self) -> None:
         there = self.folder / "there.abc"
         there.write_bytes(b"mine")
         there.chmod(0o444)
         asked = self.copy("there.abc", over=saving.digest(b"mine"))
         self.assertEqual((asked["status"], asked["error"], there.read_bytes()), (500, "the file is read-only", b"mine"))
 
-    def test_no_book_is_named(self):
+    def test_no_book_is_named(self) -> None:
         self.finish()
         self.start()
         self.refused("copy.abc", "no book was named, so there is no folder")
         self.finish()
 
-    def test_whoever_may_not(self):
+    def test_whoever_may_not(self) -> None:
         """Without the token of the page, from another page, or for a text that the window does not know, nothing is written."""
         state = self.ask("state")
         asked = {"run": state["run"], "version": state["version"], "name": "copy.abc"}
@@ -135,7 +139,7 @@ class Copies(test_page.Page):
 class Changes(test_page.Page):
     """The changes after a version, for a page that was loaded anew."""
 
-    def test_changes(self):
+    def test_changes(self) -> None:
         made = [self.edit(0, 1, f"X:{number}") for number in range(5, 8)]
         self.assertEqual(self.ask("changes/1"), {"changes": made[1:]})
         self.assertEqual(self.ask("changes/3"), {"changes": []})

@@ -21,11 +21,11 @@ return words.top >= roll.top && words.bottom <= roll.bottom && words.left >= rol
 class Empty(test_page_in_browser.Browser):
     """Empty books and rolls, and the first tune."""
 
-    def says(self, words: str):
+    def says(self, words: str) -> None:
         """Waits till the place of the roll says this."""
         self.wait(lambda: self.text("empty") == words)
 
-    def test_an_empty_book_offers_a_tune(self):
+    def test_an_empty_book_offers_a_tune(self) -> None:
         """It comes by an edit that can be undone, and sounds; with some text there is no offer."""
         self.wait(lambda: self.run_script(STARTS))
         self.says("The book is empty. A tune begins with a line X:1.")
@@ -42,7 +42,7 @@ class Empty(test_page_in_browser.Browser):
         self.type("X")
         self.wait(lambda: not self.run_script(STARTS))
 
-    def test_a_new_book_says_that_there_is_no_file_yet(self):
+    def test_a_new_book_says_that_there_is_no_file_yet(self) -> None:
         """Until the first save makes it."""
         says = "return document.querySelector('#starter p').textContent"
         self.finish()
@@ -54,26 +54,26 @@ class Empty(test_page_in_browser.Browser):
         self.wait(lambda: self.run_script(says) == "The book is empty.")
         self.assertEqual(self.path.read_bytes(), b"")
 
-    def test_an_empty_roll_says_why(self):
-        self.type("Some words")
+    def test_an_empty_roll_says_why(self) -> None:
+        self.put("Some words")
         self.says("This text has no tune. A tune begins with a line X: and its number, as X:1.")
-        self.press("\n\nX:4\nK:C\n")
+        self.put("\n\nX:4\nK:C\n")
         self.says("Tune 4 has no notes yet.")
-        self.press("C")
+        self.put("C")
         self.says("")
-        self.press("\n\nX:4\nK:D\nD")
+        self.put("\n\nX:4\nK:D\nD")
         self.says("Number 4 is used at line 3; this tune has no file.")
         self.press(HOME, CONTROL)
         self.says("The caret is before the first tune, which begins at line 3.")
         self.press(END, CONTROL)
-        self.press("\n\nX:5\nM:4/4\nK:C\n" + "Z1000|" * 140)
+        self.put("\n\nX:5\nM:4/4\nK:C\n" + "Z1000|" * 140)
         self.says("This tune is too long; it has no file.")
-        self.press("\n\nX:none\nK:C\n")
+        self.put("\n\nX:none\nK:C\n")
         self.says("This tune has no notes yet, and its number cannot be read. Write it as X:1.")
-        self.press("C\n\nX:\nK:C\nC")
+        self.put("C\n\nX:\nK:C\nC")
         self.wait(lambda: self.text("empty").startswith("This tune has no number, as the one at line "))
 
-    def test_the_words_are_in_the_roll(self):
+    def test_the_words_are_in_the_roll(self) -> None:
         """So they cover neither what one practises with nor the score, in a window of any width."""
         self.type("X:1\nK:C\n")
         self.says("Tune 1 has no notes yet.")
@@ -82,7 +82,7 @@ class Empty(test_page_in_browser.Browser):
             self.size(wide, high)
             self.wait(lambda: self.run_script(IN_THE_ROLL))
 
-    def test_the_first_tune_is_selected(self):
+    def test_the_first_tune_is_selected(self) -> None:
         self.edit(0, 1, "% a header", "I:linebreak $", "", "X:3", "T:First", "K:C", "CEG", "", "X:5", "K:C", "C")
         self.load()
         self.wait(lambda: self.run_script("return document.querySelector('[aria-selected=true]')?.textContent") == "3First")
@@ -94,7 +94,7 @@ class Empty(test_page_in_browser.Browser):
 class FaultList(test_page_in_browser.Browser):
     """Faults below the text, in the list of the tunes, and the line at the bottom."""
 
-    def test_place_sign_problem_and_remedy(self):
+    def test_place_sign_problem_and_remedy(self) -> None:
         """In this order; equal ones are one, with their count."""
         self.type("X:1\nK:C\nC - D -\nE - &")
         problem, remedy = "This tie is not directly after a note or chord. It has no effect.", "Write it after the length, with nothing between, as in C2-C or C2-|C."
@@ -103,11 +103,11 @@ class FaultList(test_page_in_browser.Browser):
         self.wait(lambda: self.run_script(TOLD)[0] == tie)
         told = self.run_script(TOLD)
         self.assertEqual((len(told), told[1][:3]), (2, [["B", "Line 4"], ["CODE", "&"], ["SPAN", "This sign means nothing here, and is skipped."]]))
-        self.run_script("document.querySelectorAll('#told button')[1].click()")
+        self.run_script("document.querySelector('#told li:nth-child(2) button').click()")
         self.wait(lambda: self.run_script(PLACE) == "Line 4, column 5")
         self.press("z", CONTROL)
 
-    def test_lines_that_move(self):
+    def test_lines_that_move(self) -> None:
         """A fault of the list is where its line is now."""
         self.type("X:1\nK:C\nC -")
         self.wait(lambda: self.text("count") == "1 fault")
@@ -116,13 +116,28 @@ class FaultList(test_page_in_browser.Browser):
         self.run_script("document.querySelector('#told button').click()")
         self.wait(lambda: self.run_script(PLACE) == "Line 5, column 3")
 
-    def test_tunes_with_faults_have_a_dot(self):
+    def test_a_click_mends_a_fault(self) -> None:
+        """In a step of its own, after which the text has the focus."""
+        self.type('X:1\nK:C\n"Em C')
+        self.wait(lambda: self.text("count") == "1 fault")
+        button = self.driver.find_element("css selector", "#told .mend")
+        self.assertEqual(button.text, 'Write "Em"')
+        button.click()
+        self.settled('X:1\nK:C\n"Em" C')
+        self.wait(lambda: self.text("count") == "No faults")
+        self.press("D")
+        self.settled('X:1\nK:C\n"Em" CD')
+        self.press("z", CONTROL)
+        self.press("z", CONTROL)
+        self.settled('X:1\nK:C\n"Em C')
+
+    def test_tunes_with_faults_have_a_dot(self) -> None:
         self.type("X:1\nK:C\nC -\n\nX:2\nK:C\nC\n\nX:3\nK:C\n& &")
         self.wait(lambda: self.run_script(DOTS) == [["1", True, "1 fault"], ["2", False, ""], ["3", True, "2 faults"]])
         self.press(3 * BACKSPACE)
         self.wait(lambda: self.run_script(DOTS)[2] == ["3", False, ""])
 
-    def test_the_count_goes_to_the_next_fault(self):
+    def test_the_count_goes_to_the_next_fault(self) -> None:
         self.assertTrue(self.run_script("return document.getElementById('count').disabled"))
         self.edit(0, 1, "X:1", "K:C", "C - C", "", "X:2", "K:C", "C &")
         self.load()
@@ -134,7 +149,7 @@ class FaultList(test_page_in_browser.Browser):
         self.press(F8)
         self.wait(lambda: self.run_script(PLACE) == "Line 7, column 3")
 
-    def test_the_line_at_the_bottom(self):
+    def test_the_line_at_the_bottom(self) -> None:
         """It has the keys, and the place of the caret."""
         keys = self.run_script("return [...document.querySelectorAll('#keys kbd')].map((one) => one.textContent)")
         self.assertEqual(keys, ["Ctrl-F", "Ctrl-S", "Ctrl-Z", "F8", "Ctrl-Space"])
@@ -146,7 +161,7 @@ class FaultList(test_page_in_browser.Browser):
         self.press(DOWN)
         self.wait(lambda: self.run_script(PLACE) == "Line 2, column 1")
 
-    def test_keys_of_a_mac(self):
+    def test_keys_of_a_mac(self) -> None:
         script = "Object.defineProperty(navigator, 'userAgentData', { value: { platform: 'macOS' } });"
         added = self.driver.execute_cdp_cmd("Page.addScriptToEvaluateOnNewDocument", {"source": script})
         self.addCleanup(lambda: self.driver and self.driver.execute_cdp_cmd("Page.removeScriptToEvaluateOnNewDocument", added))

@@ -6,7 +6,9 @@ import signal
 import subprocess
 import sys
 import unittest
+from collections.abc import Callable
 from contextlib import suppress
+from typing import Any, Optional
 
 import browser
 import test_page
@@ -97,14 +99,14 @@ LACKING = browser.lacking()
 class Kept(unittest.TestResult):
     """How one try of a test ended."""
 
-    def __init__(self):
+    def __init__(self) -> None:
         super().__init__()
-        self.wrong = []  # how it is reported, and the error
+        self.wrong: list[tuple[str, Any]] = []  # how it is reported, and the error
 
-    def addError(self, _, error):
+    def addError(self, _: unittest.TestCase, error: Any) -> None:
         self.wrong.append(("addError", error))
 
-    def addFailure(self, _, error):
+    def addFailure(self, _: unittest.TestCase, error: Any) -> None:
         self.wrong.append(("addFailure", error))
 
     def reason(self) -> str:
@@ -112,7 +114,7 @@ class Kept(unittest.TestResult):
         error = self.wrong[0][1][1]
         return f"{type(error).__name__}: {str(error).strip()}".partition("\n")[0]
 
-    def tell(self, test: unittest.TestCase, result: unittest.TestResult):
+    def tell(self, test: unittest.TestCase, result: unittest.TestResult) -> None:
         """Tells it as the end of the test. Where the browser itself failed the test counts as skipped."""
         result.startTest(test)
         if self.skipped:
@@ -133,15 +135,16 @@ class Browser(test_page.Page):
 
     opening = b""
     seconds = 10 * trial.SECONDS
-    driver = None
+    driver: Any = None
     starts = 0  # how often in a row no browser started
 
-    def run(self, result=None):
+    def run(self, result: Optional[unittest.TestResult] = None) -> Optional[unittest.TestResult]:
         ended = self.tried()
         if ended.wrong:
             print(f"tried again: {self.id()}: {ended.reason()}", flush=True)
             ended = self.tried()
-        ended.tell(self, result)
+        if result is not None:
+            ended.tell(self, result)
         return result
 
     def tried(self) -> Kept:
@@ -153,7 +156,7 @@ class Browser(test_page.Page):
         return ended
 
     @classmethod
-    def quit(cls):
+    def quit(cls) -> None:
         """Ends the browser."""
         driver, cls.driver = cls.driver, None
         if driver:
@@ -161,11 +164,11 @@ class Browser(test_page.Page):
                 driver.quit()
 
     @classmethod
-    def tearDownClass(cls):
+    def tearDownClass(cls) -> None:
         cls.quit()
 
     @classmethod
-    def start_browser(cls):
+    def start_browser(cls) -> None:
         """Starts a browser where none is there. Where that failed twice it is not tried again."""
         if cls.starts > 1:
             raise unittest.SkipTest("no browser starts")
@@ -173,23 +176,24 @@ class Browser(test_page.Page):
         cls.driver = cls.driver or browser.started()
         cls.starts = 0
 
-    def setUp(self):
+    def setUp(self) -> None:
         super().setUp()
         self.start_browser()
         self.driver.get_log("browser")
         self.load()
 
-    def tearDown(self):
+    def tearDown(self) -> None:
         """Nothing went wrong in the page, whatever the network did."""
+        self.assertEqual(self.run_script("return window.wrong ?? []"), [])
         told = self.driver.get_log("browser")
         self.assertEqual([one for one in told if one["level"] == "SEVERE" and one["source"] != "network"], [])
 
-    def load(self):
+    def load(self) -> None:
         """Opens the page anew."""
         self.driver.get(self.address)
         self.wait(lambda: self.driver.title.endswith("abc2midi_live") and self.text("name") == "book.abc")
 
-    def wait(self, comes):
+    def wait(self, comes: Callable[[], Any]) -> Any:
         """Waits till something comes about, and gives it; else tells what the page shows."""
         try:
             return browser.wait(comes)
@@ -197,64 +201,68 @@ class Browser(test_page.Page):
             shown = self.run_script("return document.body.innerText.toWellFormed()")  # the driver takes no lone halves
             raise AssertionError(f"{error}; the page shows {shown[:500]!r}") from error
 
-    def run_script(self, script: str, *words):
+    def run_script(self, script: str, *words: Any) -> Any:
         return self.driver.execute_script(script, *words)
 
     def text(self, identifier: str) -> str:
-        return self.run_script("return document.getElementById(arguments[0]).textContent", identifier)
+        return str(self.run_script("return document.getElementById(arguments[0]).textContent", identifier))
 
-    def type(self, words: str, *held):
+    def type(self, words: str, *held: str) -> None:
         """Types into the text."""
         self.run_script(f"{AREA}.focus()")
         self.press(words, *held)
 
-    def press(self, words: str, *held):
+    def put(self, words: str) -> None:
+        """Types words at once, as one step."""
+        self.run_script(f"{AREA}.focus(); document.execCommand('insertText', false, arguments[0])", words)
+
+    def press(self, words: str, *held: str) -> None:
         """Presses keys, wherever the focus is, while others are held down."""
         browser.type_keys(self.driver, words, *held)
 
-    def size(self, wide: int, high: int):
+    def size(self, wide: int, high: int) -> None:
         """Another size of the page, till the end of the test."""
         metrics = {"width": wide, "height": high, "deviceScaleFactor": 1, "mobile": wide < 500}
         self.driver.execute_cdp_cmd("Emulation.setDeviceMetricsOverride", metrics)
         self.addCleanup(lambda: self.driver and self.driver.execute_cdp_cmd("Emulation.clearDeviceMetricsOverride", {}))
 
-    def turn_to(self, window: str):
+    def turn_to(self, window: str) -> None:
         """Goes to a window, which comes to the front."""
         self.driver.switch_to.window(window)
         self.driver.execute_cdp_cmd("Page.bringToFront", {})
 
-    def settled(self, lines: str):
+    def settled(self, lines: str) -> None:
         """Waits till the server has this text."""
         self.wait(lambda: "\n".join(self.book()["lines"]) == lines)
 
-    def wait_for_lines(self, *lines: str):
+    def wait_for_lines(self, *lines: str) -> None:
         """Waits till the server has a text of these lines."""
         self.settled("\n".join(lines))
 
-    def answer(self, name: str):
+    def answer(self, name: str) -> None:
         """Answers a question, which then is gone."""
         self.wait(lambda: self.run_script(ANSWER, name))
 
-    def roll(self, *words):
+    def roll(self, *words: str) -> None:
         """Waits till the roll says these of the tune that is in it."""
         label = "return document.getElementById('roll').getAttribute('aria-label')"
         self.wait(lambda: all(word in self.run_script(label) for word in words))
 
-    def hear(self, seconds: float, *keys):
+    def hear(self, seconds: float, *keys: int) -> None:
         """Moves the clock of the sound on, and waits till just these notes are scheduled so far."""
         self.run_script("clock = arguments[0]", seconds)
         self.wait(lambda: [key for _, key in self.run_script("return played")] == list(keys))
 
-    def kill(self):
+    def kill(self) -> None:
         """Ends the server at once."""
         self.server.send_signal(signal.SIGKILL)
         self.server.wait(trial.SECONDS)
 
-    def question(self) -> list:
+    def question(self) -> Any:
         """The answers to the question that is shown."""
         return self.run_script("return [...document.querySelectorAll('#notice:not([hidden]) button')].map((one) => one.textContent)")
 
-    def shows(self, text: str):
+    def shows(self, text: str) -> None:
         """Waits till the page shows this text."""
         self.wait(lambda: self.run_script(f"return {AREA}.value") == text)
 
@@ -263,13 +271,13 @@ class Browser(test_page.Page):
 
     def stored(self) -> str:
         """What the browser keeps."""
-        return self.run_script("return JSON.stringify(localStorage)")
+        return str(self.run_script("return JSON.stringify(localStorage)"))
 
 
 class Editing(Browser):
     """Typing, hearing, and going about."""
 
-    def test_type_hear_and_save(self):
+    def test_type_hear_and_save(self) -> None:
         self.type(TUNE)
         self.settled(TUNE)
         self.wait(lambda: self.run_script(TITLES) == [[0, "1", "Scale"]])
@@ -297,7 +305,7 @@ class Editing(Browser):
         self.load()
         self.wait(lambda: self.run_script(f"return {AREA}.value") == TUNE)
 
-    def test_velocities_and_programs(self):
+    def test_velocities_and_programs(self) -> None:
         """The page reads and plays them as a file says them."""
         found = self.driver.execute_async_script(HAND, list(HAND_MADE))
         notes = [[0, 0, 240, 60, 30, 41], [1, 0, 240, 67, 105, 0], [0, 240, 480, 62, 127, 41], [0, 480, 720, 64, 80, 5]]
@@ -307,7 +315,7 @@ class Editing(Browser):
         self.assertEqual(found["waves"], [bowed, plucked, bowed, plucked])
         self.assertEqual(sorted(range(4), key=found["louds"].__getitem__), [0, 3, 1, 2])
 
-    def test_what_dynamics_and_programs_do(self):
+    def test_what_dynamics_and_programs_do(self) -> None:
         """They come to the page in the files of the tunes; a program that there is not is marked over its line."""
         text = "X:1\nL:1/4\n%%MIDI program 128\nK:C\n!p!C!f!D"
         self.type(text)
@@ -316,7 +324,7 @@ class Editing(Browser):
         self.assertIn("Line 3%%MIDI program 128 There is no program of this number", self.text("told"))
         self.roll("from C4 to D4")
 
-    def test_a_change_while_it_plays(self):
+    def test_a_change_while_it_plays(self) -> None:
         self.type("X:1\nM:2/4\nL:1/4\nQ:1/4=20\nK:C\nC2|D2|E2|")
         self.roll("3 bars, 0:18", "from C4 to E4")
         self.press(" ", CONTROL)
@@ -326,7 +334,7 @@ class Editing(Browser):
         self.roll("3 bars, 0:18", "from C4 to G4")
         self.hear(13, 60, 62, 67)
 
-    def test_the_mouse(self):
+    def test_the_mouse(self) -> None:
         """A click goes to the tune of a row: the first one after loading, a second one, and one in whose midst, far down the
         list, another window changes a tune and the list is scrolled a little."""
         self.edit(0, 1, *TUNES)
@@ -343,15 +351,15 @@ class Editing(Browser):
         browser.release_button(self.driver)
         self.stands_at("X:65")
 
-    def row(self, at: int):
+    def row(self, at: int) -> Any:
         """Waits for the row at a place of the list."""
         return self.wait(lambda: self.run_script("return document.getElementById(`tune-${arguments[0]}`)", at))
 
-    def stands_at(self, line: str):
+    def stands_at(self, line: str) -> None:
         """Waits till the text has the focus, and the caret is in this line."""
         self.wait(lambda: self.run_script(STANDING) == line)
 
-    def test_the_next_fault(self):
+    def test_the_next_fault(self) -> None:
         """A key goes there, to the side too where its line is longer than the view; another tune begins at the left again."""
         long = 200 * "C " + "&"
         self.edit(0, 1, *TUNES, "X:101", "K:C", long)
@@ -366,7 +374,7 @@ class Editing(Browser):
         self.stands_at("X:3")
         self.assertEqual(self.run_script("return document.querySelector('.scroller').scrollLeft"), 0)
 
-    def test_hints(self):
+    def test_hints(self) -> None:
         """They are marked in another colour than faults, and told beside them."""
         self.kill()
         self.start(str(self.path), hints=True)
@@ -381,11 +389,11 @@ class Editing(Browser):
         self.type("X:2\nK:C\n|:C|")
         self.wait(lambda: self.text("hinted") == "2 hints")
 
-    def test_a_number_of_two_tunes(self):
+    def test_a_number_of_two_tunes(self) -> None:
         self.type("X:1\nK:C\nC\n\nX:1\nK:C\nD")
         self.wait(lambda: self.text("empty") == "Number 1 is used at line 1; this tune has no file.")
 
-    def test_two_windows(self):
+    def test_two_windows(self) -> None:
         self.type("X:1\nK:C\nC\nD")
         first = self.driver.current_window_handle
         self.settled("X:1\nK:C\nC\nD")
@@ -407,14 +415,81 @@ class Editing(Browser):
         self.turn_to(first)
         self.wait(lambda: self.run_script("return document.getElementById('windows').hidden"))
 
-    def test_random_edits(self):
+    def test_two_windows_in_one_line(self) -> None:
+        """What each one types follows what it typed before."""
+        self.edit(0, 1, "X:1", "K:C", "CDEF")
+        self.load()
+        first = self.driver.current_window_handle
+        self.driver.switch_to.new_window("tab")
+        self.load()
+        second = self.driver.current_window_handle
+        self.type(END, CONTROL)
+        self.press(HOME)
+        self.turn_to(first)
+        self.type(END, CONTROL)
+        line = "CDEF"
+        for number in range(8):
+            self.turn_to(second)
+            self.press("z")
+            self.turn_to(first)
+            self.press(f"{number}")
+            line = f"{'z' * (number + 1)}CDEF{''.join(map(str, range(number + 1)))}"
+            self.settled(f"X:1\nK:C\n{line}")
+        self.driver.switch_to.window(second)
+        self.driver.close()
+        self.turn_to(first)
+        self.shows(f"X:1\nK:C\n{line}")
+
+    def test_a_letter_that_is_composed(self) -> None:
+        """An edit of another window waits for its end, and the composition goes on."""
+        self.edit(0, 1, "X:1", "K:C", "T:")
+        self.load()
+        self.type(END, CONTROL)
+
+        def compose(words: str) -> None:
+            selected = {"text": words, "selectionStart": len(words), "selectionEnd": len(words)}
+            self.driver.execute_cdp_cmd("Input.imeSetComposition", selected)
+
+        compose("に")
+        self.settled("X:1\nK:C\nT:に")
+        self.edit(0, 0, "% other")
+        compose("にほ")
+        self.edit(0, 1, "% another")
+        compose("にほん")
+        self.shows("X:1\nK:C\nT:にほん")
+        self.driver.execute_cdp_cmd("Input.insertText", {"text": "日本"})
+        self.settled("% another\nX:1\nK:C\nT:日本")
+        self.shows("% another\nX:1\nK:C\nT:日本")
+        self.press("C")
+        self.settled("% another\nX:1\nK:C\nT:日本C")
+
+    def test_a_book_in_latin1(self) -> None:
+        """Its letters are letters, and a button saves it in UTF-8."""
+        self.path.write_bytes(b"X:1\nT:Fr\xe8re\nK:C\nC\n")
+        self.shows("X:1\nT:Frère\nK:C\nC\n")
+        self.wait(lambda: self.run_script(TITLES) == [[0, "1", "Frère"]])
+        self.wait(lambda: self.run_script("return document.getElementById('utf-8').checkVisibility()"))
+        self.type(END, CONTROL)
+        self.run_script("document.execCommand('insertText', false, '% é')")  # one step
+        self.press("s", CONTROL)
+        self.wait(lambda: self.path.read_bytes() == b"X:1\nT:Fr\xe8re\nK:C\nC\n% \xe9")
+        self.run_script("document.getElementById('utf-8').focus()")
+        self.press(" ")
+        self.wait(lambda: self.path.read_bytes() == "X:1\nT:Frère\nK:C\nC\n% é".encode())
+        self.wait(lambda: not self.run_script("return document.getElementById('utf-8').checkVisibility()"))
+        self.wait(lambda: self.text("status") == "Saved book.abc in UTF-8." or "by another" not in self.text("status"))
+        self.assertEqual(self.run_script("return document.activeElement.tagName"), "TEXTAREA")
+        self.press("z", CONTROL)
+        self.settled("X:1\nT:Frère\nK:C\nC\n")
+
+    def test_random_edits(self) -> None:
         """After edits at random the page's faults and titles are those of a fresh run."""
         chance = random.Random(trial.seed)
         tunes = [trial.random_tune(chance, number + 1) for number in range(4)]
         edits = [[0, 0, "\n".join(line for tune in tunes for line in tune), 0]]
         for _ in range(trial.changes):
             kind = chance.random()
-            put = chance.choice([trial.random_line(chance), "\n", "C", f"\n\nX:{chance.randrange(9)}\nT:New\nK:D\nD-|&\n", "\u00e9-"])
+            put: Optional[str] = chance.choice([trial.random_line(chance), "\n", "C", f"\n\nX:{chance.randrange(9)}\nT:New\nK:D\nD-|&\n", "\u00e9-"])
             put = None if kind < 0.1 else "" if kind < 0.45 else put
             edits.append([chance.random(), chance.choice([0, 0, 1, 3, 30]), put, chance.choice([0, 0, 5, 50])])
         for at in range(0, len(edits), 20):
@@ -429,7 +504,7 @@ class Editing(Browser):
         self.wait(lambda: self.shows_some_of(titles))
         self.assertTrue(titles or not fresh.files)
 
-    def shows_some_of(self, titles: list) -> bool:
+    def shows_some_of(self, titles: list[Any]) -> bool:
         """Whether the list shows the titles of its places, and at least one if there is one."""
         shown = self.run_script(TITLES)
         return bool(shown or not titles) and shown == [titles[row[0]] for row in shown if row[0] < len(titles)]
@@ -438,7 +513,7 @@ class Editing(Browser):
 class Losing(Browser):
     """Text that could be lost: the server is away, the book changes, or somebody asks who may not."""
 
-    def test_the_server_is_away(self):
+    def test_the_server_is_away(self) -> None:
         self.type("X:1\nK:C\nC")
         self.settled("X:1\nK:C\nC")
         self.kill()
@@ -456,7 +531,42 @@ class Losing(Browser):
         self.settled("X:1\nK:C\nCDE")
         self.assertEqual(self.path.read_bytes(), b"X:9\n")
 
-    def test_text_of_an_earlier_window(self):
+    def test_a_page_of_which_a_part_does_not_come(self) -> None:
+        """It is loaded again. If that fails too the page says so, and takes no text that nobody would keep."""
+        seen = "return document.getElementById('loading').checkVisibility({ visibilityProperty: true })"
+        self.assertFalse(self.run_script(seen))
+        self.run_script("sessionStorage.setItem('abc2midi_live loads', '3')")
+        self.driver.execute_cdp_cmd("Network.enable", {})
+        self.driver.execute_cdp_cmd("Network.setBlockedURLs", {"urls": ["*/midi.js"]})
+        self.driver.get(self.address)
+        self.wait(lambda: self.run_script(seen))
+        self.type("C")
+        self.assertEqual(self.run_script(f"return {AREA}.value"), "")
+        self.run_script("sessionStorage.setItem('abc2midi_live loads', '2')")
+        self.driver.get(self.address)
+        self.driver.execute_cdp_cmd("Network.setBlockedURLs", {"urls": []})
+        self.wait(lambda: self.run_script(f"return !{AREA}.readOnly"))
+        self.assertFalse(self.run_script(seen))
+        self.type("C")
+        self.settled("C")
+
+    def test_the_caret_after_a_restart(self) -> None:
+        """It stays with its text: what is typed on follows what was typed last."""
+        self.type("X:1\nK:C\nC")
+        self.settled("X:1\nK:C\nC")
+        self.press("s", CONTROL)
+        self.wait(lambda: not self.is_unsaved())
+        self.press("\nDEF\nG")
+        self.settled("X:1\nK:C\nC\nDEF\nG")
+        self.kill()
+        self.press("A")
+        self.wait(lambda: "GA" in self.stored())
+        self.start(str(self.path), port=str(self.port))
+        self.settled("X:1\nK:C\nC\nDEF\nGA")
+        self.press("B")
+        self.settled("X:1\nK:C\nC\nDEF\nGAB")
+
+    def test_text_of_an_earlier_window(self) -> None:
         self.type("X:1\nK:C\nC")
         self.settled("X:1\nK:C\nC")
         self.kill()
@@ -467,7 +577,7 @@ class Losing(Browser):
         self.answer("Take it")
         self.settled("X:1\nK:C\nC")
 
-    def test_the_book_on_disk_was_changed(self):
+    def test_the_book_on_disk_was_changed(self) -> None:
         """What another program writes is shown, and can be undone; if text is unsaved the page asks which one to take."""
         self.type("X:1\nK:C\nC")
         self.settled("X:1\nK:C\nC")
@@ -485,6 +595,10 @@ class Losing(Browser):
         self.assertEqual(self.run_script("return document.activeElement.tagName"), "TEXTAREA")
         self.answer("Decide later")
         self.wait(lambda: self.text("later") == "1 question")
+        self.run_script("document.getElementById('later').focus()")
+        self.press(" ")
+        self.answer("Decide later")
+        self.assertEqual(self.run_script("return document.activeElement.tagName"), "TEXTAREA")
         self.press("s", CONTROL)
         self.answer("Load the book from disk")
         self.shows("another's")
@@ -497,7 +611,7 @@ class Losing(Browser):
         self.wait(lambda: self.path.read_bytes() == b"X:1\nK:C\nC")
         self.wait(lambda: not self.is_unsaved() and not self.question())
 
-    def test_a_loaded_page_shows_the_book_on_disk(self):
+    def test_a_loaded_page_shows_the_book_on_disk(self) -> None:
         self.type("X:1")
         self.settled("X:1")
         self.press("s", CONTROL)
@@ -506,7 +620,7 @@ class Losing(Browser):
         self.load()
         self.assertEqual(self.run_script(f"return {AREA}.value"), "X:2")
 
-    def test_unsaved(self):
+    def test_unsaved(self) -> None:
         """It shows as soon as something is typed, and no more when the text is again what was saved."""
         self.type("C")
         self.settled("C")
@@ -522,7 +636,7 @@ class Losing(Browser):
         self.settled("C")
         self.wait(lambda: not self.is_unsaved())
 
-    def test_two_questions(self):
+    def test_two_questions(self) -> None:
         """The text of one question survives the other: the server is away, text is typed, the book changes, the server is there
         again, and the book changes once more."""
         self.type("X:1\nK:C\nC")
@@ -560,7 +674,7 @@ class Losing(Browser):
         self.answer("Save this text over it")
         self.wait(lambda: self.path.read_bytes() == b"X:1\nK:C\nCDEFG")
 
-    def test_whoever_takes_the_port(self):
+    def test_whoever_takes_the_port(self) -> None:
         """The page sends it no token and no text, and goes on when the server is back."""
         self.type("X:1\nK:C\nC")
         self.settled("X:1\nK:C\nC")
@@ -581,7 +695,7 @@ class Losing(Browser):
         self.settled("X:1\nK:C\nCsecret")
         self.assertIn(self.token, self.driver.current_url)
 
-    def test_many_windows(self):
+    def test_many_windows(self) -> None:
         """Seven windows of one browser can type and save."""
         first = self.driver.current_window_handle
         for _ in range(6):
@@ -600,7 +714,7 @@ class Losing(Browser):
         self.shows("CCCCCC")
         self.assertEqual(self.path.read_bytes(), b"CCCCCC")
 
-    def test_a_save_that_is_refused(self):
+    def test_a_save_that_is_refused(self) -> None:
         """The reason is shown, and the text can be had."""
         self.type("C")
         self.settled("C")
@@ -613,7 +727,7 @@ class Losing(Browser):
         self.press("s", CONTROL)
         self.wait(lambda: self.path.read_bytes() == b"C")
 
-    def test_a_program_that_hangs(self):
+    def test_a_program_that_hangs(self) -> None:
         self.type("X:1")
         self.settled("X:1")
         os.kill(int((self.folder / "pid").read_text()), signal.SIGSTOP)

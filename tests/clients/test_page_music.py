@@ -48,7 +48,7 @@ class Places(page_in_node.PageScripts):
     def test_examples(self) -> None:
         """The tunes of the examples."""
         for name in ("four_tunes", "sounds"):
-            lines = (trial.CLIENTS.parent / f"examples/{name}.abc").read_text().split("\n")
+            lines = (trial.TOP / f"examples/{name}.abc").read_text().split("\n")
             starts = [n for n, line in enumerate(lines) if line.startswith("X:")]
             tunes = [without_blank_lines(lines[start:end]) for start, end in zip(starts, [*starts[1:], len(lines)])]
             header = [line for line in lines[: starts[0]] if line]

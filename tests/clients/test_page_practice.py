@@ -34,7 +34,7 @@ AudioNode.prototype.connect = function (to, ...more) { this.goesTo = to; return 
 OscillatorNode.prototype.start = function (when) { sources.push(this); return start.call(this, when); };
 window.heard = () => sources.filter((source) => {
   let node = source;
-  while (!(node.goesTo instanceof DynamicsCompressorNode)) node = node.goesTo;
+  while (!(node.goesTo.goesTo instanceof DynamicsCompressorNode)) node = node.goesTo;
   return node.gain.value > 0;
 }).map((source) => Math.round(69 + 12 * Math.log2(source.frequency.value / 440)));
 """  # the keys of the scheduled notes of voices that are not muted
@@ -43,7 +43,7 @@ window.heard = () => sources.filter((source) => {
 class Practising(music_page.MusicPage):
     """Someone who learns a tune. A quarter note lasts a second, and the first one sounds a tenth of a second after the button."""
 
-    def test_from_the_caret(self):
+    def test_from_the_caret(self) -> None:
         self.open(SCALE, "4 bars")
         self.caret(6, 0)
         self.press(" ", CONTROL, SHIFT)
@@ -55,14 +55,14 @@ class Practising(music_page.MusicPage):
         self.click("from-caret")
         self.hear(1, 67, 69, 64)
 
-    def test_where_the_caret_is_in_no_tune(self):
+    def test_where_the_caret_is_in_no_tune(self) -> None:
         self.open(SCALE, "4 bars")
         self.caret(8, 2)
         self.press(" ", CONTROL, SHIFT)
         self.wait(lambda: self.text("status") == "The place of the caret in the tune is not known.")
         self.assertEqual(self.run_script("return played"), [])
 
-    def test_a_loop_of_bars(self):
+    def test_a_loop_of_bars(self) -> None:
         """It begins at its first bar, goes on with it after its last one, and ends with its box."""
         self.open(SCALE, "4 bars")
         self.click("practise")
@@ -78,7 +78,7 @@ class Practising(music_page.MusicPage):
         self.click("looping")
         self.hear(4, 64, 65, 64, 65, 67)
 
-    def test_a_loop_of_the_selected_lines(self):
+    def test_a_loop_of_the_selected_lines(self) -> None:
         self.open(SCALE, "4 bars")
         self.click("practise")
         self.caret(6, 0, 4)
@@ -88,7 +88,7 @@ class Practising(music_page.MusicPage):
         for second, keys in enumerate([[67], [67, 69], [67, 69, 71], [67, 69, 71, 72], [67, 69, 71, 72, 67]]):
             self.hear(second, *keys)
 
-    def test_the_keys_of_a_loop(self):
+    def test_the_keys_of_a_loop(self) -> None:
         """A and B set its ends at the cursor of the roll, L turns it off and on."""
         self.open(SCALE, "4 bars")
         self.run_script("document.getElementById('roll').focus()")
@@ -99,7 +99,7 @@ class Practising(music_page.MusicPage):
         self.press("l")
         self.hear(2, 62, 62, 64)
 
-    def test_a_tempo_while_it_plays(self):
+    def test_a_tempo_while_it_plays(self) -> None:
         """What is not scheduled yet, a quarter of a second ahead, follows in the new tempo."""
         self.open(SCALE, "4 bars")
         self.click("practise")
@@ -107,7 +107,7 @@ class Practising(music_page.MusicPage):
         self.hear(0, 60)
         self.run_script("document.getElementById('tempo').focus()")
         self.press(END)
-        self.assertEqual(self.text("full-tempo"), "200 %")
+        self.assertEqual((self.text("full-tempo"), self.text("beats")), ("200 %", "120 beats a minute"))
         self.hear(0.5, 60, 62)
         self.hear(1, 60, 62, 64)
         self.assertEqual(self.beginnings(), [0, 0.575, 1.075])
@@ -116,7 +116,7 @@ class Practising(music_page.MusicPage):
         self.hear(4.5, 60, 62, 64, 65)
         self.assertEqual(self.beginnings()[3], round(1.25 - 0.1 + (0.5 - (1.25 - 1.175)) * 8, 3))
 
-    def test_a_slow_tempo_from_the_begin(self):
+    def test_a_slow_tempo_from_the_begin(self) -> None:
         self.open(SCALE, "4 bars")
         self.click("practise")
         self.run_script("document.getElementById('tempo').focus()")
@@ -126,18 +126,21 @@ class Practising(music_page.MusicPage):
         self.hear(2, 60, 62)
         self.assertEqual(self.beginnings(), [0, 2])
 
-    def test_a_count_in(self):
-        """A bar of clicks, the first one higher."""
+    def test_a_count_in(self) -> None:
+        """A bar of clicks, the first one higher. A metronome goes on with them."""
         self.open(SCALE, "4 bars")
         self.click("practise")
         self.click("count-in")
+        self.click("metronome")
         self.click("play")
         self.hear(0, 91, 86)
-        self.hear(2, 91, 86, 60)
-        self.assertEqual(self.beginnings(), [0, 1, 2])
+        self.hear(2, 91, 86, 60, 91)
+        self.assertEqual(self.beginnings(), [0, 1, 2, 2])
+        self.click("metronome")
+        self.hear(3, 91, 86, 60, 91, 62)
 
-    def test_voices(self):
-        """One is muted, one is heard alone, while they play."""
+    def test_voices(self) -> None:
+        """One is muted, one is heard alone, one is softer, while they play."""
         self.open(DUET, "2 voices")
         self.run_script(LISTEN)
         self.click("practise")
@@ -154,15 +157,19 @@ class Practising(music_page.MusicPage):
         self.assertEqual([button.get_attribute("aria-pressed") for button in buttons], ["false", "true", "false", "false"])
         buttons[3].click()
         self.assertEqual(sorted(self.run_script("return heard()")), [52, 60])
+        self.run_script("document.querySelector('[aria-label=\"Volume of Low\"]').focus()")
+        self.press(HOME)
+        self.assertEqual(self.run_script("return heard()"), [60])
 
-    def test_steps_by_keys(self):
+    def test_steps_by_keys(self) -> None:
         """The roll says to those who do not see it where its cursor is."""
         self.open(SCALE, "4 bars")
         self.run_script("document.getElementById('roll').focus()")
-        for key, held, words in (
+        trials: list[tuple[str, list[str], str]] = [
             (RIGHT, [], "bar 1, beat 2, D4"), (RIGHT, [CONTROL], "bar 2, beat 1, E4"), (RIGHT, [SHIFT], "bar 3, beat 1, G4"),
             (LEFT, [], "bar 2, beat 2, F4"), (LEFT, [CONTROL], "bar 2, beat 1, E4"), (END, [], "bar 4, beat 1, B4"), (HOME, [], "bar 1, beat 1, C4"),
-        ):  # fmt: skip
+        ]  # fmt: skip
+        for key, held, words in trials:
             self.press(key, *held)
             self.assertEqual(self.value(), words)
         self.press(RIGHT, CONTROL)
@@ -171,7 +178,7 @@ class Practising(music_page.MusicPage):
         self.press(RIGHT, CONTROL)
         self.wait(lambda: [key for _, key in self.run_script("return played")] == [64, 67])
 
-    def test_what_sounds_is_marked_in_the_text(self):
+    def test_what_sounds_is_marked_in_the_text(self) -> None:
         self.open(DUET, "2 voices")
         self.click("play")
         self.hear(0, 52, 60)
@@ -182,7 +189,7 @@ class Practising(music_page.MusicPage):
         self.wait(lambda: self.run_script(SOUNDING) == [[], []])
 
     @unittest.skipUnless(shutil.which("abcm2ps"), "abcm2ps is not installed")
-    def test_what_sounds_lights_up_in_the_score(self):
+    def test_what_sounds_lights_up_in_the_score(self) -> None:
         self.open(DUET, "2 voices")
         self.wait(lambda: self.run_script("return document.querySelectorAll('#score .score-place').length") == 3)
         self.click("play")
@@ -192,7 +199,7 @@ class Practising(music_page.MusicPage):
         self.hear(3, 52, 60, 62)
         self.wait(lambda: self.run_script(LIT) == [])
 
-    def test_the_text_scrolls_to_what_sounds(self):
+    def test_the_text_scrolls_to_what_sounds(self) -> None:
         """But not while someone is at the text."""
         self.open(["X:1", "L:1/4", "Q:1/4=60", "K:C", "C|", *(99 * ["%"]), "D E|"], "2 bars")
         top = "return document.querySelector('.scroller').scrollTop"
@@ -207,7 +214,7 @@ class Practising(music_page.MusicPage):
         self.wait(lambda: self.run_script(top) > 1000)
         self.wait(lambda: self.run_script(SOUNDING)[1] == ["E"])
 
-    def test_the_note_of_the_caret_is_framed_in_the_roll(self):
+    def test_the_note_of_the_caret_is_framed_in_the_roll(self) -> None:
         """And a click on it there leads back to its place, whose name the pointer shows."""
         self.open(SCALE, "4 bars")
         self.caret(5, 3)
@@ -229,7 +236,7 @@ class Practising(music_page.MusicPage):
         self.point((left + right) / 2, (top + bottom) / 2)
         return self.text("tip")
 
-    def test_what_is_not_known_is_not_marked(self):
+    def test_what_is_not_known_is_not_marked(self) -> None:
         """A text that the server does not have yet differs from the file: nothing lights up after the difference."""
         self.open(SCALE, "4 bars")
         self.kill()
@@ -241,14 +248,14 @@ class Practising(music_page.MusicPage):
         self.caret(6, 0)
         self.wait(lambda: self.run_script(FRAMES) is None)
 
-    def test_on_a_telephone(self):
+    def test_on_a_telephone(self) -> None:
         """All of it is in a window of 390 pixels, and nothing scrolls aside."""
         self.size(390, 844)
         self.open(DUET, "2 voices")
         self.edit(0, 0, "% not saved")
         self.wait(self.driver.find_element("id", "unsaved").is_displayed)
         self.click("practise")
-        for identifier in ("unsaved", "save", "from-caret", "tempo", "full-tempo", "count-in", "looping", "loop-from", "loop-to", "loop-lines", "narrower", "wider"):
+        for identifier in ("unsaved", "save", "from-caret", "tempo", "full-tempo", "beats", "count-in", "metronome", "looping", "loop-from", "loop-to", "rise", "loop-lines", "narrower", "wider"):
             element = self.driver.find_element("id", identifier)
             self.run_script("arguments[0].scrollIntoView({ block: 'nearest' })", element)
             self.assertTrue(element.is_displayed(), identifier)

@@ -34,24 +34,24 @@ return [seen("replace-words"), seen("faults"), seen("roll"), document.querySelec
 class Search(test_page_in_browser.Browser):
     """Finding and replacing by keys and by buttons."""
 
-    def click(self, identifier: str):
+    def click(self, identifier: str) -> None:
         self.run_script("document.getElementById(arguments[0]).click()", identifier)
 
-    def found(self, words: str):
+    def found(self, words: str) -> None:
         """Waits till the line above the text says this."""
         self.wait(lambda: self.text("found") == words)
 
     def selected(self) -> str:
-        return self.run_script(SELECTED)[0]
+        return str(self.run_script(SELECTED)[0])
 
-    def find(self, words: str):
+    def find(self, words: str) -> None:
         """Looks for words."""
         self.type("f", CONTROL)
         self.assertEqual(self.run_script(FOCUS), "find-words")
         self.press("a", CONTROL)
         self.press(words)
 
-    def test_find_over_the_whole_book(self):
+    def test_find_over_the_whole_book(self) -> None:
         """Matches count wherever they are; Enter and Shift-Enter go on and back, around the ends, and so do F3 and Shift-F3."""
         self.edit(0, 1, *TUNES)
         self.load()
@@ -75,7 +75,7 @@ class Search(test_page_in_browser.Browser):
         self.press("!")
         self.wait(lambda: self.book()["lines"][298 * 5 + 1] == "T:!99")
 
-    def test_case_words_and_expressions(self):
+    def test_case_words_and_expressions(self) -> None:
         self.edit(0, 1, "X:1", "T:Ann and Ännchen", "K:C", "an An (AN) \"an2\"")
         self.load()
         self.find("an")
@@ -102,7 +102,26 @@ class Search(test_page_in_browser.Browser):
         self.found("Nothing found")
         self.assertTrue(self.run_script("return document.getElementById('find-after').disabled"))
 
-    def test_marks(self):
+    def test_an_expression_that_takes_too_long(self) -> None:
+        """It is given up, the page goes on meanwhile, and another one is found."""
+        self.edit(0, 1, "X:1", "K:C", f"% {34 * 'a'}!")
+        self.load()
+        self.find("a+")
+        self.click("regular")
+        self.found("1 of 1")
+        self.press("a", CONTROL)
+        self.press("(a+)+$")
+        self.type(HOME, CONTROL)
+        self.press("%")
+        self.settled(f"%X:1\nK:C\n% {34 * 'a'}!")
+        self.wait(lambda: self.text("found") in ("This expression takes too long.", "0… found"))
+        self.found("This expression takes too long.")
+        self.run_script("document.getElementById('find-words').focus()")
+        self.press("a", CONTROL)
+        self.press("a!")
+        self.found("1 of 1")
+
+    def test_marks(self) -> None:
         """The matches of the lines that are seen are marked at their places, and follow what is typed."""
         self.edit(0, 1, "X:1", "K:C", "C D C", *300 * ["% C"])
         self.load()
@@ -123,7 +142,7 @@ class Search(test_page_in_browser.Browser):
         self.edit(0, 0, "C", "C")
         self.found("306 found")
 
-    def test_replace_one_and_all(self):
+    def test_replace_one_and_all(self) -> None:
         """One after another, and all as one step that can be undone; the server gets what was typed."""
         text = "X:1\nK:C\nC2 C2\n\n% c2\nC2|"
         self.edit(0, 1, *text.split("\n"))
@@ -154,7 +173,7 @@ class Search(test_page_in_browser.Browser):
         self.press("y", CONTROL)
         self.settled("X:1\nK:C\nE E\n\n% E\nE|")
 
-    def test_groups_and_new_lines(self):
+    def test_groups_and_new_lines(self) -> None:
         self.edit(0, 1, "X:1", "K:C", "C2D2|E2F2|")
         self.load()
         self.type("h", CONTROL)
@@ -168,7 +187,42 @@ class Search(test_page_in_browser.Browser):
         self.press("z", CONTROL)
         self.settled("X:1\nK:C\nC2D2|E2F2|")
 
-    def test_what_is_selected_is_looked_for(self):
+    def test_nothing_is_replaced(self) -> None:
+        """The page says so, and does not offer to take it back."""
+        self.edit(0, 1, "X:1", "K:C", "CDE")
+        self.load()
+        self.type("h", CONTROL)
+        self.press("zzz")
+        self.found("Nothing found")
+        self.run_script("document.getElementById('replace-words').focus()")
+        self.press(ENTER, ALT)
+        self.wait(lambda: self.text("status") == "Nothing found, so nothing is replaced.")
+        self.assertEqual(self.text("found"), "Nothing found")
+
+    def test_places(self) -> None:
+        """An expression of places finds them, one after another, and puts words there. Other empty matches do not count."""
+        self.edit(0, 1, "X:1", "K:C", "CDE")
+        self.load()
+        self.type("h", CONTROL)
+        self.click("regular")
+        self.press("^")
+        self.found("1 of 3")
+        self.wait(lambda: [[line, column] for line, column, _, _ in self.run_script(MARKED)] == [[0, 0], [1, 0], [2, 0]])
+        self.press(ENTER)
+        self.found("2 of 3")
+        self.run_script("document.getElementById('replace-words').focus()")
+        self.press("% " + ENTER)
+        self.settled("X:1\n% K:C\nCDE")
+        self.found("3 of 3")
+        self.press(ENTER, ALT)
+        self.settled("% X:1\n% % K:C\n% CDE")
+        self.assertEqual(self.text("found"), "3 replaced")
+        self.run_script("document.getElementById('find-words').focus()")
+        self.press("a", CONTROL)
+        self.press("z*")
+        self.found("Nothing found (empty matches do not count)")
+
+    def test_what_is_selected_is_looked_for(self) -> None:
         self.edit(0, 1, "X:1", "K:C", "CDE CDE")
         self.load()
         self.type(END, CONTROL)
@@ -178,7 +232,7 @@ class Search(test_page_in_browser.Browser):
         self.found("2 of 2")
         self.assertEqual(self.run_script("return document.getElementById('find-words').value"), "CDE")
 
-    def test_the_filter_of_the_tunes(self):
+    def test_the_filter_of_the_tunes(self) -> None:
         """By number or title, without accents and capitals; a click, Enter and the arrows go to a tune of it."""
         titles = {3: "Ríl Ó Domhnaill", 30: "The Kesh", 131: "Kesh Jig"}
         lines = [line for number in range(1, 201) for line in (f"X:{number}", f"T:{titles.get(number, 'Nameless')}", "K:C", "C", "")]
@@ -186,9 +240,10 @@ class Search(test_page_in_browser.Browser):
         self.load()
         sift = "const area = document.getElementById('filter'); area.focus(); area.value = arguments[0]; area.dispatchEvent(new Event('input'))"
         shown = "return [...document.querySelectorAll('[role=option] b')].map((one) => one.textContent)"
-        for words, numbers in (("KESH", ["30", "131"]), ("o domh", ["3"]), ("13", ["13", *map(str, range(130, 140))]), ("zzz", [])):
+        wanted: dict[str, list[str]] = {"KESH": ["30", "131"], "o domh": ["3"], "13": ["13", *map(str, range(130, 140))], "zzz": []}
+        for words, numbers in wanted.items():
             self.run_script(sift, words)
-            self.wait(lambda numbers=numbers: self.run_script(shown) == numbers)
+            self.wait(lambda: self.run_script(shown) == wanted[words])
             self.assertEqual(self.text("tally"), f"{len(numbers)} of 200")
         self.run_script(sift, "kesh")
         browser.press_button(self.driver, self.driver.find_element("id", "tune-1"))
@@ -204,7 +259,7 @@ class Search(test_page_in_browser.Browser):
         self.press(ESCAPE)
         self.wait(lambda: self.text("tally") == "200")
 
-    def test_another_window_edits_what_is_found(self):
+    def test_another_window_edits_what_is_found(self) -> None:
         self.edit(0, 1, "X:1", "K:C", "abc")
         self.load()
         self.find("abc")
@@ -215,7 +270,7 @@ class Search(test_page_in_browser.Browser):
         self.press(ENTER)
         self.wait(lambda: self.run_script(SELECTED)[0] == "abc" and self.text("found").endswith(" of 2"))
 
-    def test_on_a_telephone(self):
+    def test_on_a_telephone(self) -> None:
         """The text has room for five lines and more, beside the search, a fault and the roll."""
         self.size(390, 844)
         self.edit(0, 1, "X:1", "K:C", "C -")

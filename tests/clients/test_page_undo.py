@@ -1,13 +1,13 @@
 """What can be undone after a reload and beside other windows, in a real browser."""
 
 import test_page_in_browser
-from browser_keys import CONTROL, END, HOME
+from browser_keys import CONTROL, END, HOME, LEFT
 
 
 class Undo(test_page_in_browser.Browser):
     """Undoing."""
 
-    def kept(self):
+    def kept(self) -> None:
         """Waits till the browser has kept what can be undone of the present text."""
         script = """
         const key = Object.keys(sessionStorage).find((one) => one.startsWith("abc2midi_live undo "));
@@ -16,17 +16,13 @@ class Undo(test_page_in_browser.Browser):
         version = self.ask("state")["version"]
         self.wait(lambda: self.run_script(script) == version)
 
-    def put(self, words: str):
-        """Types words at once, as one step."""
-        self.run_script("document.querySelector('textarea').focus(); document.execCommand('insertText', false, arguments[0])", words)
-
-    def other(self, start: int, stop: int, *lines):
+    def other(self, start: int, stop: int, *lines: str) -> None:
         """An edit of another window, which the page shows."""
         state = self.ask("state")
         self.ask("edit", {"run": state["run"], "version": state["version"], "window": "other", "start": start, "stop": stop, "lines": lines})
         self.wait(lambda: all(line in self.run_script("return document.querySelector('textarea').value") for line in lines))
 
-    def test_a_reload(self):
+    def test_a_reload(self) -> None:
         """What was typed before it can be undone, and be done again."""
         self.put("X:1\nK:C\n")
         self.wait_for_lines("X:1", "K:C", "")
@@ -44,7 +40,7 @@ class Undo(test_page_in_browser.Browser):
         self.press("z", CONTROL)
         self.wait_for_lines("")
 
-    def test_a_restart_of_the_server(self):
+    def test_a_restart_of_the_server(self) -> None:
         self.put("X:1\nK:C\n")
         self.put("C")
         self.wait_for_lines("X:1", "K:C", "C")
@@ -57,7 +53,7 @@ class Undo(test_page_in_browser.Browser):
         self.type("z", CONTROL)
         self.wait_for_lines("X:1", "K:C", "")
 
-    def test_another_window(self):
+    def test_another_window(self) -> None:
         """Its edits of other lines leave what can be undone, those of the same line do not."""
         self.edit(0, 1, "X:1", "K:C", "C", "", "X:2", "K:D", "D")
         self.load()
@@ -76,7 +72,7 @@ class Undo(test_page_in_browser.Browser):
         self.press("% ")
         self.wait_for_lines("% X:1", "K:C", "CCC", "GGG", "", "X:2", "K:D", "another's")
 
-    def test_a_reload_and_another_window(self):
+    def test_a_reload_and_another_window(self) -> None:
         """What another window edits while the page is loaded anew moves what can be undone."""
         self.put("X:1\nK:C\nC")
         self.wait_for_lines("X:1", "K:C", "C")
@@ -89,7 +85,7 @@ class Undo(test_page_in_browser.Browser):
         self.type("z", CONTROL)
         self.wait_for_lines("% one", "% two", "X:1", "K:C", "C")
 
-    def test_what_came_from_disk(self):
+    def test_what_came_from_disk(self) -> None:
         self.put("X:1")
         self.wait_for_lines("X:1")
         self.press("s", CONTROL)
@@ -103,7 +99,32 @@ class Undo(test_page_in_browser.Browser):
         self.press("z", CONTROL)
         self.wait_for_lines("")
 
-    def test_a_new_key_ends_what_can_be_done_again(self):
+    def test_changes_of_the_disk_are_one_step(self) -> None:
+        """So is a book that is loaded. The caret is then where it was before."""
+        lines = ["X:1", "T:One", "K:C", "CDE", "", "X:2", "T:Two", "K:D", "DEF"]
+        self.put("\n".join(lines))
+        self.wait_for_lines(*lines)
+        self.press("s", CONTROL)
+        self.wait(lambda: not self.is_unsaved())
+        self.type(LEFT)
+        written = ["X:1", "T:Another", "K:C", "CDE", "X:2", "T:Two", "K:D", "DEF", "G"]
+        self.path.write_text("\n".join(written))
+        self.shows("\n".join(written))
+        self.type(HOME, CONTROL)
+        self.press("z", CONTROL)
+        self.wait_for_lines(*lines)
+        self.put("g")
+        self.wait_for_lines(*lines[:-1], "DEgF")
+        self.path.write_text("\n".join([*written, "A"]))
+        self.answer("Load the book from disk")
+        self.shows("\n".join([*written, "A"]))
+        self.assertIn("Ctrl-Z takes that back", self.text("status"))
+        self.press("z", CONTROL)
+        self.wait_for_lines(*lines[:-1], "DEgF")
+        self.put("a")
+        self.wait_for_lines(*lines[:-1], "DEgaF")
+
+    def test_a_new_key_ends_what_can_be_done_again(self) -> None:
         self.put("X:1")
         self.wait_for_lines("X:1")
         self.press("z", CONTROL)

@@ -1,8 +1,12 @@
 """The program, started and asked; places, players and sentences."""
 
+import os
 import random
 import re
 import stat
+import time
+from collections.abc import Callable
+from contextlib import suppress
 from pathlib import Path
 from unittest import mock
 
@@ -13,22 +17,22 @@ from abc2midi_live_clients.faults import sentences
 from abc2midi_live_clients.program import LiveBook, Tune
 
 
-def lines(text: str) -> list:
+def lines(text: str) -> list[bytes]:
     return [letter.encode() for letter in text]
 
 
 class Texts(trial.Folder):
-    def test_bytes_and_characters(self):
+    def test_bytes_and_characters(self) -> None:
         line = "aé𝄞\ud83dz€"
         wanted = [n for n, character in enumerate(line) for _ in places.utf8(character)]
         self.assertEqual([places.character_of(line, n + 1) for n in range(len(wanted))], wanted)
         self.assertEqual([places.character_of("abc", n) for n in (1, 2, 3)], [0, 1, 2])
         self.assertEqual(places.from_utf16(places.utf16("a\ud834") + places.utf16("\udd1eb")), "a𝄞b")
 
-    def test_titles_in_latin_1(self):
+    def test_titles_in_latin_1(self) -> None:
         self.assertEqual([places.text_of(b"caf\xe9"), places.text_of("café".encode())], ["café", "café"])
 
-    def test_each_fault_has_a_sentence(self):
+    def test_each_fault_has_a_sentence(self) -> None:
         source = Path(trial.TOP, "crates/abc_fields/src/fault_code.rt").read_text("utf-8")
         names = re.findall(r'=> "(\w+)"', source)
         self.assertGreater(len(names), 20)
@@ -40,11 +44,12 @@ class Texts(trial.Folder):
 class Program(trial.Folder):
     def book(self) -> LiveBook:
         book = LiveBook(trial.program, str(self.files))
+        assert book.process.stdout
         self.addCleanup(book.process.stdout.close)
         self.addCleanup(book.close)
         return book
 
-    def test_faults_at_the_bytes_of_a_character(self):
+    def test_faults_at_the_bytes_of_a_character(self) -> None:
         """They are one fault; a byte that is no UTF-8 has its own."""
         book = self.book()
         book.replace(0, 0, [b"X:1", b"K:C", "é[𝄞]".encode() + b"\xff\xbf\xe9C\xc3", b"\xf0\x9d\x84", b"\xed\xa0\x80"])
@@ -52,7 +57,7 @@ class Program(trial.Folder):
         wanted = [(3, 1), (3, 4), *((3, n) for n in (9, 10, 11, 13)), *((line, n) for line in (4, 5) for n in (1, 2, 3))]
         self.assertEqual(columns, wanted)
 
-    def test_places_after_many_changes(self):
+    def test_places_after_many_changes(self) -> None:
         """Tunes and lines that are left out are found where they are, after changes of any kind."""
         chance = random.Random(trial.seed)
         book = self.book()
@@ -70,7 +75,7 @@ class Program(trial.Folder):
         book.replace(1, 2, [b"T:B"])
         self.assertEqual(book.tunes(), [Tune(1, "B", 1)])
 
-    def test_answers(self):
+    def test_answers(self) -> None:
         book = self.book()
         text = [b"X:1", b"T:A", b"K:C", b"C&", b"", b"X:1", b"K:C", b"D", b"", b"X:2", b"K:C"]
         self.assertEqual(book.replace(0, 0, text), [Edit(0, 0, text)])
@@ -82,7 +87,7 @@ class Program(trial.Folder):
         self.assertEqual(book.replace(9, 11, []), [Edit(9, 11, [])])
         self.assertEqual((book.build(), book.close()), (Built([], [2], None), 0))
 
-    def test_what_to_write_instead(self):
+    def test_what_to_write_instead(self) -> None:
         """Each fault is there, and gone where its place is written as its sentence says."""
         book, words = self.book(), sentences()
         for name, wrong, right, said in INSTEAD:
@@ -92,17 +97,17 @@ class Program(trial.Folder):
             self.assertIn(f"`{said}`" if said else "", words[name])
         self.assertEqual([name for name, *_ in INSTEAD], list(words)[: len(INSTEAD)])
 
-    def test_a_file_that_fails(self):
+    def test_a_file_that_fails(self) -> None:
         book = self.book()
         (self.files / "2.mid").mkdir()
         book.replace(0, 0, [b"X:1", b"K:C", b"X:2", b"K:C", b"X:3", b"K:C"])
         self.assertEqual(book.build(), Built([1], [], 2))
 
-    def test_the_file_of_a_number(self):
+    def test_the_file_of_a_number(self) -> None:
         tunes = [Tune(1, "A", 1), Tune(1, "B", 5), Tune(2, "C", 9)]
         self.assertEqual(program.files_of(tunes, [Fault(1, 1, "TuneTooLong")]), {1: tunes[1], 2: tunes[2]})
 
-    def test_lines_of_too_many_bytes(self):
+    def test_lines_of_too_many_bytes(self) -> None:
         book = self.book()
         book.replace(0, 0, [b"X:" + b"2" * 65_534, b"X:1", b"K:C", b"C" * 65_535, b"D" * 65_536, b"E"])
         self.assertEqual(book.faults(), [Fault(1, 65_536, "BadLine"), Fault(5, 65_536, "BadLine")])
@@ -112,25 +117,24 @@ class Program(trial.Folder):
         book.replace(4, 5, [b"D"])
         self.assertEqual([fault.line for fault in book.faults()], [1])
 
-    def test_a_text_of_too_many_lines(self):
+    def test_a_text_of_too_many_lines(self) -> None:
         """The program never holds more lines than it takes, which are ten here."""
         for module in (program, edits):
             patched = mock.patch.object(module, "MOST_LINES", 10)
             patched.start()
             self.addCleanup(patched.stop)
         book = self.book()
-        held = []
+        held: list[int] = []
+        follow = book.session._follow
 
-        def counted(edit):
-            def follow(*words):
-                edit(*words)
-                held.append(book.session.line_count)
-                return Report((), ())
+        def counted(edit: Edit, make: Callable[[], Report]) -> Report:
+            report = follow(edit, make)
+            held.append(book.session.line_count)
+            return report
 
-            return follow
-
-        for name in ("insert", "replace", "delete"):
-            setattr(book.session, name, counted(getattr(book.session, name)))
+        counting = mock.patch.object(book.session, "_follow", counted)
+        counting.start()
+        self.addCleanup(counting.stop)
         text = [b"X:1", b"K:C", *lines("CDEFGAB"), b"last"]
         book.replace(0, 0, text)
         book.replace(0, 10, [b"last", *text[:-1]])
@@ -142,24 +146,68 @@ class Program(trial.Folder):
         self.assertEqual((book.faults(), max(held), len(book.lines)), ([], 10, 10))
         self.assertEqual(book.tunes(), [Tune(1, "", 2), Tune(2, "", 9)])
 
-    def test_a_player(self):
-        patience, players.SECONDS_TO_END = players.SECONDS_TO_END, trial.SECONDS
-        self.addCleanup(setattr, players, "SECONDS_TO_END", patience)
-        player = players.Player(["sh", "-c", "exec sleep 600"])
+    def player(self, script: str) -> players.Player:
+        """A player that writes the numbers of its processes into `pids`."""
+        player = players.Player(["sh", "-c", script.replace("PIDS", str(self.folder / "pids"))])
         self.addCleanup(player.stop)
-        player.play("1.mid")
-        first = player.process
-        player.play("2.mid")
-        second = player.process
-        self.assertEqual((first.returncode, second.poll()), (-15, None))
-        player.stop()
-        self.assertEqual(second.returncode, -15)
+        return player
 
-    def test_a_program_that_ends(self):
+    def processes(self, count: int) -> list[int]:
+        """The processes of the player, of which there are `count`."""
+        while True:
+            with suppress(FileNotFoundError):
+                numbers = (self.folder / "pids").read_text().split("\n")
+                if len(numbers) > count:
+                    return [int(number) for number in numbers[:-1]]
+            time.sleep(0.01)
+
+    def wait_for_the_end(self, processes: list[int]) -> None:
+        """Waits until they ended."""
+        until = time.monotonic() + trial.SECONDS
+        while any(Path(f"/proc/{number}").exists() for number in processes):
+            self.assertLess(time.monotonic(), until)
+            time.sleep(0.01)
+
+    def test_a_player(self) -> None:
+        """A file ends the one before."""
+        player = self.player("echo $$ >>PIDS; exec sleep 600")
+        player.play("1.mid")
+        first = self.processes(1)
+        player.play("2.mid")
+        self.wait_for_the_end(first)
+        self.assertIsNone(player.failure())
+        second = self.processes(2)[1:]
+        player.stop()
+        self.wait_for_the_end(second)
+
+    def test_what_a_player_starts(self) -> None:
+        """It ends with the player, also if the player ended before or hears no signal; and nobody waits for that."""
+        for last in "wait", "exit 0":
+            (self.folder / "pids").unlink(missing_ok=True)
+            player = self.player(f"trap '' TERM; sh -c 'echo $$ >>PIDS; sleep 600 & echo $! >>PIDS; wait' & echo $$ >>PIDS; {last}")
+            player.play("1.mid")
+            processes = self.processes(3)
+            since = time.monotonic()
+            with mock.patch.object(players, "SECONDS_TO_END", 1):
+                player.stop()
+                self.assertLess(time.monotonic() - since, 0.9)
+                self.wait_for_the_end(processes)
+
+    def test_a_player_that_fails(self) -> None:
+        """It is reported once."""
+        for script, how in ("exit 3", "ended with status 3"), ("kill -9 $$", "was killed by signal 9"), ("exit 0", None):
+            player = self.player(f"echo $$ >>PIDS; {script}")
+            player.play("1.mid")
+            assert player.process
+            os.waitid(os.P_PID, player.process.pid, os.WEXITED | os.WNOWAIT)
+            self.assertEqual((player.failure(), player.failure()), (how, None))
+
+    def test_a_program_that_ends(self) -> None:
         false = self.folder / "false"
         false.write_text("#!/bin/sh\nexit 3\n")
         false.chmod(false.stat().st_mode | stat.S_IXUSR)
         book = LiveBook(str(false), str(self.files))
+        assert book.process.stdout
         self.addCleanup(book.process.stdout.close)
         with self.assertRaisesRegex(ProgramEnded, "status 3"):
             book.faults()
@@ -171,7 +219,7 @@ class Program(trial.Folder):
         with self.assertRaises(ProgramMissing):
             LiveBook(str(self.folder / "none"), str(self.files))
 
-    def test_what_to_do_without_a_program(self):
+    def test_what_to_do_without_a_program(self) -> None:
         with mock.patch("abc2midi_live.find_program", side_effect=ProgramMissing("run ./build, or name a program")):
             with self.assertRaisesRegex(ProgramMissing, "^run ./build, or name a program by --program$"):
                 program.find_program()

@@ -3,7 +3,9 @@
 import os
 import stat
 import unittest
-import unittest.mock
+from collections.abc import Callable
+from typing import Any, Optional
+from unittest import mock
 
 import trial
 from abc2midi_live_clients import saving
@@ -12,23 +14,23 @@ OLD, NEW = b"old\n", b"new\n"
 
 
 class Saving(trial.Folder):
-    def setUp(self):
+    def setUp(self) -> None:
         super().setUp()
         self.path = str(self.files / "book.abc")
         self.write(OLD)
 
-    def write(self, data: bytes):
+    def write(self, data: bytes) -> None:
         with open(self.path, "wb") as file:
             file.write(data)
 
-    def save(self, expected=OLD):
+    def save(self, expected: Optional[bytes] = OLD) -> None:
         saving.save_book(self.path, NEW, saving.digest_of(expected))
 
-    def assert_is(self, data: bytes):
+    def assert_is(self, data: bytes) -> None:
         """The book has these bytes, and nothing else is in its folder."""
         self.assertEqual(trial.files_in(self.files), {os.path.basename(self.path): data})
 
-    def test_saves(self):
+    def test_saves(self) -> None:
         os.chmod(self.path, 0o640)
         self.save()
         self.assert_is(NEW)
@@ -38,7 +40,7 @@ class Saving(trial.Folder):
         self.assert_is(NEW)
         self.assertEqual(stat.S_IMODE(os.stat(self.path).st_mode), 0o666 & ~saving.UMASK)
 
-    def test_a_book_that_changed(self):
+    def test_a_book_that_changed(self) -> None:
         with self.assertRaises(saving.BookChanged) as raised:
             self.save(b"other")
         self.assertEqual(raised.exception.present, saving.digest(OLD))
@@ -46,7 +48,7 @@ class Saving(trial.Folder):
             self.save(None)
         self.assert_is(OLD)
 
-    def test_a_book_that_changes_while_it_is_saved(self):
+    def test_a_book_that_changes_while_it_is_saved(self) -> None:
         """Another writer that comes at any time before the replacement is seen, whether it writes the file or replaces it."""
         for write in (self.write, self.replace):
             for step in ("refuse_loss", "compare", "write_beside", "keep_owner"):
@@ -61,9 +63,10 @@ class Saving(trial.Folder):
             self.save(None)
         self.assert_is(b"other")
 
-    def test_a_book_that_changes_at_the_last_moment(self):
+    def test_a_book_that_changes_at_the_last_moment(self) -> None:
         """Between the last look and the replacement."""
-        for write in (self.write, self.replace, lambda _: os.unlink(self.path)):
+        writes: list[Callable[[bytes], None]] = [self.write, self.replace, lambda _: os.unlink(self.path)]
+        for write in writes:
             self.write(OLD)
             with self.meanwhile("compare", lambda: write(b"other"), 2), self.assertRaises(saving.BookChanged):
                 self.save()
@@ -74,40 +77,43 @@ class Saving(trial.Folder):
                 self.save()
         self.assert_is(b"third")
         self.write(OLD)
-        with unittest.mock.patch.object(saving, "LIBRARY", None):
+        with mock.patch.object(saving, "LIBRARY", None):
             self.save()
         self.assert_is(NEW)
 
-    def replace(self, data: bytes):
+    def replace(self, data: bytes) -> None:
         """Writes the book as editors do that rename a new file."""
         new = self.folder / "new"
         new.write_bytes(data)
         os.replace(new, self.path)
 
-    def meanwhile(self, step: str, act, time: int = 1):
+    def meanwhile(self, step: str, act: Callable[[], object], time: int = 1) -> "mock._patch[Callable[..., Any]]":
         """Lets something happen once, after a step of saving is done for the first time, or for another."""
-        return unittest.mock.patch.object(saving, step, after(getattr(saving, step), act, time))
+        return mock.patch.object(saving, step, after(getattr(saving, step), act, time))
 
-    def test_a_file_that_is_read_only(self):
+    def test_a_file_that_is_read_only(self) -> None:
         os.chmod(self.path, 0o444)
         with self.assertRaisesRegex(saving.NotSaved, "read-only"):
             self.save()
         self.assert_is(OLD)
 
-    def test_a_file_of_two_names(self):
+    def test_a_file_of_two_names(self) -> None:
         os.link(self.path, self.folder / "other name")
         with self.assertRaisesRegex(saving.NotSaved, "2 names"):
             self.save()
         self.assert_is(OLD)
         self.assertEqual(os.stat(self.path).st_nlink, 2)
 
-    def test_no_regular_file(self):
+    def test_no_regular_file(self) -> None:
         """Nothing is opened that could wait or be replaced: a pipe, a device, a folder, a link."""
         os.unlink(self.path)
-        for make, remove in ((os.mkfifo, os.unlink), (os.mkdir, os.rmdir), (lambda path: os.symlink(os.devnull, path), os.unlink)):
+        Act = Callable[[str], None]
+        kinds: list[tuple[Act, Act]] = [(os.mkfifo, os.unlink), (os.mkdir, os.rmdir), (lambda path: os.symlink(os.devnull, path), os.unlink)]
+        for make, remove in kinds:
             make(self.path)
             before = os.lstat(self.path)
-            for act in (self.save, lambda: self.save(None), lambda: saving.read_book(self.path)):
+            acts: list[Callable[[], object]] = [self.save, lambda: self.save(None), lambda: saving.read_book(self.path)]
+            for act in acts:
                 with self.assertRaises(saving.NotRegular):
                     act()
             self.assertEqual(os.lstat(self.path), before)
@@ -115,25 +121,25 @@ class Saving(trial.Folder):
         with self.assertRaises(saving.NotRegular):
             saving.read_book(os.devnull)
 
-    def test_a_long_name(self):
+    def test_a_long_name(self) -> None:
         os.unlink(self.path)
         self.path = str(self.files / ("n" * 251 + ".abc"))
         self.write(OLD)
         self.save()
         self.assert_is(NEW)
 
-    def test_extended_attributes(self):
+    def test_extended_attributes(self) -> None:
         try:
             os.setxattr(self.path, "user.colour", b"red")
         except OSError as error:
             self.skipTest(f"no extended attributes here: {error.strerror}")
         self.save()
         self.assertEqual(os.getxattr(self.path, "user.colour"), b"red")
-        with unittest.mock.patch("os.setxattr", side_effect=PermissionError), self.assertRaisesRegex(saving.NotSaved, "extended attributes"):
+        with mock.patch("os.setxattr", side_effect=PermissionError), self.assertRaisesRegex(saving.NotSaved, "extended attributes"):
             self.save(NEW)
         self.assert_is(NEW)
 
-    def test_the_owner(self):
+    def test_the_owner(self) -> None:
         """It stays, or nothing is saved."""
         if os.getuid() != 0:
             self.skipTest("only the superuser gives files away")
@@ -142,26 +148,27 @@ class Saving(trial.Folder):
         self.save()
         found = os.stat(self.path)
         self.assertEqual((found.st_uid, found.st_gid, stat.S_IMODE(found.st_mode)), (1234, 2345, 0o4755))
-        with unittest.mock.patch("os.fchown", side_effect=PermissionError), self.assertRaisesRegex(saving.NotSaved, "another user"):
+        with mock.patch("os.fchown", side_effect=PermissionError), self.assertRaisesRegex(saving.NotSaved, "another user"):
             self.save(NEW)
         self.assert_is(NEW)
 
-    def test_no_room(self):
+    def test_no_room(self) -> None:
         for call in ("fsync", "fchmod"):
-            failing = unittest.mock.patch(f"os.{call}", side_effect=OSError(28, "No space left on device"))
+            failing = mock.patch(f"os.{call}", side_effect=OSError(28, "No space left on device"))
             with self.subTest(call=call), failing, self.assertRaisesRegex(OSError, "No space"):
                 self.save()
             self.assert_is(OLD)
 
 
-def after(step, act, time: int):
+def after(step: Callable[..., Any], act: Callable[[], object], time: int) -> Callable[..., Any]:
     """A step of saving, after which something happens once."""
-    times = []
+    times = 0
 
-    def stepped(*words):
+    def stepped(*words: Any) -> Any:
+        nonlocal times
         result = step(*words)
-        times.append(step)
-        if len(times) == time:
+        times += 1
+        if times == time:
             act()
         return result
 

@@ -5,12 +5,15 @@ import os
 import re
 import shutil
 import unittest
+from collections.abc import Iterable, Iterator
 from contextlib import contextmanager
+from typing import Any, Optional
 from unittest import mock
 
 import browser
 import test_page
 import test_page_in_browser
+from abc2midi_live_clients.rows import Json
 from abc2midi_live_clients.scorer import INSTALL
 
 DRAWS = shutil.which("abcm2ps")
@@ -60,12 +63,12 @@ return [...document.querySelectorAll("body *")].filter((one) => {
 """
 
 
-class Programs:
+class Programs(test_page.Page):
     """A server that finds another `abcm2ps`, or none."""
 
-    drawing = None  # the script of an `abcm2ps`; empty for none
+    drawing: Optional[str] = None  # the script of an `abcm2ps`; empty for none
 
-    def start(self, *words, **more):
+    def start(self, *words: str, **more: Any) -> None:
         starter = self.folder / "program"
         starter.write_text(starter.read_text().replace("\necho", f"\nexport PATH='{os.environ['PATH']}'\necho", 1))
         found = self.folder / "bin"
@@ -76,7 +79,7 @@ class Programs:
         with mock.patch.dict(os.environ, {"PATH": path}):
             super().start(*words, **more)
 
-    def draw_by(self, script: str):
+    def draw_by(self, script: str) -> None:
         """Makes a script the `abcm2ps` that the server finds."""
         program = self.folder / "bin/abcm2ps"
         if script:
@@ -86,32 +89,35 @@ class Programs:
             program.unlink(missing_ok=True)
 
 
-class Requests(Programs, test_page.Page):
+class Requests(Programs):
     """What the server answers."""
 
-    drawing = "sleep 1000"
+    drawing = "exec sleep 1000"
 
-    def test_who_may_ask(self):
+    def test_who_may_ask(self) -> None:
         """Those with the token alone."""
         question = {"header": [], "tune": ["X:1", "K:C"], "width": 600}
         for path in ("/score", f"/{self.token[:-1]}/score", "/x/score"):
             self.assertEqual(self.request("", question, path=path)[0], 403)
-        for headers in ({"Host": "example.org"}, {"Origin": "http://example.org"}):
+        strange: list[dict[str, str]] = [{"Host": "example.org"}, {"Origin": "http://example.org"}]
+        for headers in strange:
             self.assertEqual(self.request("score", question, headers)[0], 403)
         self.assertEqual(self.request("score")[0], 404)
 
-    def test_questions_that_are_none(self):
-        for more in ({"tune": "X:1"}, {"tune": [1]}, {"tune": None}, {"header": {}}, {"width": "1"}, {"width": True}, {"width": 1.5}, {"width": []}):
+    def test_questions_that_are_none(self) -> None:
+        wrong: list[Json] = [{"tune": "X:1"}, {"tune": [1]}, {"tune": None}, {"header": {}}]
+        wrong += [{"width": "1"}, {"width": True}, {"width": 1.5}, {"width": []}]
+        for more in wrong:
             self.assertEqual(self.ask("score", {"header": [], "tune": ["K:C"], "width": 600, **more})["status"], 400, more)
         self.assertEqual(self.ask("score", {})["status"], 400)
 
-    def test_a_program_that_hangs(self):
+    def test_a_program_that_hangs(self) -> None:
         """Other requests are answered meanwhile, and a server that is asked to end leaves nothing."""
         question = {"header": [], "tune": ["X:1", "K:C", "C"], "width": 600}
         self.assertIn("took too long", self.ask("score", question)["why"])
         self.finish()
 
-    def test_no_program(self):
+    def test_no_program(self) -> None:
         self.draw_by("")
         question = {"header": [], "tune": ["X:1", "K:C", "C"], "width": 600}
         self.assertEqual(self.ask("score", question), {"why": INSTALL, "missing": True})
@@ -122,20 +128,24 @@ class Requests(Programs, test_page.Page):
 class Staves(test_page_in_browser.Browser):
     """The score that `abcm2ps` draws."""
 
-    def notes(self, *wanted):
+    def notes(self, *wanted: Iterable[Any]) -> None:
         """Waits till these notes are drawn."""
         self.wait(lambda: self.run_script(NOTES) == [list(note) for note in wanted])
 
-    def here(self, *wanted):
+    def here(self, *wanted: Iterable[Any]) -> None:
         """Waits till these notes are marked as that of the caret."""
         self.wait(lambda: self.run_script(HERE) == [list(place) for place in wanted])
 
-    def click(self, at: int):
+    def caret_is(self, place: list[int]) -> None:
+        """Waits till the caret is at a place."""
+        self.wait(lambda: self.run_script(CARET) == place)
+
+    def click(self, at: int) -> None:
         """Clicks a note."""
         browser.press_button(self.driver, self.run_script("return document.querySelectorAll('#score .score-place')[arguments[0]]", at))
         browser.release_button(self.driver)
 
-    def test_a_tune(self):
+    def test_a_tune(self) -> None:
         """It appears, follows an edit and other tunes, and what is edited before it."""
         self.type(TUNE)
         first = [(5, 0, 1, "note"), (5, 1, 1, "note"), (5, 2, 1, "note"), (5, 9, 2, "note"), (5, 12, 1, "rest")]
@@ -147,14 +157,14 @@ class Staves(test_page_in_browser.Browser):
         self.type("X:2\nK:C\n[CE]2^f,\n\n")
         self.notes((2, 0, 5, "note"), (2, 5, 3, "note"))
 
-    def test_places(self):
+    def test_places(self) -> None:
         """A click goes to a note's place; the note at the caret, or the one before it, is marked, and no other."""
         self.type(TUNE)
         self.wait(lambda: len(self.run_script(NOTES)) == 5)
         self.here()
         for at, place in ((3, [5, 9]), (0, [5, 0]), (4, [5, 12])):
             self.click(at)
-            self.wait(lambda place=place: self.run_script(CARET) == place)
+            self.caret_is(place)
             self.here(place)
         self.press("\ue012")
         self.here([5, 9])
@@ -165,7 +175,7 @@ class Staves(test_page_in_browser.Browser):
         self.press("\ue013")
         self.here()
 
-    def test_an_answer_that_comes_late(self):
+    def test_an_answer_that_comes_late(self) -> None:
         """What was asked for an older text is not drawn over a newer one."""
         self.run_script(HOLD)
         self.type("X:1\nK:C\nC")
@@ -178,7 +188,7 @@ class Staves(test_page_in_browser.Browser):
         self.run_script("held.shift()()")
         self.notes((2, 0, 1, "note"), (2, 1, 1, "note"))
 
-    def test_texts_are_no_elements(self):
+    def test_texts_are_no_elements(self) -> None:
         """Nothing of a tune becomes an element of the page, nor an attribute that does something."""
         tune = f'X:1\nT:{EVIL}\nC:{EVIL}\nM:3/4\nK:C\n"^{EVIL.replace(chr(34), "")}"CDE|\nw:{EVIL.replace(" ", "~")}\nW:{EVIL}'
         self.edit(0, 1, *tune.split("\n"))
@@ -186,7 +196,7 @@ class Staves(test_page_in_browser.Browser):
         self.assertEqual(self.run_script(STRANGE), [[], [], None])
         self.assertEqual(self.text("score").count("<script>window.evil = 1</script>"), 5)
 
-    def test_why_there_is_none(self):
+    def test_why_there_is_none(self) -> None:
         self.type("X:1\n")
         self.wait(lambda: self.run_script(WHY) == "abcm2ps draws no tune that has no K: line.")
         self.type("K:C\n")
@@ -195,7 +205,7 @@ class Staves(test_page_in_browser.Browser):
         self.notes((2, 0, 1, "note"))
         self.assertIsNone(self.run_script(WHY))
 
-    def test_a_tune_with_faults(self):
+    def test_a_tune_with_faults(self) -> None:
         """A line below its score says that the sound may differ, till the faults are gone; on paper it is not."""
         self.type("X:1\nK:C\nC -D")
         self.notes((2, 0, 1, "note"), (2, 3, 1, "note"))
@@ -206,7 +216,7 @@ class Staves(test_page_in_browser.Browser):
         self.notes((2, 0, 1, "note"))
         self.wait(lambda: self.run_script(DOUBT) is None)
 
-    def test_light_dark_and_paper(self):
+    def test_light_dark_and_paper(self) -> None:
         """The score has the colour of the text; on paper it is black on white, and alone."""
         self.type(TUNE)
         self.wait(lambda: len(self.run_script(NOTES)) == 5)
@@ -220,7 +230,7 @@ class Staves(test_page_in_browser.Browser):
                 self.assertEqual(self.pixels(), [0, 765, 765])
                 self.assertEqual(self.run_script(SEEN_ON_PAPER), ["svg"])
 
-    def test_printing(self):
+    def test_printing(self) -> None:
         """A key prints the tune page by page, and nothing else; afterwards the page is as before."""
         self.edit(0, 1, "X:1", "T:Long", "K:C", *["CDEF GABc|" * 4] * 60)
         self.wait(lambda: len(self.run_script(NOTES)) == 60 * 32)
@@ -236,18 +246,18 @@ class Staves(test_page_in_browser.Browser):
         self.assertEqual(len(re.findall(rb"/Type\s*/Page\b", printed)), pages)
         self.wait(lambda: self.run_script("return !document.getElementById('paper')"))
 
-    def pixels(self) -> list:
+    def pixels(self) -> Any:
         """How light the darkest, most, and the lightest pixels of the score are: 765 is white."""
         return self.driver.execute_async_script(PIXELS, self.driver.get_screenshot_as_base64())
 
     @contextmanager
-    def media(self, **words):
+    def media(self, **words: Any) -> Iterator[None]:
         """The browser shows pages as on another medium."""
         self.driver.execute_cdp_cmd("Emulation.setEmulatedMedia", words)
         yield
         self.driver.execute_cdp_cmd("Emulation.setEmulatedMedia", {"media": "", "features": []})
 
-    def test_while_the_server_is_away(self):
+    def test_while_the_server_is_away(self) -> None:
         """Nothing is asked, and the score is drawn when the server is there again."""
         self.type("X:1\nK:C\nC")
         self.notes((2, 0, 1, "note"))
@@ -264,7 +274,7 @@ class OtherPrograms(Programs, test_page_in_browser.Browser):
 
     drawing = ""
 
-    def test_none(self):
+    def test_none(self) -> None:
         """The page says what to install, once, and goes on without; when it is there the score appears."""
         self.type("X:1\nK:C\nC")
         self.wait(lambda: self.run_script(WHY) == "To see the score, install abcm2ps: sudo apt install abcm2ps")
@@ -275,7 +285,7 @@ class OtherPrograms(Programs, test_page_in_browser.Browser):
         self.type("D")
         self.wait(lambda: "took too long" in (self.run_script(WHY) or ""))
 
-    def test_typing_goes_on(self):
+    def test_typing_goes_on(self) -> None:
         """An `abcm2ps` that hangs holds nothing up."""
         self.draw_by("while :; do :; done")
         self.type("X:1\nK:C\nC")
@@ -285,10 +295,10 @@ class OtherPrograms(Programs, test_page_in_browser.Browser):
         self.assertIsNone(self.run_script(WHY))
         self.wait(lambda: "took too long" in (self.run_script(WHY) or ""))
 
-    def test_a_drawing_that_means_harm(self):
+    def test_a_drawing_that_means_harm(self) -> None:
         place = '<abc type="N" row="4" col="0" x="1" y="2" width="3" height="4"/>'
         evil = "<script>window.evil = 1</script><image href='x' onerror='window.evil = 1'/><g onload='window.evil = 1' style='fill:red'><a href='javascript:evil=1'>x</a></g>"
-        self.draw_by(f"cat <<'END'\n<svg width=\"9px\" height=\"9px\">{evil}{place}</svg>\nEND")
+        self.draw_by(f"exec cat <<'END'\n<svg width=\"9px\" height=\"9px\">{evil}{place}</svg>\nEND")
         self.type("X:1\nT:a\nK:C\nC")
         self.wait(lambda: len(self.run_script(NOTES)) == 1)
         self.assertEqual(self.run_script(STRANGE), [[], [], None])

@@ -5,8 +5,9 @@ from typing import Any
 from unittest import mock
 
 import trial
+from abc2midi_live_clients import shared_book
 from abc2midi_live_clients.rows import Json
-from abc2midi_live_clients.saving import digest
+from abc2midi_live_clients.saving import digest, save_book
 from abc2midi_live_clients.shared_book import SharedBook
 
 
@@ -42,3 +43,60 @@ class Saves(trial.Folder):
         self.assertEqual((state["saved"], state["disk"], state["unsaved"]), (digest(saved), digest(saved), True))
         self.assertFalse(self.ask(self.book.save)["unsaved"])
         self.assertEqual(self.path.read_bytes(), b"X:3\nK:C\nC\n")
+
+    def test_an_edit_during_a_save(self) -> None:
+        """It comes between the text that the save takes and the end of the save: it is unsaved."""
+        self.edit("X:2")
+
+        def edit_and_save(*words: Any) -> None:
+            self.edit("X:3")
+            save_book(*words)
+
+        with mock.patch.object(shared_book, "save_book", edit_and_save):
+            state = self.ask(self.book.save)
+        saved = b"X:2\nK:C\nC\n"
+        self.assertEqual((self.path.read_bytes(), state["saved"]), (saved, digest(saved)))
+        self.assertEqual((state["unsaved"], self.book.now()["unsaved"]), (True, True))
+        self.edit("X:2")
+        self.assertFalse(self.book.now()["unsaved"])
+
+    def test_which_edits_are_in_the_text(self) -> None:
+        """A window says so with its edit; without a word, and for what comes from disk, the author is the run of the server."""
+        run = self.book.run
+        self.assertEqual(self.book.snapshot()["has"], {run: 0})
+        change = self.ask(self.book.edit, start=0, stop=1, lines=["X:2"], has={"one": 3, "old-run": 0})
+        self.assertEqual(change["has"], {"one": 3, "old-run": 0})
+        self.edit("X:3")
+        self.ask(self.book.edit, start=0, stop=1, lines=["X:4"], has={"one": 2, "other": 1})
+        self.assertEqual(self.book.snapshot()["has"], {run: 2, "one": 3, "old-run": 0, "other": 1})
+        self.ask(self.book.save)
+        self.path.write_bytes(b"X:9\nK:C\nC\n")
+        for _ in range(3):
+            self.book.look()
+        self.assertEqual((self.book.snapshot()["has"][run], self.book.version), (4, 4))
+        bad: list[Any] = [["one"], "one", {"one": -1}, {"one": "1"}, {"a b": 1}, {"": 1}, {"one": True}]
+        for has in bad:
+            with self.assertRaises(shared_book.Refused):
+                self.ask(self.book.edit, start=0, stop=1, lines=["X:5"], has=has)
+        self.assertEqual(self.book.version, 4)
+
+    def test_the_later_of_two_states(self) -> None:
+        """It has the larger moment, after an edit, a save, and what another program writes."""
+        moments = [self.book.now()["moment"]]
+        moments.append(self.edit("X:2")["moment"])
+        moments.append(self.ask(self.book.save)["moment"])
+        self.edit("X:3")
+        self.path.write_bytes(b"another's")
+        for _ in range(3):
+            self.book.look()
+        moments.append(self.book.now()["moment"])
+        self.assertEqual(moments, sorted(set(moments)))
+
+    def test_hints_of_an_older_text(self) -> None:
+        """They come when the text is a newer one, and do not count."""
+        known, hint = self.book.version, (2, 0, 1, "Overlay", "Words.")
+        self.edit("X:2")
+        self.book.know_hints(known, [hint])
+        self.assertEqual(self.book.hints_now(), {"version": known + 1, "hints": 0, "rows": []})
+        self.book.know_hints(known + 1, [hint])
+        self.assertEqual(self.book.hints_now(), {"version": known + 1, "hints": 1, "rows": [hint]})

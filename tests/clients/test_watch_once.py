@@ -3,6 +3,7 @@
 import json
 import os
 import signal
+from typing import Any
 
 import trial
 from abc2midi_live_clients.faults import sentences
@@ -12,11 +13,11 @@ from watching import OTHER, TUNE, Process
 class Once(Process):
     """One build, and an exit status that tells of faults."""
 
-    def run_once(self, *words) -> tuple:
+    def run_once(self, *words: str) -> tuple[str, str, int]:
         self.start("--once", *words)
         return self.end()
 
-    def test_statuses(self):
+    def test_statuses(self) -> None:
         self.path.write_bytes(TUNE)
         output, errors, status = self.run_once()
         self.assertEqual((output.partition(";")[0], errors, status), ("written 1.mid (Kesh)", "", 0))
@@ -27,7 +28,7 @@ class Once(Process):
         self.path.write_bytes(b"")
         self.assertEqual(self.run_once()[2], 0)
 
-    def test_what_fails(self):
+    def test_what_fails(self) -> None:
         self.assertEqual(self.run_once(), (f"{self.path}: No such file or directory\n", "", 1))
         self.path.write_bytes(TUNE + b"&\n")
         (self.files / "1.mid").mkdir()
@@ -39,7 +40,7 @@ class Once(Process):
         (self.folder / "program").unlink()
         self.assertEqual(self.run_once()[2], 127)
 
-    def test_interrupted(self):
+    def test_interrupted(self) -> None:
         """Its files may not be those of the book."""
         self.path.write_bytes(TUNE)
         (self.folder / "program").write_text(f'#!/bin/sh\necho $$ >"{self.folder}/pid"\nexec cat >/dev/null\n')
@@ -52,20 +53,20 @@ class Once(Process):
 class Json(Process):
     """One object a line."""
 
-    def event(self) -> dict:
+    def event(self) -> dict[str, Any]:
         """The next object."""
-        event = json.loads(self.line())
+        event: dict[str, Any] = json.loads(self.line())
         self.assertEqual(event.pop("book"), str(self.path))
         return event
 
-    def change(self) -> dict:
+    def change(self) -> dict[str, Any]:
         """The next object, which is a change."""
         event = self.event()
         self.assertEqual(event.pop("event"), "change")
         self.assertGreaterEqual(event.pop("milliseconds"), 0)
         return event
 
-    def test_events(self):
+    def test_events(self) -> None:
         (self.files / "7.mid").touch()
         self.path.write_bytes(TUNE + OTHER)
         self.start("--json")
@@ -90,7 +91,7 @@ class Json(Process):
         self.assertEqual((change["written"], change["removed"]), (written[1:], written[:1]))
         self.interrupt()
 
-    def test_a_number_that_fails(self):
+    def test_a_number_that_fails(self) -> None:
         self.path.write_bytes(b"X:\nK:C\nC\n" + TUNE)
         (self.files / "0.mid").mkdir()
         self.start("--json", "--once")

@@ -14,9 +14,10 @@ from pathlib import Path
 from typing import Any, NamedTuple, Optional
 
 TOP = Path(__file__).resolve().parent.parent.parent
-CLIENTS = TOP / "clients"
+CLIENTS = TOP / "clients"  # the commands
+PACKAGES = TOP / "python"
 SECONDS = 300  # that a process may take, on a slow machine too
-sys.path[:0] = [str(CLIENTS), str(TOP / "python")]
+sys.path[:0] = [str(PACKAGES)]
 
 program = ""
 oracle: list[str] = []  # the command of the program whose answers are expected

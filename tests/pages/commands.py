@@ -11,8 +11,8 @@ from typing import Optional
 from .markdown import TOP, code, pages
 from .outcome import Outcome, Outcomes
 
-CLIENTS = {"watch": "watch", "page": "page", "language-server": "language_server"}  # by their installed names
-PAGES = {"watch": "docs/watch.md", "page": "docs/page.md", "language_server": "docs/editors.md"}
+CLIENTS = {"watch": "watch", "page": "page", "language-server": "language_server", "archive": "archive"}  # by their installed names
+PAGES = {"watch": "docs/watch.md", "page": "docs/page.md", "language_server": "docs/editors.md", "archive": "docs/archive.md"}
 FOLDERS = "clients|scripts|tests|docs|crates|examples|manual|python"
 FILE = re.compile(rf"(?<![\w./:~-])(?:\./)?((?:{FOLDERS})/[\w./-]*\w)(?![\w*{{])")
 COMMAND = re.compile(rf"(?:^|[\s|(])(\./\w+(?![\w.-])|abc2midi_live(?:-[a-z-]+)?|(?:{FOLDERS})/[\w/]+)((?:\s+[^\s|<>()`]+)*)")
@@ -24,15 +24,15 @@ def words_of(name: str) -> Optional[str]:
     """The help of a command, or its source, which has its flags; None if there is no such command."""
     name = name.removeprefix("./")
     if name == "abc2midi_live":
-        return (TOP / "tests/transcripts/help.stderr").read_text("utf-8")
+        return (TOP / "tests/transcripts/arguments/help.stderr").read_text("utf-8")
     if name == "abc2midi_live-uninstall":
-        return (TOP / "scripts/uninstall").read_text("utf-8")
+        return (TOP / "scripts/installed/uninstall").read_text("utf-8")
     client = CLIENTS.get(name.removeprefix("abc2midi_live-"), name.removeprefix("clients/"))
     if client != name and client in CLIENTS.values():
         words = [sys.executable, "-B", str(TOP / "clients" / client), "--help"]
         return subprocess.run(words, capture_output=True, text=True, check=True).stdout
     if name == "build":
-        name = "scripts/build_program"
+        name = "scripts/build/build_program"
     path = TOP / name
     return path.read_text("utf-8", "replace") if path.is_file() else None
 
@@ -62,7 +62,7 @@ def missing_file(line: str) -> Optional[str]:
 
 def is_flag_of_ours(flag: str) -> bool:
     """Whether some command of the repository has a flag."""
-    scripts = [path.relative_to(TOP) for folder in ("scripts", "tests", "tests/clients") for path in (TOP / folder).iterdir()]
+    scripts = [path.relative_to(TOP) for folder in ("scripts/*", "tests", "tests/*") for path in TOP.glob(f"{folder}/*") if path.is_file()]
     names = ["./build", "./check", "./install", "./bench", "abc2midi_live", *(f"clients/{name}" for name in CLIENTS.values())]
     found = [words_of(str(name)) or "" for name in [*names, *scripts]]
     return any(re.search(rf"(?<![\w-]){flag}(?![\w-])", words) for words in found)

@@ -17,7 +17,7 @@ WITH_CLAUSES = ("docs/promises.md", "docs/verification.md")  # in these a word i
 # Names of std, of the kit's crates, of the system and of languages, which the sources do not declare.
 OTHERS = frozenset(
     """Clone Debug Display Drop Err Global IfErr IfOk MatchResult None Ok OnErr Option Ord Rc Result Some Vec VecDeque
-    copy ptr std std_alloc EDIT_SECONDS LD_PRELOAD RANDOM_EDITS""".split()
+    copy fields_with ptr split_once_str std std_alloc EDIT_SECONDS LD_PRELOAD RANDOM_EDITS""".split()
 )
 DECLARED = re.compile(r"\b(?:fn|struct|enum|trait|type|const|mod|data|record|abbrev|ghost|class|def)\s+(?:pub\s+)?(\w+)")
 VARIANT = re.compile(r"^ {4,}([A-Z]\w*)(?:[({,]| =|$)", re.M)
@@ -29,7 +29,7 @@ RECORD = re.compile(r"^(?:pub )?record (?:pub )?(\w+)[^\n]*\n((?:  [^\n]*\n|--[^
 SPAN = re.compile(r"`([^`\n]+)`")
 NAME = re.compile(r"[A-Za-z]\w*(?:::\w+)*")
 LABELS = re.compile(r"\(((?:`[a-z_]+`(?:, | and | or )?)+)\)")
-SOURCES = ("crates/*/src/**/*.rt", "crates/*/specs/**/*.antt", "clients/**/*.py", "tests/pages/*.py")
+SOURCES = ("crates/*/src/**/*.rt", "crates/*/specs/**/*.antt", "python/**/*.py", "tests/pages/*.py")
 
 
 class Sources(NamedTuple):
@@ -73,9 +73,10 @@ def is_item(span: str) -> bool:
 
 
 def unknown(span: str) -> Optional[str]:
-    """What is wrong with a name that nothing declares, or None. A transcript and a folder of tests are named by their files."""
+    """What is wrong with a name that nothing declares, or None. A transcript, a script and a folder of tests are named by their files."""
     is_known = all(part in sources().names for part in span.split("::"))
-    return None if is_known or any(TOP.glob(f"*/{span}")) or any(TOP.glob(f"tests/*/{span}.*")) else "nothing declares this name"
+    files = (f"*/{span}", f"scripts/*/{span}", f"tests/**/{span}.*")
+    return None if is_known or any(any(TOP.glob(pattern)) for pattern in files) else "nothing declares this name"
 
 
 def paragraphs(text: str) -> Iterator[str]:

@@ -1,0 +1,99 @@
+// The engine: an instance of the WebAssembly module, with its memory. It may hold many sessions.
+
+import { NotSupportedError, OutOfMemory, TrapError, refusal } from "./errors.js";
+
+const MODULE = new URL("./abc2midi_live.wasm", import.meta.url);
+const WITH_MEMORY_64 = new Uint8Array([0, 0x61, 0x73, 0x6d, 1, 0, 0, 0, 5, 3, 1, 4, 0]); // a module of one 64-bit memory, and nothing else
+const FILES = "node:fs/promises"; // a name that bundlers for browsers do not look for
+
+/** Whether this browser or program has the 64-bit memories that the module needs. */
+export function isSupported() {
+  return typeof WebAssembly === "object" && WebAssembly.validate(WITH_MEMORY_64);
+}
+
+/** The bytes of a module, or the module itself: what `WebAssembly.instantiate` takes. */
+async function content(source) {
+  if (source instanceof WebAssembly.Module || source instanceof ArrayBuffer || ArrayBuffer.isView(source)) return source;
+  const url = new URL(source, globalThis.location?.href);
+  if (url.protocol === "file:") {
+    const { readFile } = await import(/* webpackIgnore: true */ /* @vite-ignore */ FILES);
+    return readFile(url);
+  }
+  const response = await fetch(url);
+  if (!response.ok) throw new Error(`${url} was answered with the status ${response.status}`);
+  return response.arrayBuffer();
+}
+
+export class Engine {
+  #exports;
+  #trap = null;
+
+  constructor(exports) {
+    this.#exports = exports;
+  }
+
+  /** Loads the module: that of the package, or another one by its URL, its bytes or as a `WebAssembly.Module`. */
+  static async load(source = MODULE) {
+    if (!isSupported()) throw refusal(NotSupportedError);
+    const made = await WebAssembly.instantiate(await content(source), {});
+    return new Engine((made.instance ?? made).exports);
+  }
+
+  /** Whether the engine stopped in the middle of a call. Then it takes no other. */
+  get isStopped() {
+    return this.#trap !== null;
+  }
+
+  /** How many bytes the memory has. It grows with the sessions and never shrinks; closed sessions leave room for others. */
+  get memoryBytes() {
+    return this.#exports.memory.buffer.byteLength;
+  }
+
+  /** Calls an export. Whatever it throws, its state may be half of one: so no other call follows. */
+  call(name, ...words) {
+    if (this.#trap) throw this.#stopped();
+    try {
+      return this.#exports[name](...words);
+    } catch (error) {
+      this.#trap = error;
+      throw this.#stopped();
+    }
+  }
+
+  #stopped() {
+    const why = `the engine stopped in the middle of a call (${this.#trap}): open another session, with the text that you have`;
+    return new TrapError(why, { cause: this.#trap });
+  }
+
+  /** The bytes of the memory from a place on. They are valid up to the next call, after which the memory may be another one. */
+  bytes(at, count) {
+    return new Uint8Array(this.#exports.memory.buffer, Number(at), count);
+  }
+
+  /** A view of the memory from a place on, valid up to the next call. */
+  view(at, count) {
+    return new DataView(this.#exports.memory.buffer, Number(at), count);
+  }
+
+  /** Allocates bytes: at least one, so that each block has a place of its own. */
+  allocate(count) {
+    const at = this.call("malloc", BigInt(Math.max(count, 1)));
+    if (at === 0n) throw refusal(OutOfMemory);
+    return at;
+  }
+
+  free(at) {
+    this.call("free", at);
+  }
+}
+
+let shared = null; // a promise of the engine of all sessions that name none
+
+/** The engine of all sessions that name none. It is loaded at the first call, and again if that failed or the engine stopped. */
+export async function sharedEngine() {
+  const last = shared;
+  const engine = await last?.catch(() => null);
+  if (engine && !engine.isStopped) return engine;
+  if (shared === last) shared = Engine.load();
+  return shared;
+}

@@ -1,0 +1,92 @@
+/*
+ * The heap of the WebAssembly module. It gives the compiled library its three calls for memory, and JavaScript `malloc` and `free`,
+ * all over dlmalloc, which takes its memory from `sbrk` below. A WebAssembly memory can grow, and never shrinks.
+ */
+typedef __SIZE_TYPE__ size_t;
+typedef __PTRDIFF_TYPE__ ptrdiff_t;
+
+/* dlmalloc for one thread, without the system's headers. What is broken stops the instance. */
+#define USE_DL_PREFIX 1
+#define DLMALLOC_EXPORT static
+#define USE_LOCKS 0
+#define HAVE_MMAP 0
+#define MORECORE_CANNOT_TRIM 1
+#define NO_MALLOC_STATS 1
+#define NO_MALLINFO 1
+#define ABORT __builtin_trap()
+#define MALLOC_FAILURE_ACTION
+#define EINVAL 22
+#define ENOMEM 12
+#define malloc_getpagesize PAGE
+#define LACKS_ERRNO_H 1
+#define LACKS_FCNTL_H 1
+#define LACKS_SCHED_H 1
+#define LACKS_STDLIB_H 1
+#define LACKS_STRINGS_H 1
+#define LACKS_STRING_H 1
+#define LACKS_SYS_MMAN_H 1
+#define LACKS_SYS_PARAM_H 1
+#define LACKS_SYS_TYPES_H 1
+#define LACKS_TIME_H 1
+#define LACKS_UNISTD_H 1
+
+#define PAGE ((size_t)65536) /* of a WebAssembly memory */
+#define NO_MEMORY ((void *)-1)
+
+extern unsigned char __heap_base; /* The end of the stack and of all data, by the linker. */
+
+/* Gives `more` bytes after those it gave before. dlmalloc asks for 0 to learn the end, and for less never. */
+static void *sbrk(ptrdiff_t more)
+{
+    static size_t end;
+    size_t begin = end ? end : ((size_t)&__heap_base + 15) / 16 * 16;
+    size_t pages = (begin + (size_t)more + PAGE - 1) / PAGE, had = __builtin_wasm_memory_size(0);
+    if (more < 0 || begin + (size_t)more < begin)
+        return NO_MEMORY;
+    if (pages > had && __builtin_wasm_memory_grow(0, pages - had) == (size_t)-1)
+        return NO_MEMORY;
+    end = begin + (size_t)more;
+    return (void *)begin;
+}
+
+#include <dlmalloc.c>
+
+/* What the library's calls answer: whether there is a block, and its place, which is never null. */
+typedef struct block {
+    size_t is_there;
+    void *at;
+} block;
+
+static block block_at(void *at)
+{
+    static unsigned char none;
+    return (block){at != 0, at ? at : &none};
+}
+
+/* A block of 0 bytes has a place of its own, too. */
+block rattle_alloc(size_t bytes, size_t align)
+{
+    return block_at(dlmalloc(bytes ? bytes : align));
+}
+
+block rattle_realloc(void *at, size_t had, size_t bytes, size_t align)
+{
+    (void)had;
+    return block_at(dlrealloc(at, bytes ? bytes : align));
+}
+
+void rattle_dealloc(void *at)
+{
+    dlfree(at);
+}
+
+/* For JavaScript. */
+void *malloc(size_t bytes)
+{
+    return dlmalloc(bytes);
+}
+
+void free(void *at)
+{
+    dlfree(at);
+}

@@ -1,0 +1,282 @@
+// A session: the text of a tune book under edits, with its MIDI files, titles and faults.
+
+import { fewEdits } from "./edits.js";
+import { isSupported, sharedEngine } from "./engine.js";
+import { BadLine, BadRange, ClosedError, OutOfMemory, TooLarge, refusal } from "./errors.js";
+import { SENTENCES } from "./faults.js";
+import { MOST_LINES, byteColumnOf, bytesOfBook, bytesOfLines, countLines, hasLongLine, joined } from "./lines.js";
+import { numberFor, textOf, utf16ColumnOf, utf16ColumnsOf } from "./lines.js";
+import { kindOf } from "./tokens.js";
+
+// The codes that calls of the module return, by the header of the C library.
+const OK = 0, NOT_FOUND = 6, SHORT_BUFFER = 7;
+const REFUSALS = new Map([[2, BadRange], [3, BadLine], [4, TooLarge], [5, OutOfMemory]]);
+
+// The block of a session in the memory: the session of the C library, its counters, a count, a number, and room for short answers.
+const WORK = 16, COUNT = 40, NUMBER = 48, ANSWER = 56, ROOM = 4096, BLOCK = ANSWER + ROOM;
+const NUMBER_SIZE = 4, FAULT_SIZE = 12, TOKEN_SIZE = 16; // bytes of an item
+const SHORTEST_TUNE = 3; // bytes: `X:` and a line feed
+
+/** Closes a session that was dropped without `close`. */
+const dropped = new FinalizationRegistry(({ engine, block }) => {
+  if (engine.isStopped) return;
+  engine.call("abc_live_close", block);
+  engine.free(block);
+});
+
+/** Throws the error of a code, unless it is OK. */
+function check(code) {
+  if (code === OK) return;
+  throw REFUSALS.has(code) ? refusal(REFUSALS.get(code)) : new Error(`the module returned the code ${code}`);
+}
+
+export class Session {
+  #engine;
+  #block;
+  #report = { written: [], removed: [] };
+  #text = null; // the text, if `setText` made it and no other edit followed; else it is read when it is needed
+
+  /** A session over an engine; `Session.open` calls it. */
+  constructor(engine) {
+    this.#engine = engine;
+    this.#block = engine.allocate(BLOCK);
+    engine.bytes(this.#block, ANSWER).fill(0);
+    const code = engine.call("abc_live_open", this.#block);
+    if (code !== OK) engine.free(this.#block);
+    check(code);
+    dropped.register(this, { engine, block: this.#block }, this);
+  }
+
+  static isSupported() {
+    return isSupported();
+  }
+
+  static async open({ engine } = {}) {
+    return new Session(engine ?? (await sharedEngine()));
+  }
+
+  // ---- edits
+
+  insert(at, lines) {
+    return this.#edit("abc_live_insert", [at], bytesOfLines(lines));
+  }
+
+  replace(from, to, lines) {
+    return this.#edit("abc_live_replace", [from, to], bytesOfLines(lines));
+  }
+
+  delete(from, to) {
+    return this.#edit("abc_live_delete", [from, to], null);
+  }
+
+  setText(text) {
+    this.#checkOpen();
+    const now = bytesOfBook(text), old = this.#text ?? this.#readText();
+    const edits = fewEdits(old, now);
+    if (edits.some((edit) => hasLongLine(edit.text))) throw refusal(BadLine);
+    if (countLines(now) > MOST_LINES) throw refusal(TooLarge);
+    const report = this.#makeEdits(edits);
+    this.#text = now;
+    return report;
+  }
+
+  /** Makes edits from the last to the first. Their reports become one. */
+  #makeEdits(edits) {
+    const had = new Set(edits.length > 1 ? this.numbers : []);
+    const hasFile = new Map();
+    let report = { written: [], removed: [] };
+    for (const { start, stop, text } of [...edits].reverse()) {
+      report = start === stop ? this.insert(start + 1, text) : this.replace(start + 1, stop, text);
+      for (const number of report.written) hasFile.set(number, true);
+      for (const number of report.removed) hasFile.set(number, false);
+    }
+    if (edits.length > 1) {
+      const numbers = [...hasFile.keys()].sort((one, other) => one - other);
+      const written = numbers.filter((number) => hasFile.get(number));
+      report = { written, removed: numbers.filter((number) => !hasFile.get(number) && had.has(number)) };
+    }
+    this.#report = report;
+    return this.report;
+  }
+
+  /** Makes an edit. The block of its text is large enough for the report too, so nothing can fail after the edit. */
+  #edit(call, lines, bytes) {
+    this.#checkOpen();
+    const places = lines.map(numberFor);
+    if (places.includes(null)) throw refusal(BadRange);
+    const size = bytes?.length ?? 0, engine = this.#engine;
+    const tunes = this.#titleCount() + Math.floor(size / SHORTEST_TUNE) + 1; // the text has no more after the edit
+    const block = engine.allocate(Math.max(size, tunes * NUMBER_SIZE));
+    try {
+      if (bytes) engine.bytes(block, size).set(bytes);
+      const text = bytes ? [block, BigInt(size)] : [];
+      check(engine.call(call, this.#block, ...places, ...text, this.#at(WORK)));
+      this.#text = null;
+      this.#report = { written: this.#numbersAt("abc_live_written", block, tunes), removed: this.#numbersAt("abc_live_removed", block, tunes) };
+    } finally {
+      if (!engine.isStopped) engine.free(block);
+    }
+    return this.report;
+  }
+
+  // ---- what the text has
+
+  get report() {
+    this.#checkOpen();
+    return { written: [...this.#report.written], removed: [...this.#report.removed] };
+  }
+
+  output(number) {
+    this.#checkOpen();
+    const wanted = numberFor(number);
+    return wanted === null ? null : this.#copied("abc_live_output", 1, [this.#block, wanted]);
+  }
+
+  get numbers() {
+    this.#checkOpen();
+    return numbersIn(this.#copied("abc_live_numbers", NUMBER_SIZE, [this.#block]));
+  }
+
+  get titles() {
+    this.#checkOpen();
+    return Array.from({ length: this.#titleCount() }, (_, index) => {
+      const bytes = this.#copied("abc_live_title", 1, [this.#block, BigInt(index), this.#at(NUMBER)]);
+      return { number: this.#engine.view(this.#at(NUMBER), NUMBER_SIZE).getUint32(0, true), text: textOf(bytes), bytes };
+    });
+  }
+
+  get faults() {
+    this.#checkOpen();
+    const numbers = numbersIn(this.#copied("abc_live_faults", FAULT_SIZE, [this.#block]));
+    const names = new Map();
+    let last = { number: 0, bytes: null };
+    return Array.from({ length: numbers.length / 3 }, (_, n) => {
+      const [line, column, code] = numbers.slice(3 * n, 3 * n + 3);
+      if (line !== last.number) last = { number: line, bytes: this.lineBytes(line) };
+      if (!names.has(code)) names.set(code, textOf(this.#copied("abc_live_fault_name", 1, [code])));
+      const name = names.get(code);
+      return { line, column, utf16Column: utf16ColumnOf(last.bytes, column), name, ...SENTENCES[name] };
+    });
+  }
+
+  tokens(number) {
+    const columns = utf16ColumnsOf(this.lineBytes(number));
+    const numbers = numbersIn(this.#copied("abc_live_tokens", TOKEN_SIZE, [this.#block, number], [this.#at(WORK)]));
+    return Array.from({ length: numbers.length / 4 }, (_, n) => {
+      const [from, to, kind, depth] = numbers.slice(4 * n, 4 * n + 4);
+      return { from, to, utf16From: columns[from - 1], utf16To: columns[to - 1], kind: kindOf(kind), depth };
+    });
+  }
+
+  get lineCount() {
+    this.#checkOpen();
+    check(this.#engine.call("abc_live_line_count", this.#block, this.#at(NUMBER)));
+    return this.#engine.view(this.#at(NUMBER), NUMBER_SIZE).getUint32(0, true);
+  }
+
+  get lines() {
+    return Array.from({ length: this.lineCount }, (_, n) => this.line(n + 1));
+  }
+
+  line(number) {
+    return textOf(this.lineBytes(number));
+  }
+
+  lineBytes(number) {
+    this.#checkOpen();
+    const wanted = numberFor(number);
+    const bytes = wanted === null ? null : this.#copied("abc_live_line", 1, [this.#block, wanted]);
+    if (bytes === null) throw new RangeError(`there is no line ${number} in a text of ${this.lineCount} lines`);
+    return bytes;
+  }
+
+  utf16Column(line, column) {
+    return utf16ColumnOf(this.lineBytes(line), column);
+  }
+
+  byteColumn(line, utf16Column) {
+    return byteColumnOf(this.lineBytes(line), utf16Column);
+  }
+
+  get work() {
+    this.#checkOpen();
+    const view = this.#engine.view(this.#at(WORK), COUNT - WORK);
+    const [scanned, folded, built] = [0, 8, 16].map((at) => Number(view.getBigUint64(at, true)));
+    return { scanned, folded, built };
+  }
+
+  // ---- the end
+
+  close() {
+    if (this.#block === null) return;
+    const block = this.#block;
+    this.#block = null;
+    this.#text = null;
+    dropped.unregister(this);
+    if (this.#engine.isStopped) return;
+    this.#engine.call("abc_live_close", block);
+    this.#engine.free(block);
+  }
+
+  [Symbol.dispose ?? Symbol.for("Symbol.dispose")]() {
+    this.close();
+  }
+
+  #checkOpen() {
+    if (this.#block === null) throw new ClosedError("the session is closed");
+  }
+
+  // ---- the memory
+
+  /** A place in the block of the session. */
+  #at(place) {
+    return this.#block + BigInt(place);
+  }
+
+  #count() {
+    return Number(this.#engine.view(this.#at(COUNT), 8).getBigUint64(0, true));
+  }
+
+  #titleCount() {
+    check(this.#engine.call("abc_live_title_count", this.#block, this.#at(COUNT)));
+    return this.#count();
+  }
+
+  /** The text of the session. */
+  #readText() {
+    return joined(Array.from({ length: this.lineCount }, (_, n) => this.lineBytes(n + 1)));
+  }
+
+  /**
+   * A copy of the bytes that a call copies, whose items have `size` bytes; null if the call finds nothing. The call takes words, the place
+   * and the room of a buffer, a count, and the last words.
+   */
+  #copied(call, size, words, last = []) {
+    const engine = this.#engine;
+    const code = engine.call(call, ...words, this.#at(ANSWER), BigInt(Math.floor(ROOM / size)), this.#at(COUNT), ...last);
+    if (code === NOT_FOUND) return null;
+    if (code !== SHORT_BUFFER) {
+      check(code);
+      return engine.bytes(this.#at(ANSWER), this.#count() * size).slice();
+    }
+    const count = this.#count(), block = engine.allocate(count * size);
+    try {
+      check(engine.call(call, ...words, block, BigInt(count), this.#at(COUNT), ...last));
+      return engine.bytes(block, count * size).slice();
+    } finally {
+      if (!engine.isStopped) engine.free(block);
+    }
+  }
+
+  /** The numbers that a call copies to a block with room for `most`. */
+  #numbersAt(call, block, most) {
+    check(this.#engine.call(call, this.#block, block, BigInt(most), this.#at(COUNT)));
+    return numbersIn(this.#engine.bytes(block, this.#count() * NUMBER_SIZE));
+  }
+}
+
+/** The 32-bit numbers in bytes of the module. */
+function numbersIn(bytes) {
+  const view = new DataView(bytes.buffer, bytes.byteOffset, bytes.byteLength);
+  return Array.from({ length: bytes.byteLength / NUMBER_SIZE }, (_, n) => view.getUint32(n * NUMBER_SIZE, true));
+}

@@ -1,0 +1,5 @@
+// What the page takes of browsers of 2023, and the libraries of an older compiler do not have.
+
+interface Array<T> {
+  findLast(predicate: (value: T, index: number, all: T[]) => unknown): T | undefined;
+}

@@ -1,0 +1,97 @@
+"""The page opened on a desktop: by a stand-in for the browser, which notes what it is given."""
+
+from __future__ import annotations
+
+import os
+import re
+import stat
+import subprocess
+import sys
+import time
+import urllib.request
+from pathlib import Path
+from urllib.parse import unquote, urlsplit
+
+import trial
+
+START = """import sys
+from abc2midi_live_clients import page_server
+page_server.SECONDS_ALONE = {alone}
+sys.exit(page_server.main())
+"""
+
+
+class Opening(trial.Folder):
+    def setUp(self) -> None:
+        super().setUp()
+        self.book = self.folder / "a book & more.abc"
+        self.book.write_bytes(b"X:1\nK:C\nC\n")
+        self.session = self.folder / "session"
+        self.session.mkdir(mode=0o755)
+        browser = self.folder / "browser"
+        browser.write_text(f'#!/bin/sh\nprintf "%s\\n" "$1" >>"{self.folder}/opened"\n')
+        browser.chmod(0o755)
+        self.write_starter()
+        self.environment = {
+            **os.environ,
+            "BROWSER": f"{browser} %s",
+            "XDG_RUNTIME_DIR": str(self.session),
+            "XDG_STATE_HOME": str(self.folder / "state"),
+            "PYTHONPATH": str(trial.PACKAGES),
+        }
+
+    def start(self, alone: float = 60) -> subprocess.Popen[str]:
+        """Starts the page as a desktop does."""
+        words = [sys.executable, "-c", START.format(alone=alone), str(self.book), "--open", "--no-hints"]
+        words += ["--port", "0", "--program", str(self.folder / "program")]
+        page = subprocess.Popen(words, env=self.environment, stdout=subprocess.PIPE, stderr=subprocess.PIPE, text=True)
+        self.limit(page)
+        return page
+
+    def opened(self, count: int) -> list[str]:
+        """What the browser was given so far, at least `count` times."""
+        file = self.folder / "opened"
+        for _ in range(trial.SECONDS * 10):
+            lines = file.read_text().splitlines() if file.is_file() else []
+            if len(lines) >= count:
+                return lines
+            time.sleep(0.1)
+        self.fail("the browser was not started")
+
+    def test_the_browser_gets_a_private_file_that_leads_to_the_page(self) -> None:
+        page = self.start()
+        assert page.stdout
+        address = page.stdout.readline().strip()
+        (given,) = self.opened(1)
+        token = address.rstrip("/").rpartition("/")[2]
+        self.assertNotIn(token, given)
+        note = Path(unquote(urlsplit(given).path))
+        self.assertEqual(stat.S_IMODE(note.stat().st_mode), 0o600)
+        self.assertEqual(stat.S_IMODE(note.parent.stat().st_mode), 0o700)
+        found = re.search(r'content="0; url=([^"]+)"', note.read_text())
+        assert found
+        self.assertEqual(found[1], address)
+        self.assertIn("a book &amp; more.abc", note.read_text())
+        with urllib.request.urlopen(found[1]) as answer:
+            self.assertEqual(answer.status, 200)
+        words = Path(f"/proc/{page.pid}/cmdline").read_bytes()
+        self.assertNotIn(token.encode(), words)
+        page.terminate()
+        page.wait(trial.SECONDS)
+        self.assertFalse(note.exists())
+
+    def test_a_book_that_is_open_gets_another_window_of_its_page(self) -> None:
+        page = self.start()
+        first = self.opened(1)
+        again = self.start()
+        self.assertEqual(again.wait(trial.SECONDS), 0)
+        self.assertEqual(self.opened(2), [*first, *first])
+        self.assertIsNone(page.poll())
+        page.kill()
+        page.wait(trial.SECONDS)
+        self.start()  # the note of a page that was killed leads nowhere
+        self.opened(3)
+
+    def test_it_ends_without_a_window(self) -> None:
+        page = self.start(alone=1)
+        self.assertEqual(page.wait(trial.SECONDS), 0, page.stderr and page.stderr.read())

@@ -1,0 +1,8 @@
+"""The player of the page, in node. It is skipped if node is not installed."""
+
+import page_in_node
+
+
+class Scripts(page_in_node.PageScripts):
+    def test_scripts(self) -> None:
+        self.assert_ok("page_sound.mjs", 5)

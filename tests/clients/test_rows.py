@@ -1,0 +1,36 @@
+"""The rows of a text, which the server and the windows move by two pieces of code: both get the same rows."""
+
+import json
+import random
+
+import page_in_node
+import trial
+from abc2midi_live_clients.rows import Json, difference, moved
+
+LINES, TEXTS, CHANGES = 8, 300, 5
+
+
+class Scripts(page_in_node.PageScripts):
+    def test_edits_at_random(self) -> None:
+        """After each edit the server has rows of its own making. It sends what is different from the moved ones."""
+        chance = random.Random(trial.seed)
+        asked: list[Json] = []
+        wanted = []
+        for text in range(TEXTS):
+            rows, count = self.rows(chance, LINES, f"{text}"), LINES
+            asked.append({"rows": rows, "changes": []})
+            for number in range(CHANGES):
+                start = chance.randrange(count + 1)
+                stop = min(count, start + chance.randrange(4))
+                lines = ["C"] * chance.randrange(4)
+                edit = {"start": start, "stop": stop, "lines": lines}
+                count += len(lines) - (stop - start)
+                before = moved(rows, edit)
+                rows = sorted(chance.sample(before, len(before) // 2) + self.rows(chance, count, f"{text}.{number}"))
+                asked[-1]["changes"].append({"edit": edit, "difference": difference(before, rows)})
+            wanted.append(json.dumps(rows, separators=(",", ":")))
+        self.assertEqual(self.node("page_rows.mjs", json.dumps(asked)), wanted)
+
+    def rows(self, chance: random.Random, count: int, name: str) -> list[tuple[int, str]]:
+        """Rows of a text with so many lines: of some lines none, of some several."""
+        return sorted((chance.randrange(count), f"{name} {number}") for number in range(chance.randrange(6)) if count)
