@@ -34,10 +34,12 @@ static void refuse_all(abc_live_session *session)
     uint32_t number = 5, numbers[2] = {1, 2};
     uint8_t bytes[2] = {3, 4};
     abc_live_fault fault = {1, 2, 3};
+    abc_live_token token = {1, 2, 3, 0};
     size_t count = 5;
     CHECK(abc_live_insert(session, 1, TEXT("X:1\n"), &work) == ABC_LIVE_MISUSED);
     CHECK(abc_live_replace(session, 1, 1, TEXT("X:1\n"), &work) == ABC_LIVE_MISUSED);
     CHECK(abc_live_delete(session, 1, 1, &work) == ABC_LIVE_MISUSED);
+    CHECK(abc_live_set_text(session, TEXT("X:1\n"), &work) == ABC_LIVE_MISUSED);
     CHECK(work.scanned == 7 && work.folded == 8 && work.built == 9);
     CHECK(abc_live_written(session, numbers, 2, &count) == ABC_LIVE_MISUSED && count == 0);
     count = 5;
@@ -56,6 +58,9 @@ static void refuse_all(abc_live_session *session)
     CHECK(abc_live_line_count(session, &number) == ABC_LIVE_MISUSED && number == 0);
     count = 5;
     CHECK(abc_live_line(session, 1, bytes, 2, &count) == ABC_LIVE_MISUSED && count == 0);
+    count = 5;
+    CHECK(abc_live_tokens(session, 1, &token, 1, &count, &work) == ABC_LIVE_MISUSED && count == 0 && token.kind == 3);
+    CHECK(work.scanned == 7 && work.folded == 8 && work.built == 9);
     CHECK(numbers[0] == 1 && numbers[1] == 2 && bytes[0] == 3 && bytes[1] == 4 && fault.line == 1 && fault.code == 3);
     CHECK(abc_live_close(session) == ABC_LIVE_MISUSED);
 }
@@ -139,6 +144,52 @@ static void edit_a_book(void)
     CHECK(abc_live_close(&session) == ABC_LIVE_OK);
 }
 
+/* Whether the tokens of a line are these. A buffer that is one token too short stays as it was. */
+static int has_tokens(abc_live_session *session, uint32_t number, const abc_live_token *wanted, size_t wanted_count)
+{
+    abc_live_token found[32];
+    abc_live_work work = {0, 0, 0};
+    size_t count = 0;
+    memset(found, 0xff, sizeof found);
+    if (abc_live_tokens(session, number, found, wanted_count - 1, &count, &work) != ABC_LIVE_SHORT_BUFFER || count != wanted_count
+        || found[0].from != UINT32_MAX)
+        return 0;
+    return abc_live_tokens(session, number, found, 32, &count, &work) == ABC_LIVE_OK && count == wanted_count
+           && memcmp(found, wanted, count * sizeof *wanted) == 0 && found[count].from == UINT32_MAX;
+}
+
+/* The tokens of lines: with the parts of chords, comments, and lines that are one token. The rows are worked out by hand. */
+static void tokens(void)
+{
+    static const abc_live_token number_line[] = {{1, 5, ABC_LIVE_TOKEN_NUMBER_FIELD, 0}, {5, 10, ABC_LIVE_TOKEN_COMMENT, 0}};
+    static const abc_live_token music[] = {
+        {1, 3, ABC_LIVE_TOKEN_BAR_LINE, 0}, {3, 13, ABC_LIVE_TOKEN_CHORD, 0}, {4, 5, ABC_LIVE_TOKEN_NOTE, 1},
+        {5, 6, ABC_LIVE_TOKEN_NOTE, 1}, {6, 9, ABC_LIVE_TOKEN_DYNAMIC, 1}, {9, 12, ABC_LIVE_TOKEN_QUOTED, 1},
+        {13, 14, ABC_LIVE_TOKEN_TIE, 0}, {14, 15, ABC_LIVE_TOKEN_BAR_LINE, 0}, {15, 16, ABC_LIVE_TOKEN_ENDING, 0},
+        {16, 17, ABC_LIVE_TOKEN_REST, 0}, {17, 18, ABC_LIVE_TOKEN_BAD_BYTE, 0}, {18, 19, ABC_LIVE_TOKEN_BAD_BYTE, 0},
+        {19, 22, ABC_LIVE_TOKEN_COMMENT, 0}};
+    static const abc_live_token blank[] = {{1, 1, ABC_LIVE_TOKEN_BLANK, 0}};
+    static const abc_live_token free_text[] = {{1, 7, ABC_LIVE_TOKEN_FREE_TEXT, 0}};
+    static const abc_live_token key[] = {{1, 4, ABC_LIVE_TOKEN_KEY_FIELD, 0}};
+    abc_live_session session = opened();
+    abc_live_work work = {0, 0, 0};
+    abc_live_token token = {9, 9, 9, 9};
+    size_t count = 9;
+    CHECK(abc_live_insert(&session, 1, TEXT("X:1 % one\nK:G\n|:[CE!f!\"a\"]-|1z\xc3\xa9% x\r\n\nfree|C\n"), &work) == ABC_LIVE_OK);
+    CHECK(has_tokens(&session, 1, number_line, 2) && has_tokens(&session, 2, key, 1) && has_tokens(&session, 3, music, 13));
+    CHECK(has_tokens(&session, 4, blank, 1) && has_tokens(&session, 5, free_text, 1));
+    CHECK(abc_live_tokens(&session, 0, &token, 1, &count, &work) == ABC_LIVE_NOT_FOUND && count == 0 && token.kind == 9);
+    CHECK(abc_live_tokens(&session, 6, NULL, 0, &count, &work) == ABC_LIVE_NOT_FOUND && count == 0);
+    work.scanned = 0;
+    CHECK(abc_live_tokens(&session, 5, &token, 1, &count, &work) == ABC_LIVE_OK && work.scanned == 0);
+    CHECK(abc_live_tokens(&session, 2, &token, 1, &count, &work) == ABC_LIVE_OK && work.scanned == 1);
+    CHECK(abc_live_delete(&session, 1, 1, &work) == ABC_LIVE_OK && has_tokens(&session, 1, key, 1));
+    CHECK(abc_live_insert(&session, 1, TEXT("\nwords\n"), &work) == ABC_LIVE_OK);
+    CHECK(abc_live_tokens(&session, 3, &token, 1, &count, &work) == ABC_LIVE_OK);
+    CHECK(count == 1 && token.kind == ABC_LIVE_TOKEN_FREE_TEXT && token.from == 1 && token.to == 4);
+    CHECK(abc_live_close(&session) == ABC_LIVE_OK);
+}
+
 /* An edit that is refused is answered the first reason, and changes nothing. */
 static void refuse_edits(void)
 {
@@ -171,6 +222,101 @@ static void refuse_edits(void)
     CHECK(abc_live_close(&session) == ABC_LIVE_OK);
 }
 
+/* Whether the last report has these numbers, none of them 0. */
+static int reports(abc_live_session *session, uint32_t written, uint32_t removed)
+{
+    uint32_t number = 0, gone = 0;
+    size_t count = 9, gone_count = 9;
+    return abc_live_written(session, &number, 1, &count) == ABC_LIVE_OK && count == (written ? 1u : 0u) && number == written
+           && abc_live_removed(session, &gone, 1, &gone_count) == ABC_LIVE_OK && gone_count == (removed ? 1u : 0u) && gone == removed;
+}
+
+/* Whether a line of the text is this one. */
+static int has_line(abc_live_session *session, uint32_t number, const char *line)
+{
+    uint8_t bytes[16];
+    size_t count = 0;
+    return abc_live_line(session, number, bytes, sizeof bytes, &count) == ABC_LIVE_OK && count == strlen(line)
+           && memcmp(bytes, line, count) == 0;
+}
+
+/* A whole text is one edit of the lines that differ: what stays at both ends is not scanned again. */
+static void set_whole_texts(void)
+{
+    abc_live_session session = opened();
+    abc_live_work work = {0, 0, 0};
+    uint32_t count = 99;
+    CHECK(abc_live_set_text(&session, NULL, 0, &work) == ABC_LIVE_OK && reports(&session, 0, 0));
+    CHECK(abc_live_set_text(&session, TEXT("X:1\nK:C\nC|\n"), &work) == ABC_LIVE_OK && reports(&session, 1, 0));
+    CHECK(work.scanned == 3 && work.built == 1);
+    CHECK(abc_live_set_text(&session, TEXT("X:1\nK:C\nC|\n\nX:2\nK:C\nD|"), &work) == ABC_LIVE_OK && reports(&session, 2, 0));
+    CHECK(work.scanned == 7 && work.built == 2);
+    CHECK(abc_live_set_text(&session, TEXT("X:1\nK:C\nC|\n\nX:2\nK:C\nD|\n"), &work) == ABC_LIVE_OK && reports(&session, 0, 0));
+    CHECK(work.scanned == 7 && work.built == 2);
+    CHECK(abc_live_set_text(&session, TEXT("X:1\nK:C\nE|\n\nX:2\nK:C\nD|\n"), &work) == ABC_LIVE_OK && reports(&session, 1, 0));
+    CHECK(work.scanned == 8 && work.built == 3);
+    CHECK(abc_live_set_text(&session, TEXT("X:1\nK:C\nE|\n\nX:2\nK:C\nD|\r\n"), &work) == ABC_LIVE_OK && reports(&session, 0, 0));
+    CHECK(work.scanned == 9 && has_line(&session, 7, "D|\r"));
+    CHECK(abc_live_set_text(&session, TEXT("X:1\nK:C\nE|\n"), &work) == ABC_LIVE_OK && reports(&session, 0, 2));
+    CHECK(abc_live_set_text(&session, TEXT("E|\n\nX:1\nK:C\nE|\n"), &work) == ABC_LIVE_OK && reports(&session, 0, 0));
+    CHECK(abc_live_line_count(&session, &count) == ABC_LIVE_OK && count == 5);
+    CHECK(has_line(&session, 1, "E|") && has_line(&session, 2, "") && has_line(&session, 3, "X:1") && has_line(&session, 5, "E|"));
+    CHECK(abc_live_set_text(&session, NULL, 0, &work) == ABC_LIVE_OK && reports(&session, 0, 1));
+    CHECK(abc_live_line_count(&session, &count) == ABC_LIVE_OK && count == 0);
+    CHECK(abc_live_close(&session) == ABC_LIVE_OK);
+}
+
+/* A whole text that is refused changes nothing. */
+static void refuse_whole_texts(void)
+{
+    abc_live_session session = opened();
+    abc_live_work work = {0, 0, 0};
+    uint32_t count = 0;
+    size_t size = 65536, most = 1048576;
+    uint8_t *longest = (uint8_t *)malloc(size), *feeds = (uint8_t *)malloc(most + 1);
+    CHECK(longest && feeds);
+    memset(longest, '%', size);
+    memset(feeds, '\n', most + 1);
+    CHECK(abc_live_set_text(&session, TEXT("X:1\nK:C\nC\n"), &work) == ABC_LIVE_OK);
+    CHECK(abc_live_set_text(&session, longest, size, &work) == ABC_LIVE_BAD_LINE);
+    CHECK(abc_live_set_text(&session, feeds, most + 1, &work) == ABC_LIVE_TOO_LARGE);
+    CHECK(abc_live_line_count(&session, &count) == ABC_LIVE_OK && count == 3 && work.scanned == 3 && reports(&session, 1, 0));
+    CHECK(abc_live_set_text(&session, feeds, most, &work) == ABC_LIVE_OK && reports(&session, 0, 1));
+    CHECK(abc_live_line_count(&session, &count) == ABC_LIVE_OK && count == most);
+    CHECK(abc_live_set_text(&session, longest, size - 1, &work) == ABC_LIVE_OK);
+    CHECK(abc_live_line_count(&session, &count) == ABC_LIVE_OK && count == 1);
+    free(longest);
+    free(feeds);
+    CHECK(abc_live_close(&session) == ABC_LIVE_OK);
+}
+
+/* The name of each code is that of its constant. */
+static void name_codes_of_calls(void)
+{
+    static const struct {
+        abc_live_code code;
+        const char *name;
+    } cases[] = {{ABC_LIVE_OK, "ABC_LIVE_OK"}, {ABC_LIVE_MISUSED, "ABC_LIVE_MISUSED"}, {ABC_LIVE_BAD_RANGE, "ABC_LIVE_BAD_RANGE"},
+                 {ABC_LIVE_BAD_LINE, "ABC_LIVE_BAD_LINE"}, {ABC_LIVE_TOO_LARGE, "ABC_LIVE_TOO_LARGE"},
+                 {ABC_LIVE_OUT_OF_MEMORY, "ABC_LIVE_OUT_OF_MEMORY"}, {ABC_LIVE_NOT_FOUND, "ABC_LIVE_NOT_FOUND"},
+                 {ABC_LIVE_SHORT_BUFFER, "ABC_LIVE_SHORT_BUFFER"}};
+    uint8_t bytes[31];
+    size_t at, count = 0;
+    for (at = 0; at < sizeof cases / sizeof *cases; at++) {
+        CHECK(abc_live_code_name(cases[at].code, bytes, sizeof bytes, &count) == ABC_LIVE_OK);
+        CHECK(cases[at].code == at && count == strlen(cases[at].name) && memcmp(bytes, cases[at].name, count) == 0);
+    }
+    CHECK(abc_live_code_name((abc_live_code)at, bytes, sizeof bytes, &count) == ABC_LIVE_NOT_FOUND && count == 0);
+    CHECK(abc_live_code_name(UINT32_MAX, bytes, sizeof bytes, &count) == ABC_LIVE_NOT_FOUND && count == 0);
+    CHECK(abc_live_code_name(ABC_LIVE_OK, bytes, 3, &count) == ABC_LIVE_SHORT_BUFFER && count == strlen("ABC_LIVE_OK"));
+}
+
+/* The sizes that the header promises for 1.x. */
+static void measure_structs(void)
+{
+    CHECK(sizeof(abc_live_session) == 16 && sizeof(abc_live_work) == 24 && sizeof(abc_live_fault) == 12);
+}
+
 static void name_codes(void)
 {
     uint8_t bytes[64];
@@ -190,8 +336,13 @@ int main(void)
     open_and_close();
     cut_lines();
     edit_a_book();
+    tokens();
     refuse_edits();
+    set_whole_texts();
+    refuse_whole_texts();
     name_codes();
+    name_codes_of_calls();
+    measure_structs();
     printf("%u passed, %u failed\n", passed, failed);
     return failed ? EXIT_FAILURE : EXIT_SUCCESS;
 }

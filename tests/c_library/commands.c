@@ -1,6 +1,7 @@
 /*
  * Answers the commands of the program by the C library: standard input has them, standard output gets the answers. `build` is left
- * out. With an argument it makes each edit on a second session too, in turn, which has other lines before and must answer its own.
+ * out. With an argument it makes each edit on a second session too, in turn, which has other lines before and must answer its own. A third
+ * one then gets the whole text after each edit, and must report the same at no more work.
  */
 #include <abc2midi_live.h>
 #include <stdbool.h>
@@ -80,7 +81,7 @@ static size_t words_of(line command, line *words, size_t most)
 }
 
 /* Reads a number of one to nine digits. */
-static bool number_of(line word, uint32_t *number)
+static bool read_number(line word, uint32_t *number)
 {
     size_t at;
     *number = 0;
@@ -99,14 +100,22 @@ static bool is_word(line word, const char *name)
 
 typedef abc_live_code (*numbers_call)(abc_live_session *, uint32_t *, size_t, size_t *);
 
+/* The numbers that a call copies; they are to be freed. */
+static uint32_t *numbers_of(abc_live_session *session, numbers_call call, size_t *count)
+{
+    size_t got = 0;
+    uint32_t *numbers;
+    call(session, NULL, 0, count);
+    numbers = room_for(*count, sizeof *numbers);
+    if (call(session, numbers, *count, &got) != ABC_LIVE_OK || got != *count)
+        fail("numbers are not copied");
+    return numbers;
+}
+
 static void print_numbers(abc_live_session *session, numbers_call call)
 {
-    size_t count = 0, got = 0, at;
-    uint32_t *numbers;
-    call(session, NULL, 0, &count);
-    numbers = room_for(count, sizeof *numbers);
-    if (call(session, numbers, count, &got) != ABC_LIVE_OK || got != count)
-        fail("numbers are not copied");
+    size_t count = 0, at;
+    uint32_t *numbers = numbers_of(session, call, &count);
     for (at = 0; at < count; at++)
         printf(" %lu", (unsigned long)numbers[at]);
     free(numbers);
@@ -225,6 +234,53 @@ static void edit_other(abc_live_session *other, const edit *e, abc_live_code wan
         fail("the second session has another answer");
 }
 
+static void compare_numbers(abc_live_session *session, abc_live_session *third, numbers_call call)
+{
+    size_t count = 0, others = 0;
+    uint32_t *numbers = numbers_of(session, call, &count), *other_numbers = numbers_of(third, call, &others);
+    if (others != count || memcmp(numbers, other_numbers, count * sizeof *numbers) != 0)
+        fail("a whole text is reported otherwise than the edit");
+    free(numbers);
+    free(other_numbers);
+}
+
+/* The text of a session, each line with its line feed; it is to be freed. */
+static uint8_t *text_of(abc_live_session *session, size_t *size)
+{
+    uint32_t count = 0, number;
+    size_t one = 0, room = 0;
+    uint8_t *text;
+    abc_live_line_count(session, &count);
+    for (number = 1; number <= count; number++) {
+        abc_live_line(session, number, NULL, 0, &one);
+        room += one + 1;
+    }
+    text = room_for(room, 1);
+    for (number = 1, *size = 0; number <= count; number++) {
+        if (abc_live_line(session, number, text + *size, room - *size, &one) != ABC_LIVE_OK)
+            fail("a line is not copied");
+        *size += one;
+        text[(*size)++] = '\n';
+    }
+    return text;
+}
+
+/* Gives the third session the text after an edit, which added this work. */
+static void set_third(abc_live_session *third, abc_live_session *session, uint64_t scanned)
+{
+    abc_live_work work = {0, 0, 0};
+    size_t size = 0;
+    uint8_t *text = text_of(session, &size);
+    if (abc_live_set_text(third, text, size, &work) != ABC_LIVE_OK)
+        fail("a whole text is refused");
+    if (work.scanned > scanned)
+        fail("a whole text scans more lines than the edit");
+    compare_numbers(session, third, abc_live_written);
+    compare_numbers(session, third, abc_live_removed);
+    compare_numbers(session, third, abc_live_numbers);
+    free(text);
+}
+
 /* Whether the text is the same by its lines, after three of the second session. */
 static void compare_lines(abc_live_session *session, abc_live_session *other)
 {
@@ -242,18 +298,34 @@ static void compare_lines(abc_live_session *session, abc_live_session *other)
     }
 }
 
-/* Carries out one command. Whether more may follow. */
-static bool answer(abc_live_session *session, abc_live_session *other, input *in, line command)
+/* The sessions: one that answers, and two that are compared with it, or null. */
+typedef struct sessions {
+    abc_live_session *first, *other, *third;
+} sessions;
+
+/* Makes an edit on each session, and answers it. */
+static void edit_all(const sessions *all, const edit *e)
 {
-    static abc_live_work work;
+    abc_live_work work = {0, 0, 0};
+    abc_live_code code = make_edit(all->first, e, &work);
+    answer_edit(all->first, code);
+    if (all->other)
+        edit_other(all->other, e, code);
+    if (all->third && code == ABC_LIVE_OK)
+        set_third(all->third, all->first, work.scanned);
+}
+
+/* Carries out one command. Whether more may follow. */
+static bool answer(const sessions *all, input *in, line command)
+{
+    abc_live_session *session = all->first;
     line words[5];
     uint32_t numbers[4] = {0, 0, 0, 0};
     size_t count = words_of(command, words, 5), at;
     edit e = {0, 0, DELETE, {NULL, 0}};
     uint32_t lines = 0;
-    abc_live_code code;
     for (at = 1; at < count; at++)
-        if (!number_of(words[at], &numbers[at - 1]))
+        if (!read_number(words[at], &numbers[at - 1]))
             count = 0;
     if (count == 1 && is_word(words[0], "quit"))
         return false;
@@ -273,34 +345,40 @@ static bool answer(abc_live_session *session, abc_live_session *other, input *in
             printf("error truncated\n");
             return false;
         }
-        code = make_edit(session, &e, &work);
-        answer_edit(session, code);
-        if (other)
-            edit_other(other, &e, code);
+        edit_all(all, &e);
     } else {
         printf("error command\n");
     }
     return true;
 }
 
+/* Opens the sessions that are compared with the first. */
+static void open_others(abc_live_session *other, abc_live_session *third)
+{
+    abc_live_work work = {0, 0, 0};
+    if (abc_live_open(other) != ABC_LIVE_OK || abc_live_insert(other, 1, (const uint8_t *)"%\n%\n\n", 5, &work) != ABC_LIVE_OK
+        || abc_live_open(third) != ABC_LIVE_OK)
+        fail("no other sessions are opened");
+}
+
 int main(int argc, char **argv)
 {
-    abc_live_session session = {0}, other = {0};
-    abc_live_work work = {0};
+    abc_live_session session = {0}, other = {0}, third = {0};
+    sessions all = {&session, argc > 1 ? &other : NULL, argc > 1 ? &third : NULL};
     input in = read_input();
     line command;
     (void)argv;
     if (abc_live_open(&session) != ABC_LIVE_OK)
         fail("no session is opened");
-    if (argc > 1
-        && (abc_live_open(&other) != ABC_LIVE_OK || abc_live_insert(&other, 1, (const uint8_t *)"%\n%\n\n", 5, &work) != ABC_LIVE_OK))
-        fail("no second session is opened");
-    while (next_line(&in, &command) && answer(&session, argc > 1 ? &other : NULL, &in, command))
+    if (argc > 1)
+        open_others(&other, &third);
+    while (next_line(&in, &command) && answer(&all, &in, command))
         continue;
     if (argc > 1)
         compare_lines(&session, &other);
     abc_live_close(&session);
     abc_live_close(&other);
+    abc_live_close(&third);
     free(in.bytes);
     return EXIT_SUCCESS;
 }

@@ -33,9 +33,11 @@ void *__wrap_realloc(void *old, size_t size)
     return is_refused() ? NULL : __real_realloc(old, size);
 }
 
+enum { WHOLE = 1000 }; /* the `from` of a whole text */
+
 typedef struct edit {
     const char *name;
-    uint32_t from, to; /* `to` is 0 for an insertion */
+    uint32_t from, to; /* `to` is 0 for an insertion and a whole text */
     const char *text;  /* none for a deletion */
     abc_live_code wanted;
 } edit;
@@ -47,6 +49,8 @@ static abc_live_code make(abc_live_session *session, const edit *e)
     abc_live_work work = {0, 0, 0};
     const uint8_t *text = (const uint8_t *)e->text;
     size_t bytes = e->text ? strlen(e->text) : 0;
+    if (e->from == WHOLE)
+        return abc_live_set_text(session, text, bytes, &work);
     if (!e->text)
         return abc_live_delete(session, e->from, e->to, &work);
     if (e->to == 0)
@@ -141,6 +145,8 @@ static bool refuse_each(const edit *e)
     while (refuse_one(e, ++number, size_before, size_after, &ok))
         continue;
     printf("%s: %lu requests refused in turn%s\n", e->name, number - 1, all_after ? ", with all after each" : "");
+    if (e->from == WHOLE && e->wanted != ABC_LIVE_OK)
+        return ok && number == 1; /* it is refused before the first request */
     return ok && (number > 1 || !e->text);
 }
 
@@ -166,6 +172,35 @@ static bool refuse_opening(void)
     return ok && number > 1;
 }
 
+/* Refuses the requests of `abc_live_tokens`: it may do without, or nothing is copied, and the session stays as it was. */
+static bool refuse_tokens(void)
+{
+    abc_live_session session = begun();
+    abc_live_work work = {0, 0, 0};
+    abc_live_token found[32], wanted[32];
+    size_t count = 0, wanted_count = 0, size_before = tell(&session, before, sizeof before);
+    unsigned long number = 0, made, failures = 0;
+    bool ok = abc_live_tokens(&session, 11, wanted, 32, &wanted_count, &work) == ABC_LIVE_OK && wanted_count > 3;
+    do {
+        abc_live_code code;
+        memset(found, 0, sizeof found);
+        requests = 0;
+        refused = ++number;
+        code = abc_live_tokens(&session, 11, found, 32, &count, &work);
+        made = requests;
+        refused = 0;
+        if (code == ABC_LIVE_OK)
+            ok = ok && count == wanted_count && memcmp(found, wanted, count * sizeof *found) == 0;
+        else
+            ok = ok && made >= number && code == ABC_LIVE_OUT_OF_MEMORY && count == 0 && found[0].kind == 0;
+        failures += code != ABC_LIVE_OK;
+        ok = ok && tell(&session, now, sizeof now) == size_before && memcmp(now, before, size_before) == 0;
+    } while (made >= number);
+    abc_live_close(&session);
+    printf("tokens: %lu requests refused in turn\n", number - 1);
+    return ok && failures > 0;
+}
+
 int main(void)
 {
     static char long_line[4 + 65536 + 1]; /* a short line, and one of 65,536 bytes */
@@ -179,17 +214,28 @@ int main(void)
         {"a line before the first", 0, 0, "C\nD\n", ABC_LIVE_BAD_RANGE},
         {"a line that is too long", 1, 0, long_line, ABC_LIVE_BAD_LINE},
         {"a long line in the place of another", 2, 2, long_line, ABC_LIVE_BAD_LINE},
+        {"a whole text", WHOLE, 0, "M:3/4\n\nX:1\nT:One\nK:G\n|:GAB cde|1 f2:|2 a3|]\n\nX:3\nQ:0\nK:C\nC/0\n", ABC_LIVE_OK},
+        {"the whole text as it was", WHOLE, 0, book, ABC_LIVE_OK},
+        {"a whole text with a line that is too long", WHOLE, 0, long_line, ABC_LIVE_BAD_LINE},
     };
     unsigned passed = 0, failed = 0;
     size_t at;
     memset(long_line, 'z', sizeof long_line - 1);
     long_line[3] = '\n';
-    for (at = 0; at < 2 * sizeof edits / sizeof *edits + 1; at++) {
+    for (at = 0; at < 2 * sizeof edits / sizeof *edits; at++) {
         bool ok;
         all_after = at % 2;
-        ok = at == 2 * sizeof edits / sizeof *edits ? refuse_opening() : refuse_each(&edits[at / 2]);
+        ok = refuse_each(&edits[at / 2]);
         if (!ok)
-            printf("FAILED: %s\n", at / 2 < sizeof edits / sizeof *edits ? edits[at / 2].name : "open");
+            printf("FAILED: %s\n", edits[at / 2].name);
+        passed += ok;
+        failed += !ok;
+    }
+    all_after = false;
+    for (at = 0; at < 2; at++) {
+        bool ok = at == 0 ? refuse_opening() : refuse_tokens();
+        if (!ok)
+            printf("FAILED: %s\n", at == 0 ? "open" : "tokens");
         passed += ok;
         failed += !ok;
     }

@@ -1,12 +1,13 @@
 """What every session does, whichever way it is run: one suite, which the tests of each way take over."""
 
 import random
+from functools import partial
 from pathlib import Path
-from typing import Any, Callable, Optional
+from typing import Any, Callable, Optional, Union
 
 import setting
 import trial
-from abc2midi_live import BadLine, BadRange, ClosedError, EditError, Report, Session, Title, TooLarge, few_edits
+from abc2midi_live import BadLine, BadRange, ClosedError, Edit, EditError, Report, Session, Title, TooLarge, few_edits
 from abc2midi_live.lines import lines_of_book
 from conversation import Command, answers_of, commands_of, run, stream_of
 
@@ -82,7 +83,7 @@ class Sessions(setting.Room):
     def test_stored_conversations(self) -> None:
         """The answers are those of the transcripts, which were worked out by the rules."""
         tried = 0
-        for path in sorted(TRANSCRIPTS.iterdir()):
+        for path in sorted(TRANSCRIPTS.glob("*/*")):
             wanted = wanted_of(path)
             commands = commands_of(path.read_bytes()) if wanted is not None else None
             if commands:
@@ -103,7 +104,8 @@ class Sessions(setting.Room):
         session = self.session()
         self.assertEqual((session.lines, session.line_count, session.titles, session.faults, session.numbers), ([], 0, [], [], []))
         self.assertEqual(session.insert(1, ["X:7", "T:Air", "K:C", "C"]), Report((7,), ()))
-        for answer in session.titles, session.numbers, session.faults:
+        answers: list[list[Any]] = [session.titles, session.numbers, session.faults]
+        for answer in answers:
             answer.clear()  # the lists are the caller's
         self.assertEqual((session.titles, session.numbers), ([Title(7, b"Air")], [7]))
         output = session.output(7)
@@ -140,7 +142,8 @@ class Sessions(setting.Room):
 
     def test_lines_after_many_edits(self) -> None:
         chance = random.Random(setting.seed)
-        session, model = self.session(), []
+        session = self.session()
+        model: list[bytes] = []
         for _ in range(100):
             start = chance.randrange(len(model) + 1)
             stop = min(len(model), start + chance.choice([0, 0, 1, 2, 20]))
@@ -163,7 +166,8 @@ class Sessions(setting.Room):
         session.insert(1, "T:é\nz\r\n\nlast")
         session.insert(1, b"a\n\n")
         session.insert(1, bytearray(b"\xff\0\xef\xbb\xbf"))
-        session.insert(1, (line for line in ("é\udcff", b"\xff", "", "\r")))
+        mixed: list[Union[str, bytes]] = ["é\udcff", b"\xff", "", "\r"]
+        session.insert(1, (line for line in mixed))
         session.insert(1, "")
         session.insert(1, [])
         wanted = ["é".encode() + b"\xff", b"\xff", b"", b"\r", b"\xff\0\xef\xbb\xbf"]
@@ -171,7 +175,8 @@ class Sessions(setting.Room):
         self.assertEqual(session.lines, wanted)
         not_lines: list[Any] = [["a\nb"], [b"a", b"\n"], ["\ud800"], [1], 1]
         for wrong, error in zip(not_lines, [ValueError, ValueError, ValueError, TypeError, TypeError]):
-            for edit in (lambda: session.insert(1, wrong), lambda: session.replace(1, 2, wrong)):
+            edits: list[Callable[[], object]] = [lambda: session.insert(1, wrong), lambda: session.replace(1, 2, wrong)]
+            for edit in edits:
                 with self.assertRaises(error):
                     edit()
         with self.assertRaises(ZeroDivisionError):
@@ -186,8 +191,9 @@ class Sessions(setting.Room):
         session = self.session(TUNE)
         not_numbers: list[Any] = [1.0, "1", None, b"1"]
         for wrong in not_numbers:
-            calls = [lambda: session.insert(wrong, "C"), lambda: session.replace(1, wrong, "C"), lambda: session.delete(wrong, 1)]
-            for call in [*calls, lambda: session.output(wrong), lambda: session.line(wrong)]:
+            calls: list[Callable[[], object]] = [lambda: session.insert(wrong, "C"), lambda: session.replace(1, wrong, "C")]
+            calls += [lambda: session.delete(wrong, 1), lambda: session.output(wrong), lambda: session.line(wrong)]
+            for call in calls:
                 with self.assertRaises(TypeError):
                     call()
         self.assertEqual((session.lines, session.numbers, session.line(True)), (TUNE, [1], b"X:1"))
@@ -232,10 +238,14 @@ class Sessions(setting.Room):
         self.refuse(session, TooLarge, lambda: session.insert(1, blank[2:]), lambda: session.replace(1, 2, blank))
         self.refuse(session, TooLarge, lambda: session.set_text(b"\n" * 1_048_577))
         session.insert(3, [b""] * 1_048_574)
-        for edit in (lambda: session.insert(1, ""), lambda: session.insert(1, [])):
-            self.assertEqual(edit(), NOTHING)
+        self.assertEqual([session.insert(1, ""), session.insert(1, [])], [NOTHING, NOTHING])
         with self.assertRaises(TooLarge):
             session.insert(1, [b"C"])
+        on_the_way = [Edit(2, 12, []), Edit(12, 12, [b""] * 5), Edit(20, 21, [b"X:2"])]  # made from the last one on
+        before = session.lines
+        with self.assertRaises(TooLarge):
+            session.apply(on_the_way)
+        self.assertTrue(session.lines == before)  # the difference would be long
         self.assertEqual((session.line_count, session.numbers), (1_048_576, [1]))
         self.assertEqual(session.set_text(b"\n" * 1_048_576), Report((), (1,)))
         self.assertEqual(session.line_count, 1_048_576)
@@ -245,15 +255,31 @@ class Sessions(setting.Room):
         right = few_edits(session.lines, session.lines[1:])
         wrong = [right[0]._replace(start=5, stop=6, lines=[b"C" * 65_536])]
         self.refuse(session, BadLine, lambda: session.apply(right + wrong))
-        for places in {"start": -1}, {"stop": 8}, {"start": 2}:
-            self.refuse(session, BadRange, lambda: session.apply([right[0]._replace(**places)]))
+        for misplaced in right[0]._replace(start=-1), right[0]._replace(stop=8), right[0]._replace(start=2):
+            self.refuse(session, BadRange, lambda: session.apply([misplaced]))
         self.refuse(session, BadRange, lambda: session.apply([*wrong, *right]))
+
+    def test_several_edits_of_which_one_has_wrong_lines(self) -> None:
+        """The last edit is made first, and could be made."""
+        session = self.session([*TUNE, b"X:2", b"K:C"])
+        wrong: list[tuple[list[Any], type[Exception]]] = [
+            ([Edit(0, 1, [b"A\nB"])], ValueError),
+            ([Edit(0, 1, [1])], TypeError),  # type: ignore[list-item]
+            ([Edit(0, "1", [])], TypeError),  # type: ignore[arg-type]
+            ([Edit(0, 1, ["é" * 40_000])], BadLine),  # type: ignore[list-item]
+        ]
+        before = self.state_of(session)
+        for edits, error in wrong:
+            with self.assertRaises(error):
+                session.apply([*edits, Edit(3, 4, [b"C2"])])
+            self.assertEqual(self.state_of(session), before)
+        self.assertEqual(session.apply([Edit(1, 2, ["T:" + "é" * 30_000]), Edit(3, 4, [b"C2"])]), Report((1,), ()))  # type: ignore[list-item]
 
     # ---- whole texts
 
     def recorded(self, session: Session) -> list[Any]:
-        """A list that gets each edit which a session makes from now on."""
-        edits = []
+        """A list that gets each edit which a session asks for from now on."""
+        edits: list[Any] = []
 
         def record(name: str, edit: Callable[..., Report]) -> Callable[..., Report]:
             def follow(*words: Any) -> Report:
@@ -263,7 +289,7 @@ class Sessions(setting.Room):
             return follow
 
         for name in ("insert", "replace", "delete"):
-            setattr(session, name, record(name, getattr(session, name)))
+            setattr(session, f"_{name}", record(name, getattr(session, f"_{name}")))
         return edits
 
     def test_a_text_becomes_another_by_few_edits(self) -> None:
@@ -335,11 +361,12 @@ class Sessions(setting.Room):
         with self.begin() as session:
             session.insert(1, TUNE)
         session.close()
-        edits = [lambda: session.insert(1, "C"), lambda: session.replace(1, 1, "C"), lambda: session.delete(1, 1)]
+        edits: list[Callable[[], object]] = [lambda: session.insert(1, "C"), lambda: session.replace(1, 1, "C"), lambda: session.delete(1, 1)]
         edits += [lambda: session.set_text("C"), lambda: session.apply([]), lambda: session.output(1), lambda: session.output(-1)]
         edits += [lambda: session.line(1), lambda: session.__enter__()]
         names = ["lines", "line_count", "numbers", "titles", "faults", "work"]
-        for call in [*edits, *(lambda name=name: getattr(session, name) for name in names)]:
+        edits += [partial(getattr, session, name) for name in names]
+        for call in edits:
             with self.assertRaises(ClosedError):
                 call()
 

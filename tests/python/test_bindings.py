@@ -6,17 +6,19 @@ from ctypes import c_char_p, c_size_t, c_uint8, c_uint32, c_uint64, c_void_p
 from unittest import mock
 
 import setting
-from abc2midi_live import LibraryMissing, bindings
+from abc2midi_live import LibraryMissing, TokenKind, bindings
 
 HEADER = setting.TOP / "c/abc2midi_live.h"
 TYPES = {
     "abc_live_session *": bindings.SESSION,
     "abc_live_work *": bindings.WORK,
     "abc_live_fault *": bindings.FAULT,
+    "abc_live_token *": bindings.TOKEN,
     "const uint8_t *": c_char_p,
     "uint8_t *": c_char_p,
     "uint32_t *": bindings.NUMBER,
     "size_t *": bindings.COUNT,
+    "abc_live_code": c_uint32,
     "uint32_t": c_uint32,
     "size_t": c_size_t,
 }
@@ -45,15 +47,24 @@ class Header(unittest.TestCase):
         for name, words in re.findall(r"^(?:abc_live_code|uint32_t) abc_live_(\w+)\(([^)]*)\);", self.header, re.M):
             types = [re.sub(r"\w+$", "", " ".join(word.split())).strip() for word in words.split(",") if word != "void"]
             calls[name] = [TYPES[word] for word in types]
-        self.assertEqual(calls, bindings.CALLS)
+        self.assertEqual({name: calls.get(name) for name in bindings.CALLS}, bindings.CALLS)
+
+    def test_only_what_is_called_is_bound(self) -> None:
+        sources = (setting.TOP / "python/abc2midi_live").glob("*.py")
+        called = {name for source in sources for name in re.findall(r"\.abc_live_(\w+)", source.read_text("utf-8"))}
+        self.assertEqual(called, set(bindings.CALLS))
 
     def test_codes(self) -> None:
-        codes = {name: int(code) for name, code in re.findall(r"ABC_LIVE_(\w+) = (\d+)", self.header)}
+        numbers = {name: int(number) for name, number in re.findall(r"ABC_LIVE_(\w+) = (\d+)", self.header)}
+        kinds = {name[len("TOKEN_") :]: number for name, number in numbers.items() if name.startswith("TOKEN_")}
+        self.assertEqual(kinds, {kind.name: kind.value for kind in TokenKind if kind is not TokenKind.OTHER})
+        codes = {name: number for name, number in numbers.items() if not name.startswith("TOKEN_")}
         self.assertEqual(codes, {name: getattr(bindings, name) for name in codes})
         self.assertEqual(sorted(codes.values()), list(range(8)))
 
     def test_types(self) -> None:
-        for name, kind in ("session", bindings.CSession), ("work", bindings.CWork), ("fault", bindings.CFault):
+        kinds = {"session": bindings.CSession, "work": bindings.CWork, "fault": bindings.CFault, "token": bindings.CToken}
+        for name, kind in kinds.items():
             found = re.search(rf"typedef struct abc_live_{name} \{{(.*?)\}} abc_live_{name};", self.header, re.S)
             assert found
             fields = [(field, FIELDS[word]) for word, field in re.findall(r"(\w+ \*?)(\w+);", found[1])]

@@ -33,9 +33,9 @@ class Found(setting.Room):
 
     def test_in_a_checkout(self) -> None:
         self.place("python/abc2midi_live")
-        digest = self.write("scripts/digest_of_sources", "#!/bin/sh\necho now\n")
-        self.write("scripts/version", "#!/bin/sh\necho 1.2.3\n")
-        launcher = self.folder / "scripts/launcher"
+        digest = self.write("scripts/build/digest_of_sources", "#!/bin/sh\necho now\n")
+        self.write("scripts/build/version", "#!/bin/sh\necho 1.2.3\n")
+        launcher = self.folder / "scripts/installed/launcher"
         self.write("crates/program/out/program")
         of = self.write("crates/program/out/program.digest", "now\n")
         self.assertEqual((finding.find_program(), finding.version()), (str(launcher), "1.2.3"))
@@ -44,7 +44,7 @@ class Found(setting.Room):
             finding.find_program()
         library = self.write("out/c_library/lib/libabc2midi_live.so.1")
         of_library = self.write("out/c_library/digest", "before\n")
-        with self.assertRaisesRegex(LibraryMissing, "scripts/c_library"):
+        with self.assertRaisesRegex(LibraryMissing, "scripts/package/c_library"):
             finding.find_library()
         of_library.write_text("now\n")
         self.assertEqual(finding.find_library(), str(library))
@@ -108,7 +108,7 @@ class Found(setting.Room):
                 abc2midi_live.open(library="x")
 
     def test_version(self) -> None:
-        wanted = subprocess.run([setting.TOP / "scripts/version"], capture_output=True, text=True, check=True).stdout.strip()
+        wanted = subprocess.run([setting.TOP / "scripts/build/version"], capture_output=True, text=True, check=True).stdout.strip()
         self.assertEqual((abc2midi_live.version(), abc2midi_live.__version__), (wanted, wanted))
         with self.assertRaises(AttributeError):
             abc2midi_live.none  # type: ignore[attr-defined]

@@ -3,12 +3,17 @@
 import gc
 import threading
 from collections.abc import Callable
+from pathlib import Path
+from typing import Union
 from unittest import mock
 
 import abc2midi_live
 import sessions
 import setting
-from abc2midi_live import LibraryMissing, LibrarySession, Work
+from abc2midi_live import LibraryMissing, LibrarySession, Token, TokenKind, Work
+from conversation import answers_of
+
+HERE = Path(__file__).parent
 
 
 class OverTheLibrary(sessions.Sessions):
@@ -19,7 +24,7 @@ class OverTheLibrary(sessions.Sessions):
         for seed in range(20):
             with self.begin() as session:
                 for command in sessions.random_stream(seed):
-                    sessions.answers_of(session, [command])
+                    answers_of(session, [command])
                 here = session.lines
                 session._recover()  # reads the lines of the library
                 self.assertEqual(session.lines, here)
@@ -30,8 +35,48 @@ class OverTheLibrary(sessions.Sessions):
         session.insert(1, sessions.TUNE)
         opened = session.work
         session.replace(4, 4, "D")
-        self.assertEqual((opened.scanned, opened.built, session.work.scanned, session.work.built), (5, 1, 6, 2))
-        self.assertGreater(session.work.folded, opened.folded)
+        after = session.work
+        assert opened and after
+        self.assertEqual((opened.scanned, opened.built, after.scanned, after.built), (5, 1, 6, 2))
+        self.assertGreater(after.folded, opened.folded)
+
+    def test_tokens(self) -> None:
+        """The rows are those of the reference model, which is no part of this repository. They have each kind."""
+        session = self.session((HERE / "tokens.abc").read_bytes().split(b"\n")[:-1])
+        rows = (HERE / "tokens.rows").read_text().splitlines()
+        found = [
+            f"{number} {token.from_column} {token.to_column} {token.kind.name} {token.depth}"
+            for number in range(1, session.line_count + 1)
+            for token in session.tokens(number)
+        ]
+        self.assertEqual(found, rows)
+        self.assertEqual({row.split()[3] for row in rows}, {kind.name for kind in TokenKind} - {"OTHER"})
+
+    def test_tokens_after_edits(self) -> None:
+        """They are those of a fresh session with the same text, and cover each line."""
+        for seed in range(20):
+            with self.begin() as session, self.begin() as fresh:
+                for command in sessions.random_stream(seed):
+                    answers_of(session, [command])
+                fresh.insert(1, session.lines)
+                for number, line in enumerate(session.lines, 1):
+                    tokens = session.tokens(number)
+                    self.assertEqual(tokens, fresh.tokens(number))
+                    whole = line[:-1] if line.endswith(b"\r") else line
+                    ends = [1, *(end for token in tokens if not token.depth for end in token[:2]), len(whole) + 1]
+                    self.assertEqual(ends[::2], ends[1::2], line)
+
+    def test_tokens_of_no_line(self) -> None:
+        session = self.session(sessions.TUNE)
+        for number in (0, -1, 6, 2**40):
+            with self.assertRaises(IndexError):
+                session.tokens(number)
+        with self.assertRaises(AttributeError):
+            session.tokens(1)[0].depth = 1  # type: ignore[misc]
+
+    def test_tokens_of_a_long_line(self) -> None:
+        session = self.session([b"X:1", b"K:C", b"C" * 65_535])
+        self.assertEqual(session.tokens(3)[-1], Token(65_535, 65_536, TokenKind.NOTE, 0))
 
     def test_an_interrupted_edit(self) -> None:
         """The lines are those of the library, whether the edit was made or not."""
@@ -67,6 +112,21 @@ class OverTheLibrary(sessions.Sessions):
         session.close()
         self.assertEqual((inner.state, self.call_on_another_thread(session.close)), (0, []))
 
+    def test_another_thread_of_the_same_number(self) -> None:
+        """The system gives the number of a thread that ended to a new one."""
+        opened: list[tuple[LibrarySession, int]] = []
+        self.call_on_another_thread(lambda: opened.append((LibrarySession(setting.library), threading.get_ident())))
+        session, number = opened[0]
+        numbers: list[int] = []
+
+        def ask() -> object:
+            numbers.append(threading.get_ident())
+            return session.titles
+
+        while number not in numbers:
+            self.assertRegex("".join(self.call_on_another_thread(ask)), "thread")
+            self.assertLess(len(numbers), 1000)
+
     def test_a_session_that_is_dropped_is_closed(self) -> None:
         session = LibrarySession(setting.library)
         inner = session._session
@@ -76,7 +136,8 @@ class OverTheLibrary(sessions.Sessions):
         self.assertEqual(inner.state, 0)
 
     def test_what_is_no_library(self) -> None:
-        for library in (self.folder / "none", "libc.so.6"):
+        libraries: list[Union[str, Path]] = [self.folder / "none", "libc.so.6"]
+        for library in libraries:
             with self.assertRaises(LibraryMissing):
                 LibrarySession(library)
 

@@ -1,9 +1,14 @@
 """The package as pip installs it, its wheel, and its types."""
 
+import json
 import os
 import re
 import shutil
 import subprocess
+import sys
+import tempfile
+import unittest
+import urllib.request
 from pathlib import Path
 from typing import Any
 
@@ -14,6 +19,8 @@ DEBIAN = "/usr/bin/python3"  # whose packages setuptools and wheel build the pac
 NEEDED = subprocess.run([DEBIAN, "-c", "import ensurepip, venv, setuptools, wheel, pip"], capture_output=True).returncode == 0
 OFFLINE = {"PIP_NO_INDEX": "1", "PIP_FIND_LINKS": "", "PIP_CONFIG_FILE": os.devnull, "PIP_DISABLE_PIP_VERSION_CHECK": "1"}
 MYPY = shutil.which("mypy")
+WHEEL = setting.TOP / "scripts/package/wheel"
+COMMANDS = [f"abc2midi_live-{name}" for name in ("watch", "page", "language-server", "archive")]
 ASK = """
 import abc2midi_live
 with abc2midi_live.open({book!r}) as session:
@@ -34,7 +41,7 @@ def run(*words: object, **more: Any) -> str:
     done = subprocess.run([str(word) for word in words], stdout=subprocess.PIPE, stderr=subprocess.STDOUT, text=True, **more)
     if done.returncode:
         raise AssertionError(f"{words}: status {done.returncode}\n{done.stdout}")
-    return done.stdout
+    return str(done.stdout)
 
 
 class Types(setting.Room):
@@ -51,7 +58,7 @@ class Types(setting.Room):
         caller = self.folder / "caller.py"
         caller.write_text(CALLER)
         path = {**os.environ, "MYPYPATH": str(setting.PACKAGE)}
-        words = [MYPY, "--strict", "--cache-dir", os.devnull, caller]
+        words = [str(MYPY), "--strict", "--cache-dir", os.devnull, str(caller)]
         done = subprocess.run(words, capture_output=True, text=True, env=path)
         self.assertEqual((done.returncode, done.stdout.count("error:")), (1, 1), done.stdout)
         self.assertIn('caller.py:7: error: Incompatible types in assignment (expression has type "Optional[bytes]"', done.stdout)
@@ -106,7 +113,7 @@ class Installed(setting.Room):
     def test_a_wheel_with_the_library(self) -> None:
         if not setting.library:
             self.skipTest("no library was named")
-        words = [setting.TOP / "scripts/wheel", "--library", setting.library]
+        words = [WHEEL, "--library", setting.library]
         wheels = [Path(run(*words, self.folder / name).strip()) for name in ("one", "other")]
         self.assertRegex(wheels[0].name, rf"^abc2midi_live-{version()}-py3-none-(manylinux_2_\d+|linux)_x86_64\.whl$")
         self.assertEqual(wheels[0].read_bytes(), wheels[1].read_bytes())
@@ -114,7 +121,90 @@ class Installed(setting.Room):
         self.assertEqual(self.ask(), [f"LibrarySession {version()} [1]"])
 
     def test_a_wheel_without_a_library(self) -> None:
-        words = [setting.TOP / "scripts/wheel", "--library", self.folder / "none", self.folder]
+        words = [str(word) for word in (WHEEL, "--library", self.folder / "none", self.folder)]
         done = subprocess.run(words, capture_output=True, text=True)
         self.assertEqual((done.returncode, done.stdout), (1, ""))
         self.assertRegex(done.stderr, "^wheel: there is no library .*/none: run ./check")
+
+
+class Commands(setting.Room):
+    """The commands of a wheel, in an environment that has nothing else. Without a library its place has some other file."""
+
+    venv: Path
+
+    @classmethod
+    def setUpClass(cls) -> None:
+        if not NEEDED:
+            raise unittest.SkipTest(f"{DEBIAN} has no venv, pip, setuptools or wheel")
+        room = Path(tempfile.mkdtemp())
+        cls.addClassCleanup(shutil.rmtree, room)
+        cls.venv = room / "venv"
+        wheel = run(WHEEL, "--library", setting.library or Path(sys.executable).resolve(), room).strip()
+        run(DEBIAN, "-m", "venv", "--without-pip", cls.venv)
+        run(DEBIAN, "-m", "pip", f"--python={cls.venv}/bin/python", "install", wheel, env={**os.environ, **OFFLINE})
+
+    def setUp(self) -> None:
+        super().setUp()
+        self.book = self.folder / "book.abc"
+        self.book.write_text("X:1\nK:C\n-C|\n")
+
+    def command(self, name: str, *words: object) -> list[str]:
+        return [str(self.venv / "bin" / name), *map(str, words)]
+
+    def tried(self, name: str, *words: object, typed: str = "") -> subprocess.CompletedProcess[str]:
+        """What a command prints, with `typed` on standard input."""
+        path = {"PATH": f"{self.folder}:/usr/bin:/bin", "HOME": str(self.folder)}
+        command = self.command(name, *words)
+        return subprocess.run(command, cwd=self.folder, env=path, input=typed, capture_output=True, text=True, timeout=120)
+
+    def add_program(self) -> None:
+        """Puts the program on the path."""
+        if not setting.program:
+            self.skipTest("no program was named")
+        (self.folder / "abc2midi_live").symlink_to(setting.program)
+
+    def test_the_version(self) -> None:
+        for name in COMMANDS:
+            self.assertEqual(self.tried(name, "--version").stdout, f"{name} {version()}\n")
+
+    def test_without_the_program_each_says_so_in_one_line(self) -> None:
+        trials: list[tuple[str, list[str]]] = [("watch", ["book.abc", "--dir", "."]), ("page", ["book.abc"]), ("language-server", [])]
+        for name, words in trials:
+            done = self.tried(f"abc2midi_live-{name}", *words)
+            line = f"{name.replace('-', '_')}: there is no command abc2midi_live on the path; install it, or name a program by --program\n"
+            self.assertEqual((done.returncode, done.stdout, done.stderr), (127, "", line))
+
+    def test_the_watcher_has_the_sentences_of_the_faults(self) -> None:
+        self.add_program()
+        done = self.tried("abc2midi_live-watch", "book.abc", "--dir", "midi", "--once")
+        sentences = {row["name"]: row["wrong"] for row in json.loads((setting.TOP / "python/abc2midi_live_clients/faults.json").read_text("utf-8"))}
+        self.assertIn(sentences["LooseTie"].rstrip("."), done.stdout)
+        self.assertEqual((self.folder / "midi/1.mid").read_bytes()[:4], b"MThd")
+
+    def test_the_page_has_its_files(self) -> None:
+        self.add_program()
+        path = {"PATH": f"{self.folder}:/usr/bin:/bin", "HOME": str(self.folder)}
+        page = subprocess.Popen(self.command("abc2midi_live-page", self.book), env=path, stdout=subprocess.PIPE, text=True)
+        self.addCleanup(page.communicate)
+        self.addCleanup(page.terminate)
+        assert page.stdout
+        address = page.stdout.readline().strip()
+        for name, has in (("", b"<html"), ("page.js", b"import")):
+            with urllib.request.urlopen(address + name, timeout=120) as answer:
+                self.assertIn(has, answer.read())
+
+    def test_the_language_server_answers(self) -> None:
+        self.add_program()
+        initialize: dict[str, Any] = {"id": 1, "method": "initialize", "params": {"capabilities": {}}}
+        texts = [json.dumps({"jsonrpc": "2.0", **message}) for message in (initialize, {"id": 2, "method": "shutdown"}, {"method": "exit"})]
+        typed = "".join(f"Content-Length: {len(text)}\r\n\r\n{text}" for text in texts)
+        done = self.tried("abc2midi_live-language-server", typed=typed)
+        self.assertEqual((done.returncode, done.stderr), (0, ""))
+        self.assertIn('"capabilities"', done.stdout)
+
+    def test_the_archive_compiles_by_the_library_of_the_wheel(self) -> None:
+        if not setting.library:
+            self.skipTest("no library was named")
+        done = self.tried("abc2midi_live-archive", "book.abc", "--to", "archive", "--jobs", "1")
+        self.assertEqual((done.returncode, done.stderr), (0, ""))
+        self.assertEqual([path.read_bytes()[:4] for path in (self.folder / "archive").rglob("*.mid")], [b"MThd"])

@@ -2,14 +2,19 @@
 
 import os
 import signal
+import subprocess
+import threading
 from collections.abc import Callable
+from functools import partial
 from pathlib import Path
+from typing import Union
 from unittest import mock
 
 import abc2midi_live
 import sessions
 import setting
-from abc2midi_live import Built, ProcessSession, ProgramEnded, ProgramMissing
+import trial
+from abc2midi_live import Built, LibraryNeeded, ProcessSession, ProgramEnded, ProgramMissing, process
 
 
 class OverTheProcess(sessions.Sessions):
@@ -18,6 +23,13 @@ class OverTheProcess(sessions.Sessions):
 
     def test_there_are_no_counters(self) -> None:
         self.assertIsNone(self.session(sessions.TUNE).work)
+
+    def test_there_are_no_tokens(self) -> None:
+        session = self.session(sessions.TUNE)
+        with self.assertRaisesRegex(LibraryNeeded, "over the C library"):
+            session.tokens(1)
+        with self.assertRaises(IndexError):
+            session.tokens(6)
 
     def test_files(self) -> None:
         session = ProcessSession(setting.program, self.folder)
@@ -29,11 +41,13 @@ class OverTheProcess(sessions.Sessions):
         session.insert(1, ["X:2", "K:C", ""])
         self.assertEqual(session.build(), Built([], [], 2))
         self.assertEqual(sorted(os.listdir(self.folder)), ["1.mid", "2.mid"])
-        with self.assertRaisesRegex(ValueError, "no folder"):
-            self.session().build()
+        with self.begin() as other, self.assertRaisesRegex(ValueError, "no folder"):
+            other.build()
 
     def test_a_program_that_ends(self) -> None:
-        session = self.session(sessions.TUNE)
+        session = self.begin()
+        self.addCleanup(session.close)
+        session.insert(1, sessions.TUNE)
         os.kill(session.process.pid, signal.SIGKILL)
         for _ in range(2):
             with self.assertRaisesRegex(ProgramEnded, "status -9"):
@@ -47,7 +61,7 @@ class OverTheProcess(sessions.Sessions):
         session = ProcessSession("/bin/false", self.folder)
         self.addCleanup(session.close)
         calls: list[Callable[[], object]] = [lambda: session.faults, lambda: session.numbers, lambda: session.work, session.build]
-        calls += [lambda number=number: session.output(number) for number in (1, -1, 10**9)]
+        calls += [partial(session.output, number) for number in (1, -1, 10**9)]
         calls += [lambda: session.insert(7, "C"), lambda: session.delete(0, 10**9), lambda: session.set_text(""), lambda: session.apply([])]
         for call in calls:
             with self.assertRaisesRegex(ProgramEnded, "status 1"):
@@ -85,9 +99,35 @@ class OverTheProcess(sessions.Sessions):
             session.titles
         self.assertEqual(session.lines, sessions.TUNE)
 
+    def test_a_child_of_the_caller_that_has_the_pipe(self) -> None:
+        """`close` does not wait until the child ends too."""
+        session = ProcessSession(setting.program)
+        assert session.process.stdin
+        child = subprocess.Popen(["sleep", "1000"], pass_fds=[session.process.stdin.fileno()])
+        self.addCleanup(child.wait)
+        self.addCleanup(child.kill)
+        limit = threading.Timer(trial.SECONDS, child.kill)
+        limit.start()
+        session.insert(1, sessions.TUNE)
+        session.close()
+        limit.cancel()
+        self.assertEqual((child.poll(), session.process.returncode), (None, 0))
+
+    def test_a_program_that_does_not_end(self) -> None:
+        other = self.folder / "other"
+        other.write_text("#!/bin/sh\nexec sleep 1000\n")
+        other.chmod(0o755)
+        session = ProcessSession(other)
+        limit = threading.Timer(trial.SECONDS, session.process.terminate)
+        limit.start()
+        with mock.patch.object(process, "SECONDS_TO_END", 0.1):
+            session.close()
+        limit.cancel()
+        self.assertEqual(session.process.returncode, -signal.SIGKILL)
+
     def test_ctrl_c_does_not_reach_the_program(self) -> None:
-        session = self.session(sessions.TUNE)
-        self.assertNotEqual(os.getpgid(session.process.pid), os.getpgid(0))
+        with self.begin() as session:
+            self.assertNotEqual(os.getpgid(session.process.pid), os.getpgid(0))
 
 
 class Opened(setting.Room):
@@ -100,7 +140,8 @@ class Opened(setting.Room):
 
     def test_a_book(self) -> None:
         path = self.book(b"\xef\xbb\xbfX:1\nK:C\nC")
-        for name in (path, str(path)):
+        names: list[Union[str, Path]] = [path, str(path)]
+        for name in names:
             with abc2midi_live.open(name, program=setting.program) as session:
                 self.assertEqual((session.lines, session.numbers), ([b"X:1", b"K:C", b"C"], [1]))
         with abc2midi_live.open(program=setting.program) as session:

@@ -1,0 +1,282 @@
+// Tries the calls of the package in Node: node calls.mjs PACKAGE. Each test prints a line, `ok` or `FAILED`, with its name.
+
+import { readFileSync } from "node:fs";
+import { pathToFileURL } from "node:url";
+
+import { run, same } from "../clients/testing.mjs";
+
+const folder = process.argv[2];
+const load = (name) => import(pathToFileURL(`${folder}/${name}`));
+const { AbcError, EditError, Engine, Session, TrapError, isSupported } = await load("index.js");
+const { WorkerSession } = await load("worker.js");
+const faults = JSON.parse(readFileSync(new URL("../../python/abc2midi_live_clients/faults.json", import.meta.url)));
+
+const SCALE = "X:1\nT:Scale\nK:C\nCDEF GABc|\n";
+// A module with the function `t`, which stops.
+const TRAP = new Uint8Array([0, 97, 115, 109, 1, 0, 0, 0, 1, 4, 1, 96, 0, 0, 3, 2, 1, 0, 7, 5, 1, 1, 116, 0, 0, 10, 5, 1, 3, 0, 0, 11]);
+const trap = new WebAssembly.Instance(new WebAssembly.Module(TRAP)).exports.t;
+const { instantiate } = WebAssembly;
+const text = (bytes) => new TextDecoder().decode(bytes);
+const bytes = (of) => new TextEncoder().encode(of);
+const nothing = { written: [], removed: [] };
+
+/** The name of the error that a call throws or rejects with, or `nothing`. */
+async function thrown(call) {
+  try {
+    await call();
+  } catch (error) {
+    return error.name;
+  }
+  return "nothing";
+}
+
+/** A session with a text. */
+async function sessionOf(...texts) {
+  const session = await Session.open();
+  for (const one of texts) session.insert(session.lineCount + 1, one);
+  return session;
+}
+
+/** All that a session has. */
+const state = (it) => [it.lines, it.numbers.map((number) => it.output(number)), it.titles, it.faults, it.report, it.work];
+
+/** What `WebAssembly.instantiate` makes, with a call that stops the engine. */
+async function stopping(...words) {
+  const { instance } = await instantiate(...words);
+  return { instance: { exports: { ...instance.exports, abc_live_replace: trap } } };
+}
+
+await run({
+  "the shared engine is loaded again after it stopped, or was not loaded": async () => {
+    WebAssembly.instantiate = async () => { throw new Error("no network"); };
+    same(await thrown(() => Session.open()), "Error");
+    WebAssembly.instantiate = stopping;
+    const session = await sessionOf(SCALE);
+    same(await thrown(() => session.replace(1, 1, "X:2")), "TrapError");
+    WebAssembly.instantiate = instantiate;
+    const [second, third] = await Promise.all([Session.open(), Session.open()]);
+    same(second.setText(SCALE), { written: [1], removed: [] });
+    same(second.replace(1, 1, "X:2"), { written: [2], removed: [1] });
+    for (const it of [session, second, third]) it.close();
+  },
+  "the first MIDI file": async () => {
+    const session = await Session.open();
+    same(session.setText(SCALE), { written: [1], removed: [] });
+    same(text(session.output(1).subarray(0, 4)), "MThd");
+    same([session.numbers, session.titles, session.faults], [[1], [{ number: 1, text: "Scale", bytes: bytes("Scale") }], []]);
+    session.close();
+  },
+  "a new session has nothing": async () => {
+    const session = await Session.open();
+    same(state(session), [[], [], [], [], nothing, { scanned: 0, folded: 0, built: 0 }]);
+    same([session.output(0), session.lineCount], [null, 0]);
+    session.close();
+  },
+  "edits by lines, as text, bytes and arrays": async () => {
+    const session = await sessionOf(SCALE);
+    same(session.replace(4, 4, bytes("C2|\n")), { written: [1], removed: [] });
+    same(session.insert(5, ["", "X:2", bytes("K:C"), "D"]), { written: [2], removed: [] });
+    same(session.lines, ["X:1", "T:Scale", "K:C", "C2|", "", "X:2", "K:C", "D"]);
+    same(session.delete(1, 4), { written: [], removed: [1] });
+    same(session.replace(1, 4, ""), { written: [], removed: [2] });
+    same(session.lines, []);
+    session.close();
+  },
+  "refused edits change nothing": async () => {
+    const session = await sessionOf(SCALE);
+    const before = state(session);
+    const long = "C".repeat(65536), many = "\n".repeat(1048577);
+    const refused = {
+      BadRange: [() => session.insert(0, "C"), () => session.insert(6, long), () => session.replace(2, 1, ""), () => session.replace(4, 5, many),
+        () => session.delete(0, 1), () => session.delete(5, 5), () => session.insert(-1, "C"), () => session.insert(2 ** 32 + 1, "C")],
+      BadLine: [() => session.insert(1, long), () => session.insert(1, long + many), () => session.setText(long)],
+      TooLarge: [() => session.insert(1, many), () => session.replace(1, 1, many), () => session.setText(many)],
+      TypeError: [() => session.insert("1", "C"), () => session.insert(1.5, "C"), () => session.insert(1, 7), () => session.insert(1, ["C\n"])],
+    };
+    for (const [name, calls] of Object.entries(refused)) {
+      for (const call of calls) same([await thrown(call), state(session)], [name, before]);
+    }
+    session.close();
+  },
+  "a refused edit is an EditError with a sentence": async () => {
+    const session = await Session.open();
+    try {
+      session.delete(1, 1);
+      same("no error", "an error");
+    } catch (error) {
+      same([error instanceof EditError, error instanceof AbcError, error instanceof Error], [true, true, true]);
+      same(error.message, "the text does not have these lines, or they run backwards");
+    }
+    session.close();
+  },
+  "numbers without a file": async () => {
+    const session = await sessionOf(SCALE);
+    same([0, 2, -1, 2 ** 32, 2 ** 32 + 1].map((number) => session.output(number)), [null, null, null, null, null]);
+    same(await thrown(() => session.output("1")), "TypeError");
+    session.close();
+  },
+  "lines that are not there": async () => {
+    const session = await sessionOf("A\n");
+    for (const number of [0, 2, -1, 2 ** 32 + 1]) {
+      same([await thrown(() => session.line(number)), await thrown(() => session.lineBytes(number))], ["RangeError", "RangeError"]);
+    }
+    session.close();
+  },
+  "faults have columns in bytes and in UTF-16 units, and sentences": async () => {
+    const session = await sessionOf('X:1\nK:C\n"\u00e9\u{1d11e}"&C&\n', new Uint8Array([0xe9, 10]));
+    const { wrong, instead } = faults.find(({ name }) => name === "BadByte");
+    const found = (line, column, utf16Column) => ({ line, column, utf16Column, name: "BadByte", wrong, instead });
+    same(session.faults, [found(3, 9, 6), found(3, 11, 8), found(4, 1, 1)]);
+    same([session.utf16Column(3, 11), session.byteColumn(3, 8), session.utf16Column(4, 2)], [8, 11, 2]);
+    session.close();
+  },
+  "tokens have columns in bytes and in UTF-16 units": async () => {
+    const session = await sessionOf('X:1 % one\r\nK:C\n"\u00e9\u{1d11e}"[C_E]2|\n', new Uint8Array([0xe9, 67, 10]), "\nfree\n");
+    const token = (from, to, utf16From, utf16To, kind, depth = 0) => ({ from, to, utf16From, utf16To, kind, depth });
+    same(session.tokens(1), [token(1, 5, 1, 5, "NumberField"), token(5, 10, 5, 10, "Comment")]);
+    same(session.tokens(2), [token(1, 4, 1, 4, "KeyField")]);
+    same(session.tokens(3), [token(1, 9, 1, 6, "Quoted"), token(9, 15, 6, 12, "Chord"), token(10, 11, 7, 8, "Note", 1), token(11, 13, 8, 10, "Note", 1),
+      token(15, 16, 12, 13, "BarLine")]);
+    same(session.tokens(4), [token(1, 2, 1, 2, "BadByte"), token(2, 3, 2, 3, "Note")]);
+    same([session.tokens(5), session.tokens(6)], [[token(1, 1, 1, 1, "Blank")], [token(1, 5, 1, 5, "FreeText")]]);
+    for (const number of [0, 7, -1, 2 ** 32 + 1]) same(await thrown(() => session.tokens(number)), "RangeError");
+    session.close();
+  },
+  "the tokens of a line that is longer than the room for answers": async () => {
+    const session = await sessionOf("X:1\nK:C\n", "C".repeat(65535));
+    const before = session.work.scanned, tokens = session.tokens(3);
+    same([tokens.length, tokens.at(-1)], [65535, { from: 65535, to: 65536, utf16From: 65535, utf16To: 65536, kind: "Note", depth: 0 }]);
+    same(session.work.scanned > before, true);
+    session.close();
+  },
+  "a worker has the same tokens": async () => {
+    const session = await sessionOf(SCALE), worker = await WorkerSession.open();
+    await worker.setText(SCALE);
+    same(await worker.tokens(4), session.tokens(4));
+    await worker.close();
+    session.close();
+  },
+  "each kind of token is that of the header": async () => {
+    const { kindOf } = await load("tokens.js");
+    const header = readFileSync(new URL("../../c/abc2midi_live.h", import.meta.url), "utf-8");
+    const kinds = [...header.matchAll(/ABC_LIVE_TOKEN_(\w+) = (\d+)/g)];
+    same(kinds.map(([, name]) => name), kinds.map((_, n) => kindOf(n + 1).replace(/(?<=[a-z])[A-Z]/g, "_$&").toUpperCase()));
+    same([kinds.map(([, , number]) => Number(number)), kindOf(kinds.length + 1)], [kinds.map((_, n) => n + 1), "Other"]);
+  },
+  "each fault of the program has its sentences": async () => {
+    const { SENTENCES } = await load("faults.js");
+    const wanted = faults.filter((fault) => fault.of === "program").map(({ name, wrong, instead }) => [name, { wrong, instead }]);
+    same(Object.entries(SENTENCES), wanted);
+  },
+  "texts that are not UTF-8 keep their bytes": async () => {
+    const title = new Uint8Array([0x54, 0x3a, 0x63, 0x61, 0x66, 0xe9]);
+    const session = await sessionOf("X:1\n", title, "K:C\n");
+    same(session.titles, [{ number: 1, text: "caf\u00e9", bytes: title.slice(2) }]);
+    same([session.line(2), session.lineBytes(2)], ["T:caf\u00e9", title]);
+    session.close();
+  },
+  "setText makes few edits and one report": async () => {
+    const session = await Session.open();
+    const book = (...bodies) => bodies.map((body, n) => `X:${n + 1}\nK:C\n${body}|\n`).join("\n");
+    same(session.setText(book("C", "D", "E")), { written: [1, 2, 3], removed: [] });
+    same(session.setText(book("C", "D", "E")), nothing);
+    const before = session.work;
+    same(session.setText(book("C2", "D", "E2")), { written: [1, 3], removed: [] });
+    same(session.work.scanned - before.scanned <= 4, true);
+    same(session.setText(book("C2", "D")), { written: [], removed: [3] });
+    same(session.report, { written: [], removed: [3] });
+    same(session.lines, book("C2", "D").split("\n").slice(0, -1));
+    session.close();
+  },
+  "setText after other edits, with a byte order mark, and to nothing": async () => {
+    const session = await sessionOf(SCALE);
+    session.setText(`\ufeff${SCALE.replace("CDEF", "c")}`);
+    session.insert(1, ["% words"]);
+    same(session.setText(bytes(SCALE)), { written: [1], removed: [] });
+    same(session.lines, SCALE.split("\n").slice(0, -1));
+    same(session.setText(""), { written: [], removed: [1] });
+    same(session.lineCount, 0);
+    session.close();
+  },
+  "a setText of two edits that is refused changes nothing": async () => {
+    const session = await sessionOf("X:1\nK:C\nC\n\nX:2\nK:C\nD\n");
+    const before = state(session);
+    same(await thrown(() => session.setText(`X:1\nK:C\nE\n\nX:2\nK:C\n${"C".repeat(65536)}\n`)), "BadLine");
+    same(state(session), before);
+    session.close();
+  },
+  "a number that moves from one edit to another is written and not removed": async () => {
+    const session = await sessionOf("X:1\nK:C\nC\n\nX:2\nK:C\nD\n\nX:3\nK:C\nE\n");
+    same(session.setText("X:4\nK:C\nC\n\nX:2\nK:C\nD\n\nX:1\nK:C\nE\n"), { written: [1, 4], removed: [3] });
+    session.close();
+  },
+  "closed sessions say so": async () => {
+    const session = await sessionOf(SCALE);
+    session.close();
+    session.close();
+    const calls = [() => session.insert(1, ""), () => session.setText(""), () => session.output(1), () => session.numbers, () => session.titles];
+    calls.push(() => session.faults, () => session.lines, () => session.line(1), () => session.report, () => session.work, () => session.lineCount);
+    for (const call of calls) same(await thrown(call), "ClosedError");
+  },
+  "a session disposes of itself": async () => {
+    const session = await Session.open();
+    session[Symbol.dispose]();
+    same(await thrown(() => session.numbers), "ClosedError");
+  },
+  "sessions share an engine, or have one of their own": async () => {
+    const engine = await Engine.load(readFileSync(`${folder}/abc2midi_live.wasm`));
+    const [one, two, other] = [await Session.open({ engine }), await Session.open({ engine }), await Session.open()];
+    one.setText(SCALE);
+    other.setText(SCALE);
+    same([two.numbers, one.output(1)], [[], other.output(1)]);
+    one.close();
+    two.setText(SCALE);
+    same(two.output(1), other.output(1));
+    for (const session of [two, other]) session.close();
+  },
+  "an engine that stops refuses all later calls, and another one takes its place": async () => {
+    const { exports } = await WebAssembly.instantiate(new WebAssembly.Module(readFileSync(`${folder}/abc2midi_live.wasm`)));
+    let stops = false;
+    const engine = new Engine({ ...exports, abc_live_replace: (...words) => (stops ? trap() : exports.abc_live_replace(...words)) });
+    const [session, beside] = [await Session.open({ engine }), await Session.open({ engine })];
+    const mine = bytes(SCALE);
+    session.insert(1, mine);
+    stops = true;
+    const calls = [() => session.replace(1, 1, mine), () => session.insert(1, mine), () => session.output(1), () => beside.numbers];
+    for (const call of calls) same(await thrown(call), "TrapError");
+    same([engine.isStopped, text(mine)], [true, SCALE]);
+    session.close();
+    same(await thrown(() => session.numbers), "ClosedError");
+    same(await thrown(() => Session.open({ engine })), "TrapError");
+    const another = await Session.open();
+    same(another.setText(mine), { written: [1], removed: [] });
+    another.close();
+  },
+  "a worker has the same calls": async () => {
+    same(WorkerSession.isSupported(), isSupported());
+    const [session, worker] = [await Session.open(), await WorkerSession.open()];
+    const given = bytes(SCALE);
+    const calls = [(it) => it.setText(given), (it) => it.insert(5, ["X:2", "K:C", "D?"]), (it) => it.replace(4, 4, "E|"), (it) => it.delete(1, 1)];
+    calls.push((it) => it.report, (it) => it.output(2), (it) => it.output(1), (it) => it.numbers, (it) => it.titles, (it) => it.faults);
+    calls.push((it) => it.lineCount, (it) => it.lines, (it) => it.line(2), (it) => it.lineBytes(2), (it) => it.utf16Column(2, 3));
+    calls.push((it) => it.byteColumn(2, 3), (it) => it.work);
+    for (const call of calls) same(await call(worker), await call(session));
+    const wrong = [(it) => it.delete(0, 0), (it) => it.insert(1, "C".repeat(65536)), (it) => it.line(99), (it) => it.insert("1", "")];
+    for (const call of wrong) same(await thrown(() => call(worker)), await thrown(() => call(session)));
+    same(text(given), SCALE);
+    session.close();
+    await worker.close();
+    same(await thrown(() => worker.numbers), "ClosedError");
+    await worker.close();
+  },
+  "calls of a worker that closes are rejected": async () => {
+    const worker = await WorkerSession.open();
+    const asked = thrown(() => worker.setText(SCALE));
+    await worker.close();
+    same(await asked, "ClosedError");
+  },
+  "a worker that cannot load the module says so": async () => {
+    same(await thrown(() => WorkerSession.open({ module: new Uint8Array(4) })), "AbcError");
+    same(await thrown(() => WorkerSession.open({ module: "file:///nowhere/a.wasm" })), "AbcError");
+  },
+});

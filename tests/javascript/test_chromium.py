@@ -1,0 +1,109 @@
+"""Tries the package in Chromium: conversations of the program, in the page and in a worker, and the memory."""
+
+from __future__ import annotations
+
+import functools
+import http.server
+import shutil
+import textwrap
+import threading
+import unittest
+from typing import Any
+
+import browser
+import common
+
+AT_ONCE = 50  # conversations in one call of the driver
+MEMORY = """
+const { Engine, Session } = await import("/package/index.js");
+const engine = await Engine.load();
+let first = 0;
+for (let n = 0; n < 100; n += 1) {
+  const session = await Session.open({ engine });
+  session.setText(book);
+  session.close();
+  first ||= engine.memoryBytes;
+}
+return [engine.memoryBytes, first];
+"""
+
+
+class Quiet(http.server.SimpleHTTPRequestHandler):
+    """A server of files that prints nothing."""
+
+    def log_message(self, *words: object) -> None:
+        pass
+
+
+@unittest.skipIf(browser.lacking(), browser.lacking())
+class InChromium(common.Room):
+    """A page on a server of files, as any server has them."""
+
+    def setUp(self) -> None:
+        super().setUp()
+        shutil.copytree(common.package, self.folder / "package")
+        for name in ("conversation.mjs", "in_browser.js"):
+            shutil.copy(common.TESTS / name, self.folder)
+        (self.folder / "index.html").write_text("<!doctype html><title>a test</title>")
+        server = http.server.ThreadingHTTPServer(("127.0.0.1", 0), functools.partial(Quiet, directory=str(self.folder)))
+        threading.Thread(target=server.serve_forever, daemon=True).start()
+        self.addCleanup(server.server_close)
+        self.addCleanup(server.shutdown)
+        try:
+            self.driver = browser.started()
+        except browser.NotStarted as error:
+            self.skipTest(f"Chromium did not start: {error}")
+        self.addCleanup(self.driver.quit)
+        self.address = f"http://127.0.0.1:{server.server_port}"
+        self.driver.get(self.address)
+
+    def value_of(self, script: str, *words: Any) -> Any:
+        """What the body of an asynchronous function returns in the page. `words` are its parameters, `book` the first of them."""
+        call = f"(async (book, words) => {{ {script} }})(...arguments).then((value) => [value], (error) => error.stack)"
+        found = self.driver.execute_async_script(f"{call}.then(arguments[2]);", *words, *[None] * (2 - len(words)))
+        self.assertIsInstance(found, list, found)
+        return found[0]
+
+    def answer(self, kind: str, conversations: list[common.Conversation]) -> None:
+        """Compares the answers of sessions of a kind with the wanted ones."""
+        for name, stream, _ in conversations:
+            (self.folder / name).write_bytes(stream)
+        script = 'const { answers } = await import("/in_browser.js"); return answers(book, words);'
+        names = [name for name, _, _ in conversations]
+        found = [answers for n in range(0, len(names), AT_ONCE) for answers in self.value_of(script, kind, names[n : n + AT_ONCE])]
+        self.assertEqual(len(found), len(conversations))
+        for (name, _, wanted), answers in zip(conversations, found):
+            with self.subTest(name):
+                self.assertEqual(answers.encode("latin-1"), wanted)
+
+    def test_conversations(self) -> None:
+        self.answer("session", common.conversations())
+
+    def test_conversations_in_a_worker(self) -> None:
+        self.answer("worker", common.conversations()[::10])
+
+    def test_the_memory_is_as_large_after_100_books_as_after_one(self) -> None:
+        book = "\n".join(f"X:{n}\nT:Tune {n}\nK:D\nDFAd fdAF|GBdg bgdB|A4 B4|^c8|]\n" for n in range(1, 201))
+        last, first = self.value_of(MEMORY, book)
+        self.assertEqual(last, first)
+
+    def test_the_page_of_the_document(self) -> None:
+        """The page in docs/javascript.md makes a MIDI file at once, and shows the faults of what is typed."""
+        document = (common.TOP / "docs/javascript.md").read_text("utf-8")
+        page = document[document.index("    <!doctype html>") : document.index("## What it needs")]
+        (self.folder / "page.html").write_text(textwrap.dedent(page), "utf-8")
+        shutil.copytree(common.package, self.folder / "abc2midi-live")
+        self.driver.get(f"{self.address}/page.html")
+        area, link, faults = (self.driver.find_element("id", name) for name in ("abc", "midi", "faults"))
+        browser.wait(lambda: link.get_attribute("href"))
+        begin = "return Array.from(new Uint8Array(await (await fetch(document.getElementById('midi').href)).arrayBuffer()).slice(0, 4));"
+        self.assertEqual(bytes(self.value_of(begin)), b"MThd")
+        self.assertEqual(faults.text, "")
+        area.send_keys("\u00e9")
+        browser.wait(lambda: faults.text)
+        self.assertEqual([line.partition(" ")[0] for line in faults.text.splitlines()], ["4:11", "4:11"])
+
+    def test_nothing_is_written_to_the_console(self) -> None:
+        self.value_of('const { Session } = await import("/package/index.js"); (await Session.open()).setText(book);', "X:1\nK:C\nC\n")
+        logged = [entry["message"] for entry in self.driver.get_log("browser") if "favicon" not in entry["message"]]
+        self.assertEqual(logged, [])

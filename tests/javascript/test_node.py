@@ -1,0 +1,48 @@
+"""Tries the package in Node: conversations of the program, the calls, and the memory."""
+
+from __future__ import annotations
+
+import unittest
+
+import common
+
+
+@unittest.skipUnless(common.node(), "there is no Node with 64-bit memories")
+class InNode(common.Room):
+    def answer(self, kind: str, conversations: list[common.Conversation]) -> None:
+        """Compares the answers of sessions of a kind with the wanted ones."""
+        for name, stream, _ in conversations:
+            (self.folder / name).write_bytes(stream)
+        names = [str(self.folder / name) for name, _, _ in conversations]
+        self.lines_of([*common.node(), str(common.TESTS / "answer.mjs"), str(common.package), kind, *names])
+        for name, _, wanted in conversations:
+            with self.subTest(name):
+                self.assertEqual((self.folder / f"{name}.answers").read_bytes(), wanted)
+
+    def test_conversations(self) -> None:
+        self.answer("session", common.conversations())
+
+    def test_conversations_of_two_sessions_on_one_engine(self) -> None:
+        self.answer("two", common.conversations()[::4])
+
+    def test_conversations_in_a_worker(self) -> None:
+        self.answer("worker", common.conversations()[::10])
+
+    def test_calls(self) -> None:
+        self.assert_ok([*common.node(), str(common.TESTS / "calls.mjs"), str(common.package)], 20)
+
+    def test_memory(self) -> None:
+        words = [*common.node(), "--expose-gc", str(common.TESTS / "memory.mjs"), str(common.package)]
+        self.assert_ok(words, 5)
+
+
+class WithoutMemories(common.Room):
+    """A Node that has no 64-bit memories gets a plain sentence."""
+
+    @unittest.skipUnless(len(common.node()) == 2, "each Node here has 64-bit memories")
+    def test_the_sentence(self) -> None:
+        script = f"const {{ Session }} = await import('file://{common.package}/index.js');"
+        script += "console.log(Session.isSupported()); await Session.open().catch(({ name, message }) => console.log(name, message));"
+        lines = self.lines_of([common.node()[0], "--input-type=module", "-e", script])
+        self.assertEqual(lines[0], "false")
+        self.assertRegex(lines[1], "^NotSupportedError there are no 64-bit WebAssembly memories here: use Chromium 133")
