@@ -5,10 +5,11 @@ _abc2midi_live() {
     compopt -o filenames 2>/dev/null
     COMPREPLY=()
     case $before in
-    --dir) mapfile -t COMPREPLY < <(compgen -d -- "$word") ;;
+    --dir | --to) mapfile -t COMPREPLY < <(compgen -d -- "$word") ;;
     --play) mapfile -t COMPREPLY < <(compgen -c -- "$word") ;;
-    --program) mapfile -t COMPREPLY < <(compgen -f -- "$word") ;;
-    --port) ;;
+    --program | --library | --report) mapfile -t COMPREPLY < <(compgen -f -- "$word") ;;
+    --catalogue) mapfile -t COMPREPLY < <(compgen -W 'csv jsonl' -- "$word") ;;
+    --port | --jobs | --scheduler) ;;
     *)
         if [[ $word == -* ]]; then
             mapfile -t COMPREPLY < <(compgen -W "$("$1" --help 2>&1 | grep -oE -- '--[a-z][a-z-]*' | sort -u)" -- "$word")
@@ -19,4 +20,4 @@ _abc2midi_live() {
     esac
 }
 
-complete -F _abc2midi_live abc2midi_live abc2midi_live-{watch,page,language-server,uninstall}
+complete -F _abc2midi_live abc2midi_live abc2midi_live-{watch,page,language-server,archive,uninstall}

@@ -5,11 +5,15 @@ from __future__ import annotations
 import re
 from dataclasses import dataclass, field
 from pathlib import Path
+from typing import Mapping
 
-# Processor seconds of a crate's proof, fitted to the times of a whole `./check`; the order is not exact, the sum is.
-SECONDS_OF_A_CRATE = 10.0
-SECONDS_OF_A_LINE_OF_CODE = 0.06
-SECONDS_OF_A_LINE_OF_PROOF = 0.02
+# Processor seconds of a crate's proof, fitted to the times of whole runs of `./check`: one crate may take twice as long or half, the sum
+# is near. The toolkit reads the statements of all crates below, and compiles a program with all of their code.
+SECONDS_OF_A_CRATE = 5.0
+SECONDS_OF_A_CRATE_BELOW = 2.0
+SECONDS_OF_A_PROGRAM = 100.0
+SECONDS_OF_A_LINE_OF_CODE = 0.08
+SECONDS_OF_A_LINE_OF_PROOF = 0.005
 SECONDS_OF_AN_EDIT = 20.0  # and of the first of several as much as the proof of the crate
 
 
@@ -51,18 +55,20 @@ def read_crates(top: Path) -> dict[str, Crate]:
             crates[name] = Crate(name, row, uses.split())
     for crate in crates.values():
         crate.uses = [name for name in crate.uses if name in crates]
-        measure(crate, top / "crates" / crate.name)
+        measure(crate, top / "crates" / crate.name, len(needed_by(crates, crate.name)) - 1)
     return crates
 
 
-def measure(crate: Crate, folder: Path) -> None:
-    """Counts the functions, the lines and the must-fail edits of a crate."""
+def measure(crate: Crate, folder: Path, below: int) -> None:
+    """Counts the functions, the lines and the must-fail edits of a crate with so many crates below it."""
     code = [path.read_text(encoding="utf-8") for path in (folder / "src").rglob("*.rt")]
     proof = [path for part in ("specs", "proofs") for path in (folder / part).rglob("*.antt")]
     crate.functions = sum(len(re.findall(r"^\s*(?:pub(?:\(\w+\))? )?(?:const )?fn \w", text, re.M)) for text in code)
     crate.edits = len(list((folder / "must-fail").glob("*.edit")))
     crate.seconds = (
         SECONDS_OF_A_CRATE
+        + SECONDS_OF_A_CRATE_BELOW * below
+        + SECONDS_OF_A_PROGRAM * (folder / "src/main.rt").is_file()
         + SECONDS_OF_A_LINE_OF_CODE * sum(text.count("\n") for text in code)
         + SECONDS_OF_A_LINE_OF_PROOF * sum(path.read_bytes().count(b"\n") for path in proof)
     )
@@ -74,6 +80,15 @@ def needed_by(crates: dict[str, Crate], top: str) -> dict[str, Crate]:
     for crate in reversed(list(crates.values())):
         if crate.name in names:
             names.update(crate.uses)
+    return {name: crate for name, crate in crates.items() if name in names}
+
+
+def users_of(crates: dict[str, Crate], bottom: str) -> dict[str, Crate]:
+    """The crate of this name and all above it that use it, lowest first: what is proved again after a change of it."""
+    names = {bottom}
+    for crate in crates.values():
+        if not names.isdisjoint(crate.uses):
+            names.add(crate.name)
     return {name: crate for name, crate in crates.items() if name in names}
 
 
@@ -97,22 +112,19 @@ def longest_chain(crates: dict[str, Crate]) -> list[str]:
     return found
 
 
-def schedule(crates: dict[str, Crate], processors: int, kept: frozenset[str] = frozenset()) -> Schedule:
+def schedule(crates: dict[str, Crate], processors: int, done: Mapping[str, float] = {}, now: float = 0.0) -> Schedule:
     """When the proofs end if each processor takes the crate with the longest chain next, as `rt ci` does; edits fill the rest.
-    Kept crates take no time."""
-    remaining, made = chain_from(crates), Schedule()
+    The crates that are done ended when `done` says, and the others end after `now`."""
+    remaining, made = chain_from(crates), Schedule(dict(done))
     free = [0.0] * processors
-    left = sorted(crates.values(), key=lambda crate: -remaining[crate.name])
+    left = sorted((crate for crate in crates.values() if crate.name not in done), key=lambda crate: -remaining[crate.name])
     while left:
         crate = min(left, key=lambda it: (max(ready(it, made), min(free)), -remaining[it.name]))
         left.remove(crate)
-        if crate.name in kept:
-            made.ends[crate.name] = ready(crate, made)
-            continue
         lane = min(range(processors), key=free.__getitem__)
-        free[lane] = max(free[lane], ready(crate, made)) + crate.seconds
+        free[lane] = max(max(free[lane], ready(crate, made)) + crate.seconds, now)
         made.ends[crate.name] = free[lane]
-    made.work = sum(crate.seconds * (crate.name not in kept) + crate.seconds_of_edits for crate in crates.values()) / processors
+    made.work = sum(crate.seconds * (crate.name not in done) + crate.seconds_of_edits for crate in crates.values()) / processors
     return made
 
 
