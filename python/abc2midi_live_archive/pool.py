@@ -97,8 +97,16 @@ class Pool(Workers):
         yield done
 
     def stop(self) -> None:
-        for process in multiprocessing.active_children():
-            process.kill()
+        kill_processes()
+
+
+def kill_processes() -> None:
+    """Kills the processes of all pools. When it returns, they write no more."""
+    processes = multiprocessing.active_children()
+    for process in processes:
+        process.kill()
+    for process in processes:
+        process.join()
 
 
 @contextmanager
@@ -108,8 +116,7 @@ def executor(processes: int) -> Iterator[ProcessPoolExecutor]:
     try:
         yield pool
     except BaseException:
-        for process in multiprocessing.active_children():
-            process.kill()
+        kill_processes()
         raise
     finally:
         pool.shutdown(cancel_futures=True)

@@ -16,7 +16,7 @@ from typing import Any, NamedTuple, Optional
 
 TOP = Path(__file__).resolve().parent.parent.parent
 COMMAND = TOP / "clients/archive"
-SECONDS = 300  # that a run may take, on a slow machine too
+SECONDS = 1800  # that a run may take: it ends those that hang, and a machine with much other work takes ten times as long as a quiet one
 sys.path[:0] = [str(TOP / "python"), str(TOP / "tests/clients")]
 import trial  # noqa: E402
 

@@ -2,6 +2,7 @@
 
 from __future__ import annotations
 
+import importlib
 import importlib.util
 import json
 import os
@@ -25,7 +26,6 @@ from abc2midi_live_archive import compiling
 from abc2midi_live_archive.cutting import Cut, cut_book
 from abc2midi_live_archive.units import Backend, Outcome, Unit
 from books import EXAMPLES, TUNE
-
 
 
 class OverTheProcess(books.Books):
@@ -156,50 +156,58 @@ class Failures(setting.Runs):
         return ran
 
 
-class Stops(setting.Runs):
-    """Runs that are stopped, and workers that are killed. The program that they start is a slow one."""
+class Slow(setting.Runs):
+    """Runs over forty books, by a program that takes its time and that a test can hold."""
 
     def setUp(self) -> None:
         super().setUp()
         self.books = {f"book_{number}": setting.random_book(number) for number in range(40)}
         for name, book in self.books.items():
             self.write(f"in/{name}.abc", book)
-        slow = self.write("slow", f'#!/bin/sh\nsleep 0.1\nexec {shlex.quote(str(setting.program))} "$@"\n'.encode())
+        self.turns = self.folder / "turns"
+        slow = self.write("slow", SLOW.format(shlex.quote(str(self.turns)), shlex.quote(str(setting.program))).encode())
         slow.chmod(0o755)
+
+    def hold(self, turns: int) -> None:
+        """Lets this number of programs go on, and the others wait: so no run ends by itself, however slow the test is."""
+        for number in range(turns):
+            (self.turns / str(number)).mkdir(parents=True)
+
+    def release(self) -> None:
+        """Lets all programs go on."""
+        self.turns.rename(self.folder / "released")
 
     def backend(self) -> list[str]:
         return ["--program", str(self.folder / "slow")]
 
     def start_and_wait(self, *words: Any) -> "subprocess.Popen[bytes]":
         """Starts a run, and waits for its first files."""
-        process = self.start(self.folder / "in", "--jobs", "2", *words)
+        process = self.start(self.folder / "in", *words)
         wait_for(lambda: bool(list(self.to.glob("*/*.mid"))) or process.poll() is not None)
         return process
 
-    def assert_resumes(self) -> None:
-        """Looks at the files of a stopped run, and completes it."""
-        self.assertTrue(all(path.endswith(".mid") and ".new" not in path for path in setting.tree(self.to)), setting.tree(self.to).keys())
-        self.run_archive(self.folder / "in")
-        self.assert_as_fresh(self.books)
+
+class Stops(Slow):
+    """Runs that are stopped, and workers that are killed."""
 
     def test_ctrl_c_ends_a_run_at_once_with_a_summary(self) -> None:
-        """The program answers for one book alone, so the run would never end by itself."""
-        slow = self.folder / "slow"
-        script = slow.read_text()
-        slow.write_text(ONCE.format(shlex.quote(str(self.folder / "first")), shlex.quote(str(setting.program))))
-        process = self.start_and_wait()
+        self.hold(1)
+        process = self.start_and_wait("--jobs", "2")
         workers = setting.workers_of(process.pid)
         os.killpg(process.pid, signal.SIGINT)  # as a terminal does
         out, err = process.communicate(timeout=setting.SECONDS)
-        slow.write_text(script)
         self.assertEqual((process.returncode, b"Traceback" in err), (1, False), err)
-        self.assertRegex(out.decode(), r"books? compiled, .* not done; 0:\d\d; stopped\n$")
+        self.assertRegex(out.decode(), r"books? compiled, .* not done; \d+:\d\d; stopped\n$")
         self.assertTrue(workers)
         wait_for(lambda: not any(Path(f"/proc/{worker}").exists() for worker in workers))
-        self.assert_resumes()
+        self.assertEqual([path for path in setting.tree(self.to) if not path.endswith(".mid")], [])
+        self.release()
+        self.run_archive(self.folder / "in")
+        self.assert_as_fresh(self.books)
 
     def test_a_run_that_is_killed_leaves_no_half_file_and_no_worker(self) -> None:
-        process = self.start_and_wait()
+        self.hold(20)
+        process = self.start_and_wait("--jobs", "2")
         workers = setting.workers_of(process.pid)
         process.kill()
         process.wait()
@@ -207,6 +215,7 @@ class Stops(setting.Runs):
         wait_for(lambda: not any(Path(f"/proc/{worker}").exists() for worker in workers))
         whole = {path: data for path, data in self.wanted().items()}
         self.assertEqual([path for path, data in setting.tree(self.to).items() if path.endswith(".mid") and whole.get(path) != data], [])
+        self.release()
         self.run_archive(self.folder / "in")
         self.assertEqual(setting.tree(self.to), whole)
 
@@ -215,14 +224,19 @@ class Stops(setting.Runs):
         return {f"{name}/{file}": data for name, book in self.books.items() for file, data in trial.fresh(book, trial.oracle).files.items()}
 
     def test_workers_that_are_killed_change_nothing(self) -> None:
+        """They are killed while there are other books: one that is done alone has three trials, and many kills would use them up."""
         chance, killed = random.Random(setting.seed), 0
-        process = self.start_and_wait("--catalogue", "csv")
-        while killed < 10 and process.poll() is None:
+        self.hold(20)
+        process = self.start_and_wait("--jobs", "2", "--catalogue", "csv")
+        end = time.monotonic() + setting.SECONDS
+        while killed < 10 and process.poll() is None and time.monotonic() < end:
             time.sleep(chance.uniform(0.1, 0.4))
             workers = setting.workers_of(process.pid)
-            if workers:
-                os.kill(chance.choice(workers), signal.SIGKILL)
-                killed += 1
+            with suppress(ProcessLookupError):  # the pool ends the others when one was killed
+                if workers:
+                    os.kill(chance.choice(workers), signal.SIGKILL)
+                    killed += 1
+        self.release()
         out, err = process.communicate(timeout=setting.SECONDS)
         self.assertEqual((process.returncode, killed, b"Traceback" in err), (0, 10, False), (out, err))
         self.assert_as_fresh(self.books)
@@ -237,10 +251,17 @@ class Stops(setting.Runs):
         self.assert_as_fresh(self.books)
 
 
-# A program that answers the first who starts it.
-ONCE = """#!/bin/sh
-if mkdir {} 2>/dev/null; then exec {} "$@"; fi
-exec cat >/dev/null
+# A program that takes its time. While there is a folder for turns, it needs one of them to go on. It ends if its worker was killed.
+SLOW = """#!/bin/sh
+sleep 0.1
+for turn in {0}/*; do
+    if rmdir "$turn" 2>/dev/null; then exec {1} "$@"; fi
+done
+while [ -d {0} ]; do
+    kill -0 "$PPID" || exit
+    sleep 0.1
+done
+exec {1} "$@"
 """
 
 # A program that kills the worker that started it if it is asked for a certain line.
@@ -253,19 +274,14 @@ done | {} "$@"
 
 
 @unittest.skipIf(importlib.util.find_spec("distributed") is None, "this Python has no distributed: install python3-distributed")
-class Clusters(setting.Runs):
+class Clusters(Slow):
     """Runs over a scheduler of Dask and three workers on this machine."""
 
     def backend(self) -> list[str]:
-        return ["--program", str(self.folder / "slow"), "--scheduler", self.address]
+        return [*super().backend(), "--scheduler", self.address]
 
     def setUp(self) -> None:
         super().setUp()
-        self.books = {f"book_{number}": setting.random_book(number) for number in range(40)}
-        for name, book in self.books.items():
-            self.write(f"in/{name}.abc", book)
-        slow = self.write("slow", f'#!/bin/sh\nsleep 0.1\nexec {shlex.quote(str(setting.program))} "$@"\n'.encode())
-        slow.chmod(0o755)
         file = self.folder / "scheduler.json"
         self.scheduler = self.dask("distributed.cli.dask_scheduler", "--port", "0", "--no-dashboard", "--scheduler-file", str(file), "--host", "127.0.0.1")
         wait_for(file.exists)
@@ -275,6 +291,8 @@ class Clusters(setting.Runs):
             self.dask("distributed.cli.dask_worker", self.address, "--nthreads", "1", "--no-dashboard", "--local-directory", str(place))
             for place in places
         ]
+        with importlib.import_module("distributed").Client(self.address, timeout=setting.SECONDS) as client:
+            client.wait_for_workers(len(self.workers), timeout=setting.SECONDS)  # a run waits for one worker, half a minute at most
 
     def dask(self, module: str, *words: str) -> "subprocess.Popen[bytes]":
         """Starts a process of the cluster."""
@@ -298,18 +316,20 @@ class Clusters(setting.Runs):
         self.assertIn("40 as before", self.run_archive(self.folder / "in", "--collect").out)
 
     def test_a_worker_that_is_killed_changes_nothing(self) -> None:
-        process = self.start(self.folder / "in")
-        wait_for(lambda: bool(list(self.to.glob("*/*.mid"))) or process.poll() is not None)
+        self.hold(20)
+        process = self.start_and_wait()
         setting.end_group(self.workers[0])
+        self.release()
         out, err = process.communicate(timeout=setting.SECONDS)
         self.assertEqual(process.returncode, 0, (out, err))
         self.assert_as_fresh(self.books)
 
     def test_a_scheduler_that_ends_ends_the_run(self) -> None:
-        process = self.start(self.folder / "in")
-        wait_for(lambda: bool(list(self.to.glob("*/*.mid"))) or process.poll() is not None)
+        self.hold(20)
+        process = self.start_and_wait()
         setting.end_group(self.scheduler)
         _, err = process.communicate(timeout=setting.SECONDS)
+        self.release()
         self.assertEqual((process.returncode, b"Traceback" in err), (1, False), err)
         self.assertIn(b"archive: the scheduler ended", err)
 
