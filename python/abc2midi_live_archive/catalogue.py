@@ -163,7 +163,8 @@ class Catalogue:
     def close(self) -> None:
         """Commits what is kept, and closes the catalogue. Raises BadCatalogue."""
         try:
-            self.ask("COMMIT")
+            if self.database.in_transaction:  # a full disk ends the transaction
+                self.ask("COMMIT")
         finally:
             self.database.close()
 

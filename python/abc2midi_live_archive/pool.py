@@ -55,9 +55,10 @@ class Pool(Workers):
         return False
 
     def give(self, pool: ProcessPoolExecutor, units: Iterator[Unit], futures: dict[Future[Result], Unit]) -> bool:
-        """Gives the pool as many units as its processes can have; returns whether it has any."""
-        for unit in self.take(units, self.processes * AHEAD - len(futures)):
-            self.under_way[unit.book] = unit
+        """Gives the pool as many units as its processes can have; returns whether it has any. Raises BrokenProcessPool."""
+        taken = self.take(units, self.processes * AHEAD - len(futures))
+        self.under_way.update((unit.book, unit) for unit in taken)  # all of them: the pool may refuse the first one
+        for unit in taken:
             futures[submit(pool, unit)] = unit
         return bool(futures)
 

@@ -3,17 +3,22 @@
 from __future__ import annotations
 
 import io
+import itertools
 import os
 import tarfile
 import unittest
 import zipfile
+from concurrent.futures import Future
+from concurrent.futures.process import BrokenProcessPool
+from contextlib import nullcontext
 from pathlib import Path
 from typing import Optional
 from unittest import mock
 
 import setting
-from abc2midi_live_archive import reading, storing
+from abc2midi_live_archive import pool, reading, storing
 from abc2midi_live_archive.allocator import choose_allocator
+from abc2midi_live_archive.catalogue import BadCatalogue, Catalogue
 from abc2midi_live_archive.compiling import excerpt
 from abc2midi_live_archive.cutting import Part, cut_book
 from abc2midi_live_archive.music import Facts, facts_of
@@ -21,6 +26,7 @@ from abc2midi_live_archive.names import MOST_CHARACTERS, Names
 from abc2midi_live_archive.progress import clock, line
 from abc2midi_live_archive.reading import Member, read_file, read_members
 from abc2midi_live_archive.sources import BadSource, Source, find_books
+from abc2midi_live_archive.units import Backend, Outcome, Result, Unit
 
 
 class Sources(setting.Room):
@@ -219,6 +225,36 @@ class Storing(setting.Room):
         with mock.patch("os.write", side_effect=lambda file, data: write(file, data[:2])):
             storing.store_files(str(self.to), {1: b"12345"})
         self.assertEqual(setting.tree(self.to), {"1.mid": b"12345"})
+
+
+class TheCatalogue(setting.Room):
+    def test_a_full_disk_is_reported_as_such(self) -> None:
+        """The database may not grow, so its transaction ends by itself."""
+        catalogue = Catalogue(str(self.folder / "catalogue.sqlite"))
+        (pages,) = next(catalogue.ask("PRAGMA page_count"))
+        catalogue.ask(f"PRAGMA max_page_count = {pages}")
+        with self.assertRaisesRegex(BadCatalogue, "disk is full"):
+            for number in range(1_000):
+                catalogue.add(Source(f"book_{number}.abc", None, f"book_{number}"), f"book_{number}")
+        self.assertFalse(catalogue.database.in_transaction)
+        catalogue.close()
+
+
+class ThePool(unittest.TestCase):
+    def test_units_that_a_broken_pool_refuses_are_done_by_the_next(self) -> None:
+        units = [Unit(f"book_{number}", "", b"", None, Backend(), False, None, frozenset()) for number in range(8)]
+        trials = itertools.count(1)
+
+        def submit(_: object, unit: Unit) -> "Future[Result]":
+            if next(trials) == 2:
+                raise BrokenProcessPool
+            future: Future[Result] = Future()
+            future.set_result(Result(Outcome.COMPILED))
+            return future
+
+        with mock.patch.object(pool, "submit", submit), mock.patch.object(pool, "executor", lambda _: nullcontext()):
+            done = [unit.book for unit, _ in pool.Pool(2).do(iter(units))]
+        self.assertEqual(sorted(done), [unit.book for unit in units])
 
 
 class Excerpts(unittest.TestCase):
