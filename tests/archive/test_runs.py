@@ -284,8 +284,8 @@ class Clusters(Slow):
         super().setUp()
         file = self.folder / "scheduler.json"
         self.scheduler = self.dask("distributed.cli.dask_scheduler", "--port", "0", "--no-dashboard", "--scheduler-file", str(file), "--host", "127.0.0.1")
-        wait_for(file.exists)
-        self.address = json.loads(file.read_text())["address"]
+        wait_for(lambda: address_in(file))
+        self.address = address_in(file)
         places = [self.folder / f"place_{number}" for number in range(3)]
         self.workers = [
             self.dask("distributed.cli.dask_worker", self.address, "--nthreads", "1", "--no-dashboard", "--local-directory", str(place))
@@ -343,6 +343,14 @@ def end_gently(process: "subprocess.Popen[bytes]") -> None:
     process.terminate()
     with suppress(subprocess.TimeoutExpired):
         process.wait(30)
+
+
+def address_in(file: Path) -> str:
+    """Returns the address that a scheduler wrote into its file, or nothing while it is not there whole."""
+    with suppress(FileNotFoundError, json.JSONDecodeError):
+        address: str = json.loads(file.read_text())["address"]
+        return address
+    return ""
 
 
 def wait_for(is_there: Any) -> None:
