@@ -1,0 +1,12 @@
+pub mod Blocks
+pub mod EntryItems
+pub mod HeaderItems
+pub mod InText
+pub mod Late
+pub mod Numbers
+pub mod OneByOne
+pub mod Owned
+pub mod Played
+pub mod PlaysText
+pub mod References
+pub mod TextPlaces

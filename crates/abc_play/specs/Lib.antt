@@ -1,0 +1,4 @@
+pub mod Laws
+pub mod Places
+pub mod Play
+pub mod Refusal
