@@ -25,7 +25,7 @@
  *   `*count` and `*number` to 0.
  *
  * Buffers
- * A call that copies takes a buffer, its room in items, and a count. An item is a byte, a number, a fault or a token. The call sets
+ * A call that copies takes a buffer, its room in items, and a count. An item is a byte, a number, a fault, a token or an entry. The call sets
  * `*count` to the number of items that there are. If they fit, it copies them and returns ABC_LIVE_OK; the rest of the buffer
  * stays. If not, it copies none and returns ABC_LIVE_SHORT_BUFFER. So a call with a room of 0 asks for the count; it returns
  * ABC_LIVE_OK if there are no items. If a call returns ABC_LIVE_NOT_FOUND, `*count` is 0. Nothing ends with a zero byte.
@@ -112,8 +112,34 @@ enum {
 };
 
 /*
- * The codes that calls return. A refused edit returns the first of 2 to 5 that applies. Only `abc_live_open`, edits and
- * `abc_live_tokens` return 5.
+ * An entry of a play: a tone, a rest or a bar line that is played. Ticks count from the beginning of the tune, as in its MIDI file: 480
+ * are a quarter note. Lines and columns count from 1, columns in bytes.
+ */
+typedef struct abc_live_entry {
+    uint64_t on;      /* The tick at which it begins. */
+    uint64_t off;     /* The tick of its own end: a tie does not lengthen it. It is `on` for a bar line. */
+    uint32_t line;    /* The line of the token that gives it. */
+    uint32_t from;    /* The column of the token's first byte. For a tone of a chord it is the note in the chord. */
+    uint32_t to;      /* The column after the token's last byte. */
+    uint8_t kind;     /* One of ABC_LIVE_ENTRY_.. */
+    uint8_t key;      /* The key of a tone in MIDI, 0 to 127; else 128, ABC_LIVE_NO_KEY. */
+    uint8_t velocity; /* The velocity of a tone with a key, else 0. */
+    uint8_t joined;   /* 1 for a tone that a tie joins with one before it, so the file has no note-on for it; else 0. */
+} abc_live_entry;
+
+/* The kinds of entries. A kind keeps its number within 1.x; new ones come at the end. */
+enum {
+    ABC_LIVE_ENTRY_NOTE = 1, /* One tone of a note or chord. It has no key if it is out of the range of MIDI; then it is silent. */
+    ABC_LIVE_ENTRY_REST = 2, /* A rest, or a rest of bars. */
+    ABC_LIVE_ENTRY_BAR = 3   /* A bar line that is passed. */
+};
+
+/* The key of a rest, a bar line and a silent tone. */
+#define ABC_LIVE_NO_KEY 128
+
+/*
+ * The codes that calls return. A refused edit returns the first of 2 to 5 that applies. Only `abc_live_open`, edits,
+ * `abc_live_tokens`, `abc_live_tracks` and `abc_live_play` return 5.
  */
 typedef uint32_t abc_live_code;
 enum {
@@ -124,7 +150,8 @@ enum {
     ABC_LIVE_TOO_LARGE = 4,     /* The text would have more than 1,048,576 lines. */
     ABC_LIVE_OUT_OF_MEMORY = 5, /* An allocation failed. The session is as it was before the call. */
     ABC_LIVE_NOT_FOUND = 6,     /* There is no such number, line, title or fault code. */
-    ABC_LIVE_SHORT_BUFFER = 7   /* The items do not fit into the buffer. */
+    ABC_LIVE_SHORT_BUFFER = 7,  /* The items do not fit into the buffer. */
+    ABC_LIVE_TOO_LONG = 8       /* More than 1,000,000 items and bar lines would be played. */
 };
 
 /* Returns the version of the library: millions are its major number, thousands its minor one. It is ABC_LIVE_VERSION_NUMBER of the
@@ -224,6 +251,24 @@ abc_live_code abc_live_line(abc_live_session *session, uint32_t number, uint8_t 
  */
 abc_live_code abc_live_tokens(abc_live_session *session, uint32_t number, abc_live_token *tokens, size_t room, size_t *count,
                               abc_live_work *work);
+
+/*
+ * Copies how many entries each track of the MIDI file of a tune number has, in the order of the file: at most 16 numbers. The first
+ * track has the title and the changes, and no entry. Each track after it has a voice. It returns what `abc_live_play` returns.
+ */
+abc_live_code abc_live_tracks(abc_live_session *session, uint32_t number, size_t *sizes, size_t room, size_t *count);
+
+/*
+ * Copies the entries of a tune number, one track of its MIDI file after another: of each as many as `abc_live_tracks` copies. Those of
+ * a track are in the order of play, with repeats, endings and parts as played. They depend on the present text alone, and each call
+ * works them out anew. Returns ABC_LIVE_NOT_FOUND if the number has no file, ABC_LIVE_TOO_LONG if its voices play more than 1,000,000
+ * items and bar lines together, or ABC_LIVE_OUT_OF_MEMORY.
+ *
+ * An entry begins where the one before it ends, and the tones of a chord begin together. After a voice that is shorter than its part the
+ * next entry begins with the next part. An entry with `on` equal to `off` is not in the file. The sound of a tied tone ends with
+ * the last tone that is joined with it.
+ */
+abc_live_code abc_live_play(abc_live_session *session, uint32_t number, abc_live_entry *entries, size_t room, size_t *count);
 
 #ifdef __cplusplus
 }

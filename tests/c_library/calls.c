@@ -35,7 +35,8 @@ static void refuse_all(abc_live_session *session)
     uint8_t bytes[2] = {3, 4};
     abc_live_fault fault = {1, 2, 3};
     abc_live_token token = {1, 2, 3, 0};
-    size_t count = 5;
+    abc_live_entry entry = {1, 2, 3, 4, 5, 6, 7, 8, 9};
+    size_t count = 5, sizes[1] = {6};
     CHECK(abc_live_insert(session, 1, TEXT("X:1\n"), &work) == ABC_LIVE_MISUSED);
     CHECK(abc_live_replace(session, 1, 1, TEXT("X:1\n"), &work) == ABC_LIVE_MISUSED);
     CHECK(abc_live_delete(session, 1, 1, &work) == ABC_LIVE_MISUSED);
@@ -61,6 +62,10 @@ static void refuse_all(abc_live_session *session)
     count = 5;
     CHECK(abc_live_tokens(session, 1, &token, 1, &count, &work) == ABC_LIVE_MISUSED && count == 0 && token.kind == 3);
     CHECK(work.scanned == 7 && work.folded == 8 && work.built == 9);
+    count = 5;
+    CHECK(abc_live_tracks(session, 1, sizes, 1, &count) == ABC_LIVE_MISUSED && count == 0 && sizes[0] == 6);
+    count = 5;
+    CHECK(abc_live_play(session, 1, &entry, 1, &count) == ABC_LIVE_MISUSED && count == 0 && entry.on == 1 && entry.joined == 9);
     CHECK(numbers[0] == 1 && numbers[1] == 2 && bytes[0] == 3 && bytes[1] == 4 && fault.line == 1 && fault.code == 3);
     CHECK(abc_live_close(session) == ABC_LIVE_MISUSED);
 }
@@ -190,6 +195,95 @@ static void tokens(void)
     CHECK(abc_live_close(&session) == ABC_LIVE_OK);
 }
 
+/* Whether the tracks of a number's file have these sizes, and its play these entries. Buffers that are too short stay as they were. */
+static int plays(abc_live_session *session, uint32_t number, const size_t *sizes, size_t tracks, const abc_live_entry *wanted)
+{
+    size_t found_sizes[16], count = 0, total = 0, at;
+    abc_live_entry found[32];
+    memset(found_sizes, 0xff, sizeof found_sizes);
+    memset(found, 0xff, sizeof found);
+    for (at = 0; at < tracks; at++)
+        total += sizes[at];
+    if (abc_live_tracks(session, number, found_sizes, tracks - 1, &count) != ABC_LIVE_SHORT_BUFFER || count != tracks
+        || found_sizes[0] != SIZE_MAX)
+        return 0;
+    if (abc_live_tracks(session, number, found_sizes, 16, &count) != ABC_LIVE_OK || count != tracks
+        || memcmp(found_sizes, sizes, tracks * sizeof *sizes) != 0 || found_sizes[tracks] != SIZE_MAX)
+        return 0;
+    if (abc_live_play(session, number, found, total - 1, &count) != ABC_LIVE_SHORT_BUFFER || count != total || found[0].on != UINT64_MAX)
+        return 0;
+    return abc_live_play(session, number, found, 32, &count) == ABC_LIVE_OK && count == total
+           && memcmp(found, wanted, total * sizeof *wanted) == 0 && found[total].on == UINT64_MAX;
+}
+
+/* The play of a number: chords, ties, rests, a silent tone and a repeat in two voices. The rows are worked out by hand. */
+static void play_tunes(void)
+{
+    static const char book[] = "X:1\nK:C\nV:1\n[CE]-|C z|\nV:2\n|:C,,,,,,,,:|\n\nX:1\nK:C\nD\n";
+    static const size_t sizes[] = {0, 6, 5};
+    static const abc_live_entry entries[] = {
+        {0, 240, 4, 2, 3, ABC_LIVE_ENTRY_NOTE, 60, 80, 0},
+        {0, 240, 4, 3, 4, ABC_LIVE_ENTRY_NOTE, 64, 80, 0},
+        {240, 240, 4, 6, 7, ABC_LIVE_ENTRY_BAR, ABC_LIVE_NO_KEY, 0, 0},
+        {240, 480, 4, 7, 8, ABC_LIVE_ENTRY_NOTE, 60, 80, 1},
+        {480, 720, 4, 9, 10, ABC_LIVE_ENTRY_REST, ABC_LIVE_NO_KEY, 0, 0},
+        {720, 720, 4, 10, 11, ABC_LIVE_ENTRY_BAR, ABC_LIVE_NO_KEY, 0, 0},
+        {0, 0, 6, 1, 3, ABC_LIVE_ENTRY_BAR, ABC_LIVE_NO_KEY, 0, 0},
+        {0, 240, 6, 3, 12, ABC_LIVE_ENTRY_NOTE, ABC_LIVE_NO_KEY, 0, 0},
+        {240, 240, 6, 12, 14, ABC_LIVE_ENTRY_BAR, ABC_LIVE_NO_KEY, 0, 0},
+        {240, 480, 6, 3, 12, ABC_LIVE_ENTRY_NOTE, ABC_LIVE_NO_KEY, 0, 0},
+        {480, 480, 6, 12, 14, ABC_LIVE_ENTRY_BAR, ABC_LIVE_NO_KEY, 0, 0}};
+    static const size_t second_sizes[] = {0, 1};
+    static const abc_live_entry second[] = {{0, 240, 3, 1, 2, ABC_LIVE_ENTRY_NOTE, 62, 80, 0}};
+    abc_live_session session = opened();
+    abc_live_work work = {0, 0, 0}, before;
+    abc_live_entry entry = {1, 2, 3, 4, 5, 6, 7, 8, 9};
+    size_t count = 9, size = 9;
+    CHECK(abc_live_insert(&session, 1, TEXT(book), &work) == ABC_LIVE_OK);
+    before = work;
+    CHECK(plays(&session, 1, sizes, 3, entries));
+    CHECK(memcmp(&work, &before, sizeof work) == 0);
+    CHECK(abc_live_tracks(&session, 2, &size, 1, &count) == ABC_LIVE_NOT_FOUND && count == 0 && size == 9);
+    count = 9;
+    CHECK(abc_live_play(&session, 2, &entry, 1, &count) == ABC_LIVE_NOT_FOUND && count == 0 && entry.on == 1 && entry.joined == 9);
+    CHECK(abc_live_delete(&session, 1, 7, &work) == ABC_LIVE_OK && plays(&session, 1, second_sizes, 2, second));
+    CHECK(abc_live_delete(&session, 3, 3, &work) == ABC_LIVE_OK);
+    CHECK(abc_live_tracks(&session, 1, NULL, 0, &count) == ABC_LIVE_SHORT_BUFFER && count == 1);
+    CHECK(abc_live_tracks(&session, 1, &size, 1, &count) == ABC_LIVE_OK && count == 1 && size == 0);
+    CHECK(abc_live_play(&session, 1, NULL, 0, &count) == ABC_LIVE_OK && count == 0);
+    CHECK(abc_live_close(&session) == ABC_LIVE_OK);
+}
+
+/* A text with a part of a note and `bars` bar lines that is played 1,000 times. */
+static size_t put_long_tune(char *text, size_t bars)
+{
+    size_t at = (size_t)sprintf(text, "X:1\nP:A1000\nK:C\nP:A\nC");
+    while (bars-- > 0) {
+        text[at++] = '|';
+        text[at++] = ' ';
+    }
+    return at;
+}
+
+/* A play of 1,000,000 items and bar lines is the longest. */
+static void refuse_long_plays(void)
+{
+    static char text[4096];
+    abc_live_session session = opened();
+    abc_live_work work = {0, 0, 0};
+    abc_live_entry entry = {1, 2, 3, 4, 5, 6, 7, 8, 9};
+    size_t count = 9, sizes[2] = {8, 9};
+    CHECK(abc_live_set_text(&session, (const uint8_t *)text, put_long_tune(text, 999), &work) == ABC_LIVE_OK);
+    CHECK(abc_live_tracks(&session, 1, sizes, 2, &count) == ABC_LIVE_OK && count == 2 && sizes[0] == 0 && sizes[1] == 1000000);
+    CHECK(abc_live_play(&session, 1, &entry, 1, &count) == ABC_LIVE_SHORT_BUFFER && count == 1000000 && entry.on == 1);
+    CHECK(abc_live_set_text(&session, (const uint8_t *)text, put_long_tune(text, 1000), &work) == ABC_LIVE_OK);
+    CHECK(abc_live_output(&session, 1, NULL, 0, &count) == ABC_LIVE_SHORT_BUFFER);
+    CHECK(abc_live_tracks(&session, 1, sizes, 2, &count) == ABC_LIVE_TOO_LONG && count == 0 && sizes[1] == 1000000);
+    count = 9;
+    CHECK(abc_live_play(&session, 1, &entry, 1, &count) == ABC_LIVE_TOO_LONG && count == 0 && entry.on == 1);
+    CHECK(abc_live_close(&session) == ABC_LIVE_OK);
+}
+
 /* An edit that is refused is answered the first reason, and changes nothing. */
 static void refuse_edits(void)
 {
@@ -299,7 +393,7 @@ static void name_codes_of_calls(void)
     } cases[] = {{ABC_LIVE_OK, "ABC_LIVE_OK"}, {ABC_LIVE_MISUSED, "ABC_LIVE_MISUSED"}, {ABC_LIVE_BAD_RANGE, "ABC_LIVE_BAD_RANGE"},
                  {ABC_LIVE_BAD_LINE, "ABC_LIVE_BAD_LINE"}, {ABC_LIVE_TOO_LARGE, "ABC_LIVE_TOO_LARGE"},
                  {ABC_LIVE_OUT_OF_MEMORY, "ABC_LIVE_OUT_OF_MEMORY"}, {ABC_LIVE_NOT_FOUND, "ABC_LIVE_NOT_FOUND"},
-                 {ABC_LIVE_SHORT_BUFFER, "ABC_LIVE_SHORT_BUFFER"}};
+                 {ABC_LIVE_SHORT_BUFFER, "ABC_LIVE_SHORT_BUFFER"}, {ABC_LIVE_TOO_LONG, "ABC_LIVE_TOO_LONG"}};
     uint8_t bytes[31];
     size_t at, count = 0;
     for (at = 0; at < sizeof cases / sizeof *cases; at++) {
@@ -315,6 +409,7 @@ static void name_codes_of_calls(void)
 static void measure_structs(void)
 {
     CHECK(sizeof(abc_live_session) == 16 && sizeof(abc_live_work) == 24 && sizeof(abc_live_fault) == 12);
+    CHECK(sizeof(abc_live_token) == 16 && sizeof(abc_live_entry) == 32);
 }
 
 static void name_codes(void)
@@ -337,6 +432,8 @@ int main(void)
     cut_lines();
     edit_a_book();
     tokens();
+    play_tunes();
+    refuse_long_plays();
     refuse_edits();
     set_whole_texts();
     refuse_whole_texts();

@@ -201,8 +201,52 @@ static bool refuse_tokens(void)
     return ok && failures > 0;
 }
 
+/* What the calls on plays copied: the code, the sizes of tracks and the entries. */
+typedef struct played {
+    abc_live_code code;
+    size_t count;
+    size_t sizes[16];
+    abc_live_entry entries[64];
+} played;
+
+/* Calls `abc_live_tracks`, or `abc_live_play` if `is_play`. */
+static void play(abc_live_session *session, bool is_play, played *to)
+{
+    memset(to, 0, sizeof *to);
+    to->code = is_play ? abc_live_play(session, 2, to->entries, 64, &to->count) : abc_live_tracks(session, 2, to->sizes, 16, &to->count);
+}
+
+/* Refuses the requests of a call on plays: it may do without, or nothing is copied, and the session stays as it was. */
+static bool refuse_play(bool is_play)
+{
+    static played found, wanted, nothing;
+    abc_live_session session = begun();
+    size_t size_before = tell(&session, before, sizeof before);
+    unsigned long number = 0, made, failures = 0;
+    bool ok;
+    play(&session, is_play, &wanted);
+    ok = wanted.code == ABC_LIVE_OK && wanted.count > 2;
+    nothing.code = ABC_LIVE_OUT_OF_MEMORY;
+    do {
+        requests = 0;
+        refused = ++number;
+        play(&session, is_play, &found);
+        made = requests;
+        refused = 0;
+        if (found.code != ABC_LIVE_OK)
+            failures++;
+        ok = ok && memcmp(&found, found.code == ABC_LIVE_OK ? &wanted : &nothing, sizeof found) == 0;
+        ok = ok && (made >= number || found.code == ABC_LIVE_OK);
+        ok = ok && tell(&session, now, sizeof now) == size_before && memcmp(now, before, size_before) == 0;
+    } while (made >= number);
+    abc_live_close(&session);
+    printf("%s: %lu requests refused in turn\n", is_play ? "play" : "tracks", number - 1);
+    return ok && failures > 0;
+}
+
 int main(void)
 {
+    static const char *const calls[] = {"open", "tokens", "tracks", "play"};
     static char long_line[4 + 65536 + 1]; /* a short line, and one of 65,536 bytes */
     const edit edits[] = {
         {"a tune comes", 1, 0, "X:7\nK:A\nabc|\n\n", ABC_LIVE_OK},
@@ -232,10 +276,10 @@ int main(void)
         failed += !ok;
     }
     all_after = false;
-    for (at = 0; at < 2; at++) {
-        bool ok = at == 0 ? refuse_opening() : refuse_tokens();
+    for (at = 0; at < sizeof calls / sizeof *calls; at++) {
+        bool ok = at == 0 ? refuse_opening() : at == 1 ? refuse_tokens() : refuse_play(at == 3);
         if (!ok)
-            printf("FAILED: %s\n", at == 0 ? "open" : "tokens");
+            printf("FAILED: %s\n", calls[at]);
         passed += ok;
         failed += !ok;
     }

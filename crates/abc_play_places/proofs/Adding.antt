@@ -1,12 +1,12 @@
 -- The items that a token of a cell adds.
-use Rattle.std.proofs.Common.{◌≡◌, ℕ, Bool, true, false, cond, List, [], ◌∷◌, ◌++◌, refl, sym, ◌∙◌, append-nil}
+use Rattle.std.proofs.Common.{◌≡◌, ℕ, Bool, true, false, cond, List, [], ◌∷◌, ◌++◌, length, refl, sym, ◌∙◌, append-nil}
 use Rattle.std.specs.Bool.{⊤}
 use Rattle.std.specs.Prelude.{Option, Some, None, Result, Ok, Err, is_none, slice_range}
 use Rattle.abc_bars_body.specs.declared.body.Body.{Body}
 use Rattle.abc_bars_body.specs.declared.cell.CellResult.{CellResult}
 use Rattle.abc_bars_body.specs.Body.{after_mention, here, with_current}
 use Rattle.abc_bars_body.specs.BodyFields.{accept, accept_with_fault, field_result, kind_result, part_by, part_of, meter_by, unit_by, tempo_by, key_by, voice_by, named_voice_by}
-use Rattle.abc_bars_body.specs.Cell.{with_fault, with_fault_if, with_field_result, with_item, with_kind, with_some_fault, with_tie, with_token}
+use Rattle.abc_bars_body.specs.Cell.{after_chord_mention, tie_ahead, with_fault, with_fault_if, with_field_result, with_item, with_kind, with_some_fault, with_tie, with_token}
 use Rattle.abc_bars_header.specs.declared.field_kind.FieldKind.{FieldKind}
 use Rattle.abc_bars_header.specs.declared.field_kind.FieldKind.TheVariants as fields
 use Rattle.abc_bars_header.specs.FieldKind.{kind_of}
@@ -14,8 +14,10 @@ use Rattle.abc_bars_items.specs.declared.item.Item.{Item}
 use Rattle.abc_bars_items.specs.declared.item.Item.TheVariants as items
 use Rattle.abc_bars_items.specs.Program.{program_of}
 use Rattle.abc_bars_notes.specs.BarRest.{bar_rest_of}
-use Rattle.abc_bars_notes.specs.Broken.{is_bad_mark}
-use Rattle.abc_bars_notes.specs.TimeTokens.{chord_by}
+use Rattle.abc_bars_notes.specs.Broken.{factors_of, is_bad_mark}
+use Rattle.abc_bars_notes.specs.Chords.{chord_builder_of}
+use Rattle.abc_bars_notes.specs.TimeTokens.{chord_by, first_length}
+use Rattle.abc_bars_notes.specs.declared.chords.ChordContext.{ChordContext}
 use Rattle.abc_bars_notes.specs.declared.sound.ChordBuilder.{ChordBuilder}
 use Rattle.abc_bars_voice.specs.declared.voice_state.VoiceState.{VoiceState}
 use Rattle.abc_bars_notes.specs.TokenRole.{has_note}
@@ -31,6 +33,7 @@ use Rattle.abc_fields.specs.declared.key.Key.{Key}
 use Rattle.abc_fields.specs.declared.meter.Meter.{Meter}
 use Rattle.abc_fields.specs.declared.tempo.Tempo.{Tempo}
 use Rattle.abc_fields.specs.declared.voice.Voice.{Voice}
+use Rattle.abc_scan.specs.declared.chord.Chord.{Chord}
 use Rattle.abc_scan.specs.declared.directive.Directive.TheVariants as directives
 use Rattle.abc_scan.specs.declared.field.Field.{Field}
 use Rattle.abc_scan.specs.declared.spanned.Spanned.{Spanned}
@@ -38,6 +41,17 @@ use Rattle.abc_scan.specs.declared.token.TokenKind.{TokenKind}
 use Rattle.abc_scan.specs.declared.token.TokenKind.TheVariants as kinds
 use Rattle.abc_time.specs.declared.ratio.Ratio.{Ratio}
 use Rattle.abc_play_places.specs.Givers.{has_place, gives_place}
+use Rattle.abc_play_places.specs.ToneGivers.{tone_parts}
+use Rattle.abc_play_places.proofs.ChordTones.{tones_counted}
+
+-- what a token of this kind gives, if it gives an item with a place: a note one tone, a chord those of its first sixteen notes
+abbrev pub GivesItem : TokenKind → Item → Type 0
+GivesItem (kinds.Note note) (items.Tone tones time) = length tones ≡ 1
+GivesItem (kinds.Chord chord) (items.Tone tones time) = length tones ≡ length (tone_parts 0 0 chord.parts)
+GivesItem (kinds.Rest written) (items.Rest time bar) = ⊤
+GivesItem (kinds.BarRest bars) (items.Rest time bar) = ⊤
+GivesItem (kinds.Bar line) (items.Bar other) = ⊤
+GivesItem _ _ = ⊥
 
 -- no item with a place is among these
 abbrev pub NonePlaced : List Item → Type 0
@@ -45,20 +59,20 @@ NonePlaced [] = ⊤
 NonePlaced (item ∷ others) = (has_place item ≡ false) × NonePlaced others
 
 -- what a token adds: one item with a place if it gives one, else none
-abbrev pub Fit : Bool → List Item → Type 0
-Fit true more = (item : Item) × (more ≡ item ∷ []) × (has_place item ≡ true)
-Fit false more = NonePlaced more
+abbrev pub Fit : TokenKind → Bool → List Item → Type 0
+Fit kind true more = (item : Item) × (more ≡ item ∷ []) × (has_place item ≡ true) × GivesItem kind item
+Fit kind false more = NonePlaced more
 
-pub record Adds (gives : Bool) (old new : List Item) : Type 0 where
+pub record Adds (kind : TokenKind) (gives : Bool) (old new : List Item) : Type 0 where
   pub more : List Item
   pub grown : new ≡ old ++ more
-  pub fits : Fit gives more
+  pub fits : Fit kind gives more
 
-nothing : (old : List Item) → Adds false old old
-nothing old = record { more = []; grown = sym (append-nil old); fits = tt }
+nothing : (kind : TokenKind) (old : List Item) → Adds kind false old old
+nothing kind old = record { more = []; grown = sym (append-nil old); fits = tt }
 
-one : (old : List Item) (item : Item) → has_place item ≡ true → Adds true old (old ++ item ∷ [])
-one old item h = record { more = item ∷ []; grown = refl; fits = (item, refl, h) }
+one : (kind : TokenKind) (old : List Item) (item : Item) → has_place item ≡ true → GivesItem kind item → Adds kind true old (old ++ item ∷ [])
+one kind old item h gives = record { more = item ∷ []; grown = refl; fits = (item, refl, h, gives) }
 
 -- the items of a field have no place
 tempo_unplaced : (unit : Ratio) (tempo : Tempo) → has_place (tempo_item false unit tempo) ≡ false
@@ -123,48 +137,57 @@ tie_items given place = elim given.after_note as (λ b. (cond b given (with_faul
   | false ↦ refl
 ]
 
-same_items : (old new : List Item) → new ≡ old → Adds false old new
-same_items old new is = record { more = []; grown = is ∙ sym (append-nil old); fits = tt }
+same_items : (kind : TokenKind) (old new : List Item) → new ≡ old → Adds kind false old new
+same_items kind old new is = record { more = []; grown = is ∙ sym (append-nil old); fits = tt }
 
-chord_adds : (noted : Bool) (old : List Item) (state : VoiceState) (from : ℕ) (builder : ChordBuilder) → Adds noted old (old ++ (chord_by noted state from builder).items)
-chord_adds true old state from builder = one old _ refl
-chord_adds false old state from builder = same_items old (old ++ []) (append-nil old)
+chord_adds : (chord : Chord) (noted : Bool) (old : List Item) (state : VoiceState) (from : ℕ) (builder : ChordBuilder)
+    → length builder.tones ≡ length (tone_parts 0 0 chord.parts) → Adds (kinds.Chord chord) noted old (old ++ (chord_by noted state from builder).items)
+chord_adds chord true old state from builder counted = one (kinds.Chord chord) old (items.Tone builder.tones (first_length builder.tones)) refl counted
+chord_adds chord false old state from builder counted = same_items (kinds.Chord chord) old (old ++ []) (append-nil old)
 
-field_adds : (given : CellResult) (place : ℕ) (field : Field) → Adds false given.items.items (with_field_result given (field_result given.body field.letter field.value place)).items.items
-field_adds given place field = record {
+field_adds : (kind : TokenKind) (given : CellResult) (place : ℕ) (field : Field)
+    → Adds kind false given.items.items (with_field_result given (field_result given.body field.letter field.value place)).items.items
+field_adds kind given place field = record {
   more = (field_result given.body field.letter field.value place).items;
   grown = refl;
   fits = kind_unplaced given.body (kind_of field.letter) field.value place;
 }
 
-kind_adds : (given : CellResult) (place : ℕ) (kind : TokenKind) (ahead : List (Spanned TokenKind)) → Adds (gives_place kind) given.items.items (with_kind given place kind ahead).items.items
-kind_adds given place (kinds.Note note) ahead = one given.items.items _ refl
-kind_adds given place (kinds.Rest length) ahead = one given.items.items _ refl
+kind_adds : (given : CellResult) (place : ℕ) (kind : TokenKind) (ahead : List (Spanned TokenKind))
+    → Adds kind (gives_place kind) given.items.items (with_kind given place kind ahead).items.items
+kind_adds given place (kinds.Note note) ahead = one (kinds.Note note) given.items.items _ refl refl
+kind_adds given place (kinds.Rest written) ahead = one (kinds.Rest written) given.items.items _ refl tt
 kind_adds given place (kinds.BarRest bars) ahead =
     let body = after_mention given.body in
     let rest = bar_rest_of (here body).meter bars in
-    record { more = rest.0 ∷ []; grown = some_fault_items (with_item (record given { body = body }) rest.0) place rest.1; fits = (rest.0, refl, refl) }
-kind_adds given place (kinds.Chord chord) ahead = chord_adds (has_note chord.parts) given.items.items _ place _
-kind_adds given place (kinds.InlineField field) ahead = field_adds given place field
-kind_adds given place (kinds.Field field) ahead = field_adds given place field
-kind_adds given place (kinds.Bar bar) ahead = one given.items.items (items.Bar bar) refl
-kind_adds given place (kinds.Ending None) ahead = nothing given.items.items
+    record { more = rest.0 ∷ []; grown = some_fault_items (with_item (record given { body = body }) rest.0) place rest.1; fits = (rest.0, refl, refl, tt) }
+kind_adds given place (kinds.Chord chord) ahead =
+    let body = after_chord_mention (has_note chord.parts) given.body in
+    let broken = factors_of given.preceding ahead in
+    let context : ChordContext = record { length = chord.length; tied = tie_ahead ahead; from = place } in
+    chord_adds chord (has_note chord.parts) given.items.items (here body) place (chord_builder_of (here body) broken context chord.parts)
+    (tones_counted (here body) broken context chord.parts)
+kind_adds given place (kinds.InlineField field) ahead = field_adds (kinds.InlineField field) given place field
+kind_adds given place (kinds.Field field) ahead = field_adds (kinds.Field field) given place field
+kind_adds given place (kinds.Bar bar) ahead = one (kinds.Bar bar) given.items.items (items.Bar bar) refl tt
+kind_adds given place (kinds.Ending None) ahead = nothing (kinds.Ending None) given.items.items
 kind_adds given place (kinds.Ending (Some passes)) ahead = record { more = items.Ending passes ∷ []; grown = refl; fits = (refl, tt) }
-kind_adds given place (kinds.Tuplet mark) ahead = same_items given.items.items _ (some_fault_items _ place _)
-kind_adds given place (kinds.Broken mark) ahead = same_items given.items.items _ (fault_if_items given (is_bad_mark given.preceding ahead) place BadBroken)
-kind_adds given place kinds.Tie ahead = same_items given.items.items _ (tie_items given place)
-kind_adds given place (kinds.Dynamic dynamic) ahead = nothing given.items.items
+kind_adds given place (kinds.Tuplet mark) ahead = same_items (kinds.Tuplet mark) given.items.items _ (some_fault_items _ place _)
+kind_adds given place (kinds.Broken mark) ahead = same_items (kinds.Broken mark) given.items.items _ (fault_if_items given (is_bad_mark given.preceding ahead) place BadBroken)
+kind_adds given place kinds.Tie ahead = same_items kinds.Tie given.items.items _ (tie_items given place)
+kind_adds given place (kinds.Dynamic dynamic) ahead = nothing (kinds.Dynamic dynamic) given.items.items
 kind_adds given place (kinds.Directive (directives.Program written)) ahead = record {
   more = items.Program false (program_of written) ∷ [];
   grown = fault_if_items (with_item given (items.Program false (program_of written))) (is_none (program_of written)) place BadProgram;
   fits = (refl, tt);
 }
-kind_adds given place (kinds.Directive (directives.Reach reach)) ahead = nothing given.items.items
-kind_adds given place kinds.Unclosed ahead = nothing given.items.items
-kind_adds given place kinds.BadByte ahead = nothing given.items.items
-kind_adds given place kinds.Blank ahead = nothing given.items.items
-kind_adds given place kinds.NoEffect ahead = nothing given.items.items
+kind_adds given place (kinds.Directive (directives.Reach reach)) ahead = nothing (kinds.Directive (directives.Reach reach)) given.items.items
+kind_adds given place kinds.Unclosed ahead = nothing kinds.Unclosed given.items.items
+kind_adds given place kinds.BadByte ahead = nothing kinds.BadByte given.items.items
+kind_adds given place kinds.Blank ahead = nothing kinds.Blank given.items.items
+kind_adds given place kinds.NoEffect ahead = nothing kinds.NoEffect given.items.items
 
 -- what a token of a cell adds
-pub token_adds : (given : CellResult) (token : Spanned TokenKind) (ahead : List (Spanned TokenKind)) → Adds (gives_place token.kind) given.items.items (with_token given token ahead).items.items
+pub token_adds : (given : CellResult) (token : Spanned TokenKind) (ahead : List (Spanned TokenKind))
+    → Adds token.kind (gives_place token.kind) given.items.items (with_token given token ahead).items.items
 token_adds given token ahead = kind_adds given token.from token.kind ahead

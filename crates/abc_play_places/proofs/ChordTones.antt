@@ -2,7 +2,7 @@
 use Rattle.std.proofs.Common.{◌≡◌, ℕ, ◌+◌, ◌-◌, Bool, true, false, cond, List, [], ◌∷◌, ◌++◌, length, refl, sym, ap, ◌∙◌, arith, length-append}
 use Rattle.std.specs.Prelude.{nat_lt, ◌&&◌, replicate}
 use Rattle.abc_bars_notes.specs.Chords as chords
-use Rattle.abc_bars_notes.specs.Chords.{part_context, tie_follows, with_chord_note, with_dropped, with_fault, with_part}
+use Rattle.abc_bars_notes.specs.Chords.{chord_builder_from, chord_builder_of, part_context, tie_follows, with_chord_note, with_dropped, with_fault, with_part}
 use Rattle.abc_bars_notes.specs.Sound.{no_notes, with_note}
 use Rattle.abc_bars_notes.specs.TokenRole.{is_note_part}
 use Rattle.abc_bars_notes.specs.declared.chords.ChordContext.{ChordContext}
@@ -79,3 +79,28 @@ all_given state broken context builder at (part ∷ parts) =
 -- the tones of a chord
 pub tone_parts-givers : (state : VoiceState) (broken : List Ratio) (context : ChordContext) (parts : List (Spanned ChordPartKind)) → tone_parts 0 0 parts ≡ tone_givers state broken context parts
 tone_parts-givers state broken context parts = sym (all_given state broken context (no_notes state) 0 parts)
+
+-- how many tones there are after some parts
+one_more : (more : Bool) (count at : ℕ) (parts : List (Spanned ChordPartKind))
+    → sized more count + length (tone_parts (at + 1) (sized more count) parts)
+    ≡ count + length (cond more (at ∷ tone_parts (at + 1) (count + 1) parts) (tone_parts (at + 1) count parts))
+one_more true count at parts = omega arith
+one_more false count at parts = refl
+
+counted_from : (state : VoiceState) (broken : List Ratio) (context : ChordContext) (builder : ChordBuilder) (at : ℕ) (parts : List (Spanned ChordPartKind))
+    → length (chord_builder_from state broken context parts builder).tones ≡ length builder.tones + length (tone_parts at (length builder.tones) parts)
+counted_from state broken context builder at [] = omega arith
+counted_from state broken context builder at (part ∷ parts) =
+    let after = with_part state broken context part (tie_follows parts) builder in
+    let more = is_note_part part.kind && nat_lt (length builder.tones) MOST_CHORD_NOTES in
+    let size : length after.tones ≡ sized more (length builder.tones) = kind_tones state broken (part_context context part.from (tie_follows parts)) part.kind builder in
+    counted_from state broken context after (at + 1) parts
+    ∙ ap (λ n. n + length (tone_parts (at + 1) n parts)) size
+    ∙ one_more more (length builder.tones) at parts
+
+-- a chord has a tone for each of its first sixteen notes
+pub tones_counted : (state : VoiceState) (broken : List Ratio) (context : ChordContext) (parts : List (Spanned ChordPartKind))
+    → length (chord_builder_of state broken context parts).tones ≡ length (tone_parts 0 0 parts)
+tones_counted state broken context parts =
+    let counted = counted_from state broken context (no_notes state) 0 parts in
+    omega (arith, counted)

@@ -1,6 +1,8 @@
 -- Items are matched with the tokens that give them.
-use Rattle.std.proofs.Common.{◌≡◌, ◌≤◌, ℕ, suc, ◌+◌, ◌-◌, min, Bool, true, false, cond, List, [], ◌∷◌, ◌++◌, length, drop, refl, sym, ap, subst, ◌∙◌, arith, append_assoc, append-nil, length-append}
-use Rattle.std.specs.Prelude.{Some, None, replicate}
+use Rattle.std.proofs.Common.{◌≡◌, ◌≤◌, ℕ, zero, suc, ◌+◌, ◌-◌, min, Bool, true, false, cond, List, [], ◌∷◌, ◌++◌, length, drop, refl, sym, ap, subst, ◌∙◌, arith, append_assoc, append-nil, length-append}
+use Rattle.std.specs.List.{AllZip}
+use Rattle.std.specs.Prelude.{Option, Some, None, replicate, slice_get}
+use Rattle.std.proofs.lemmas.Bool.{false≢true}
 use Rattle.std.proofs.lemmas.List.{drop_more}
 use Rattle.abc_bars_body.specs.declared.body.Body.{Body}
 use Rattle.abc_bars_body.specs.declared.cell.CellResult.{CellResult}
@@ -9,10 +11,22 @@ use Rattle.abc_bars_items.specs.declared.item.Item.{Item}
 use Rattle.abc_scan.specs.declared.spanned.Spanned.{Spanned}
 use Rattle.abc_scan.specs.declared.token.TokenKind.{TokenKind}
 use Rattle.abc_play_places.specs.Givers.{added, first_giver, giver_at, givers, givers_from, gives_place, has_place, matched, placed}
-use Rattle.abc_play_places.proofs.Adding.{Adds, NonePlaced, token_adds}
+use Rattle.abc_play_places.proofs.Adding.{Adds, GivesItem, NonePlaced, token_adds}
 
-abbrev Tokens : Type 0
+abbrev pub Tokens : Type 0
 Tokens = List (Spanned TokenKind)
+
+-- the token at an index of a cell gives an item
+pub record IsGiven (cell : Tokens) (item : Item) (giver : Option ℕ) : Type 0 where
+  pub at : ℕ
+  pub token : Spanned TokenKind
+  pub is : giver ≡ Some at
+  pub here : slice_get cell at ≡ Some token
+  pub fits : GivesItem token.kind item
+
+-- if the item has a place
+abbrev pub MayBeGiven : Tokens → Item → Option ℕ → Type 0
+MayBeGiven cell item giver = has_place item ≡ true → IsGiven cell item giver
 
 -- items without a place
 matched_none : (cell : Tokens) (next : ℕ) (more others : List Item) → NonePlaced more → matched cell next (more ++ others) ≡ placed more [] ++ matched cell next others
@@ -20,6 +34,14 @@ matched_none cell next [] others none = refl
 matched_none cell next (item ∷ more) others none =
     ap (λ b. cond b (Some (giver_at cell next) ∷ matched cell (giver_at cell next + 1) (more ++ others)) (None ∷ matched cell next (more ++ others))) none.0
     ∙ ap (λ l. None ∷ l) (matched_none cell next more others none.1)
+
+pub given_none : (cell : Tokens) (next : ℕ) (more others : List Item) → NonePlaced more → AllZip (MayBeGiven cell) others (matched cell next others)
+    → AllZip (MayBeGiven cell) (more ++ others) (matched cell next (more ++ others))
+given_none cell next [] others none all = all
+given_none cell next (item ∷ more) others none all =
+    subst (λ b. AllZip (MayBeGiven cell) (item ∷ (more ++ others))
+    (cond b (Some (giver_at cell next) ∷ matched cell (giver_at cell next + 1) (more ++ others)) (None ∷ matched cell next (more ++ others)))) (sym none.0)
+    ((λ yes. absurd (false≢true (sym none.0 ∙ yes))), given_none cell next more others none.1 all)
 
 placed_none : (more others : List Item) (at : ℕ) (own : List ℕ) → NonePlaced more → placed (more ++ others) (replicate (length more) at ++ own) ≡ placed more [] ++ placed others own
 placed_none [] others at own none = refl
@@ -45,6 +67,12 @@ next_at cell at token ahead is =
     let tail : drop (at + 1) cell ≡ ahead = let both = sym more ∙ is.rest in cc in
     record { within = omega (arith, is.within); rest = tail }
 
+first_left : {X : Type 0} (xs : List X) (i : ℕ) (x : X) (left : List X) → drop i xs ≡ x ∷ left → slice_get xs i ≡ Some x
+first_left [] zero x left is = cc
+first_left [] (suc i) x left is = cc
+first_left (y ∷ xs) zero x left is = cc
+first_left (y ∷ xs) (suc i) x left is = first_left xs i x left is
+
 giver_here : (cell : Tokens) (at : ℕ) (left : Tokens) → IsAt cell at left → giver_at cell at ≡ at + first_giver left
 giver_here cell at left is =
     let inside : min at (length cell) ≡ at = omega (arith, is.within) in
@@ -55,12 +83,13 @@ record AreMatched (cell : Tokens) (at : ℕ) (given : CellResult) (left : Tokens
   more : List Item
   grown : (cell_result_from given left).items.items ≡ given.items.items ++ more
   same : matched cell at more ≡ placed more (givers_from given at left)
+  each : AllZip (MayBeGiven cell) more (matched cell at more)
 
 size_is : (old new more : List Item) → new ≡ old ++ more → length new - length old ≡ length more
 size_is old new more is = let size = ap length is ∙ length-append old more in omega arith
 
 one_matched : (cell : Tokens) (at : ℕ) (given : CellResult) (token : Spanned TokenKind) (ahead : Tokens) (gives : Bool) → gives_place token.kind ≡ gives
-    → IsAt cell at (token ∷ ahead) → (adds : Adds gives given.items.items (with_token given token ahead).items.items)
+    → IsAt cell at (token ∷ ahead) → (adds : Adds token.kind gives given.items.items (with_token given token ahead).items.items)
     → AreMatched cell (at + 1) (with_token given token ahead) ahead → AreMatched cell at given (token ∷ ahead)
 one_matched cell at given token ahead true h is adds are =
     let own = adds.fits in
@@ -77,6 +106,9 @@ one_matched cell at given token ahead true h is adds are =
           ∙ ap (λ l. Some at ∷ l) are.same
           ∙ ap (λ b. cond b (Some at) None ∷ placed are.more later) (sym own.2)
           ∙ ap (λ n. placed (item ∷ are.more) (replicate n at ++ later)) (sym size);
+      each = subst (λ b. AllZip (MayBeGiven cell) (item ∷ are.more) (cond b (Some (giver_at cell at) ∷ matched cell (giver_at cell at + 1) are.more) (None ∷ matched cell at are.more))) (sym own.2)
+          (subst (λ k. AllZip (MayBeGiven cell) (item ∷ are.more) (Some k ∷ matched cell (k + 1) are.more)) (sym here)
+          ((λ _. record { at = at; token = token; is = refl; here = first_left cell at token ahead is.rest; fits = own.3 }), are.each));
     }
 one_matched cell at given token ahead false h is adds are =
     let size : added given token ahead ≡ length adds.more = size_is given.items.items _ adds.more adds.grown in
@@ -93,10 +125,11 @@ one_matched cell at given token ahead false h is adds are =
           ∙ ap (λ l. placed adds.more [] ++ l) (passed cell at are.more skip ∙ are.same)
           ∙ sym (placed_none adds.more are.more at later adds.fits)
           ∙ ap (λ n. placed (adds.more ++ are.more) (replicate n at ++ later)) (sym size);
+      each = given_none cell at adds.more are.more adds.fits (subst (AllZip (MayBeGiven cell) are.more) (sym (passed cell at are.more skip)) are.each);
     }
 
 all_matched : (cell : Tokens) (at : ℕ) (given : CellResult) (left : Tokens) → IsAt cell at left → AreMatched cell at given left
-all_matched cell at given [] is = record { more = []; grown = sym (append-nil given.items.items); same = refl }
+all_matched cell at given [] is = record { more = []; grown = sym (append-nil given.items.items); same = refl; each = tt }
 all_matched cell at given (token ∷ ahead) is =
     one_matched cell at given token ahead (gives_place token.kind) refl is (token_adds given token ahead)
     (all_matched cell (at + 1) (with_token given token ahead) ahead (next_at cell at token ahead is))
@@ -106,3 +139,9 @@ pub matched-cell : (body : Body) (cell : Tokens) → matched cell 0 (cell_result
 matched-cell body cell =
     let are = all_matched cell 0 (empty_cell_result body) cell (record { within = omega arith; rest = refl }) in
     subst (λ l. matched cell 0 l ≡ placed l (givers body cell)) (sym are.grown) are.same
+
+-- each item of a cell that has a place is given by a token of its kind
+pub given-cell : (body : Body) (cell : Tokens) → AllZip (MayBeGiven cell) (cell_result body cell).items.items (matched cell 0 (cell_result body cell).items.items)
+given-cell body cell =
+    let are = all_matched cell 0 (empty_cell_result body) cell (record { within = omega arith; rest = refl }) in
+    subst (λ l. AllZip (MayBeGiven cell) l (matched cell 0 l)) (sym are.grown) are.each

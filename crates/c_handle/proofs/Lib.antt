@@ -1,5 +1,6 @@
 pub mod FaultNames
 pub mod Owned
+pub mod PlayCopies
 pub mod Puts
 pub mod Refusals
 pub mod Sessions

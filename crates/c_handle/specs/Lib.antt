@@ -5,6 +5,7 @@ pub mod Copies
 pub mod FaultNames
 pub mod Faults
 pub mod Handle
+pub mod PlayRecords
 pub mod Sessions
 pub mod Slot
 pub mod TextChange

@@ -6,7 +6,7 @@ ghost use Rattle.c_handle.specs.Copies.{lookup_answer};
 
 use crate::codes::{
     CODE_BAD_LINE, CODE_BAD_RANGE, CODE_MISUSED, CODE_NOT_FOUND, CODE_OK, CODE_OUT_OF_MEMORY,
-    CODE_SHORT_BUFFER, CODE_TOO_LARGE,
+    CODE_SHORT_BUFFER, CODE_TOO_LARGE, CODE_TOO_LONG,
 };
 use crate::copying::{CopyAnswer, copy_found};
 
@@ -24,6 +24,7 @@ fn code_name(code: u32) -> Option<&'static [u8]>
         CODE_OUT_OF_MEMORY => Some(b"ABC_LIVE_OUT_OF_MEMORY"),
         CODE_NOT_FOUND => Some(b"ABC_LIVE_NOT_FOUND"),
         CODE_SHORT_BUFFER => Some(b"ABC_LIVE_SHORT_BUFFER"),
+        CODE_TOO_LONG => Some(b"ABC_LIVE_TOO_LONG"),
         _ => None,
     }
 }

@@ -45,6 +45,11 @@ pub const CODE_SHORT_BUFFER: u32 = 7;
 
 const _: () = prove!(CODE_SHORT_BUFFER == 7);
 
+/// More would be played than a call copies.
+pub const CODE_TOO_LONG: u32 = 8;
+
+const _: () = prove!(CODE_TOO_LONG == 8);
+
 /// Returns the code of a refused edit.
 pub fn code_of(error: EditError) -> u32
     ensures value { result ≡ code_of error }

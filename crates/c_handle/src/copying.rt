@@ -38,19 +38,20 @@ pub fn copy_found<T: Copy>(items: Option<&[T]>, buffer: &mut [T]) -> CopyAnswer
 {
     match items {
         Some(items) => copy(items, buffer),
-        None => CopyAnswer {
-            code: CODE_NOT_FOUND,
-            count: 0,
-        },
+        None => without_items(CODE_NOT_FOUND),
     }
+}
+
+/// Returns the answer of a call that copies no items.
+pub fn without_items(code: u32) -> CopyAnswer
+    ensures value { result ≡ record { code = code; count = 0 } }
+{
+    CopyAnswer { code, count: 0 }
 }
 
 /// Returns the answer of a slot that holds no session.
 pub fn misuse() -> CopyAnswer
     ensures value { result ≡ record { code = CODE_MISUSED; count = 0 } }
 {
-    CopyAnswer {
-        code: CODE_MISUSED,
-        count: 0,
-    }
+    without_items(CODE_MISUSED)
 }

@@ -8,7 +8,7 @@ ghost use Rattle.c_handle.specs.Slot.{session_in};
 ghost use Rattle.c_handle.specs.TokenRecords.{CopiesOrFails, CopiesTokens, token_record, work_in};
 
 use crate::codes::{CODE_NOT_FOUND, CODE_OUT_OF_MEMORY};
-use crate::copying::{CopyAnswer, copy};
+use crate::copying::{CopyAnswer, copy, without_items};
 use crate::slot::{SessionSlot, read_session};
 use crate::token_record::TokenRecord;
 use abc_fold::Work;
@@ -24,13 +24,6 @@ fn records_of(alloc: Global, tokens: &[LineToken]) -> Result<Vec<TokenRecord>, A
         records.push(TokenRecord::of(*token))?;
     }
     Ok(records)
-}
-
-/// Returns the answer of a call that copies no items.
-fn without_items(code: u32) -> CopyAnswer
-    ensures { result ≡ record { code = code; count = 0 } }
-{
-    CopyAnswer { code, count: 0 }
 }
 
 /// Copies tokens, unless an allocation fails.

@@ -3,5 +3,6 @@
 
 mod editing;
 mod opening;
+mod plays;
 mod reading;
 mod tokens;

@@ -1,6 +1,6 @@
 //! The calls of this crate that are tried.
 
-use crate::{books, chains, outputs, sessions, tunes};
+use crate::{books, chains, outputs, plays, sessions, tunes};
 use std::alloc::{AllocError, Global};
 use std::rt::Runtime;
 use tests_memory_layers::Trial;
@@ -33,10 +33,11 @@ pub enum Call {
     DroppedBook,
     EmptySession,
     PreparedEdit,
+    PlayedNumber,
 }
 
 /// All of them.
-pub const CALLS: [Call; 26] = [
+pub const CALLS: [Call; 27] = [
     Call::RoomForPieces,
     Call::Piece,
     Call::FollowingPiece,
@@ -63,6 +64,7 @@ pub const CALLS: [Call; 26] = [
     Call::DroppedBook,
     Call::EmptySession,
     Call::PreparedEdit,
+    Call::PlayedNumber,
 ];
 
 impl Trial for Call {
@@ -94,6 +96,7 @@ impl Trial for Call {
             Call::DroppedBook => books::dropped_book(rt, alloc),
             Call::EmptySession => sessions::empty_session(rt, alloc),
             Call::PreparedEdit => sessions::prepared_edit(rt, alloc),
+            Call::PlayedNumber => plays::played_number(rt, alloc),
         }
     }
 }

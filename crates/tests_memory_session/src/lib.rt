@@ -6,6 +6,7 @@ mod books;
 mod calls;
 mod chains;
 mod outputs;
+mod plays;
 mod sessions;
 mod tunes;
 

@@ -12,6 +12,7 @@ pub mod jobs;
 pub mod lengths;
 pub mod lines;
 pub mod midi;
+pub mod plays;
 pub mod repeats;
 pub mod runs;
 pub mod scores;
