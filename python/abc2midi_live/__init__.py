@@ -22,12 +22,14 @@ from .errors import (
     LibraryMissing,
     LibraryNeeded,
     OutOfMemory,
+    PlayTooLong,
     ProgramEnded,
     ProgramMissing,
     TooLarge,
 )
 from .finding import find_library, find_program, version
 from .opening import open
+from .plays import Entry, EntryKind, Track
 from .process import Built, ProcessSession
 from .session import Fault, Report, Session, Title, Work
 from .tokens import Token, TokenKind
@@ -40,12 +42,15 @@ __all__ = [
     "ClosedError",
     "Edit",
     "EditError",
+    "Entry",
+    "EntryKind",
     "Error",
     "Fault",
     "LibraryMissing",
     "LibraryNeeded",
     "LibrarySession",
     "OutOfMemory",
+    "PlayTooLong",
     "ProcessSession",
     "ProgramEnded",
     "ProgramMissing",
@@ -55,6 +60,7 @@ __all__ = [
     "Token",
     "TokenKind",
     "TooLarge",
+    "Track",
     "Work",
     "few_edits",
     "find_library",

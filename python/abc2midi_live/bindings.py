@@ -8,7 +8,8 @@ from functools import lru_cache
 
 from .errors import LibraryMissing
 
-OK, MISUSED, BAD_RANGE, BAD_LINE, TOO_LARGE, OUT_OF_MEMORY, NOT_FOUND, SHORT_BUFFER = range(8)  # what calls return
+OK, MISUSED, BAD_RANGE, BAD_LINE, TOO_LARGE, OUT_OF_MEMORY, NOT_FOUND, SHORT_BUFFER, TOO_LONG = range(9)  # what calls return
+NO_KEY = 128  # of an entry of a play
 
 
 class CSession(ctypes.Structure):
@@ -35,7 +36,23 @@ class CToken(ctypes.Structure):
     _fields_ = [("from", c_uint32), ("to", c_uint32), ("kind", c_uint32), ("depth", c_uint32)]
 
 
-SESSION, WORK, FAULT, TOKEN = POINTER(CSession), POINTER(CWork), POINTER(CFault), POINTER(CToken)
+class CEntry(ctypes.Structure):
+    """`abc_live_entry`."""
+
+    _fields_ = [
+        ("on", c_uint64),
+        ("off", c_uint64),
+        ("line", c_uint32),
+        ("from", c_uint32),
+        ("to", c_uint32),
+        ("kind", c_uint8),
+        ("key", c_uint8),
+        ("velocity", c_uint8),
+        ("joined", c_uint8),
+    ]
+
+
+SESSION, WORK, FAULT, TOKEN, ENTRY = POINTER(CSession), POINTER(CWork), POINTER(CFault), POINTER(CToken), POINTER(CEntry)
 NUMBER, COUNT = POINTER(c_uint32), POINTER(c_size_t)
 BYTES = [c_char_p, c_size_t]  # and how many they are, or how many fit
 NUMBERS = [NUMBER, c_size_t]
@@ -58,6 +75,8 @@ CALLS = {  # all return a code, but `version`
     "line_count": [SESSION, NUMBER],
     "line": [SESSION, c_uint32, *BYTES, COUNT],
     "tokens": [SESSION, c_uint32, TOKEN, c_size_t, COUNT, WORK],
+    "tracks": [SESSION, c_uint32, COUNT, c_size_t, COUNT],
+    "play": [SESSION, c_uint32, ENTRY, c_size_t, COUNT],
 }
 
 

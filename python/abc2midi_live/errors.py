@@ -45,6 +45,10 @@ class LibraryMissing(Error):
     """There is no library to load."""
 
 
+class PlayTooLong(Error, ValueError):
+    """The voices of a tune play more than 1,000,000 items and bar lines together."""
+
+
 class LibraryNeeded(Error, NotImplementedError):
     """Only a session over the C library has the answer."""
 

@@ -7,13 +7,16 @@ import os
 import threading
 import weakref
 from ctypes import byref, c_size_t, c_uint32
+from itertools import islice
 from operator import index
 from typing import Any, Optional
 
-from .bindings import BAD_LINE, BAD_RANGE, NOT_FOUND, OK, OUT_OF_MEMORY, SHORT_BUFFER, TOO_LARGE, CFault, CSession, CToken, CWork, load
+from .bindings import BAD_LINE, BAD_RANGE, NO_KEY, NOT_FOUND, OK, OUT_OF_MEMORY, SHORT_BUFFER, TOO_LARGE, TOO_LONG
+from .bindings import CEntry, CFault, CSession, CToken, CWork, load
 from .edits import Edit
-from .errors import BadLine, BadRange, OutOfMemory, TooLarge, refusal
+from .errors import BadLine, BadRange, OutOfMemory, PlayTooLong, TooLarge, refusal
 from .finding import PathName, find_library
+from .plays import Entry, Track, entry_kind_of
 from .session import Fault, Report, Session, Title, Work
 from .tokens import Token, kind_of
 
@@ -22,6 +25,7 @@ MOST_NUMBER = 2**32 - 1
 ROOM = 4096  # bytes at first, for what the library copies
 ROOM_FOR_NUMBERS = 64  # at first
 ROOM_FOR_TOKENS = 256  # at first: more than most lines have
+ROOM_FOR_TRACKS = 16  # at first: as many as a file has
 _HERE = threading.local()
 
 
@@ -123,6 +127,29 @@ class LibrarySession(Session):
         code: int = self._calls.abc_live_tokens(self._here, number, self._tokens, room, self._count_here, byref(self._counters))
         return code
 
+    def play(self, number: int) -> Optional[tuple[Track, ...]]:
+        self._check_open()
+        if not 0 <= index(number) <= MOST_NUMBER:
+            return None
+        sizes = self._copied_play(self._calls.abc_live_tracks, number, (c_size_t * ROOM_FOR_TRACKS)())
+        if sizes is None:
+            return None
+        entries = self._copied_play(self._calls.abc_live_play, number, (CEntry * sum(sizes))())
+        assert entries is not None, "the session has not changed since the sizes were copied"
+        played = map(entry_of, entries)
+        return tuple(tuple(islice(played, size)) for size in sizes)
+
+    def _copied_play(self, call: Any, number: int, room: Any) -> Optional[Any]:
+        """What a call copies of the play of a number into a room, or into a larger one; None if no tune owns the number."""
+        code = call(self._here, number, room, len(room), self._count_here)
+        if code == SHORT_BUFFER:
+            room = (room._type_ * self._count.value)()
+            code = call(self._here, number, room, len(room), self._count_here)
+        if code == NOT_FOUND:
+            return None
+        check(code)
+        return room[: self._count.value]
+
     @property
     def work(self) -> Optional[Work]:
         self._check_open()
@@ -183,8 +210,18 @@ def check(code: int) -> None:
     """Raises what a code of the library means."""
     if code in REFUSALS:
         raise refusal(REFUSALS[code])
+    if code == TOO_LONG:
+        raise PlayTooLong("more than 1,000,000 items and bar lines are played")
     if code != OK:
         raise RuntimeError(f"the library answered {code}: this is a mistake in the package abc2midi_live")
+
+
+def entry_of(copied: CEntry) -> Entry:
+    """An entry of the library."""
+    has_key = copied.key != NO_KEY
+    sound = (copied.key, copied.velocity) if has_key else (None, None)
+    place = (copied.line, getattr(copied, "from"), copied.to)
+    return Entry(copied.on, copied.off, entry_kind_of(copied.kind), *sound, copied.joined == 1, *place)
 
 
 def text_of(lines: list[bytes]) -> bytes:

@@ -15,6 +15,7 @@ from .edits import Edit
 from .errors import SENTENCES, LibraryNeeded, ProgramEnded, ProgramMissing, refusal
 from .finding import PathName, find_program
 from .lines import MOST_LINES
+from .plays import Track
 from .session import Fault, Report, Session, Title, Work
 from .tokens import Token
 
@@ -120,6 +121,11 @@ class ProcessSession(Session):
     def tokens(self, number: int) -> tuple[Token, ...]:
         self._check_line(number)
         raise LibraryNeeded("a session over a process has no tokens of lines: open one over the C library")
+
+    def play(self, number: int) -> Optional[tuple[Track, ...]]:
+        self._check_ready()
+        index(number)
+        raise LibraryNeeded("a session over a process has no plays of tunes: open one over the C library")
 
     @property
     def work(self) -> Optional[Work]:

@@ -11,6 +11,7 @@ from typing import NamedTuple, Optional, TypeVar
 from .edits import Edit, few_edits
 from .errors import BadLine, BadRange, ClosedError, EditError, TooLarge, refusal
 from .lines import MOST_BYTES, MOST_LINES, Lines, Text, lines_of, lines_of_book
+from .plays import Track
 from .tokens import Token
 
 Self = TypeVar("Self", bound="Session")
@@ -173,6 +174,12 @@ class Session(ABC):
     @abstractmethod
     def output(self, number: int) -> Optional[bytes]:
         """The bytes of the MIDI file of a number, or None if no tune of that number has one."""
+
+    @abstractmethod
+    def play(self, number: int) -> Optional[tuple[Track, ...]]:
+        """What is played of a number, when, and where it is in the text: the entries of each track of its MIDI file, in order of
+        play. The first track is the conductor's and has none. None if no tune of that number has a file. Raises `PlayTooLong` if
+        more than 1,000,000 items and bar lines are played, and `LibraryNeeded` over a process."""
 
     @property
     @abstractmethod

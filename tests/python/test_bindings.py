@@ -6,7 +6,7 @@ from ctypes import c_char_p, c_size_t, c_uint8, c_uint32, c_uint64, c_void_p
 from unittest import mock
 
 import setting
-from abc2midi_live import LibraryMissing, TokenKind, bindings
+from abc2midi_live import EntryKind, LibraryMissing, TokenKind, bindings
 
 HEADER = setting.TOP / "c/abc2midi_live.h"
 TYPES = {
@@ -14,6 +14,7 @@ TYPES = {
     "abc_live_work *": bindings.WORK,
     "abc_live_fault *": bindings.FAULT,
     "abc_live_token *": bindings.TOKEN,
+    "abc_live_entry *": bindings.ENTRY,
     "const uint8_t *": c_char_p,
     "uint8_t *": c_char_p,
     "uint32_t *": bindings.NUMBER,
@@ -56,14 +57,16 @@ class Header(unittest.TestCase):
 
     def test_codes(self) -> None:
         numbers = {name: int(number) for name, number in re.findall(r"ABC_LIVE_(\w+) = (\d+)", self.header)}
-        kinds = {name[len("TOKEN_") :]: number for name, number in numbers.items() if name.startswith("TOKEN_")}
-        self.assertEqual(kinds, {kind.name: kind.value for kind in TokenKind if kind is not TokenKind.OTHER})
-        codes = {name: number for name, number in numbers.items() if not name.startswith("TOKEN_")}
-        self.assertEqual(codes, {name: getattr(bindings, name) for name in codes})
-        self.assertEqual(sorted(codes.values()), list(range(8)))
+        for word, kinds in ("TOKEN_", TokenKind), ("ENTRY_", EntryKind):
+            found = {name[len(word) :]: numbers.pop(name) for name in [*numbers] if name.startswith(word)}
+            self.assertEqual(found, {kind.name: kind.value for kind in kinds if kind.value})
+        self.assertEqual(numbers, {name: getattr(bindings, name) for name in numbers})
+        self.assertEqual(sorted(numbers.values()), list(range(9)))
+        self.assertIn(f"#define ABC_LIVE_NO_KEY {bindings.NO_KEY}\n", self.header)
 
     def test_types(self) -> None:
         kinds = {"session": bindings.CSession, "work": bindings.CWork, "fault": bindings.CFault, "token": bindings.CToken}
+        kinds["entry"] = bindings.CEntry
         for name, kind in kinds.items():
             found = re.search(rf"typedef struct abc_live_{name} \{{(.*?)\}} abc_live_{name};", self.header, re.S)
             assert found

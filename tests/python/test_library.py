@@ -10,10 +10,30 @@ from unittest import mock
 import abc2midi_live
 import sessions
 import setting
-from abc2midi_live import LibraryMissing, LibrarySession, Token, TokenKind, Work
+from abc2midi_live import Entry, EntryKind, LibraryMissing, LibrarySession, PlayTooLong, Session, Token, TokenKind, Work
 from conversation import answers_of
 
 HERE = Path(__file__).parent
+TOKENS = {EntryKind.NOTE: {TokenKind.NOTE}, EntryKind.REST: {TokenKind.REST, TokenKind.BAR_REST}, EntryKind.BAR: {TokenKind.BAR_LINE}}
+
+
+def row_of(entry: Entry) -> str:
+    """An entry as a row of numbers and words: None is `-`."""
+    sound = ["-" if value is None else str(value) for value in (entry.key, entry.velocity)]
+    words = [entry.on, entry.off, entry.kind.name.lower(), *sound, int(entry.joined), entry.line, entry.from_column, entry.to_column]
+    return " ".join(map(str, words))
+
+
+def rows_of(session: Session, number: int) -> list[str]:
+    """The play of a number as rows: the sizes of its tracks, and its entries."""
+    try:
+        play = session.play(number)
+    except PlayTooLong:
+        return [f"{number} too long"]
+    if play is None:
+        return [f"{number} none"]
+    sizes = [f"{number} tracks {' '.join(str(len(track)) for track in play)}"]
+    return sizes + [f"{number} {index} {row_of(entry)}" for index, track in enumerate(play) for entry in track]
 
 
 class OverTheLibrary(sessions.Sessions):
@@ -77,6 +97,45 @@ class OverTheLibrary(sessions.Sessions):
     def test_tokens_of_a_long_line(self) -> None:
         session = self.session([b"X:1", b"K:C", b"C" * 65_535])
         self.assertEqual(session.tokens(3)[-1], Token(65_535, 65_536, TokenKind.NOTE, 0))
+
+    def test_plays(self) -> None:
+        """The rows are those of the reference model, which is no part of this repository: single notes, ties over bars and repeats,
+        chords, tuplets, broken rhythm, endings, parts, voices, inline fields, rests of bars, silent tones, a number of two tunes,
+        a play that is too long."""
+        session = self.session((HERE / "plays.abc").read_bytes().split(b"\n")[:-1])
+        rows = (HERE / "plays.rows").read_text().splitlines()
+        numbers = dict.fromkeys(int(row.split()[0]) for row in rows)
+        before = session.work
+        self.assertEqual([row for number in numbers for row in rows_of(session, number)], rows)
+        self.assertEqual(session.work, before)
+
+    def test_plays_after_edits(self) -> None:
+        """They are those of a fresh session with the same text. Each entry is at a token of its kind."""
+        for seed in range(20):
+            with self.begin() as session, self.begin() as fresh:
+                for command in sessions.random_stream(seed):
+                    answers_of(session, [command])
+                fresh.insert(1, session.lines)
+                for number in session.numbers:
+                    play = session.play(number)
+                    assert play
+                    self.assertEqual(play, fresh.play(number))
+                    self.assertEqual(play[0], ())
+                    for entry in (entry for track in play for entry in track):
+                        place = entry.from_column, entry.to_column
+                        kinds = {token.kind for token in session.tokens(entry.line) if token[:2] == place}
+                        self.assertTrue(kinds & TOKENS[entry.kind], entry)
+
+    def test_plays_of_no_number(self) -> None:
+        session = self.session(sessions.TUNE)
+        self.assertEqual([session.play(number) for number in (0, -1, 2, 2**32 + 1)], [None] * 4)
+        with self.assertRaises(TypeError):
+            session.play("1")  # type: ignore[arg-type]
+        play = session.play(1)
+        assert play
+        self.assertEqual(play, ((), (Entry(0, 240, EntryKind.NOTE, 60, 80, False, 4, 1, 2),)))
+        with self.assertRaises(AttributeError):
+            play[1][0].on = 1  # type: ignore[misc]
 
     def test_an_interrupted_edit(self) -> None:
         """The lines are those of the library, whether the edit was made or not."""

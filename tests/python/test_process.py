@@ -31,6 +31,13 @@ class OverTheProcess(sessions.Sessions):
         with self.assertRaises(IndexError):
             session.tokens(6)
 
+    def test_there_are_no_plays(self) -> None:
+        session = self.session(sessions.TUNE)
+        with self.assertRaisesRegex(LibraryNeeded, "over the C library"):
+            session.play(1)
+        with self.assertRaises(TypeError):
+            session.play("1")  # type: ignore[arg-type]
+
     def test_files(self) -> None:
         session = ProcessSession(setting.program, self.folder)
         self.addCleanup(session.close)
