@@ -82,6 +82,32 @@ export interface Token {
   depth: number;
 }
 
+/** What an entry of a play is. `Other` is a kind of a module newer than the package. */
+export type EntryKind = "Other" | "Note" | "Rest" | "Bar";
+
+/** A tone, a rest or a bar line that is played. Ticks count from the beginning of the tune, 480 a quarter note. */
+export interface Entry {
+  on: number;
+  /** Its own end: a tie does not lengthen it. */
+  off: number;
+  kind: EntryKind;
+  /** The key of MIDI; null for a silent tone, a rest and a bar line. */
+  key: number | null;
+  /** The velocity of MIDI, or null. */
+  velocity: number | null;
+  /** Whether a tie joins a tone with one before it. */
+  joined: boolean;
+  /** Its line, counted from 1. */
+  line: number;
+  /** The column of its first byte, counted from 1. */
+  from: number;
+  /** The column after its last byte. */
+  to: number;
+  /** The same columns in UTF-16 units, as strings and editors count. */
+  utf16From: number;
+  utf16To: number;
+}
+
 /** What all edits of a session cost so far. */
 export interface Work {
   /** Lines scanned. */
@@ -140,6 +166,11 @@ export class Session {
    * `RangeError` if there is no such line.
    */
   tokens(number: number): Token[];
+  /**
+   * What is played of a number, when, and where it is in the text: the entries of each track of its MIDI file, in order of play. The
+   * first track is the conductor's and has none. Null if no tune of that number has a file. Throws `PlayTooLong`.
+   */
+  play(number: number): Entry[][] | null;
   readonly lineCount: number;
   /** All lines as strings: UTF-8, or Latin-1 if a line is not UTF-8. */
   readonly lines: string[];
@@ -170,6 +201,8 @@ export class BadLine extends EditError {}
 export class TooLarge extends EditError {}
 /** An allocation failed. The call changed nothing. */
 export class OutOfMemory extends EditError {}
+/** The voices of a tune play more than 1,000,000 items and bar lines together. */
+export class PlayTooLong extends AbcError {}
 /** The session is closed. */
 export class ClosedError extends AbcError {}
 /** The engine stopped in the middle of a call. Its sessions take no other call. */

@@ -2,19 +2,20 @@
 
 import { fewEdits } from "./edits.js";
 import { isSupported, sharedEngine } from "./engine.js";
-import { BadLine, BadRange, ClosedError, OutOfMemory, TooLarge, refusal } from "./errors.js";
+import { BadLine, BadRange, ClosedError, OutOfMemory, PlayTooLong, TooLarge, refusal } from "./errors.js";
 import { SENTENCES } from "./faults.js";
 import { MOST_LINES, byteColumnOf, bytesOfBook, bytesOfLines, countLines, hasLongLine, joined } from "./lines.js";
 import { numberFor, textOf, utf16ColumnOf, utf16ColumnsOf } from "./lines.js";
+import { ENTRY_SIZE, entryAt } from "./plays.js";
 import { kindOf } from "./tokens.js";
 
 // The codes that calls of the module return, by the header of the C library.
 const OK = 0, NOT_FOUND = 6, SHORT_BUFFER = 7;
-const REFUSALS = new Map([[2, BadRange], [3, BadLine], [4, TooLarge], [5, OutOfMemory]]);
+const REFUSALS = new Map([[2, BadRange], [3, BadLine], [4, TooLarge], [5, OutOfMemory], [8, PlayTooLong]]);
 
 // The block of a session in the memory: the session of the C library, its counters, a count, a number, and room for short answers.
 const WORK = 16, COUNT = 40, NUMBER = 48, ANSWER = 56, ROOM = 4096, BLOCK = ANSWER + ROOM;
-const NUMBER_SIZE = 4, FAULT_SIZE = 12, TOKEN_SIZE = 16; // bytes of an item
+const NUMBER_SIZE = 4, SIZE_SIZE = 8, FAULT_SIZE = 12, TOKEN_SIZE = 16; // bytes of an item
 const SHORTEST_TUNE = 3; // bytes: `X:` and a line feed
 
 /** Closes a session that was dropped without `close`. */
@@ -168,6 +169,25 @@ export class Session {
     });
   }
 
+  play(number) {
+    this.#checkOpen();
+    const wanted = numberFor(number);
+    const sizes = wanted === null ? null : this.#copied("abc_live_tracks", SIZE_SIZE, [this.#block, wanted]);
+    return sizes === null ? null : this.#tracks(wanted, sizesIn(sizes));
+  }
+
+  /** The entries of each track of a number, whose sizes are known. */
+  #tracks(number, sizes) {
+    const bytes = this.#copied("abc_live_play", ENTRY_SIZE, [this.#block, number]);
+    const view = viewOf(bytes), columns = new Map();
+    const columnsOf = (line) => {
+      if (!columns.has(line)) columns.set(line, utf16ColumnsOf(this.lineBytes(line)));
+      return columns.get(line);
+    };
+    let next = 0;
+    return sizes.map((size) => Array.from({ length: size }, () => entryAt(view, next++, columnsOf)));
+  }
+
   get lineCount() {
     this.#checkOpen();
     check(this.#engine.call("abc_live_line_count", this.#block, this.#at(NUMBER)));
@@ -275,8 +295,19 @@ export class Session {
   }
 }
 
+/** A view of bytes. */
+function viewOf(bytes) {
+  return new DataView(bytes.buffer, bytes.byteOffset, bytes.byteLength);
+}
+
 /** The 32-bit numbers in bytes of the module. */
 function numbersIn(bytes) {
-  const view = new DataView(bytes.buffer, bytes.byteOffset, bytes.byteLength);
+  const view = viewOf(bytes);
   return Array.from({ length: bytes.byteLength / NUMBER_SIZE }, (_, n) => view.getUint32(n * NUMBER_SIZE, true));
+}
+
+/** The sizes in bytes of the module, of 64 bits each. */
+function sizesIn(bytes) {
+  const view = viewOf(bytes);
+  return Array.from({ length: bytes.byteLength / SIZE_SIZE }, (_, n) => Number(view.getBigUint64(n * SIZE_SIZE, true)));
 }

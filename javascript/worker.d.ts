@@ -1,6 +1,6 @@
 // The types of worker.js. The calls are those of `Session` in index.d.ts.
 
-import type { Fault, Lines, ModuleSource, Report, Text, Title, Token, Work } from "./index.js";
+import type { Entry, Fault, Lines, ModuleSource, Report, Text, Title, Token, Work } from "./index.js";
 
 /** A session in a worker of its own: the calls of `Session`, as promises. The calls are carried out in their order. */
 export class WorkerSession {
@@ -20,6 +20,7 @@ export class WorkerSession {
   readonly titles: Promise<Title[]>;
   readonly faults: Promise<Fault[]>;
   tokens(number: number): Promise<Token[]>;
+  play(number: number): Promise<Entry[][] | null>;
   readonly lineCount: Promise<number>;
   readonly lines: Promise<string[]>;
   line(number: number): Promise<string>;

@@ -11,6 +11,7 @@ const { AbcError, EditError, Engine, Session, TrapError, isSupported } = await l
 const { WorkerSession } = await load("worker.js");
 const faults = JSON.parse(readFileSync(new URL("../../python/abc2midi_live_clients/faults.json", import.meta.url)));
 
+const HEADER = readFileSync(new URL("../../c/abc2midi_live.h", import.meta.url), "utf-8");
 const SCALE = "X:1\nT:Scale\nK:C\nCDEF GABc|\n";
 // A module with the function `t`, which stops.
 const TRAP = new Uint8Array([0, 97, 115, 109, 1, 0, 0, 0, 1, 4, 1, 96, 0, 0, 3, 2, 1, 0, 7, 5, 1, 1, 116, 0, 0, 10, 5, 1, 3, 0, 0, 11]);
@@ -156,10 +157,45 @@ await run({
     await worker.close();
     session.close();
   },
+  "plays have ticks, and places with columns in bytes and in UTF-16 units": async () => {
+    const session = await sessionOf('X:1\nK:C\nV:1\n"\u00e9"[CE]-|C z|\nV:2\n|:C,,,,,,,,:|\n');
+    const entry = (on, off, kind, key, joined, line, from, to, back = 0) => {
+      const columns = { line, from, to, utf16From: from - back, utf16To: to - back };
+      return { on, off, kind, key, velocity: key === null ? null : 80, joined, ...columns };
+    };
+    const silent = (on) => entry(on, on + 240, "Note", null, false, 6, 3, 12), bar = (at, ...place) => entry(at, at, "Bar", null, false, ...place);
+    const first = [entry(0, 240, "Note", 60, false, 4, 6, 7, 1), entry(0, 240, "Note", 64, false, 4, 7, 8, 1), bar(240, 4, 10, 11, 1),
+      entry(240, 480, "Note", 60, true, 4, 11, 12, 1), entry(480, 720, "Rest", null, false, 4, 13, 14, 1), bar(720, 4, 14, 15, 1)];
+    same(session.play(1), [[], first, [bar(0, 6, 1, 3), silent(0), bar(240, 6, 12, 14), silent(240), bar(480, 6, 12, 14)]]);
+    same([0, 2, -1, 2 ** 32 + 1].map((number) => session.play(number)), [null, null, null, null]);
+    same(await thrown(() => session.play("1")), "TypeError");
+    session.close();
+  },
+  "plays that are longer than the room for answers, and too long": async () => {
+    const tune = (bars) => `X:1\nP:A1000\nK:C\nP:A\nC${"| ".repeat(bars)}\n`;
+    const session = await sessionOf(tune(9));
+    const [, entries] = session.play(1);
+    same([entries.length, entries.at(-1).on, entries.at(-1).to], [10000, 240000, 19]);
+    session.setText(tune(1000));
+    same([await thrown(() => session.play(1)), session.numbers], ["PlayTooLong", [1]]);
+    session.close();
+  },
+  "a worker has the same plays": async () => {
+    const session = await sessionOf(SCALE), worker = await WorkerSession.open();
+    await worker.setText(SCALE);
+    same([await worker.play(1), await worker.play(2)], [session.play(1), null]);
+    await worker.close();
+    session.close();
+  },
+  "each kind of entry is that of the header": async () => {
+    const { entryKindOf } = await load("plays.js");
+    const kinds = [...HEADER.matchAll(/ABC_LIVE_ENTRY_(\w+) = (\d+)/g)];
+    same(kinds.map(([, name, number]) => [name, Number(number)]), kinds.map((_, n) => [entryKindOf(n + 1).toUpperCase(), n + 1]));
+    same(entryKindOf(kinds.length + 1), "Other");
+  },
   "each kind of token is that of the header": async () => {
     const { kindOf } = await load("tokens.js");
-    const header = readFileSync(new URL("../../c/abc2midi_live.h", import.meta.url), "utf-8");
-    const kinds = [...header.matchAll(/ABC_LIVE_TOKEN_(\w+) = (\d+)/g)];
+    const kinds = [...HEADER.matchAll(/ABC_LIVE_TOKEN_(\w+) = (\d+)/g)];
     same(kinds.map(([, name]) => name), kinds.map((_, n) => kindOf(n + 1).replace(/(?<=[a-z])[A-Z]/g, "_$&").toUpperCase()));
     same([kinds.map(([, , number]) => Number(number)), kindOf(kinds.length + 1)], [kinds.map((_, n) => n + 1), "Other"]);
   },
@@ -215,6 +251,7 @@ await run({
     session.close();
     session.close();
     const calls = [() => session.insert(1, ""), () => session.setText(""), () => session.output(1), () => session.numbers, () => session.titles];
+    calls.push(() => session.tokens(1), () => session.play(1));
     calls.push(() => session.faults, () => session.lines, () => session.line(1), () => session.report, () => session.work, () => session.lineCount);
     for (const call of calls) same(await thrown(call), "ClosedError");
   },

@@ -1,7 +1,7 @@
 // A program with the types of the package. `tsc --strict` accepts it; each line after `@ts-expect-error` has to be refused.
 
 import { Engine, OutOfMemory, Session, TrapError, isSupported } from "../../javascript/index.js";
-import type { Fault, Report, Title, Token, TokenKind, Work } from "../../javascript/index.js";
+import type { Entry, EntryKind, Fault, Report, Title, Token, TokenKind, Work } from "../../javascript/index.js";
 import { WorkerSession } from "../../javascript/worker.js";
 
 async function edit(session: Session): Promise<void> {
@@ -13,12 +13,15 @@ async function edit(session: Session): Promise<void> {
   const words: string[] = faults.map((fault) => `${fault.line}:${fault.column}:${fault.utf16Column} ${fault.name} ${fault.wrong} ${fault.instead}`);
   const tokens: Token[] = session.tokens(1);
   const kinds: TokenKind[] = tokens.filter((token) => token.from < token.to && token.utf16From < token.utf16To && !token.depth).map((token) => token.kind);
+  const play: Entry[][] | null = session.play(numbers[0] ?? 1);
+  const keys: (number | null)[] = (play ?? []).flat().map((entry) => (entry.on < entry.off && !entry.joined ? entry.key : entry.velocity));
+  const entries: EntryKind[] = (play ?? []).flat().map((entry) => entry.kind);
   const titles: Title[] = session.titles;
   const bytes: Uint8Array[] = [...titles.map((title) => title.bytes), session.lineBytes(1)];
   const lines: string[] = [...session.lines, session.line(1), titles[0]?.text ?? "", ...words];
   const places: number[] = [session.lineCount, session.utf16Column(1, 2), session.byteColumn(1, 2), bytes.length, lines.length];
   const work: Work = session.work;
-  console.log(output, kinds, places, work.scanned + work.folded + work.built);
+  console.log(output, kinds, keys, entries, places, work.scanned + work.folded + work.built);
   session[Symbol.dispose]();
   // @ts-expect-error: a line is a number
   session.insert("1", "X:1");
@@ -38,13 +41,14 @@ async function both(): Promise<void> {
   const numbers: number[] = await worker.numbers;
   const faults: Fault[] = await worker.faults;
   const tokens: Token[] = await worker.tokens(1);
+  const play: Entry[][] | null = await worker.play(1);
   // @ts-expect-error: a worker promises
   const report: Report = worker.insert(1, "");
   try {
     session.close();
     await worker.close();
   } catch (error) {
-    if (error instanceof OutOfMemory || error instanceof TrapError) console.log(error.name, output, numbers, faults, tokens, report);
+    if (error instanceof OutOfMemory || error instanceof TrapError) console.log(error.name, output, numbers, faults, tokens, play, report);
   }
   console.log(engine.isStopped, engine.memoryBytes);
 }
