@@ -32,8 +32,15 @@ typedef __PTRDIFF_TYPE__ ptrdiff_t;
 
 #define PAGE ((size_t)65536) /* of a WebAssembly memory */
 #define NO_MEMORY ((void *)-1)
+#define GROWTH 8 /* A memory grows by an eighth at least: some engines copy it each time. */
 
 extern unsigned char __heap_base; /* The end of the stack and of all data, by the linker. */
+
+/* Makes the memory grow by a number of pages; returns whether it did. */
+static int grows(size_t pages)
+{
+    return __builtin_wasm_memory_grow(0, pages) != (size_t)-1;
+}
 
 /* Gives `more` bytes after those it gave before. dlmalloc asks for 0 to learn the end, and for less never. */
 static void *sbrk(ptrdiff_t more)
@@ -43,7 +50,7 @@ static void *sbrk(ptrdiff_t more)
     size_t pages = (begin + (size_t)more + PAGE - 1) / PAGE, had = __builtin_wasm_memory_size(0);
     if (more < 0 || begin + (size_t)more < begin)
         return NO_MEMORY;
-    if (pages > had && __builtin_wasm_memory_grow(0, pages - had) == (size_t)-1)
+    if (pages > had && !(pages - had < had / GROWTH && grows(had / GROWTH)) && !grows(pages - had))
         return NO_MEMORY;
     end = begin + (size_t)more;
     return (void *)begin;

@@ -60,6 +60,19 @@ class Conversation(NamedTuple):
     wanted: bytes
 
 
+def run_page_script(folder: Path, module: Optional[str]) -> "subprocess.CompletedProcess[str]":
+    """Makes the page without a server, with a module, or with a file that is none."""
+    with tempfile.NamedTemporaryFile(suffix=".wasm") as empty:
+        words = [str(TOP / "scripts/package/static_page"), "--module", module or empty.name, str(folder)]
+        return subprocess.run(words, capture_output=True, text=True)
+
+
+def make_page(folder: Path, module: Optional[str]) -> None:
+    """The same, which succeeds."""
+    ran = run_page_script(folder, module)
+    assert ran.returncode == 0, ran.stderr
+
+
 @lru_cache(maxsize=None)
 def conversations() -> list[Conversation]:
     """The transcripts, and with a program random streams and a large one."""

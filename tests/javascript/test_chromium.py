@@ -2,16 +2,14 @@
 
 from __future__ import annotations
 
-import functools
-import http.server
 import shutil
 import textwrap
-import threading
 import unittest
 from typing import Any
 
 import browser
 import common
+from file_server import FileServer
 
 AT_ONCE = 50  # conversations in one call of the driver
 MEMORY = """
@@ -28,16 +26,19 @@ return [engine.memoryBytes, first];
 """
 
 
-class Quiet(http.server.SimpleHTTPRequestHandler):
-    """A server of files that prints nothing."""
-
-    def log_message(self, *words: object) -> None:
-        pass
-
-
 @unittest.skipIf(browser.lacking(), browser.lacking())
 class InChromium(common.Room):
     """A page on a server of files, as any server has them."""
+
+    driver: Any = None
+
+    @classmethod
+    def setUpClass(cls) -> None:
+        try:
+            cls.driver = browser.started()
+        except browser.NotStarted as error:
+            raise unittest.SkipTest(f"Chromium did not start: {error}") from error
+        cls.addClassCleanup(cls.driver.quit)
 
     def setUp(self) -> None:
         super().setUp()
@@ -45,17 +46,12 @@ class InChromium(common.Room):
         for name in ("conversation.mjs", "in_browser.js"):
             shutil.copy(common.TESTS / name, self.folder)
         (self.folder / "index.html").write_text("<!doctype html><title>a test</title>")
-        server = http.server.ThreadingHTTPServer(("127.0.0.1", 0), functools.partial(Quiet, directory=str(self.folder)))
-        threading.Thread(target=server.serve_forever, daemon=True).start()
-        self.addCleanup(server.server_close)
-        self.addCleanup(server.shutdown)
-        try:
-            self.driver = browser.started()
-        except browser.NotStarted as error:
-            self.skipTest(f"Chromium did not start: {error}")
-        self.addCleanup(self.driver.quit)
-        self.address = f"http://127.0.0.1:{server.server_port}"
+        server = FileServer(self.folder)
+        self.addCleanup(server.stop)
+        self.address = server.origin
+        self.driver.get_log("browser")
         self.driver.get(self.address)
+        self.addCleanup(self.driver.get, "about:blank")
 
     def value_of(self, script: str, *words: Any) -> Any:
         """What the body of an asynchronous function returns in the page. `words` are its parameters, `book` the first of them."""
@@ -102,6 +98,10 @@ class InChromium(common.Room):
         area.send_keys("\u00e9")
         browser.wait(lambda: faults.text)
         self.assertEqual([line.partition(" ")[0] for line in faults.text.splitlines()], ["4:11", "4:11"])
+        area.clear()
+        area.send_keys("%")
+        browser.wait(lambda: not faults.text)
+        self.assertIsNone(link.get_attribute("href"))  # an empty one would download the page itself
 
     def test_nothing_is_written_to_the_console(self) -> None:
         self.value_of('const { Session } = await import("/package/index.js"); (await Session.open()).setText(book);', "X:1\nK:C\nC\n")

@@ -17,6 +17,8 @@ export class Server {
     this.key = key;
     this.lost = new AbortController(); // ends what was asked of a server that was lost since
     this.renewed = () => {}; // the server was started again: it has another token
+    this.called = "server";
+    this.offers = { saving: /** @type {const} */ ("folder"), score: true, zip: true };
   }
 
   /** Whether this browser can check a proof. */

@@ -6,27 +6,29 @@ export class TitleBar {
   /** `back` takes the focus of a button that goes.
    * @param {import("./link.js").Link} link
    * @param {import("./book.js").Book} book
+   * @param {import("./files.js").Files} files
    * @param {HTMLElement} back */
-  constructor(link, book, back) {
+  constructor(link, book, files, back) {
     this.link = link;
     this.book = book;
+    this.files = files;
     this.back = back;
   }
 
   show() {
-    const { state } = this.link, { name } = this.book, windows = state?.windows ?? 0;
+    const { state } = this.link, { name } = this.book, { writes } = this.files, windows = state?.windows ?? 0;
     this.showUnsaved();
     find("name").textContent = name || "Tune book";
-    find("save").textContent = name || !state ? "Save" : "Download";
+    find("save").textContent = writes || !state ? "Save" : "Download";
     find("windows").hidden = windows < 2;
-    hide(find("utf-8"), !name || !state || state.letters === "utf-8", this.back);
+    hide(find("utf-8"), !writes || !name || !state || state.letters === "utf-8", this.back);
     find("windows").textContent = `${windows} windows have this book`;
   }
 
   /** Shows whether the text has what the file does not have. */
   showUnsaved() {
     const { isUnsaved } = this.link;
-    find("unsaved").hidden = !isUnsaved;
+    hide(find("unsaved"), !isUnsaved, this.back);
     const title = `${isUnsaved ? "● " : ""}${this.book.name || "Tune book"} – abc2midi_live`;
     if (document.title !== title) document.title = title;
   }

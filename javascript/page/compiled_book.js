@@ -1,0 +1,123 @@
+// A text of any kind in a session of the compiler. Lines that the session would refuse are comments there, and faults here.
+
+import { WorkerSession } from "./abc2midi-live/worker.js";
+import { bytesOf } from "./book_text.js";
+import { spanOf } from "./fault_spans.js";
+import { difference } from "./lines.js";
+
+/** @typedef {import("./book_text.js").Line} Line
+ * @typedef {import("./book_text.js").BookText} BookText
+ * @typedef {import("./rows.js").FaultRow} FaultRow
+ * @typedef {import("./rows.js").TuneRow} TuneRow
+ * What the compiler finds in a text.
+ * @typedef {{ faults: FaultRow[], tunes: TuneRow[] }} Rows
+ * @typedef {import("./abc2midi-live/index.js").Report} Report */
+
+const MOST_LINES = 1048576, MOST_BYTES = 65535; // of a text, of a line
+const MOST_BYTES_OF_A_UNIT = 3;
+const LEFT_OUT = "%"; // instead of a longer line: a comment has no effect
+
+/** Whether a line has too many bytes.
+ * @type {(line: Line) => boolean} */
+function isTooLong(line) {
+  return line.length * MOST_BYTES_OF_A_UNIT > MOST_BYTES && bytesOf(line).length > MOST_BYTES;
+}
+
+/** The lines that count: an empty one at the end does not.
+ * @type {(text: BookText) => Line[]} */
+function countedLines({ lines }) {
+  return lines.at(-1)?.length === 0 ? lines.slice(0, -1) : lines;
+}
+
+export class CompiledBook {
+  /** `start` starts a session.
+   * @param {() => Promise<WorkerSession>} start */
+  constructor(start = () => WorkerSession.open()) {
+    this.start = start;
+    /** @type {WorkerSession | null} */
+    this.session = null;
+    /** @type {Line[]} */
+    this.lines = []; // that the session has
+  }
+
+  /** Makes a text that of the session: what it changed. A session that fails is started again, once.
+   * @type {(text: BookText) => Promise<Report>} */
+  async become(text) {
+    const lines = countedLines(text).slice(0, MOST_LINES);
+    try {
+      return await this.edit(lines);
+    } catch (error) {
+      if (["OutOfMemory", "BadRange", "BadLine", "TooLarge"].includes(/** @type {Error} */ (error).name)) throw error;
+      await this.close();
+      return this.edit(lines);
+    }
+  }
+
+  /** @type {(lines: Line[]) => Promise<Report>} */
+  async edit(lines) {
+    const session = (this.session ??= await this.start());
+    const edit = difference(/** @type {string[]} */ (this.lines), /** @type {string[]} */ (lines));
+    if (!edit) return { written: [], removed: [] };
+    const { start, stop } = edit, put = /** @type {Line[]} */ (edit.put).map((line) => (isTooLong(line) ? LEFT_OUT : line));
+    const report = await (put.length === 0 ? session.delete(start + 1, stop) : start === stop ? session.insert(start + 1, put) : session.replace(start + 1, stop, put));
+    this.lines = lines;
+    return report;
+  }
+
+  /** Ends the session.
+   * @type {() => Promise<void>} */
+  async close() {
+    const { session } = this;
+    this.session = null;
+    this.lines = [];
+    await session?.close();
+  }
+
+  /** What the session finds in its text, which is given.
+   * @type {(text: BookText) => Promise<Rows>} */
+  async rows(text) {
+    const session = (this.session ??= await this.start());
+    const [faults, titles] = await Promise.all([session.faults, session.titles]);
+    const long = this.lines.flatMap((line, n) => (isTooLong(line) ? [{ line: n, at: MOST_BYTES, name: "BadLine" }] : []));
+    const large = countedLines(text).length > MOST_LINES ? [{ line: MOST_LINES, at: 0, name: "TooLarge" }] : [];
+    const found = faults.filter((fault) => !this.isInside(fault)).map(({ line, utf16Column, name }) => ({ line: line - 1, at: utf16Column - 1, name }));
+    const all = [...long, ...large, ...found].sort((one, other) => one.line - other.line || one.at - other.at);
+    const rows = all.map(({ line, at, name }) => {
+      const shown = text.shown(text.lines[line]);
+      return /** @type {FaultRow} */ ([line, ...spanOf(shown, Math.min(at, shown.length), name), name]);
+    });
+    return { faults: rows, tunes: this.tunes(titles, faults) };
+  }
+
+  /** Whether a fault is at a byte of a letter that does not begin it: `BadByte` is at each byte of a letter.
+   * @type {(fault: { line: number, column: number, name: string }) => boolean} */
+  isInside({ line, column, name }) {
+    const content = this.lines[line - 1];
+    return name === "BadByte" && typeof content === "string" && (bytesOf(content)[column - 1] & 0xc0) === 0x80;
+  }
+
+  /** The tunes: each `X:` line begins one. The first one of a number that is not too long has the file.
+   * @type {(titles: { number: number, text: string }[], faults: { line: number, name: string }[]) => TuneRow[]} */
+  tunes(titles, faults) {
+    const tooLong = new Set(faults.filter(({ name }) => name === "TuneTooLong").map(({ line }) => line - 1));
+    const starts = this.lines.flatMap((line, n) => (begins(line) && !isTooLong(line) ? [n] : []));
+    const owned = new Set();
+    return titles.map(({ number, text }, n) => {
+      const line = starts[n], owns = !owned.has(number) && !tooLong.has(line);
+      if (owns) owned.add(number);
+      return [line, number, text, owns];
+    });
+  }
+
+  /** The bytes of the file of a number, or null.
+   * @type {(number: number) => Promise<Uint8Array | null>} */
+  async midi(number) {
+    return this.session ? this.session.output(number) : null;
+  }
+}
+
+/** Whether a line begins a tune.
+ * @type {(line: Line) => boolean} */
+function begins(line) {
+  return typeof line === "string" ? line.startsWith("X:") : line[0] === 0x58 && line[1] === 0x3a;
+}

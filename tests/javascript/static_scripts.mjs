@@ -1,0 +1,391 @@
+// Tries the scripts of the page without a server that need no browser: its book over a stand-in for the compiler, its file, and links.
+// The first argument is the folder of the page. Each test prints a line, `ok` or `FAILED`, with its name.
+
+import { pathToFileURL } from "node:url";
+
+import { run, same } from "../clients/testing.mjs";
+
+/** A stand-in for the browser's locks. */
+class Locks {
+  constructor() {
+    this.ends = new Map(); // by its name: ends the lock that is held
+    this.waiting = [];
+  }
+
+  request(name, { ifAvailable = false, steal = false, signal }, act) {
+    if (ifAvailable && this.ends.has(name)) return Promise.resolve(act(null));
+    return new Promise((done, fail) => {
+      const hold = async () => {
+        this.ends.set(name, () => fail(new Error("the lock was stolen")));
+        done(await act({ name }));
+        this.ends.delete(name);
+        this.waiting.shift()?.();
+      };
+      signal?.addEventListener("abort", () => {
+        this.waiting = this.waiting.filter((other) => other !== hold);
+        fail(signal.reason);
+      });
+      if (steal) this.ends.get(name)?.();
+      if (steal || !this.ends.has(name)) hold();
+      else this.waiting.push(hold);
+    });
+  }
+}
+
+Object.defineProperty(globalThis, "navigator", { value: { locks: new Locks() } });
+
+const folder = process.argv[2];
+const from = (name) => import(pathToFileURL(`${folder}/${name}.js`));
+const { BookLock } = await from("book_lock");
+const { BookText } = await from("book_text");
+const { CompiledBook } = await from("compiled_book");
+const { Keeper } = await from("keeper");
+const { Link } = await from("link");
+const { linkOf, textIn } = await from("share_link");
+const { Text } = await from("text");
+const { WorkerBook } = await from("worker_book");
+
+const bytes = (text) => new TextEncoder().encode(text);
+const text = (data) => new TextDecoder().decode(data);
+const pause = () => new Promise((done) => setTimeout(done, 5));
+
+/** What an act throws. */
+async function thrown(act) {
+  try {
+    await act();
+  } catch (error) {
+    return error;
+  }
+  throw new Error("nothing was thrown");
+}
+
+/** A stand-in for a session: each line that begins `X:` is a tune, each with `&` has a fault. */
+class Session {
+  constructor() {
+    this.lines = [];
+    this.fails = 0; // how many calls fail
+    this.refuses = false;
+  }
+
+  put(start, stop, lines) {
+    if (this.refuses) throw Object.assign(new Error("an allocation failed"), { name: "OutOfMemory" });
+    if (this.fails) throw Object.assign(new Error("the engine stopped"), { name: "TrapError" });
+    this.lines.splice(start - 1, stop - start + 1, ...lines.map((line) => (typeof line === "string" ? line : Buffer.from(line).toString("latin1"))));
+    return { written: this.numbers, removed: [] };
+  }
+
+  async insert(at, lines) {
+    return this.put(at, at - 1, lines);
+  }
+
+  async replace(start, stop, lines) {
+    return this.put(start, stop, lines);
+  }
+
+  async delete(start, stop) {
+    return this.put(start, stop, []);
+  }
+
+  get numbers() {
+    return this.lines.filter((line) => line.startsWith("X:")).map((line) => Number(line.slice(2)));
+  }
+
+  get titles() {
+    return Promise.resolve(this.numbers.map((number) => ({ number, text: `title ${number}` })));
+  }
+
+  get faults() {
+    const at = (line) => line.indexOf("&") + 1;
+    return Promise.resolve(this.lines.flatMap((line, n) => (at(line) ? [{ line: n + 1, column: at(line), utf16Column: at(line), name: "BadByte" }] : [])));
+  }
+
+  async output(number) {
+    return this.numbers.includes(number) ? bytes(`file ${number}`) : null;
+  }
+
+  async close() {}
+}
+
+/** A stand-in for a file that the user picked. */
+class File {
+  constructor(name, content) {
+    this.name = name;
+    this.content = content;
+  }
+
+  async read() {
+    return this.content === null ? null : bytes(this.content);
+  }
+
+  async write(data) {
+    this.content = text(data);
+  }
+}
+
+/** A book that is open, with what the page has over it. */
+async function opened(content, { file = null, disk = null, picked = null, saving = "picked" } = {}) {
+  const session = new Session();
+  const pick = async () => picked ?? Promise.reject(Object.assign(new Error("cancelled"), { name: "AbortError" }));
+  const book = new WorkerBook(saving, pick, new CompiledBook(async () => session));
+  const window = new Text(), link = new Link(window, book);
+  window.edited = () => link.soon();
+  book.begin({ id: "one", name: file?.name ?? "", data: bytes(content), disk: disk === null ? null : bytes(disk), file });
+  const heard = [];
+  link.changed = (change) => heard.push(change);
+  await link.open();
+  await pause();
+  const type = async (start, stop, ...lines) => {
+    const place = { start: { line: 0, column: 0 }, end: { line: 0, column: 0 }, direction: "forward" };
+    window.edit(start, stop, lines, place, place);
+    await link.flush();
+  };
+  return { session, book, window, link, heard, type };
+}
+
+/** What a store keeps of a book, as the page has it keep the book: the name and whether it is unsaved, after each change. */
+function keptOf(book) {
+  const kept = [];
+  const keep = async ({ name, unsaved }) => {
+    await pause();
+    kept.push([name, unsaved]);
+  };
+  const keeper = new Keeper(book, { keep });
+  book.changed = () => keeper.soon();
+  book.keep = () => keeper.finish();
+  return kept;
+}
+
+const TUNE = "X:1\nK:C\nC\n";
+
+await run({
+  async "an edit reaches the compiler, and what it finds comes back"() {
+    const { session, heard, type, book } = await opened(TUNE);
+    await type(2, 3, "C & D", "E");
+    same(session.lines, ["X:1", "K:C", "C & D", "E"]);
+    const { faults, tunes, written, unsaved } = heard[0];
+    same([faults.put, tunes.put, written, unsaved], [[[2, 2, 3, "BadByte"]], [[0, 1, "title 1", true]], [1], true]);
+    same(text(await book.bytes("text")), "X:1\nK:C\nC & D\nE\n");
+  },
+
+  async "the second tune of a number has no file"() {
+    const { book } = await opened("X:1\nX:2\nX:1\n");
+    same((await book.ask("book")).tunes.map((row) => row[3]), [true, true, false]);
+  },
+
+  async "a line that is too long is a comment for the compiler, and a fault here"() {
+    const long = "C".repeat(65536), { session, book } = await opened(`X:1\n${long}\n`);
+    same(session.lines, ["X:1", "%"]);
+    same((await book.ask("book")).faults, [[1, 65535, 65536, "BadLine"]]);
+    const wide = "é".repeat(32768), { book: other } = await opened(`X:1\n${wide}\n`);
+    same((await other.ask("book")).faults.map((row) => row[3]), ["BadLine"]);
+    const most = "C".repeat(65535), { session: third } = await opened(`X:1\n${most}\n`);
+    same(third.lines, ["X:1", most]);
+  },
+
+  async "a fault at each byte of a letter counts once"() {
+    const { session, book } = await opened("X:1\né\n");
+    const faults = [1, 2].map((column) => ({ line: 2, column, utf16Column: 1, name: "BadByte" }));
+    Object.defineProperty(session, "faults", { get: () => Promise.resolve(faults) });
+    same((await book.ask("book")).faults, [[1, 0, 1, "BadByte"]]);
+  },
+
+  async "an engine that stopped is started again with the whole text"() {
+    const sessions = [];
+    const book = new WorkerBook("downloads", async () => null, new CompiledBook(async () => sessions[sessions.push(new Session()) - 1]));
+    book.begin({ id: "one", name: "", data: bytes(TUNE), disk: null, file: null });
+    const { version } = await book.ask("book");
+    sessions[0].fails = 1;
+    const change = await book.ask("edit", { version, window: "w", start: 2, stop: 3, lines: ["D"] });
+    same([sessions.length, sessions[1].lines, change.version], [2, ["X:1", "K:C", "D"], version + 1]);
+  },
+
+  async "an edit for which there is no memory is refused, and the next one is taken"() {
+    const { session, link, type, window, book } = await opened(TUNE);
+    const why = [];
+    link.refused = (words) => why.push(words);
+    session.refuses = true;
+    same((await thrown(() => type(2, 3, "D"))).message, "the compiler does not take the last edit");
+    session.refuses = false;
+    same([why, text(await book.bytes("text"))], [["an allocation failed"], TUNE]);
+    await type(2, 3, "E");
+    same([window.lines, text(await book.bytes("text"))], [["X:1", "K:C", "E", ""], "X:1\nK:C\nE\n"]);
+  },
+
+  async "a save writes the file, and the text is saved"() {
+    const file = new File("a.abc", TUNE), { link, type } = await opened(TUNE, { file, disk: TUNE });
+    same(link.isUnsaved, false);
+    await type(2, 3, "D");
+    same(link.isUnsaved, true);
+    await link.file("save");
+    same([file.content, link.isUnsaved], ["X:1\nK:C\nD\n", false]);
+    await type(2, 3, "E");
+    await type(2, 3, "D");
+    same(link.isUnsaved, false);
+  },
+
+  async "a save over what another program wrote is refused till the content is named"() {
+    const file = new File("a.abc", TUNE), { link, type } = await opened(TUNE, { file, disk: TUNE });
+    await type(2, 3, "D");
+    file.content = "X:9\n";
+    const error = await thrown(() => link.file("save"));
+    same([error.status, link.known.disk === link.known.saved, file.content], [409, false, "X:9\n"]);
+    const over = link.known.disk;
+    file.content = "X:8\n";
+    same([(await thrown(() => link.file("save", { over }))).status, file.content], [409, "X:8\n"]);
+    await link.file("save", { over: link.known.disk });
+    same([file.content, link.isUnsaved], ["X:1\nK:C\nD\n", false]);
+  },
+
+  async "a save of a file that is gone asks, and then makes it"() {
+    const file = new File("a.abc", TUNE), { link, type } = await opened(TUNE, { file, disk: TUNE });
+    await type(2, 3, "D");
+    file.content = null;
+    same([(await thrown(() => link.file("save"))).told.ask, link.known.disk], [null, null]);
+    await link.file("save", { over: null });
+    same(file.content, "X:1\nK:C\nD\n");
+  },
+
+  async "what another program wrote is taken if nothing is unsaved, and can be loaded if something is"() {
+    const file = new File("a.abc", TUNE), { link, type, window, book } = await opened(TUNE, { file, disk: TUNE });
+    file.content = "X:1\nK:G\nC\n";
+    await book.follow();
+    same([window.lines, link.isUnsaved], [["X:1", "K:G", "C", ""], false]);
+    window.undo();
+    await link.flush();
+    same([window.lines, text(await book.bytes("text")), link.isUnsaved], [["X:1", "K:C", "C", ""], TUNE, true]);
+    window.redo();
+    await type(2, 3, "D");
+    file.content = "X:1\nK:A\nC\n";
+    await book.follow();
+    same([window.lines, link.known.disk === link.known.saved], [["X:1", "K:G", "D", ""], false]);
+    await link.file("load", { over: link.known.disk });
+    same([window.lines, link.isUnsaved, link.known.disk === link.known.saved], [["X:1", "K:A", "C", ""], false, true]);
+  },
+
+  async "a file that is as it was saved asks nothing"() {
+    const file = new File("a.abc", TUNE), { link, type, book } = await opened(TUNE, { file, disk: TUNE });
+    await type(2, 3, "D");
+    file.content = "X:9\n";
+    await book.follow();
+    file.content = TUNE;
+    await book.follow();
+    same(link.known.disk === link.known.saved, true);
+  },
+
+  async "a first save picks the file, and one that is cancelled says so"() {
+    const picked = new File("b.abc", ""), { link, book } = await opened(TUNE, { picked });
+    await link.file("save");
+    same([picked.content, book.name, link.isUnsaved], [TUNE, "b.abc", false]);
+    const { link: other } = await opened(TUNE);
+    const error = await thrown(() => other.file("save"));
+    same([error.message, error.status, other.isUnsaved], ["no file was picked", undefined, true]);
+  },
+
+  async "a download is a save, if the browser writes no files"() {
+    const { link, book } = await opened(TUNE, { saving: "downloads" });
+    same(link.isUnsaved, true);
+    await book.downloaded();
+    same(link.isUnsaved, false);
+  },
+
+  async "a save that is cancelled leaves the next one free, and one is over when the browser keeps it"() {
+    const { link, book } = await opened(TUNE), kept = keptOf(book);
+    same([(await thrown(() => link.file("save"))).message, kept], ["no file was picked", []]);
+    book.pick = async () => new File("b.abc", "");
+    await link.file("save");
+    same([kept, link.isUnsaved], [[["b.abc", false]], false]);
+  },
+
+  async "a download is over when the browser keeps it"() {
+    const { link, book } = await opened(TUNE, { saving: "downloads" }), kept = keptOf(book);
+    const over = book.downloaded();
+    same([link.isUnsaved, kept], [true, []]);
+    await over;
+    same([link.isUnsaved, kept], [false, [["", false]]]);
+  },
+
+  async "the browser keeps that a file has the text already"() {
+    const file = new File("a.abc", TUNE), { link, type, book } = await opened(TUNE, { file, disk: TUNE }), kept = keptOf(book);
+    await type(2, 3, "D");
+    await book.keep();
+    file.content = "X:1\nK:C\nD\n";
+    await book.follow();
+    await link.file("load", { over: link.known.disk });
+    await book.keep();
+    same(kept, [["a.abc", true], ["a.abc", false]]);
+  },
+
+  async "the page may compare its text with that saved last and with the file"() {
+    const file = new File("a.abc", TUNE), { book, type } = await opened(TUNE, { file, disk: TUNE });
+    await type(2, 3, "D");
+    file.content = "X:1\nK:C\nE\n";
+    same([(await book.ask("saved")).lines, (await book.ask("disk")).lines], [["X:1", "K:C", "C", ""], ["X:1", "K:C", "E", ""]]);
+    file.content = null;
+    const why = await book.ask("disk").catch((error) => [error.status, error.message]);
+    same(why, [404, "the file is gone"]);
+  },
+
+  async "there are no sampled instruments, and nothing to install"() {
+    const { book } = await opened(TUNE);
+    same(await book.ask("font"), { name: "", isPlain: true });
+  },
+
+  async "a book in Latin-1 stays so, and a save in UTF-8 makes it UTF-8"() {
+    const content = Uint8Array.from([...bytes("X:1\nT:caf"), 0xe9, 10]), file = new File("a.abc", "");
+    Object.assign(file, { read: async () => file.content, write: async (data) => (file.content = data), content });
+    const book = new WorkerBook("picked", async () => file, new CompiledBook(async () => new Session()));
+    book.begin({ id: "one", name: "a.abc", data: content, disk: content, file });
+    const { letters, lines, version } = await book.ask("book");
+    same([letters, lines], ["latin-1", ["X:1", "T:café", ""]]);
+    const change = await book.ask("edit", { version, window: "w", start: 1, stop: 2, lines: ["T:cafés"] });
+    await book.ask("save", { version: change.version });
+    same(Buffer.from(file.content).toString("hex"), Buffer.from("X:1\nT:caf\u00e9s\n", "latin1").toString("hex"));
+    await book.ask("save-in-utf-8", { version: change.version });
+    same([text(file.content), (await book.ask("state")).letters], ["X:1\nT:cafés\n", "utf-8"]);
+  },
+
+  async "a tab that answers stores its book before it gives it up, and one that does not answer loses it"() {
+    const [one, two, three] = [1, 2, 3].map(() => new BookLock("/", "id", 100)), happened = [];
+    same([await one.take(), await two.take()], [true, false]);
+    one.wanted = async () => {
+      await new Promise((done) => setTimeout(done, 300));
+      happened.push("stored");
+    };
+    one.lost = () => happened.push("lost");
+    await two.move();
+    same([happened, one.isHeld, two.isHeld], [["stored", "lost"], false, true]);
+    two.channel.onmessage = null;
+    two.lost = () => happened.push("stolen");
+    await three.move();
+    await pause();
+    same([happened, two.isHeld, three.isHeld], [["stored", "lost", "stolen"], false, true]);
+    for (const { channel } of [one, two, three]) channel.close();
+  },
+
+  async "a link has a text, packed and plain, and a bad one says why"() {
+    const page = "https://example.org/abc/?x#old", tune = "X:1\nT:Für 𝄞\nK:C\nC\n".repeat(20);
+    const packed = await linkOf(page, tune);
+    same([packed.startsWith("https://example.org/abc/?x#abc-z="), /^[\w-]*$/.test(packed.split("=")[1]), packed.length < 200], [true, true, true]);
+    same(await textIn(new URL(packed).hash), tune);
+    const { CompressionStream } = globalThis;
+    delete globalThis.CompressionStream;
+    const plain = await linkOf(page, tune);
+    globalThis.CompressionStream = CompressionStream;
+    same([plain.includes("#abc="), await textIn(new URL(plain).hash)], [true, tune]);
+    same([await textIn(""), await textIn("#other")], [null, null]);
+    same((await thrown(() => textIn(new URL(packed).hash.slice(0, -9)))).message, "it is not whole");
+    same((await thrown(() => textIn("#abc-z=%"))).message, "it is not whole");
+    same((await thrown(() => textIn("#abc-z="))).message, "it is not whole");
+  },
+
+  async "a short link that unpacks to a long text is refused"() {
+    const link = await linkOf("https://example.org/", "C".repeat(1_000_001)).catch(() => null);
+    const fits = await linkOf("https://example.org/", "C".repeat(900_000));
+    same([link !== null, (await textIn(new URL(fits).hash)).length], [true, 900_000]);
+    same((await thrown(() => textIn(new URL(link).hash))).message, "it is not whole");
+  },
+
+  async "the bytes of a text without letters beyond ASCII are those of its lines"() {
+    same(text(BookText.of(bytes("\ufeffa\r\nb")).bytes), text(bytes("\ufeffa\r\nb")));
+  },
+});
