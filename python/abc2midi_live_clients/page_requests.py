@@ -117,30 +117,43 @@ class Request(BaseHTTPRequestHandler):
         midi = re.fullmatch(r"midi/([0-9]{1,9})", name)
         changes = re.fullmatch(r"changes/([0-9]{1,15})", name)
         news = re.fullmatch(rf"(events|news)/([0-9]{{1,15}})/({WINDOW.pattern})", name, re.ASCII)
+        book = self.server.book
+        answers = {"saved": book.saved_lines, "disk": book.lines_on_disk, "state": book.now, "hints": book.hints_now}
         if name in self.server.files:
             self.send(*self.server.files[name])
+        elif name in answers:
+            self.send_json(answers[name]())
         elif name == "book":
-            self.send_json({**self.server.book.snapshot(), "sentences": self.server.sentences})
+            self.send_json({**book.snapshot(), "sentences": self.server.sentences})
         elif name == "text":
-            self.send(self.server.book.data(), "application/octet-stream", {"Content-Disposition": "attachment"})
-        elif name == "state":
-            self.send_json(self.server.book.now())
-        elif name == "hints":
-            self.send_json(self.server.book.hints_now())
+            self.send(book.data(), "application/octet-stream", {"Content-Disposition": "attachment"})
         elif midi:
             number = int(midi[1])
-            data = self.server.book.midi(number)
+            data = book.midi(number)
             self.send(data, "audio/midi", {"Content-Disposition": f'attachment; filename="{number}.mid"'})
         elif name == "midi.zip":
-            self.send(self.server.book.all_midi(), "application/zip", {"Content-Disposition": 'attachment; filename="midi.zip"'})
+            self.send(book.all_midi(), "application/zip", {"Content-Disposition": 'attachment; filename="midi.zip"'})
         elif changes:
-            self.send_json(self.server.book.changes_after(int(changes[1])))
+            self.send_json(book.changes_after(int(changes[1])))
         elif news and news[1] == "events":
             self.send_events(int(news[2]), news[3])
         elif news:
-            self.send_json(self.server.book.news_for(int(news[2]), news[3]))
-        else:
+            self.send_json(book.news_for(int(news[2]), news[3]))
+        elif not self.is_sound(name):
             raise Refused(404, "There is nothing of that name.")
+
+    def is_sound(self, name: str) -> bool:
+        """Whether a name is that of the SoundFont, of one of its programs, or of some of its samples: then it is answered."""
+        font = self.server.font
+        program = re.fullmatch(r"font/([0-9]{1,3})", name)
+        samples = re.fullmatch(r"samples/([0-9]{1,10})/([0-9]{1,10})", name)
+        if name == "font":
+            self.send_json({"name": font.name if font else "", "isPlain": self.server.is_plain})
+        elif font and program:
+            self.send_json({"zones": font.zones(int(program[1]))})
+        elif font and samples:
+            self.send(font.samples(int(samples[1]), int(samples[2])), "application/octet-stream")
+        return name == "font" or bool(font and (program or samples))
 
     def post(self, name: Optional[str]) -> None:
         """Follows an edit, saves the book or a copy, loads the book from disk, starts the program again, or draws a tune."""

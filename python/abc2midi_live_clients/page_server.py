@@ -29,6 +29,7 @@ from .book_keys import book_key, proof
 from .scorer import Scorer
 from .shared_book import SharedBook
 from .signals import when_told_to_end
+from .sound_font import BadFont, find_font
 
 FILES = Path(__file__).resolve().parent / "page_files"
 KINDS = {".html": "text/html; charset=utf-8", ".css": "text/css; charset=utf-8", ".js": "text/javascript; charset=utf-8"}
@@ -59,6 +60,9 @@ def arguments() -> argparse.Namespace:
     parser.add_argument("--no-hints", action="store_true", help="show no hints")
     opening = "open the page in the browser; it ends a minute after its last window, or when everything in it is saved"
     parser.add_argument("--open", action="store_true", help=opening)
+    sound = parser.add_mutually_exclusive_group()
+    sound.add_argument("--sound-font", metavar="FILE", help="play with the instruments of this SoundFont instead of an installed one")
+    sound.add_argument("--plain-sounds", action="store_true", help="play with plain sounds, also if a SoundFont is installed")
     add_common_options(parser)
     return parser.parse_args()
 
@@ -72,11 +76,13 @@ class Server(ThreadingHTTPServer):
     daemon_threads = True
     request_queue_size = 128
 
-    def __init__(self, port: int, book: SharedBook, ends_alone: bool = False):
+    def __init__(self, port: int, book: SharedBook, words: argparse.Namespace):
         self.scorer = Scorer()  # first: a server whose port is taken is closed at once
         super().__init__(("127.0.0.1", port), Request)
         self.book = book
-        self.ends_alone = ends_alone
+        self.ends_alone: bool = words.open
+        self.is_plain: bool = words.plain_sounds
+        self.font = None if words.plain_sounds else find_font(words.sound_font)
         self.seen = time.monotonic()  # when there was a window last, or text that is not saved
         self.token = secrets.token_urlsafe(24)
         self.key = book_key(book.path)
@@ -137,7 +143,7 @@ def serving(words: argparse.Namespace, book: SharedBook) -> Server:
     If another program has that one, the next free one is taken, with a message."""
     if words.port is not None:
         try:
-            return Server(words.port, book, words.open)
+            return Server(words.port, book, words)
         except OSError as error:
             if error.errno not in (errno.EADDRINUSE, errno.EACCES):
                 raise
@@ -146,7 +152,7 @@ def serving(words: argparse.Namespace, book: SharedBook) -> Server:
     first = FIRST_PORT + zlib.crc32(os.fsencode(book.path or "")) % PORTS
     for port in [*range(first, first + TRIES), 0]:
         try:
-            server = Server(port, book, words.open)
+            server = Server(port, book, words)
         except OSError:
             continue
         if port != first:
@@ -270,7 +276,7 @@ def main() -> int:
         return 0
     except KeyboardInterrupt:
         return 0
-    except (OSError, ProgramMissing, ProgramEnded) as error:
+    except (OSError, ProgramMissing, ProgramEnded, BadFont) as error:
         tell(f"{error.filename}: {error.strerror}" if isinstance(error, OSError) and error.filename else str(error))
         return 127 if isinstance(error, ProgramMissing) else 1
     finally:

@@ -148,7 +148,7 @@ class SharedBook:
             return {
                 "name": self.name,
                 "id": digest(os.fsencode(self.path or ""))[:16],
-                "lines": [self.text.shown(line) for line in self.text.lines],
+                **shown_lines(self.text),
                 "faults": shown_rows(self.text, self.rows.faults),
                 "tunes": self.rows.tunes,
                 "hintRows": self.hints,
@@ -462,6 +462,21 @@ class SharedBook:
         with self.moved:
             return self.text.data()
 
+    def saved_lines(self) -> Json:
+        """The lines that were read or saved last, as windows see them."""
+        with self.moved:
+            return shown_lines(self.disk.text)
+
+    def lines_on_disk(self) -> Json:
+        """The lines of the file as it is now, as windows see them."""
+        try:
+            data = read_book(self.path) if self.path else None
+        except OSError as error:
+            raise Refused(500, f"the book cannot be read: {error.strerror}") from error
+        if data is None:
+            raise Refused(404, GONE)
+        return shown_lines(Text.of(data))
+
     def save_as(self, asked: Json) -> Json:
         """Writes a copy of the text into the book's folder. The book is the same as before. A file that has the name already is
         replaced only for a window that names the content to replace."""
@@ -482,6 +497,11 @@ class SharedBook:
         except OSError as error:
             raise Refused(500, f"the copy cannot be saved: {error.strerror}") from error
         return self.now()
+
+
+def shown_lines(text: Text) -> Json:
+    """The lines of a text as windows see them."""
+    return {"lines": [text.shown(line) for line in text.lines]}
 
 
 def window_of(asked: Json) -> Optional[str]:

@@ -11,17 +11,22 @@ OWN = """
 window.clock = 0;
 Object.defineProperty(BaseAudioContext.prototype, "currentTime", { get: () => window.clock });
 window.played = [];
-const start = AudioScheduledSourceNode.prototype.start;
-AudioScheduledSourceNode.prototype.start = function (when) {
-  window.played.push([when, Math.round(69 + 12 * Math.log2(this.frequency.value / 440))]);
-  return start.call(this, when);
-};
+window.samples = 0;
+for (const { prototype } of [AudioScheduledSourceNode, AudioBufferSourceNode]) {
+  const start = prototype.start;
+  prototype.start = function (when) {
+    if (this.buffer) window.samples += 1;
+    const pitch = this.frequency ? this.frequency.value : 440 * this.playbackRate.value; // samples of the tests are of A4
+    window.played.push([when, Math.round(69 + 12 * Math.log2(pitch / 440))]);
+    return start.call(this, when);
+  };
+}
 addEventListener("beforeunload", (event) => event.stopImmediatePropagation());
 Object.defineProperty(AudioContext.prototype, "outputLatency", { get: () => 0 });
 window.wrong = [];
 addEventListener("error", ({ message }) => window.wrong.push(message));
 addEventListener("unhandledrejection", ({ reason }) => window.wrong.push(String(reason)));
-"""  # Web Audio by a clock that the test moves, and each note that it gets: when, and its key; no page asks to stay; what went wrong
+"""  # Web Audio by a clock that the test moves, and each note that it gets: when, and its key, and how many are of samples; no page asks to stay; what went wrong
 
 
 def lacking() -> str:

@@ -3,3 +3,11 @@
 interface Array<T> {
   findLast(predicate: (value: T, index: number, all: T[]) => unknown): T | undefined;
 }
+
+declare class CompressionStream implements GenericTransformStream {
+  constructor(format: "deflate-raw");
+  readonly readable: ReadableStream<Uint8Array>;
+  readonly writable: WritableStream<Uint8Array>;
+}
+
+declare class DecompressionStream extends CompressionStream {}

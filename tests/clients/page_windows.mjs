@@ -233,6 +233,21 @@ const tests = {
     }
   },
 
+  async "the caret stays with its text when a click mends a line"() {
+    book = new Book("X:1", "K:C", 'C "Em DEF|G', "");
+    const window = await opened(), { sheet, text } = window;
+    goTo(window, 2, 7);
+    sheet.replace({ start: 2, taken: ['C "Em DEF|G'], put: ['C "Em" DEF|G'] });
+    same([sheet.caret(), before(window)], [at(2, 8), 'C "Em" D']);
+    goTo(window, 2, 2);
+    sheet.replace({ start: 2, taken: ['C "Em" DEF|G'], put: ['C "Em" DE|G'] });
+    same(sheet.caret(), at(2, 2));
+    sheet.replace({ start: 1, taken: [], put: ["T:a"] });
+    same([sheet.caret(), text.lines[3]], [at(3, 2), 'C "Em" DE|G']);
+    text.undo();
+    same(text.lines[1], "K:C");
+  },
+
   async "edits of two windows that touch keep both lines, the other's first"() {
     book = new Book("X:1", "K:C", "CDE");
     const one = await opened(), other = await opened();

@@ -26,6 +26,7 @@ class Element {
     document.activeElement = this;
   }
 
+  scrollIntoView() {}
   append() {}
   before() {}
   replaceChildren() {}

@@ -16,6 +16,7 @@ from unittest import mock
 import trial
 from abc2midi_live_clients import assistance, changes, document, program
 from abc2midi_live_clients.faults import sentences
+from abc2midi_live_clients.hints import Finder
 from abc2midi_live_clients.messages import Json
 from abc2midi_live import version
 from abc2midi_live.lines import lines_of_book
@@ -694,13 +695,15 @@ class Documents(trial.Folder):
         """A text that did not change has the same faults and hints."""
         book = document.Document("X:1\nK:C\n|:C&D|\n", trial.program, {})
         self.addCleanup(book.close)
-        with mock.patch.object(program.LiveBook, "faults", autospec=True, side_effect=program.LiveBook.faults) as asked:
+        faults = mock.patch.object(program.LiveBook, "faults", autospec=True, side_effect=program.LiveBook.faults)
+        hints = mock.patch.object(Finder, "hints", autospec=True, side_effect=Finder.hints)
+        with faults as asked, hints as sought:
             for _ in range(3):
                 place = changes.Position(2, 3)
                 found = assistance.hover(book, place)
                 self.assertIn("&", str(found))
                 list(assistance.quick_fixes(book, URI, changes.Range(place, place)))
-            self.assertEqual(asked.call_count, 1)
+            self.assertEqual((asked.call_count, sought.call_count), (1, 1))
             book.change(changes.Change(changes.Range(place, changes.Position(2, 4)), ""))
             self.assertNotIn("&", str(assistance.hover(book, place)))
 

@@ -46,9 +46,10 @@ class Page(trial.Folder):
         self.write_starter()
         self.start(str(self.path))
 
-    def start(self, *words: str, port: Optional[str] = "0", descriptors: int = 1024, hints: bool = False) -> None:
-        """Starts it, with a folder for what it leaves, and a limit of descriptors."""
+    def start(self, *words: str, port: Optional[str] = "0", descriptors: int = 1024, hints: bool = False, font: str = "") -> None:
+        """Starts it, with a folder for what it leaves, and a limit of descriptors. Without a SoundFont the sounds are plain."""
         options = [*(["--port", port] if port else []), *([] if hints else ["--no-hints"])]
+        options += ["--sound-font", font] if font else ["--plain-sounds"]
         self.server = subprocess.Popen(
             [sys.executable, str(trial.CLIENTS / "page"), *words, *options, "--program", str(self.folder / "program")],
             stdout=subprocess.PIPE, stderr=subprocess.PIPE,

@@ -534,7 +534,8 @@ class Losing(Browser):
     def test_a_page_of_which_a_part_does_not_come(self) -> None:
         """It is loaded again. If that fails too the page says so, and takes no text that nobody would keep."""
         seen = "return document.getElementById('loading').checkVisibility({ visibilityProperty: true })"
-        self.assertFalse(self.run_script(seen))
+        is_hidden = "return document.getElementById('loading').hidden"  # else it comes after five seconds
+        self.assertTrue(self.run_script(is_hidden))
         self.run_script("sessionStorage.setItem('abc2midi_live loads', '3')")
         self.driver.execute_cdp_cmd("Network.enable", {})
         self.driver.execute_cdp_cmd("Network.setBlockedURLs", {"urls": ["*/midi.js"]})
@@ -546,7 +547,7 @@ class Losing(Browser):
         self.driver.get(self.address)
         self.driver.execute_cdp_cmd("Network.setBlockedURLs", {"urls": []})
         self.wait(lambda: self.run_script(f"return !{AREA}.readOnly"))
-        self.assertFalse(self.run_script(seen))
+        self.assertTrue(self.run_script(is_hidden))
         self.type("C")
         self.settled("C")
 
@@ -591,7 +592,7 @@ class Losing(Browser):
         self.settled("X:1\nK:C\nC")
         self.path.write_bytes(b"another's")
         self.wait(self.question)
-        self.assertEqual(self.question(), ["Save this text over it", "Load the book from disk", "Decide later"])
+        self.assertEqual(self.question(), ["Save this text over it", "Load the book from disk", "Decide later", "Show the differences"])
         self.assertEqual(self.run_script("return document.activeElement.tagName"), "TEXTAREA")
         self.answer("Decide later")
         self.wait(lambda: self.text("later") == "1 question")

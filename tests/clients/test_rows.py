@@ -32,5 +32,5 @@ class Scripts(page_in_node.PageScripts):
         self.assertEqual(self.node("page_rows.mjs", json.dumps(asked)), wanted)
 
     def rows(self, chance: random.Random, count: int, name: str) -> list[tuple[int, str]]:
-        """Rows of a text with so many lines: of some lines none, of some several."""
+        """Rows of a text of `count` lines: of some lines none, of some several."""
         return sorted((chance.randrange(count), f"{name} {number}") for number in range(chance.randrange(6)) if count)

@@ -3,7 +3,7 @@
 import { find } from "./elements.js";
 
 export class AllMidi {
-  /** @param {import("./server.js").Server} server
+  /** @param {import("./book_host.js").BookHost} server
    * @param {import("./link.js").Link} link
    * @param {{ name: string }} book
    * @param {import("./findings.js").Findings} findings */
@@ -21,7 +21,8 @@ export class AllMidi {
   /** Links to the files, while there are some and the server is there. */
   show() {
     const { server, link, book, findings } = this, anchor = find("all-midi"), name = book.name.replace(/\.[^.]*$/, "") || "book";
-    if (!link.away && findings.tunes.some(([, , , hasFile]) => hasFile)) Object.assign(anchor, { href: server.address("midi.zip"), download: `${name} MIDI.zip` });
+    anchor.hidden = !server.offers.zip;
+    if (server.offers.zip && !link.away && findings.tunes.some(([, , , hasFile]) => hasFile)) Object.assign(anchor, { href: server.address("midi.zip"), download: `${name} MIDI.zip` });
     else anchor.removeAttribute("href");
   }
 }

@@ -8,19 +8,22 @@ import { button, find } from "./elements.js";
  * @property {import("./questions.js").Questions} questions
  * @property {import("./files.js").Files} files
  * @property {import("./files.js").SaveAs} saveAs
+ * @property {import("./comparing.js").Comparing} comparing
  * @property {import("./score.js").Score} staves
+ * @property {import("./book_host.js").BookHost} server
  * @property {import("./fault_bar.js").FaultBar} faultBar
  * @property {import("./music.js").Music} music */
 
 export class Commands {
   /** @param {Parts} parts */
   constructor(parts) {
-    const { search, files, saveAs, staves } = parts;
+    const { search, files, saveAs, comparing, staves } = parts;
     this.parts = parts;
     document.addEventListener("keydown", (event) => this.key(event));
     find("save").addEventListener("click", () => files.save());
     find("utf-8").addEventListener("click", () => files.saveInUtf8());
     find("save-as").addEventListener("click", () => saveAs.open());
+    find("unsaved").addEventListener("click", () => comparing.withSaved());
     find("find").addEventListener("click", () => search.open(false));
     find("print").addEventListener("click", () => staves.print());
   }
@@ -35,11 +38,11 @@ export class Commands {
   /** Saves, prints or goes to a fault, if a key is for that; returns whether it is.
    * @type {(event: KeyboardEvent) => boolean} */
   commands(event) {
-    const { files, saveAs, staves, faultBar } = this.parts;
+    const { files, saveAs, staves, faultBar, server } = this.parts;
     const name = event.ctrlKey || event.metaKey ? event.key.toLowerCase() : "";
     if (name === "s" && event.shiftKey) saveAs.open();
     else if (name === "s") files.save();
-    else if (name === "p") staves.print();
+    else if (name === "p" && server.offers.score) staves.print();
     else if (event.key === "F8") faultBar.step(!event.shiftKey);
     else return false;
     return true;

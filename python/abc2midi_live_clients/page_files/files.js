@@ -1,13 +1,14 @@
 // The book on disk: saving it, under another name too, loading it, and what to ask if another program changed it.
 
 import { blobOf } from "./blob.js";
+import { download } from "./downloads.js";
 import { changedOnDisk, goneFromDisk } from "./situations.js";
 
 /** @typedef {import("./link.js").Failure} Failure
  * The content of a file that may be replaced, by its digest; null if there must be none.
  * @typedef {{ over?: string | null }} Over
  * `book` has the name of the book; `say` shows a sentence; `doubt` returns the name of a question to be answered before a save, if
- * there is one.
+ * there is one; `compare` shows what is different on the disk.
  * @typedef {object} Parts
  * @property {import("./text.js").Text} text
  * @property {import("./link.js").Link} link
@@ -15,18 +16,31 @@ import { changedOnDisk, goneFromDisk } from "./situations.js";
  * @property {import("./questions.js").Questions} questions
  * @property {(words: string) => void} say
  * @property {() => string | undefined} doubt
+ * @property {() => void} compare
  * @property {string} undoKey */
 
 export class Files {
   /** @param {Parts} parts */
-  constructor({ text, link, book, questions, say, doubt, undoKey }) {
+  constructor({ text, link, book, questions, say, doubt, compare, undoKey }) {
     this.text = text;
     this.link = link;
     this.book = book;
     this.questions = questions;
     this.say = say;
     this.doubt = doubt;
+    this.compare = compare;
     this.undoKey = undoKey;
+    this.downloaded = () => {}; // the text was offered as a file of the browser
+  }
+
+  /** How the host of the book lets it become a file. */
+  get saving() {
+    return this.link.server.offers.saving;
+  }
+
+  /** Whether a save writes a file. Else it downloads the text. */
+  get writes() {
+    return this.saving === "picked" || (this.saving === "folder" && Boolean(this.book.name));
   }
 
   /** Whether a question is to be answered before anything is saved: it gets the focus. */
@@ -42,7 +56,7 @@ export class Files {
   async save(over) {
     const { book, link, questions } = this;
     if (this.isAsked()) return;
-    if (!book.name) return this.download();
+    if (!this.writes) return this.download();
     if (!over && questions.find("disk")) {
       questions.focus("disk");
       return this.say(link.known.disk === null ? `Not saved: ${book.name} is not on the disk any more.` : `Not saved: another program changed ${book.name}.`);
@@ -51,6 +65,17 @@ export class Files {
       await link.file("save", over);
       questions.withdraw("failed");
       this.say(`Saved ${book.name}.`);
+    } catch (error) {
+      this.failed("saved", /** @type {Failure} */ (error));
+    }
+  }
+
+  /** Saves the book in a file that the user picks, with which the page goes on. */
+  async saveElsewhere() {
+    if (this.isAsked()) return;
+    try {
+      await this.link.file("save-as");
+      this.say(`Saved ${this.book.name}.`);
     } catch (error) {
       this.failed("saved", /** @type {Failure} */ (error));
     }
@@ -106,6 +131,7 @@ export class Files {
         ...(!gone && { "Load the book from disk": () => this.load({ over: disk }) }),
         "Decide later": null,
       },
+      ...(!gone && { compare: this.compare }),
     });
   }
 
@@ -113,11 +139,8 @@ export class Files {
    * @param {string} name */
   async download(name = this.book.name || "book.abc") {
     const bytes = await this.link.bytes().catch(() => null);
-    const anchor = document.createElement("a");
-    anchor.href = URL.createObjectURL(bytes ? new Blob([bytes], { type: "text/vnd.abc" }) : blobOf(this.text.lines, this.link.state ?? {}));
-    anchor.download = name;
-    anchor.click();
-    setTimeout(() => URL.revokeObjectURL(anchor.href), 60000);
+    download(bytes ? new Blob([bytes], { type: "text/vnd.abc" }) : blobOf(this.text.lines, this.link.state ?? {}), name);
+    this.downloaded();
   }
 }
 
@@ -143,7 +166,7 @@ export class SaveAs {
     this.selection = sheet.selection();
     dialog.querySelector("form")?.addEventListener("submit", (event) => {
       event.preventDefault();
-      if (this.files.book.name) this.save({});
+      if (this.files.writes) this.save({});
       else this.download();
     });
     this.name.addEventListener("input", () => this.complain(""));
@@ -160,12 +183,13 @@ export class SaveAs {
 
   open() {
     const { files, dialog, words, name, saves } = this;
-    const { book } = files;
+    const { book, saving, writes } = files;
+    if (saving === "picked") return void files.saveElsewhere();
     if (dialog.open || files.isAsked()) return;
-    words.textContent = book.name
+    words.textContent = writes
       ? `Saves a copy in the folder of ${book.name}, or downloads it. This page goes on with ${book.name}.`
-      : "No book was named, so there is no folder to save into. Downloads the text.";
-    saves.hidden = !book.name;
+      : `${saving === "folder" ? "No book was named, so there is no folder to save into. " : ""}Downloads the text.`;
+    saves.hidden = !writes;
     name.value = book.name ? book.name.replace(/(\.[^.]*)?$/, " copy$1") : "book.abc";
     this.complain("");
     if (document.activeElement instanceof HTMLElement) this.before = document.activeElement;

@@ -3,7 +3,7 @@
 const SOON = 50; // milliseconds
 
 export class HintReader {
-  /** @param {import("./server.js").Server} server
+  /** @param {import("./book_host.js").BookHost} server
    * @param {import("./link.js").Link} link
    * @param {import("./book.js").Book} book */
   constructor(server, link, book) {

@@ -9,12 +9,14 @@ export class KeptText {
   /** @param {import("./text.js").Text} text
    * @param {import("./link.js").Link} link
    * @param {import("./book.js").Book} book
-   * @param {import("./questions.js").Questions} questions */
-  constructor(text, link, book, questions) {
+   * @param {import("./questions.js").Questions} questions
+   * @param {(lines: string[], name: string) => void} compare shows what is different in other lines */
+  constructor(text, link, book, questions, compare) {
     this.text = text;
     this.link = link;
     this.book = book;
     this.questions = questions;
+    this.compare = compare;
     /** @type {Drafts | null} */
     this.drafts = null; // from the first book on
     /** @type {ReturnType<typeof setTimeout> | null} */
@@ -71,17 +73,19 @@ export class KeptText {
       this.drafts?.forget(draft.key);
       this.offer();
     };
+    const lines = draft.text.split("\n");
     this.questions.ask({
       name: draft.key,
-      words: keptByBrowser(new Date(draft.when).toLocaleString(), draft.text.split("\n"), this.text.lines),
+      words: keptByBrowser(new Date(draft.when).toLocaleString(), lines, this.text.lines),
       answers: {
         "Take it": () => {
-          this.take(draft.text.split("\n"));
+          this.take(lines);
           done();
         },
         "Forget it": done,
         "Decide later": null,
       },
+      compare: () => this.compare(lines, "the text that the browser kept"),
     });
     this.passed.add(draft.key);
   }
@@ -104,6 +108,7 @@ export class KeptText {
         "Take the book as it is": forget,
         "Decide later": null,
       },
+      compare: () => this.compare(mine, "your text"),
     });
   }
 

@@ -63,7 +63,7 @@ const TRIES = 5; // of a save, while edits of others arrive
 
 export class Link {
   /** @param {import("./text.js").Text} text
-   * @param {import("./server.js").Server} server */
+   * @param {import("./book_host.js").BookHost} server */
   constructor(text, server) {
     this.text = text;
     this.server = server;
@@ -444,7 +444,7 @@ export class Link {
       this.send();
       await new Promise((done) => setTimeout(done, 30));
     }
-    if (!this.isSettled || this.away) throw new Error(this.away ? `the server is away (${this.away})` : "the server does not take the last edit");
+    if (!this.isSettled || this.away) throw new Error(this.away ? `the ${this.server.called} is away (${this.away})` : `the ${this.server.called} does not take the last edit`);
   }
 
   /** The bytes that a save would write, as the server has them.

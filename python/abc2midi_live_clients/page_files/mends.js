@@ -1,12 +1,13 @@
 // What one click mends: the remedies that the sentences of faults and hints name.
 
+import { freeNumber, nextNumber } from "./numbers.js";
+
 /** Lines of the text, from `start` on, which become others; `words` are those of the button.
  * @typedef {{ words: string, start: number, taken: string[], put: string[] }} Mend
  * What is known of a fault or a hint: its line, the text of that, its begin and its end there, its sentence if it is a hint, the lines
  * of the book, and the numbers of its tunes.
  * @typedef {{ line: number, text: string, start: number, end: number, hint: string, lines: string[], numbers: () => number[] }} Known */
 
-const LARGEST = 999_999_999; // number of a tune
 /** @type {Record<string, string>} */
 const CLOSING = { '"': '"', "!": "!", "{": "}", "[": "]" };
 const isBlank = (/** @type {string | undefined} */ line) => line !== undefined && !line.trim();
@@ -54,11 +55,8 @@ function closing(known) {
  * @type {(known: Known) => Mend | null} */
 function renumbering(known) {
   const found = /^X:[ \t]*([^ \t%\r]*)/.exec(known.text);
-  if (!found) return null;
-  const taken = new Set(known.numbers());
-  let number = (Number(/^\d{1,9}$/.exec(found[1])?.[0]) || 0) + 1;
-  while (taken.has(number)) number += 1;
-  return number > LARGEST ? null : replacing(known, found[0].length - found[1].length, found[0].length, String(number), `Write X:${number}`);
+  const number = found && freeNumber(known.numbers(), Number(/^\d{1,9}$/.exec(found[1])?.[0]) || 0);
+  return found && number ? replacing(known, found[0].length - found[1].length, found[0].length, String(number), `Write X:${number}`) : null;
 }
 
 /** A sharp before its note.
@@ -122,6 +120,6 @@ function joining({ line, lines }) {
 function heading({ line, lines, numbers }) {
   let at = line;
   while (at > 0 && /^(?:[A-Za-z]:|%)/.test(lines[at - 1])) at -= 1;
-  const number = numbers().reduce((most, one) => Math.max(most, one), 0) + 1;
-  return number > LARGEST ? null : { words: `Write X:${number}`, start: at, taken: [], put: [`X:${number}`] };
+  const number = nextNumber(numbers());
+  return number ? { words: `Write X:${number}`, start: at, taken: [], put: [`X:${number}`] } : null;
 }

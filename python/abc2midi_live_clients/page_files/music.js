@@ -2,6 +2,7 @@
 
 import { find } from "./elements.js";
 import { Follower } from "./follower.js";
+import { Font } from "./font.js";
 import { Player } from "./player.js";
 import { Practice } from "./practice.js";
 import { Roll } from "./roll.js";
@@ -12,7 +13,7 @@ import { TuneBar } from "./tune_bar.js";
 /** @typedef {import("./rows.js").TuneRow} TuneRow
  * `say` shows a sentence.
  * @typedef {object} Parts
- * @property {import("./server.js").Server} server
+ * @property {import("./book_host.js").BookHost} server
  * @property {import("./link.js").Link} link
  * @property {import("./sheet.js").Sheet} sheet
  * @property {import("./findings.js").Findings} findings
@@ -27,11 +28,13 @@ export class Music {
     this.shown = new ShownTune(server, link, findings);
     this.roll = new Roll(find("roll"), /** @type {HTMLCanvasElement} */ (document.querySelector("canvas")));
     this.player = new Player();
+    this.player.font = this.font = new Font(server);
     this.follower = new Follower(sheet.text, sheet, this.roll, () => this.shown.inBook);
     this.practice = new Practice(this.player, this.roll, this.follower);
     this.transport = new Transport(this.shown, this.player, this.roll, this.follower, this.practice);
     this.bar = new TuneBar(this.shown, this.roll, this.follower);
     this.practice.say = say;
+    this.came = () => {}; // a score is there, or there is none
     this.shown.asks = (isOther) => this.transport.rewind(isOther);
     this.shown.came = () => this.take();
     this.roll.pointed = (note, event) => tip.show(note ? [this.follower.describe(note)] : [], event);
@@ -39,6 +42,11 @@ export class Music {
       this.describe();
       this.practice.silence();
     };
+  }
+
+  /** Learns what sounds, and says so. */
+  async learn() {
+    find("sounds").textContent = await this.font.learn().catch(() => "");
   }
 
   /** Shows the tune at the caret, unless another one plays. */
@@ -62,12 +70,19 @@ export class Music {
     if (player.playing) this.transport.change();
     else this.bar.explain(this.caretTune.row);
     this.describe();
+    this.came();
   }
 
   /** Says what is in the roll. */
   describe() {
     this.bar.describe();
     this.transport.refresh();
+  }
+
+  /** The tune of the score, null if the text has it no more.
+   * @returns {TuneRow | null} */
+  get row() {
+    return this.shown.findings.tunes[this.shown.at] ?? null;
   }
 
   /** The place among the tunes of the one that is seen: the one that plays, or that of the caret. */

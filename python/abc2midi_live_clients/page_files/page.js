@@ -1,10 +1,12 @@
-// The page: an application that owns the text, the link to the server and the parts of the window, and connects them.
+// The page: an application that owns the text, the link to the host and the parts of the window, and connects them.
 
 import { AllMidi } from "./all_midi.js";
 import { Book } from "./book.js";
 import { CaretTune } from "./caret_tune.js";
 import { Colours } from "./colours.js";
 import { Commands } from "./commands.js";
+import { Comparing } from "./comparing.js";
+import { DifferencesDialog } from "./differences_dialog.js";
 import { find, hide } from "./elements.js";
 import { Starter } from "./empty.js";
 import { FaultBar } from "./fault_bar.js";
@@ -16,25 +18,26 @@ import { keysOf, nameKeys } from "./keys.js";
 import { Link } from "./link.js";
 import { mendOf } from "./mends.js";
 import { Music } from "./music.js";
+import { beginTune } from "./new_tune.js";
 import { Questions } from "./questions.js";
 import { Remarks } from "./remarks.js";
 import { Score, tuneOf } from "./score.js";
 import { Search } from "./search.js";
-import { Server } from "./server.js";
 import { ServerNews } from "./server_news.js";
 import { Sheet } from "./sheet.js";
 import { StatusBar } from "./status_bar.js";
 import { Text } from "./text.js";
 import { Tip } from "./tip.js";
 import { TitleBar } from "./title_bar.js";
+import { TuneFiles } from "./tune_files.js";
 import { TuneFilter } from "./tune_filter.js";
 import { Tunes } from "./tunes.js";
 import { UndoStore } from "./undo_store.js";
 
 const undoKey = keysOf("Ctrl-Z");
 
-class Application {
-  /** @param {Server} server */
+export class Application {
+  /** @param {import("./book_host.js").BookHost} server */
   constructor(server) {
     const text = (this.text = new Text());
     const link = (this.link = new Link(text, server));
@@ -43,7 +46,6 @@ class Application {
     const sheet = (this.sheet = new Sheet(text, find("sheet")));
     const status = (this.status = new StatusBar());
     const say = (/** @type {string} */ words) => status.say(words);
-    const go = (/** @type {number} */ line, /** @type {number} */ column) => sheet.go(line, column, true);
     const questions = (this.questions = new Questions(find("notice"), find("later"), sheet.area));
     this.server = server;
     this.tunes = new Tunes(find("list"));
@@ -52,18 +54,22 @@ class Application {
     this.search = new Search(sheet, find("search"), say, undoKey);
     this.starter = new Starter(sheet, find("starter"));
     this.tip = new Tip(find("tip"));
-    this.remarks = new Remarks(find("told"), this.tip, go);
+    this.remarks = new Remarks(find("told"), this.tip, (line, column) => sheet.go(line, column, true));
     this.faultBar = new FaultBar(sheet, findings);
     this.undoStore = new UndoStore(text, link, (version) => server.ask(`changes/${version}`));
     this.caretTune = new CaretTune(sheet, findings);
     this.music = new Music({ server, link, sheet, findings, caretTune: this.caretTune, tip: this.tip, say });
     this.allMidi = new AllMidi(server, link, book, findings);
-    this.titleBar = new TitleBar(link, book, sheet.area);
     this.hints = new HintReader(server, link, book);
-    this.kept = new KeptText(text, link, book, questions);
+    const dialog = new DifferencesDialog(/** @type {HTMLDialogElement} */ (find("differences")));
+    const comparing = (this.comparing = new Comparing({ server, text, book, dialog, say }));
+    this.kept = new KeptText(text, link, book, questions, (lines, name) => comparing.withText(lines, name));
     this.news = new ServerNews({ server, link, book, sheet, questions, status, kept: this.kept });
-    this.files = new Files({ text, link, book, questions, say, doubt: () => this.kept.standingDoubt(), undoKey });
+    const asking = { questions, say, doubt: () => this.kept.standingDoubt(), compare: () => comparing.withDisk() };
+    this.files = new Files({ text, link, book, undoKey, ...asking });
+    this.titleBar = new TitleBar(link, book, this.files, sheet.area);
     this.saveAs = new SaveAs(this.files, /** @type {HTMLDialogElement} */ (find("copy")), sheet);
+    this.tuneFiles = new TuneFiles({ music: this.music, staves: this.staves, say, close: () => this.saveAs.dialog.close() });
     new Colours(sheet);
   }
 
@@ -95,8 +101,10 @@ class Application {
     staves.picked = (line, column) => sheet.go(line, column, true);
     staves.drawn = () => {
       hide(find("print"), !staves.notes.length, sheet.area);
+      this.tuneFiles.show();
       this.light(music.follower.sounding);
     };
+    music.came = () => this.tuneFiles.show();
     music.follower.lit = (places) => this.light(places);
   }
 
@@ -105,6 +113,9 @@ class Application {
     tunes.faultsOf = ([line]) => findings.faultsIn(line, findings.endOf(findings.tuneAt(line)));
     tunes.chosen = ([line]) => this.sheet.go(line, 0, true);
     this.music.transport.ended = () => this.showTune();
+    find("new-tune").addEventListener("click", () => {
+      if (this.link.state && !beginTune(this.sheet, findings.tunes.map(([, number]) => number))) this.status.say("Each number is used.");
+    });
   }
 
   connectLink() {
@@ -185,6 +196,7 @@ class Application {
     this.tunes.show(findings.tunes, caretTune.at);
     this.filter.tally();
     this.allMidi.show();
+    this.tuneFiles.show();
     this.remarks.show(caretTune.remarks, text.lines, caretTune.line);
     this.starter.look(book.name, link.state.saved);
     music.follow();
@@ -206,6 +218,7 @@ class Application {
     music.shown.doubt();
     if (isFirst) {
       find("loading").hidden = true;
+      music.learn();
       sheet.area.readOnly = false;
       const place = { line: book.tunes[0]?.[0] ?? 0, column: 0 }; // the begin of the first tune
       sheet.refresh({ start: place, end: place, direction: "forward" });
@@ -240,6 +253,3 @@ class Application {
     this.kept.settle();
   }
 }
-
-const key = /** @type {HTMLMetaElement} */ (document.querySelector("meta[name=key]")).content;
-new Application(new Server(location, key)).open();

@@ -67,6 +67,8 @@ export class Player {
     this.timer = null;
     /** @type {AudioContext | null} */
     this.opened = null;
+    /** @type {import("./font.js").Font | null} */
+    this.font = null; // sampled instruments; without it the sounds are plain
     /** @type {GainNode | null} */
     this.way = null; // to the loudspeaker
     /** @type {(tick: number) => void} */
@@ -87,6 +89,7 @@ export class Player {
     this.stop();
     this.enter({ score, tick: this.inLoop(tick), time: this.audio.currentTime });
     await this.audio.resume();
+    await this.font?.load(this.audio, score.notes);
     if (this.score === score) this.begin(score, tick, count);
   }
 
@@ -215,6 +218,7 @@ export class Player {
    * @type {(score: Score) => void} */
   change(score) {
     if (!this.score || !this.timer) return;
+    this.font?.load(this.audio, score.notes);
     const { bars, notes, end } = this.score;
     const soon = tickIn(this.latest, this.audio.currentTime + AHEAD);
     const tick = bars.find((bar) => bar >= soon) ?? end;
@@ -278,8 +282,8 @@ export class Player {
   /** One note from a time to a time; `last` is the tick at which it ends.
    * @type {(note: Note, start: number, end: number, last: number) => void} */
   sound(note, start, end, last) {
-    const from = Math.max(start, this.audio.currentTime);
-    const sound = soundNote(this.audio, note, from, end, this.outOf(note.voice));
+    const from = Math.max(start, this.audio.currentTime), out = this.outOf(note.voice);
+    const sound = this.font?.sound(this.audio, note, from, end, out) ?? soundNote(this.audio, note, from, end, out);
     this.sounding.push(Object.assign(sound, { last }));
   }
 
@@ -317,8 +321,8 @@ export class Player {
 }
 
 /** A way to the loudspeaker.
- * @type {(audio: AudioContext) => GainNode} */
-function outletOf(audio) {
+ * @type {(audio: BaseAudioContext) => GainNode} */
+export function outletOf(audio) {
   const out = audio.createGain();
   out.connect(audio.createDynamicsCompressor()).connect(audio.destination);
   return out;

@@ -4,7 +4,8 @@ import { hide } from "./elements.js";
 
 /** What each answer does; null puts the question off.
  * @typedef {Record<string, (() => void) | null>} Answers
- * @typedef {{ name: string, about: unknown, words: string, answers: Answers }} Question */
+ * `compare` shows the differences between the texts of a question, and answers nothing.
+ * @typedef {{ name: string, about: unknown, words: string, answers: Answers, compare?: () => void }} Question */
 
 const TOO_SOON = 400; // milliseconds in which a click is meant for the question before
 
@@ -36,12 +37,12 @@ export class Questions {
 
   /** Asks `words`, with a function for each answer; null puts the question off. A question of the same name about the same
    * thing is not asked twice; one about another thing takes its place.
-   * @type {(question: { name: string, about?: unknown, words: string, answers: Answers, focus?: boolean }) => void} */
-  ask({ name, about = null, words, answers, focus = false }) {
+   * @type {(question: { name: string, about?: unknown, words: string, answers: Answers, compare?: () => void, focus?: boolean }) => void} */
+  ask({ name, about = null, words, answers, compare, focus = false }) {
     const known = this.find(name);
     if (!known || known.about !== about) {
       this.withdraw(name);
-      this.queue.push({ name, about, words, answers });
+      this.queue.push({ name, about, words, answers, compare });
       this.show();
     }
     if (focus) this.focus(name);
@@ -108,7 +109,8 @@ export class Questions {
     if (!one) return;
     const words = Object.assign(document.createElement("span"), { textContent: one.words });
     const buttons = Object.entries(one.answers).map(([name, act]) => this.button(one, name, act, wasShown));
-    this.notice.append(words, ...buttons, document.createElement("small"));
+    const compares = one.compare ? [comparing(one.compare)] : [];
+    this.notice.append(words, ...buttons, ...compares, document.createElement("small"));
   }
 
   /** @type {(one: Question, name: string, act: (() => void) | null, wasShown: boolean) => HTMLButtonElement} */
@@ -132,4 +134,11 @@ export class Questions {
     const isThere = before instanceof HTMLElement && before.isConnected && before !== document.body && !before.matches(":disabled");
     (isThere ? before : this.back).focus({ preventScroll: true });
   }
+}
+
+/** @type {(compare: () => void) => HTMLButtonElement} */
+function comparing(compare) {
+  const button = Object.assign(document.createElement("button"), { type: "button", className: "compare", textContent: "Show the differences" });
+  button.addEventListener("click", compare);
+  return button;
 }

@@ -160,7 +160,7 @@ export class Score {
     if (document.hidden) return;
     if (this.asking) return this.soon();
     const tune = this.seen;
-    if (!tune) return this.show({ images: [] }, null);
+    if (!tune) return this.show({ missing: document.body.dataset.score === "missing" }, null);
     this.wait(true);
     this.width = this.room();
     const answer = await this.ask({ ...linesOf(tune), width: this.width }).catch(() => null);

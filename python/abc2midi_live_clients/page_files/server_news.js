@@ -5,7 +5,7 @@ const KEPT = "What you type is kept in this browser, and sent when it is there a
 const NO_ROOM = "This browser has no room to keep the text: do not close it";
 
 /** @typedef {object} Parts
- * @property {import("./server.js").Server} server
+ * @property {import("./book_host.js").BookHost} server
  * @property {import("./link.js").Link} link
  * @property {import("./book.js").Book} book
  * @property {import("./sheet.js").Sheet} sheet
@@ -41,10 +41,10 @@ export class ServerNews {
     const { status } = this, { away } = this.link, wasAway = status.isAway;
     status.mark(Boolean(away));
     if (away) {
-      status.say(`The server is away: ${away}. ${this.kept.keep() ? KEPT : NO_ROOM}.`);
+      status.say(`The ${this.server.called} is away: ${away}. ${this.kept.keep() ? KEPT : NO_ROOM}.`);
       this.lost();
     } else if (wasAway) {
-      status.say("The server is there again.");
+      status.say(`The ${this.server.called} is there again.`);
       this.returned();
     }
   }
@@ -74,7 +74,7 @@ export class ServerNews {
    * @type {(why: string) => void} */
   refused(why) {
     this.kept.keep();
-    const words = `The server does not take this edit: ${why}. Undo it.`;
+    const words = `The ${this.server.called} does not take this edit: ${why}. Undo it.`;
     this.questions.ask({ name: "refused", about: this.sheet.text.lines, words, answers: { Undo: () => this.sheet.history(true) } });
   }
 

@@ -200,12 +200,11 @@ export class Sheet {
     this.watch();
   }
 
-  /** Replaces lines in a step of its own, with the caret after them.
+  /** Replaces lines in a step of its own. The caret stays with its text.
    * @type {(edit: import("./lines.js").Replacement) => void} */
   replace(edit) {
-    const place = { line: edit.start + edit.put.length - 1, column: edit.put[edit.put.length - 1].length };
-    const after = { start: place, end: place, direction: "forward" };
-    this.text.change([edit], this.selection(), after);
+    const before = this.selection(), after = movedSelection(before, edit);
+    this.text.change([edit], before, after);
     this.refresh(after);
     this.area.focus({ preventScroll: true });
   }
@@ -343,7 +342,9 @@ export class Sheet {
     this.scroller.scrollLeft = 0;
     const marks = /** @type {Mark[]} */ ([...this.marks.querySelectorAll("mark")]);
     marks.find(({ fault }) => fault[0] === line && fault[1] === column)?.scrollIntoView({ block: "nearest", inline: "nearest" });
-    if (focus) this.area.focus({ preventScroll: true });
+    if (!focus) return;
+    this.area.focus({ preventScroll: true });
+    this.view.scrollIntoView({ block: "nearest" }); // on a narrow screen the text may be above what is seen
   }
 
   /** The caret may have moved. */

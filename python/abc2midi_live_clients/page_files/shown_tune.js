@@ -3,7 +3,7 @@
 import { scoreOf } from "./midi.js";
 
 export class ShownTune {
-  /** @param {import("./server.js").Server} server
+  /** @param {import("./book_host.js").BookHost} server
    * @param {import("./link.js").Link} link
    * @param {import("./findings.js").Findings} findings */
   constructor(server, link, findings) {

@@ -1,0 +1,50 @@
+"""What a screen reader finds in the page: names, live regions, and dialogs that say what they are, by the accessibility tree of Chromium."""
+
+import test_page_in_browser
+from browser_keys import CONTROL, ESCAPE, SHIFT
+
+NEED_NAMES = {"button", "link", "textbox", "searchbox", "checkbox", "slider", "spinbutton", "listbox", "option", "dialog", "navigation", "region", "group", "search"}
+
+
+class Access(test_page_in_browser.Browser):
+    """Someone who hears the page."""
+
+    opening = b"X:1\nT:Duet\nL:1/4\nV:1\nV:2\nK:C\n[V:1] CDEF|\n[V:2] C4 -|\n"
+
+    def nodes(self) -> list[tuple[str, str]]:
+        """The role and the name of each node that a screen reader finds."""
+        tree = self.driver.execute_cdp_cmd("Accessibility.getFullAXTree", {})["nodes"]
+        seen = [node for node in tree if not node.get("ignored")]
+        return [(node.get("role", {}).get("value", ""), str(node.get("name", {}).get("value", "")).strip()) for node in seen]
+
+    def assert_named(self, *wanted: tuple[str, str]) -> None:
+        """All that needs a name has one, and some nodes are there."""
+        found = self.nodes()
+        self.assertEqual([node for node in found if node[0] in NEED_NAMES and not node[1]], [])
+        self.assertEqual([node for node in wanted if node not in found], [])
+
+    def test_names(self) -> None:
+        self.wait(lambda: "2 voices" in str(self.run_script("return document.getElementById('roll').getAttribute('aria-label')")))
+        self.wait(lambda: self.text("told"))
+        self.driver.find_element("id", "practise").click()
+        self.type("h", CONTROL)
+        self.assert_named(
+            ("textbox", "Tune book in ABC notation"), ("button", "Write C4-"), ("option", "1 Duet"), ("search", "Find in the book"), ("textbox", "Replace by"),
+            ("slider", "Tempo"), ("slider", "Volume of Voice 2"), ("button", "The next fault"), ("button", "New"), ("group", "Loop"),
+        )  # fmt: skip
+
+    def test_dialogs(self) -> None:
+        self.type("s", CONTROL, SHIFT)
+        self.wait(lambda: self.run_script("return document.getElementById('copy').open"))
+        self.assert_named(("dialog", "Save as"), ("textbox", "Name"), ("group", "This tune:"))
+        self.press(ESCAPE)
+        self.type("% x")
+        self.wait(self.is_unsaved)
+        self.run_script("document.getElementById('unsaved').click()")
+        self.wait(lambda: self.run_script("return document.getElementById('differences').open"))
+        self.assert_named(("dialog", self.text("differences-words")), ("group", "Differences"))
+
+    def test_what_is_said(self) -> None:
+        """Faults are said when they come, questions at once."""
+        live = "return ['told', 'notice', 'status', 'found'].map((id) => { const one = document.getElementById(id); return one.ariaLive ?? one.role ?? one.localName; })"
+        self.assertEqual(self.run_script(live), ["polite", "alert", "status", "output"])

@@ -1,0 +1,84 @@
+"""The page on a narrow screen: each of its parts can be reached, also while one practises or while a question is open."""
+
+import shutil
+import unittest
+
+import test_page_in_browser
+from browser_keys import F8
+
+PARTS = ("tune", "time", "play", "practise", "midi", "count", "told", "filter", "list", "roll")
+REACHED = """
+const one = document.getElementById(arguments[0]);
+one.scrollIntoView({ block: "nearest" });
+const { left, right, top, bottom, width, height } = one.getBoundingClientRect();
+const found = document.elementFromPoint(left + width / 2, top + height / 2);
+const isInside = left >= 0 && right <= innerWidth && top >= 0 && bottom <= innerHeight;
+return isInside && height >= 16 && one.contains(found);
+"""
+IS_WHOLE = "const one = document.getElementById('tune'); return one.textContent !== '' && one.scrollWidth <= one.clientWidth"
+STAVES = """
+const view = document.getElementById("score").getBoundingClientRect();
+const first = (line) => [...document.querySelectorAll(".score-place")].find(({ note }) => note.line === line)?.getBoundingClientRect();
+return [first(5), first(6)].every((note) => note && view.top <= note.top && note.bottom <= view.bottom);
+"""
+MARK = """
+const mark = document.querySelector("mark"), { left, right, top, bottom } = mark.getBoundingClientRect();
+return document.elementsFromPoint((left + right) / 2, (top + bottom) / 2).includes(mark);
+"""
+
+
+class Narrow(test_page_in_browser.Browser):
+    """A window of 390 pixels over a tune of two voices with a fault."""
+
+    opening = b"X:1\nT:The Maid Behind the Bar\nM:4/4\nL:1/4\nK:G\n[V:1] GABc|dcBA|GABc|d4|\n[V:2] G2D2|G2D2|G2D2|G4 -|\n"
+
+    def setUp(self) -> None:
+        super().setUp()
+        self.size(390, 844)
+        self.wait(lambda: "2 voices" in str(self.run_script("return document.getElementById('roll').getAttribute('aria-label')")))
+
+    def parts_are_reached(self) -> None:
+        """Each part can be scrolled to, and nothing is over it. Nothing scrolls aside."""
+        for identifier in PARTS:
+            self.assertTrue(self.run_script(REACHED, identifier), identifier)
+        self.assertTrue(self.run_script(IS_WHOLE))
+        self.assertEqual(self.run_script("return document.documentElement.scrollWidth"), 390)
+
+    def has_lines(self, count: int) -> bool:
+        """Whether the text has room for some lines."""
+        return bool(self.run_script("return document.querySelector('.scroller').clientHeight >= 21 * arguments[0]", count))
+
+    def test_the_parts(self) -> None:
+        self.parts_are_reached()
+        self.assertTrue(self.has_lines(6))
+
+    def test_while_practising(self) -> None:
+        self.driver.find_element("id", "practise").click()
+        self.parts_are_reached()
+        self.assertTrue(self.has_lines(4))
+
+    def test_while_a_question_is_open(self) -> None:
+        self.edit(0, 1, "X:2")
+        self.path.write_bytes(b"X:3\n")
+        self.wait(self.question)
+        self.parts_are_reached()
+        self.assertTrue(self.has_lines(6))
+        self.driver.find_element("id", "practise").click()
+        self.parts_are_reached()
+
+    def test_the_text_comes_into_view(self) -> None:
+        """A key that goes to a fault shows it, however far down the page is."""
+        self.driver.find_element("id", "practise").click()
+        self.run_script("document.querySelector('main').scrollTop = 10000")
+        self.assertFalse(self.run_script(MARK))
+        self.press(F8)
+        self.wait(lambda: self.run_script(MARK))
+
+    @unittest.skipUnless(shutil.which("abcm2ps"), "abcm2ps is not installed")
+    def test_the_score(self) -> None:
+        """It can be printed, and both staves are seen while one practises."""
+        self.wait(lambda: self.run_script(REACHED, "print"))
+        self.driver.find_element("id", "practise").click()
+        self.wait(lambda: self.run_script(REACHED, "print"))
+        self.run_script("document.getElementById('score').scrollIntoView({ block: 'nearest' })")
+        self.wait(lambda: self.run_script(STAVES))

@@ -1,0 +1,54 @@
+"""The sound and the score of a tune as files: in node, and in a browser."""
+
+import shutil
+import struct
+import unittest
+import xml.etree.ElementTree
+from typing import Any
+
+import page_in_node
+import test_page_in_browser
+from test_page_copies_in_browser import DOWNLOADS
+
+SVG = "{http://www.w3.org/2000/svg}"
+
+
+class Scripts(page_in_node.PageScripts):
+    def test_scripts(self) -> None:
+        self.assert_ok("page_tune_files.mjs", 5)
+
+
+class Stored(test_page_in_browser.Browser):
+    """Someone who stores the files of a tune."""
+
+    opening = b"X:7\nT:The Kesh\nL:1/4\nQ:1/4=240\nK:C\nCE|z2|\n"
+
+    def stored_file(self, identifier: str) -> tuple[str, bytes]:
+        """The name and the bytes of the file that a button of the dialog stores."""
+        self.run_script(DOWNLOADS)
+        self.run_script("document.getElementById('save-as').click()")
+        self.wait(lambda: self.run_script("return !document.getElementById(arguments[0]).disabled", identifier))
+        self.driver.find_element("id", identifier).click()
+        found: list[Any] = self.wait(lambda: self.run_script("return downloads"))
+        return str(found[0][0]), bytes(found[0][1])
+
+    def test_the_sound(self) -> None:
+        """It lasts as long as the tune and a moment, and is loud while a note sounds."""
+        name, data = self.stored_file("tune-sound")
+        self.assertEqual((name, data[:4], self.text("status")), ("7 The Kesh.wav", b"RIFF", "Stored 7 The Kesh.wav."))
+        numbers = struct.unpack(f"<{(len(data) - 44) // 2}h", data[44:])
+        self.assertEqual(len(numbers), 2 * round(44100 * 2.5))
+        loud, silent = ([abs(number) for number in numbers[2 * 44100 * begin // 20 : 2 * 44100 * end // 20]] for begin, end in ((1, 9), (40, 50)))
+        self.assertGreater(max(loud), 2000)
+        self.assertLess(max(silent), 50)
+
+    @unittest.skipUnless(shutil.which("abcm2ps"), "abcm2ps is not installed")
+    def test_the_score(self) -> None:
+        """It is a drawing of its own, with all that the page shows."""
+        name, data = self.stored_file("tune-score")
+        root = xml.etree.ElementTree.fromstring(data)
+        self.assertEqual((name, root.tag), ("7 The Kesh.svg", f"{SVG}svg"))
+        shown = self.run_script("return document.querySelectorAll('#score svg *').length")
+        own = 2 + len(root.findall(f"{SVG}svg"))
+        self.assertEqual(len(list(root.iter())) - 1 - own, shown)
+        self.assertIn("The Kesh", "".join(root.itertext()))
