@@ -60,7 +60,7 @@ def read_crates(top: Path) -> dict[str, Crate]:
 
 
 def measure(crate: Crate, folder: Path, below: int) -> None:
-    """Counts the functions, the lines and the must-fail edits of a crate with so many crates below it."""
+    """Counts the functions, the lines and the must-fail edits of a crate; `below` is the number of crates below it."""
     code = [path.read_text(encoding="utf-8") for path in (folder / "src").rglob("*.rt")]
     proof = [path for part in ("specs", "proofs") for path in (folder / part).rglob("*.antt")]
     crate.functions = sum(len(re.findall(r"^\s*(?:pub(?:\(\w+\))? )?(?:const )?fn \w", text, re.M)) for text in code)

@@ -18,9 +18,9 @@ from processor_share import Share, times_below
 
 DONE = re.compile(r"rt: (\w+) (proved|is kept)\b")
 SECONDS_BETWEEN_LOOKS = 1.0
-SECONDS_OF_TRUST = 60.0  # before any crate is done, the estimates count as much as crates of so many seconds that took as long
+SECONDS_OF_TRUST = 60.0  # before any crate is done, the estimates count as much as crates that took these seconds, as estimated
 MOST_CHANGE = 0.25  # the part by which the time left may change between two crates, beside the time that passed
-OTHER_WORK = 2.0  # a build takes up to so many times as long if the processors do other work, too
+OTHER_WORK = 2.0  # a build takes up to this factor longer if the processors do other work, too
 
 
 def processors() -> int:
