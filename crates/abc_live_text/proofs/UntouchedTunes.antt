@@ -40,7 +40,7 @@ use Rattle.abc_live_text.specs.ReusedTunes.{GoesAlong, KnowsAlong, continues, fi
 use Rattle.abc_live_text.proofs.FreshSteps.{block_addresses, are_kept, block_steps}
 use Rattle.abc_live_text.proofs.WholeRows.{AreRead}
 
--- So many cells of a chain, one after another.
+-- The places of `n` consecutive cells of a chain.
 abbrev places_up : ℕ → ℕ → ℕ → List (Option (ℕ × ℕ))
 places_up source place zero = []
 places_up source place (suc n) = Some (source, place) ∷ places_up source (place + 1) n
