@@ -1,5 +1,5 @@
 -- The items of a tune that the entries of its play are of.
-use Rattle.std.proofs.Common.{◌≡◌, ℕ, zero, suc, ◌+◌, ◌<◌, ◌≤◌, List, [], ◌∷◌, ◌++◌, drop, length, Some, refl, arith, length-append}
+use Rattle.std.proofs.Common.{◌≡◌, ℕ, zero, suc, ◌+◌, List, [], ◌∷◌, ◌++◌, drop, length, Some, refl, sym, ap, ◌∙◌, append_assoc, arith}
 use Rattle.std.specs.Bool.{⊤}
 use Rattle.std.specs.Borrow.{Bor}
 use Rattle.std.specs.Prelude.{All, slice_get}
@@ -41,9 +41,14 @@ rest_at xs i x rest is =
     let next : i + 1 ≡ suc i = omega arith in
     rw next (others_at xs i x rest is)
 
+-- what is after a list
+next_in : {X : Type 0} (past : List X) (x : X) (rest : List X) → slice_get (past ++ x ∷ rest) (length past) ≡ Some x
+next_in [] x rest = refl
+next_in (first ∷ past) x rest = next_in past x rest
+
 -- an entry of this kind is one of this item
 abbrev pub FitsItem : EntryKind → Item → Type 0
-FitsItem (kinds.Note tone key velocity joined) (items.Tone tones time) = tone < length tones
+FitsItem (kinds.Note tone key velocity joined) (items.Tone tones time) = (one : Tone) × (slice_get tones tone ≡ Some one) × (one.key ≡ key)
 FitsItem kinds.Rest (items.Rest time bar) = ⊤
 FitsItem kinds.Bar (items.Bar line) = ⊤
 FitsItem _ _ = ⊥
@@ -72,16 +77,16 @@ module _ (whole : List Item) where
       (All-cons IsStepOf (steps.Item item place) (steps_from (place + 1) tune) here others)
 
   tones_are : (previous : List Tone) (at place : ℕ) (all : List Tone) (time : Grains) → slice_get whole place ≡ Some (items.Tone all time)
-      → (past tones : List Tone) → length past + length tones ≤ length all → All IsEntryOf (tone_entries previous at place past tones)
-  tones_are previous at place all time here past [] few = All-nil IsEntryOf
-  tones_are previous at place all time here past (tone ∷ tones) few =
-      let more = length-append past (tone ∷ []) in
+      → (past tones : List Tone) → past ++ tones ≡ all → All IsEntryOf (tone_entries previous at place past tones)
+  tones_are previous at place all time here past [] is = All-nil IsEntryOf
+  tones_are previous at place all time here past (tone ∷ tones) is =
+      let own : slice_get all (length past) ≡ Some tone = ap (λ l. slice_get l (length past)) (sym is) ∙ next_in past tone tones in
       All-cons IsEntryOf (tone_entry previous at place past tone) (tone_entries previous at place (past ++ tone ∷ []) tones)
-      (record { item = items.Tone all time; here = here; fits = omega (arith, few) })
-      (tones_are previous at place all time here (past ++ tone ∷ []) tones (omega (arith, few, more)))
+      (record { item = items.Tone all time; here = here; fits = (tone, own, refl) })
+      (tones_are previous at place all time here (past ++ tone ∷ []) tones (append_assoc past (tone ∷ []) tones ∙ is))
 
   item_are : (previous : List Tone) (at place : ℕ) (item : Item) → slice_get whole place ≡ Some item → All IsEntryOf (item_entries previous at place item)
-  item_are previous at place (items.Tone tones time) here = tones_are previous at place tones time here [] tones (omega arith)
+  item_are previous at place (items.Tone tones time) here = tones_are previous at place tones time here [] tones refl
   item_are previous at place (items.Rest time bar) here =
       All-cons IsEntryOf (rest_entry at place time) [] (record { item = items.Rest time bar; here = here; fits = tt }) (All-nil IsEntryOf)
   item_are previous at place _ here = All-nil IsEntryOf

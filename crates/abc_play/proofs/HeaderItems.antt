@@ -5,13 +5,14 @@ use Rattle.std.specs.List.{AllZip}
 use Rattle.std.specs.Prelude.{Result, Ok, Err, false, slice_range}
 use Rattle.abc_bars_body.specs.BodyOpening.{body_from}
 use Rattle.abc_bars_body.specs.Step.{entry_step, file_header_step, header_step, line_in}
+use Rattle.abc_bars_body.specs.declared.body.Body.{Body}
 use Rattle.abc_bars_body.specs.declared.entry.Entry.{Entry}
 use Rattle.abc_bars_body.specs.declared.entry.Entry.TheVariants as entries
 use Rattle.abc_bars_header.specs.FieldKind.{kind_of}
 use Rattle.abc_bars_header.specs.Header.{append_program, declare, declare_result, header_key_by, header_result, header_voice_by, items_with, line_program}
 use Rattle.abc_bars_header.specs.Header.{opening_header, order_by, own_line_result, own_result, reference_by}
 use Rattle.abc_bars_header.specs.HeaderLine.{HeaderLine, FieldLine, DirectiveLine}
-use Rattle.abc_bars_header.specs.Opening.{opening_tempo, opening_tempo_by}
+use Rattle.abc_bars_header.specs.Opening.{opening_tempo_by}
 use Rattle.abc_bars_header.specs.Defaults.{unit_in}
 use Rattle.abc_bars_header.specs.Reference.{reference_of}
 use Rattle.abc_bars_header.specs.declared.defaults.Defaults.{Defaults}
@@ -96,29 +97,36 @@ header_plain header line =
     let own = own_line_result header line in
     program_plain (items_with own.item own.header.defaults) (line_program line header.defaults) (items_plain own.item own.header.defaults (line_plain header line))
 
--- items without a place
-none_given : (cell : Tokens) (given : List Item) → NonePlaced given → AllZip (MayBeGiven cell) given (matched cell 0 given)
-none_given cell given none =
-    subst (λ l. AllZip (MayBeGiven cell) l (matched cell 0 l)) (append-nil given) (given_none cell 0 given [] none tt)
+-- the state of the body that a cell of music is in
+abbrev pub body_in : Entry → Body
+body_in (entries.FileHeader defaults) = body_from (opening_header defaults) empty_key
+body_in (entries.Opening defaults) = body_from (opening_header defaults) empty_key
+body_in (entries.Header header) = body_from header empty_key
+body_in (entries.Body body) = body
 
-file_header_given : (defaults : Defaults) (cell : Tokens) (line : Option HeaderLine)
-    → AllZip (MayBeGiven cell) (file_header_step defaults line).1.items (matched cell 0 (file_header_step defaults line).1.items)
-file_header_given defaults cell None = tt
-file_header_given defaults cell (Some line) = tt
+-- items without a place
+none_given : (body : Body) (cell : Tokens) (given : List Item) → NonePlaced given → AllZip (MayBeGiven body cell) given (matched cell 0 given)
+none_given body cell given none =
+    subst (λ l. AllZip (MayBeGiven body cell) l (matched cell 0 l)) (append-nil given) (given_none body cell 0 given [] none tt)
+
+file_header_given : (body : Body) (defaults : Defaults) (cell : Tokens) (line : Option HeaderLine)
+    → AllZip (MayBeGiven body cell) (file_header_step defaults line).1.items (matched cell 0 (file_header_step defaults line).1.items)
+file_header_given body defaults cell None = tt
+file_header_given body defaults cell (Some line) = tt
 
 header_given : (header : Header) (cell : Tokens) (line : Option HeaderLine)
-    → AllZip (MayBeGiven cell) (header_step header cell line).1.items (matched cell 0 (header_step header cell line).1.items)
+    → AllZip (MayBeGiven (body_from header empty_key) cell) (header_step header cell line).1.items (matched cell 0 (header_step header cell line).1.items)
 header_given header cell None = given-cell (body_from header empty_key) cell
-header_given header cell (Some line) = none_given cell (header_result header line).items (header_plain header line)
+header_given header cell (Some line) = none_given (body_from header empty_key) cell (header_result header line).items (header_plain header line)
 
-step_given : (state : Entry) (cell : Tokens) → AllZip (MayBeGiven cell) (entry_step state cell).1.items (matched cell 0 (entry_step state cell).1.items)
+step_given : (state : Entry) (cell : Tokens) → AllZip (MayBeGiven (body_in state) cell) (entry_step state cell).1.items (matched cell 0 (entry_step state cell).1.items)
 unfolding entry_step
-step_given (entries.FileHeader defaults) cell = file_header_given defaults cell (line_in cell)
+step_given (entries.FileHeader defaults) cell = file_header_given (body_in (entries.FileHeader defaults)) defaults cell (line_in cell)
 step_given (entries.Opening defaults) cell = header_given (opening_header defaults) cell (line_in cell)
 step_given (entries.Header header) cell = header_given header cell (line_in cell)
 step_given (entries.Body body) cell = given-cell body cell
 
 -- each item of a cell that has a place is given by a token of its kind
 pub cell_given : (state : Entry) (cell : Tokens)
-    → AllZip (MayBeGiven cell) (steps_of_abc.gives state cell).items (matched cell 0 (steps_of_abc.gives state cell).items)
+    → AllZip (MayBeGiven (body_in state) cell) (steps_of_abc.gives state cell).items (matched cell 0 (steps_of_abc.gives state cell).items)
 cell_given state cell = step_given state cell

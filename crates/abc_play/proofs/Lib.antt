@@ -1,6 +1,7 @@
 pub mod Blocks
 pub mod EntryItems
 pub mod HeaderItems
+pub mod Heard
 pub mod InText
 pub mod Late
 pub mod Numbers

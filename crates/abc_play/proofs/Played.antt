@@ -1,5 +1,5 @@
 -- What holds of each step of a tune holds of each step that is played.
-use Rattle.std.proofs.Common.{◌≡◌, ℕ, zero, suc, ◌+◌, true, false, cond, List, [], ◌∷◌, ◌++◌, map, None}
+use Rattle.std.proofs.Common.{ℕ, zero, suc, ◌+◌, true, false, cond, List, [], ◌∷◌, ◌++◌, map, None}
 use Rattle.std.specs.Borrow.{Bor}
 use Rattle.std.specs.List.{cons_option}
 use Rattle.std.specs.Prelude.{◌&&◌, All, bytes_eq, filter_map, slice_get}

@@ -1,11 +1,13 @@
--- Each entry of a play is in the present text.
-use Rattle.std.proofs.Common.{◌≡◌, ◌⊎◌, ℕ, zero, suc, ◌+◌, ◌<◌, Bool, true, false, cond, List, [], ◌∷◌, drop, length, map, Option, Some, None, inl, inr, refl, sym, ap, subst, ◌∙◌, arith}
+-- Each entry of a play is in the present text, and has the key that looking back gives there.
+use Rattle.std.proofs.Common.{◌≡◌, ◌⊎◌, ℕ, zero, suc, ◌+◌, ◌<◌, Bool, true, false, cond, List, [], ◌∷◌, drop, length, map, Option, Some, inl, inr, refl, sym, ap, subst, ◌∙◌, arith}
 use Rattle.std.specs.Borrow.{Bor}
 use Rattle.std.specs.List.{AllZip, cons_option}
 use Rattle.std.specs.Option.{option_map}
 use Rattle.std.specs.Prelude.{◌&&◌, All, Contains, filter_map, nat_lt, option_and_then, slice_get, unwrap_or}
 use Rattle.std.proofs.lemmas.Bool.{and_parts, false≢true}
+use Rattle.std.proofs.lemmas.Option.{slice_get_within}
 use Rattle.std.proofs.lemmas.List.Elements.{All-cons, All-contains_itself, All-head, All-map, All-nil, All-tail, All-weaker}
+use Rattle.abc_bars.specs.LookBack.CellPlace.{CellPlace}
 use Rattle.abc_bars_items.specs.declared.item.Item.{Item}
 use Rattle.abc_bars_items.specs.declared.item.Item.TheVariants as items
 use Rattle.abc_bars_notes.specs.TokenRole.{is_note_part}
@@ -33,14 +35,15 @@ use Rattle.abc_play_tune.specs.Play.{play_of_voice}
 use Rattle.abc_play_tune.specs.declared.entry.EntryKind.{EntryKind}
 use Rattle.abc_play_tune.specs.declared.entry.EntryKind.TheVariants as kinds
 use Rattle.abc_play_tune.specs.declared.entry.PlayEntry.{PlayEntry}
-use Rattle.abc_play.specs.Laws.{Gives, GivesTone, IsInChord, IsInText, IsOf, PlaysText}
-use Rattle.abc_play.specs.Places.{chord_places, kind_places, no_place, part_place, part_place_at, place_at, token_place, token_places, tune_places}
+use Rattle.abc_play.specs.Laws.{Gives, GivesTone, HasKey, IsInChord, IsInText, IsLookedBack, IsOf, IsTokenOf, PlaysKeys, PlaysText, part_of_tone}
+use Rattle.abc_play.specs.Places.{chord_places, kind_places, no_place, part_place, part_place_at, token_place, tune_places}
 use Rattle.abc_play.specs.Play.{block_items, block_of, block_play, block_tune, placed_entry, placed_track, referred, tone_of, tune_play}
 use Rattle.abc_play.specs.declared.entry.PlayedEntry.{PlayedEntry}
 use Rattle.abc_play.specs.declared.place.Place.{Place}
 use Rattle.abc_play.proofs.EntryItems.{FitsItem, IsEntryOf, entries_of_items, first_at, rest_at}
 use Rattle.abc_play.proofs.InText.{mapped}
-use Rattle.abc_play.proofs.TextPlaces.{MayBePlaced, block_placed, is_in, zip_here}
+use Rattle.abc_play.proofs.Heard.{Heard, key_here}
+use Rattle.abc_play.proofs.TextPlaces.{IsPlaced, MayBePlaced, block_placed, token_at, zip_here}
 use Rattle.abc_tune.specs.Abc.{rules_of_abc}
 use Rattle.abc_tune_compiler.specs.Tune.{cells_in}
 
@@ -71,20 +74,20 @@ module _ (line at : ℕ) (parts : List (Spanned ChordPartKind)) where
       (notes_from (index + 1) (count + 1) left next) (notes_from (index + 1) count left next)
 
   -- the part of a tone, and its place
-  record IsPartOf (own : List Place) (tone : ℕ) : Type 0 where
+  record IsPartOf (found : List ℕ) (tone : ℕ) : Type 0 where
     part : Spanned ChordPartKind
-    inside : Contains parts part
+    inside : option_and_then (slice_get parts) (slice_get found tone) ≡ Some part
     noted : is_note_part part.kind ≡ true
-    here : slice_get own tone ≡ Some (part_place line at part)
+    here : slice_get (filter_map (part_place_at line at parts) found) tone ≡ Some (part_place line at part)
 
-  found_part : (found : List ℕ) (tone : ℕ) → All IsNoteAt found → tone < length found → IsPartOf (filter_map (part_place_at line at parts) found) tone
+  found_part : (found : List ℕ) (tone : ℕ) → All IsNoteAt found → tone < length found → IsPartOf found tone
   found_part [] tone all few = absurd (omega (arith, few))
   found_part (index ∷ found) zero all few =
       let is = All-head IsNoteAt index found all in
       let rest = filter_map (part_place_at line at parts) found in
       record {
         part = is.part;
-        inside = is_in parts index is.part is.here;
+        inside = is.here;
         noted = is.noted;
         here = ap (λ (o : Option (Spanned ChordPartKind)). slice_get (cons_option (option_map (part_place line at) o) rest) zero) is.here;
       }
@@ -106,10 +109,11 @@ note_gives tone key velocity joined _ noted = absurd (false≢true noted)
 -- an entry of an item that a token gives: of a chord, a note, a rest, rests of bars and a bar line
 chord_entry : (line at : ℕ) (chord : Chord) (place : Place) (kind : EntryKind) (item : Item) → FitsItem kind item → GivesItem (tokens.Chord chord) item
     → place ≡ place_among (chord_places line at chord.parts) (tone_of kind)
-    → (part : Spanned ChordPartKind) × Contains chord.parts part × GivesTone kind part.kind × (place ≡ part_place line at part)
+    → (part : Spanned ChordPartKind) × (part_of_tone chord.parts (tone_of kind) ≡ Some part) × GivesTone kind part.kind × (place ≡ part_place line at part)
 chord_entry line at chord place (kinds.Note tone key velocity joined) (items.Tone tones time) fits gives is =
     let parts = chord.parts in
-    let own = found_part line at parts (tone_parts 0 0 parts) tone (notes_from line at parts 0 0 parts refl) (omega (arith, fits, gives)) in
+    let within = slice_get_within tones tone fits.0 fits.1 in
+    let own = found_part line at parts (tone_parts 0 0 parts) tone (notes_from line at parts 0 0 parts refl) (omega (arith, within, gives)) in
     (own.part, own.inside, note_gives tone key velocity joined own.part.kind own.noted, is ∙ ap (λ (o : Option Place). unwrap_or o no_place) own.here)
 chord_entry line at chord place kinds.Rest (items.Rest time bar) fits gives is = absurd gives
 chord_entry line at chord place kinds.Bar (items.Bar bar) fits gives is = absurd gives
@@ -118,7 +122,8 @@ chord_entry line at chord place _ _ fits gives is = absurd fits
 note_entry : (own place : Place) (note : Note) (kind : EntryKind) (item : Item) → FitsItem kind item → GivesItem (tokens.Note note) item
     → place ≡ place_among (own ∷ []) (tone_of kind) → Gives kind (tokens.Note note) × (place ≡ own)
 note_entry own place note (kinds.Note tone key velocity joined) (items.Tone tones time) fits gives is =
-    let first : tone ≡ 0 = omega (arith, fits, gives) in
+    let within = slice_get_within tones tone fits.0 fits.1 in
+    let first : tone ≡ 0 = omega (arith, within, gives) in
     (tt, is ∙ ap (place_among (own ∷ [])) first)
 note_entry own place note kinds.Rest (items.Rest time bar) fits gives is = absurd gives
 note_entry own place note kinds.Bar (items.Bar bar) fits gives is = absurd gives
@@ -178,40 +183,102 @@ referred_items : (own : List Item) → items_of (map referred own) ≡ own
 referred_items [] = refl
 referred_items (item ∷ own) = ap (λ l. item ∷ l) (referred_items own)
 
-module _ (text : Text) where
-  entry_in_text : (own : List Item) (places : List (List Place)) → AllZip (MayBePlaced text) own places → (entry : PlayEntry) → IsEntryOf own entry
-      → IsInText text (placed_entry places entry)
-  entry_in_text own places all entry one =
-      let tone = tone_of entry.kind in
-      let found = zip_here (MayBePlaced text) own places entry.place one.item all one.here in
-      let is = found.2 (fits_placed entry.kind one.item one.fits) in
-      let place : place_at places entry.place tone ≡ place_among (token_places is.number is.token) tone =
-      ap (λ (o : Option (List Place)). unwrap_or (option_and_then (λ l. slice_get l tone) o) no_place) found.1 ∙ ap (λ l. place_among l tone) is.places in
-      let at = of_token is.number (placed_entry places entry) is.token is.token.kind one.item one.fits is.fits place in
-      let at_line = subst (λ n. line_at text n ≡ Some is.line) (sym at.number) is.at_line in
-      let own = subst (λ n. IsOf n (placed_entry places entry) is.token) (sym at.number) at.gives in
-      (is.line, is.cell, is.token, at_line, is.in_line, is.in_cell, own)
+-- the keys of an item that an entry is of
+heard_at : (place : CellPlace) (kind : TokenKind) (entry : EntryKind) (item : Item) → FitsItem entry item → GivesItem kind item → Heard place kind item → HasKey place kind entry
+heard_at place (tokens.Note note) entry item fits gives heard = key_here place (tokens.Note note) entry item fits heard
+heard_at place (tokens.Chord chord) entry item fits gives heard = key_here place (tokens.Chord chord) entry item fits heard
+heard_at place (tokens.Rest written) (kinds.Note tone key velocity joined) (items.Tone tones time) fits gives heard = absurd gives
+heard_at place (tokens.Rest written) (kinds.Note tone key velocity joined) _ fits gives heard = absurd fits
+heard_at place (tokens.Rest written) kinds.Rest item fits gives heard = tt
+heard_at place (tokens.Rest written) kinds.Bar item fits gives heard = tt
+heard_at place (tokens.BarRest bars) (kinds.Note tone key velocity joined) (items.Tone tones time) fits gives heard = absurd gives
+heard_at place (tokens.BarRest bars) (kinds.Note tone key velocity joined) _ fits gives heard = absurd fits
+heard_at place (tokens.BarRest bars) kinds.Rest item fits gives heard = tt
+heard_at place (tokens.BarRest bars) kinds.Bar item fits gives heard = tt
+heard_at place (tokens.Bar line) (kinds.Note tone key velocity joined) (items.Tone tones time) fits gives heard = absurd gives
+heard_at place (tokens.Bar line) (kinds.Note tone key velocity joined) _ fits gives heard = absurd fits
+heard_at place (tokens.Bar line) kinds.Rest item fits gives heard = tt
+heard_at place (tokens.Bar line) kinds.Bar item fits gives heard = tt
+heard_at place _ entry item fits gives heard = absurd gives
 
-  voice_in_text : (tune : List (Bor Item)) (places : List (List Place)) → AllZip (MayBePlaced text) (items_of tune) places → (voice : List ℕ)
-      → All (IsInText text) (placed_track places (play_of_voice tune voice))
-  voice_in_text tune places all voice =
+module _ (text : Text) (block : Block) where
+  -- an entry of an item that a token of a tune gives
+  record IsPlayed (entry : PlayedEntry) : Type 0 where
+    item : Item
+    own : List Place
+    placed : IsPlaced text block item own
+    fits : FitsItem entry.kind item
+    at : entry.place ≡ place_among own (tone_of entry.kind)
+
+  entry_played : (own : List Item) (places : List (List Place)) → AllZip (MayBePlaced text block) own places → (entry : PlayEntry) → IsEntryOf own entry
+      → IsPlayed (placed_entry places entry)
+  entry_played own places all entry one =
+      let found = zip_here (MayBePlaced text block) own places entry.place one.item all one.here in
+      record {
+        item = one.item;
+        own = found.0;
+        placed = found.2 (fits_placed entry.kind one.item one.fits);
+        fits = one.fits;
+        at = ap (λ (o : Option (List Place)). unwrap_or (option_and_then (λ l. slice_get l (tone_of entry.kind)) o) no_place) found.1;
+      }
+
+  voice_played : (tune : List (Bor Item)) (places : List (List Place)) → AllZip (MayBePlaced text block) (items_of tune) places → (voice : List ℕ)
+      → All IsPlayed (placed_track places (play_of_voice tune voice))
+  voice_played tune places all voice =
       let entries = entries_from [] (play_of_voice tune voice) in
-      All-map (IsInText text) (placed_entry places) entries
-      (All-weaker (IsEntryOf (items_of tune)) (λ entry. IsInText text (placed_entry places entry)) (entry_in_text (items_of tune) places all) entries (entries_of_items tune voice))
+      All-map IsPlayed (placed_entry places) entries
+      (All-weaker (IsEntryOf (items_of tune)) (λ entry. IsPlayed (placed_entry places entry)) (entry_played (items_of tune) places all) entries (entries_of_items tune voice))
 
-  tune_in_text : (tune : List (Bor Item)) (places : List (List Place)) → AllZip (MayBePlaced text) (items_of tune) places → All (All (IsInText text)) (tune_play tune places)
-  tune_in_text tune places all =
+  tune_played : (tune : List (Bor Item)) (places : List (List Place)) → AllZip (MayBePlaced text block) (items_of tune) places → All (All IsPlayed) (tune_play tune places)
+  tune_played tune places all =
       let voices = tracks (items_of tune) in
-      All-map (All (IsInText text)) (λ voice. placed_track places (play_of_voice tune voice)) voices
-      (All-weaker (Contains voices) (λ voice. All (IsInText text) (placed_track places (play_of_voice tune voice))) (λ voice inside. voice_in_text tune places all voice) voices (All-contains_itself voices))
+      All-map (All IsPlayed) (λ voice. placed_track places (play_of_voice tune voice)) voices
+      (All-weaker (Contains voices) (λ voice. All IsPlayed (placed_track places (play_of_voice tune voice))) (λ voice inside. voice_played tune places all voice) voices (All-contains_itself voices))
 
-  block_in_text : (block : Block) → All (All (IsInText text)) (block_play text block)
-  block_in_text block =
+  block_played : All (All IsPlayed) (block_play text block)
+  block_played =
       let places = tune_places (cells_in rules_of_abc text block) (block_items text block) in
-      tune_in_text (block_tune text block) places
-      (subst (λ own. AllZip (MayBePlaced text) own places) (sym (referred_items (items_in (block_items text block)))) (block_placed text block))
+      tune_played (block_tune text block) places
+      (subst (λ own. AllZip (MayBePlaced text block) own places) (sym (referred_items (items_in (block_items text block)))) (block_placed text block))
+
+  -- its bytes are those of that token
+  token_of : (entry : PlayedEntry) (one : IsPlayed entry) → IsAt one.placed.number entry (token_at one.placed.place one.placed.kind) one.placed.kind
+  token_of entry one =
+      let is = one.placed in
+      of_token is.number entry (token_at is.place is.kind) is.kind one.item one.fits is.fits (one.at ∙ ap (λ l. place_among l (tone_of entry.kind)) is.places)
+
+  in_text : (entry : PlayedEntry) → IsPlayed entry → IsInText text entry
+  in_text entry one =
+      let is = one.placed in
+      let token = token_at is.place is.kind in
+      let at = token_of entry one in
+      let at_line = subst (λ n. line_at text n ≡ Some is.line) (sym at.number) is.at_line in
+      (is.line, is.cell, token, at_line, is.in_line, is.in_cell, subst (λ n. IsOf n entry token) (sym at.number) at.gives)
+
+  looked_back : (entry : PlayedEntry) → IsPlayed entry → IsLookedBack text block entry
+  looked_back entry one =
+      let is = one.placed in
+      let at = token_of entry one in
+      record {
+        place = is.place;
+        kind = is.kind;
+        of_tune = subst (λ n. IsTokenOf text block n is.place is.kind) (sym at.number) is.of_tune;
+        here = subst (λ n. IsOf n entry (token_at is.place is.kind)) (sym at.number) at.gives;
+        key = heard_at is.place is.kind entry.kind one.item one.fits is.fits is.heard;
+      }
+
+  -- so it is of each track
+  each_track : (Holds : PlayedEntry → Type 0) → ((entry : PlayedEntry) → IsPlayed entry → Holds entry) → All (All Holds) (block_play text block)
+  each_track Holds each =
+      All-weaker (All IsPlayed) (All Holds) (All-weaker IsPlayed Holds each) (block_play text block) block_played
 
 pub plays_text : PlaysText
 plays_text text number play is =
     let found = mapped (block_play text) (block_of text number) play is in
-    subst (All (All (IsInText text))) (sym found.2) (block_in_text text found.0)
+    subst (All (All (IsInText text))) (sym found.2) (each_track text found.0 (IsInText text) (in_text text found.0))
+
+pub plays_keys : PlaysKeys
+plays_keys text number play is =
+    let found = mapped (block_play text) (block_of text number) play is in
+    let Holds = IsLookedBack text found.0 in
+    (found.0, found.1, subst (All (All Holds)) (sym found.2) (each_track text found.0 Holds (looked_back text found.0)))

@@ -6,7 +6,7 @@ ghost use Rattle.abc_play.specs.Play.{placed_entry, placed_track, tone_of};
 
 use crate::place::{Place, place_at};
 use abc_play_tune::{EntryKind, PlayEntry, TimedStep, entries_of};
-use abc_text::Sequence;
+use abc_text::{Sequence, ShortSequence};
 use abc_time::Grains;
 use std::alloc::{AllocError, Global};
 
@@ -44,7 +44,7 @@ fn tone_of(kind: EntryKind) -> usize
 }
 
 /// Returns an entry with its place.
-fn placed_entry(places: &[Sequence<Place>], entry: PlayEntry) -> PlayedEntry
+fn placed_entry(places: &[ShortSequence<Place>], entry: PlayEntry) -> PlayedEntry
     ensures { result ≡ placed_entry places.now entry }
 {
     PlayedEntry {
@@ -58,7 +58,7 @@ fn placed_entry(places: &[Sequence<Place>], entry: PlayEntry) -> PlayedEntry
 /// Returns entries with their places.
 fn placed_entries(
     alloc: Global,
-    places: &[Sequence<Place>],
+    places: &[ShortSequence<Place>],
     entries: &[PlayEntry],
 ) -> Result<Sequence<PlayedEntry>, AllocError>
     ensures { IfOk result (λ track. track ≡ map (placed_entry places.now) entries.now) }
@@ -73,7 +73,7 @@ fn placed_entries(
 /// Returns the entries of what a voice plays.
 fn placed_track(
     alloc: Global,
-    places: &[Sequence<Place>],
+    places: &[ShortSequence<Place>],
     timed: &[TimedStep],
 ) -> Result<Sequence<PlayedEntry>, AllocError>
     ensures { IfOk result (λ track. track ≡ placed_track places.now timed.now) }
@@ -85,7 +85,7 @@ fn placed_track(
 /// Returns the entries of what voices play.
 pub(crate) fn placed_tracks(
     alloc: Global,
-    places: &[Sequence<Place>],
+    places: &[ShortSequence<Place>],
     voices: &[Sequence<TimedStep>],
 ) -> Result<Sequence<Sequence<PlayedEntry>>, AllocError>
     ensures { IfOk result (λ tracks. tracks ≡ map (placed_track places.now) voices.now) }

@@ -8,11 +8,11 @@ use crate::cells::LineCell;
 use abc_bars_items::{Item, Items, column_inside, column_of};
 use abc_play_places::{givers_of, tone_parts_of};
 use abc_scan::{ChordPart, Token, TokenKind};
-use abc_text::Sequence;
+use abc_text::ShortSequence;
 use std::alloc::{AllocError, Global};
 
 /// The bytes of a token, or of a part of a chord. Lines and columns count from 1; `to` is the column after the last byte.
-#[derive(Clone, Copy, Debug, PartialEq, Eq)]
+#[derive(Clone, Copy, Debug, Default, PartialEq, Eq)]
 pub struct Place {
     pub line: u32,
     pub from: u32,
@@ -43,13 +43,13 @@ fn part_place(line: u32, at: u32, part: &ChordPart) -> Place
 
 /// Appends the place of the part of a chord at an index, if there is one.
 fn put_part(
-    places: &mut Vec<Place>,
+    places: &mut ShortSequence<Place>,
     line: u32,
     at: u32,
     parts: &[ChordPart],
     index: usize,
 ) -> Result<(), AllocError>
-    ensures { OnOk result (places.new.items ≡ places.old.items ++ filter_map (part_place_at line at parts.now) (index ∷ [])) }
+    ensures { OnOk result (places.new ≡ places.old ++ filter_map (part_place_at line at parts.now) (index ∷ [])) }
 {
     match parts.get(index) {
         Some(part) => {
@@ -67,14 +67,14 @@ fn part_places(
     at: u32,
     parts: &[ChordPart],
     found: &[usize],
-) -> Result<Sequence<Place>, AllocError>
+) -> Result<ShortSequence<Place>, AllocError>
     ensures { IfOk result (λ places. places ≡ filter_map (part_place_at line at parts.now) found.now) }
 {
-    let mut places = Vec::with_capacity(alloc, found.len())?;
+    let mut places = ShortSequence::new(alloc);
     for index in found {
         put_part(&mut places, line, at, parts, *index)?;
     }
-    Ok(Sequence::from(places))
+    Ok(places)
 }
 
 /// Returns the places of the tones of a chord.
@@ -83,7 +83,7 @@ fn chord_places(
     line: u32,
     at: u32,
     parts: &[ChordPart],
-) -> Result<Sequence<Place>, AllocError>
+) -> Result<ShortSequence<Place>, AllocError>
     ensures { IfOk result (λ places. places ≡ chord_places line at parts.now) }
 {
     let found = tone_parts_of(alloc, parts)?;
@@ -91,7 +91,7 @@ fn chord_places(
 }
 
 /// Returns the places of what a token gives.
-fn token_places(alloc: Global, line: u32, token: &Token) -> Result<Sequence<Place>, AllocError>
+fn token_places(alloc: Global, line: u32, token: &Token) -> Result<ShortSequence<Place>, AllocError>
     ensures { IfOk result (λ places. places ≡ token_places line token.now) }
 {
     match &token.kind {
@@ -99,8 +99,9 @@ fn token_places(alloc: Global, line: u32, token: &Token) -> Result<Sequence<Plac
             chord_places(alloc, line, token.from, chord.get().parts.as_slice())
         }
         _ => {
-            let place = token_place(line, token);
-            Sequence::from_slice(alloc, &[place])
+            let mut places = ShortSequence::new(alloc);
+            places.push(token_place(line, token))?;
+            Ok(places)
         }
     }
 }
@@ -111,22 +112,22 @@ fn giver_places(
     line: u32,
     cell: &[Token],
     giver: Option<usize>,
-) -> Result<Sequence<Place>, AllocError>
+) -> Result<ShortSequence<Place>, AllocError>
     ensures { IfOk result (λ places. places ≡ giver_places line cell.now giver) }
 {
     match giver {
         Some(giver) => match cell.get(giver) {
             Some(token) => token_places(alloc, line, token),
-            None => Ok(Sequence::new(alloc)),
+            None => Ok(ShortSequence::new(alloc)),
         },
-        None => Ok(Sequence::new(alloc)),
+        None => Ok(ShortSequence::new(alloc)),
     }
 }
 
 /// Appends the places of items by the tokens that give them.
 fn put_givers(
     alloc: Global,
-    places: &mut Vec<Sequence<Place>>,
+    places: &mut Vec<ShortSequence<Place>>,
     line: u32,
     cell: &[Token],
     givers: &[Option<usize>],
@@ -143,7 +144,7 @@ fn put_givers(
 /// Appends the places of the items of a cell.
 fn put_cell(
     alloc: Global,
-    places: &mut Vec<Sequence<Place>>,
+    places: &mut Vec<ShortSequence<Place>>,
     line: u32,
     cell: &[Token],
     items: &[Item],
@@ -157,7 +158,7 @@ fn put_cell(
 /// Appends the places of the items that a cell gives, if it gives some.
 fn put_given(
     alloc: Global,
-    places: &mut Vec<Sequence<Place>>,
+    places: &mut Vec<ShortSequence<Place>>,
     one: &LineCell,
     given: &[&Items],
     at: usize,
@@ -170,15 +171,16 @@ fn put_given(
     }
 }
 
-/// Returns the places of the items of a tune, from its cells and what they give.
+/// Returns the places of the items of a tune, from its cells and what they give. It has room for `size` items at first.
 pub(crate) fn tune_places(
     alloc: Global,
     cells: &[LineCell],
     given: &[&Items],
-) -> Result<Vec<Sequence<Place>>, AllocError>
+    size: usize,
+) -> Result<Vec<ShortSequence<Place>>, AllocError>
     ensures { IfOk result (λ places. places.items ≡ tune_places (map placed_cell cells.now) (map (λ one. one.now) given.now)) }
 {
-    let mut places = Vec::new(alloc);
+    let mut places = Vec::with_capacity(alloc, size)?;
     for at in 0..cells.len() {
         put_given(alloc, &mut places, &cells[at], given, at)?;
     }
@@ -186,7 +188,7 @@ pub(crate) fn tune_places(
 }
 
 /// Returns the place of a tone of an item.
-pub(crate) fn place_at(places: &[Sequence<Place>], item: usize, tone: usize) -> Place
+pub(crate) fn place_at(places: &[ShortSequence<Place>], item: usize, tone: usize) -> Place
     ensures { result ≡ place_at places.now item tone }
 {
     match places.get(item) {

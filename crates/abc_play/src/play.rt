@@ -49,8 +49,8 @@ fn play_of_block(
 {
     let cells = cells_of(alloc, text, block)?;
     let given = items_of_cells(alloc, chain)?;
-    let places = tune_places(alloc, &cells, &given)?;
     let tune = tune_of(alloc, &given)?;
+    let places = tune_places(alloc, &cells, &given, tune.len())?;
     let voices = tracks_of(alloc, &tune)?;
     let tracks = placed_tracks(alloc, &places, voices.as_slice())?;
     Ok(Play { tracks })
