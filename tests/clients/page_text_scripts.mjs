@@ -10,7 +10,7 @@ import { run, same } from "./testing.mjs";
 const folder = process.argv[2];
 const from = (name) => import(pathToFileURL(`${folder}/${name}.js`));
 const { blobOf } = await from("blob");
-const { kindsOf, partsOf } = await from("colours");
+const { partsOf } = await from("colours");
 const { STARTER, whyBlank, whyNothing } = await from("empty");
 const { Filter, folded } = await from("filter");
 const { Matches, matchesIn, matchesNothing, replacedIn, sought } = await from("find");
@@ -58,7 +58,13 @@ function undone(text, count = 1) {
 const what = (words, { matchesCase = false, isWhole = false, isRegular = false } = {}) => sought({ words, matchesCase, isWhole, isRegular });
 const textsOf = (line, ...words) => matchesIn(line, what(...words)).map(({ start, texts }) => [start, texts[0]]);
 const replaced = (line, sought, put) => replacedIn(line, matchesIn(line, sought), put, sought);
-const coloured = (line, kind = "music") => partsOf(line, kind).map(([start, end, name]) => [line.slice(start, end), name]);
+const coloured = (line, rows) => partsOf(line, tokensOf(rows)).map(([start, end, name]) => [line.slice(start, end), name]);
+
+/** Tokens by a word for each, `Note:0-2`; `/1` after it is a part of a chord. */
+const tokensOf = (rows) => rows.split(" ").map((row) => {
+  const [, kind, from, to, depth] = /^(\w+):(\d+)-(\d+)(?:\/(1))?$/.exec(row);
+  return { from: Number(from), to: Number(to), kind, depth: Number(depth ?? 0) };
+});
 
 /** A store as the browser's. */
 function storeOf(most = Infinity) {
@@ -341,24 +347,23 @@ const tests = {
     same(new Matches(["a"], what("b")).next({ line: 0, column: 0 }, true), null);
   },
 
-  "kinds of lines"() {
-    const lines = ["I:linebreak $", "", "C D E", "X:1", "K:C", "CDE|", "% words", "%%MIDI program 1", "w:la", "C:|D", "z::", "", "CDE"];
-    const kinds = ["field", "text", "text", "field", "field", "music", "comment", "directive", "field", "music", "music", "text", "text"];
-    same([kindsOf(lines, 0, lines.length), kindsOf(lines, 5, 7), kindsOf(lines, 12, 13)], [kinds, kinds.slice(5, 7), ["text"]]);
-  },
-
   "colours of a line of music"() {
-    same(coloured('|:"Am"C2 !p!D|[1 {ab}c:|]% end'), [
-      ["|:", "barline"], ['"Am"', "chord"], ["!p!", "decoration"], ["|[1", "barline"], ["{ab}", "grace"], [":|]", "barline"], ["% end", "comment"],
+    const bars = "BarLine:0-2 Quoted:2-6 Note:6-8 Blank:8-9 Dynamic:9-12 Note:12-13 BarLine:13-14 Ending:14-16 Blank:16-17 Grace:17-21 Note:21-22 BarLine:22-25 Comment:25-30";
+    same(coloured('|:"Am"C2 !p!D|[1 {ab}c:|]% end', bars), [
+      ["|:", "barline"], ['"Am"', "chord"], ["!p!", "decoration"], ["|", "barline"], ["[1", "barline"], ["{ab}", "grace"], [":|]", "barline"], ["% end", "comment"],
     ]);
-    same(coloured('[K:D]"^slow"~A .B [CEG]|] a\\%|'), [["[K:D]", "field"], ['"^slow"', "string"], ["~", "decoration"], [".", "decoration"], ["|]", "barline"], ["|", "barline"]]);
-    same(coloured("C ! D |2 E :: F ||"), [["|2", "barline"], ["::", "barline"], ["||", "barline"]]);
+    const marks = "InlineField:0-5 Quoted:5-12 NoEffect:12-13 Note:13-14 Blank:14-15 NoEffect:15-16 Note:16-17 Blank:17-18 Chord:18-26 Note:19-20/1 Quoted:20-23/1 Note:23-24/1 Note:24-25/1 BarLine:26-28";
+    same(coloured('[K:D]"^slow"~A .B [C"x"EG]|]', marks), [
+      ["[K:D]", "field"], ['"^slow"', "string"], ["~", "decoration"], [".", "decoration"], ['"x"', "chord"], ["|]", "barline"],
+    ]);
+    same(coloured("yuCTD *$&!", "Space:0-1 NoEffect:1-2 Note:2-3 NoEffect:3-4 Note:4-5 Blank:5-6 NoEffect:6-7 NoEffect:7-8 BadByte:8-9 Unclosed:9-10"), [["u", "decoration"], ["T", "decoration"]]);
+    same(coloured(`|${"C".repeat(5000)}`, "BarLine:0-1"), []);
   },
 
   "colours of other lines"() {
-    same(coloured("T:Kesh % jig", "field"), [["T:", "field"], ["Kesh ", "value"], ["% jig", "comment"]]);
-    same(coloured("w:la la", "field"), [["w:", "field"], ["la la", "lyric"]]);
-    same([coloured("X:", "field"), coloured("%%MIDI", "directive"), coloured("|:C", "text")], [[["X:", "field"]], [["%%MIDI", "directive"]], []]);
+    same(coloured("T:Kesh % jig", "TitleField:0-7 Comment:7-12"), [["T:", "field"], ["Kesh ", "value"], ["% jig", "comment"]]);
+    same([coloured("w:la la", "OtherField:0-7"), coloured("M:6/8", "OtherField:0-5")], [[["w:", "field"], ["la la", "lyric"]], [["M:", "field"], ["6/8", "value"]]]);
+    same([coloured("X:", "NumberField:0-2"), coloured("%%MIDI", "Directive:0-6"), coloured("|:C", "FreeText:0-3")], [[["X:", "field"]], [["%%MIDI", "directive"]], []]);
   },
 
   "the filter takes accents and capitals for nothing"() {

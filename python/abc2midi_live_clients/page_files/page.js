@@ -23,6 +23,7 @@ import { Questions } from "./questions.js";
 import { Remarks } from "./remarks.js";
 import { Score, tuneOf } from "./score.js";
 import { Search } from "./search.js";
+import { Seen } from "./seen.js";
 import { ServerNews } from "./server_news.js";
 import { Sheet } from "./sheet.js";
 import { StatusBar } from "./status_bar.js";
@@ -44,6 +45,7 @@ export class Application {
     const book = (this.book = new Book());
     const findings = (this.findings = new Findings(text, link, book));
     const sheet = (this.sheet = new Sheet(text, find("sheet")));
+    const seen = (this.seen = new Seen(text, link, server));
     const status = (this.status = new StatusBar());
     const say = (/** @type {string} */ words) => status.say(words);
     const questions = (this.questions = new Questions(find("notice"), find("later"), sheet.area));
@@ -70,7 +72,7 @@ export class Application {
     this.titleBar = new TitleBar(link, book, this.files, sheet.area);
     this.saveAs = new SaveAs(this.files, /** @type {HTMLDialogElement} */ (find("copy")), sheet);
     this.tuneFiles = new TuneFiles({ music: this.music, staves: this.staves, say, close: () => this.saveAs.dialog.close() });
-    new Colours(sheet);
+    new Colours(sheet, seen);
   }
 
   /** Connects the parts, and opens the book. */
