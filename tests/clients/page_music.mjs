@@ -1,13 +1,16 @@
 // Tries without a browser what the page knows of music: the folder that has its scripts is the argument. Each test is reported by a
-// line, `ok` or `FAILED`, with its name. All wanted values are worked out by hand: a quarter note has 480 ticks, and C is 60.
+// line, `ok` or `FAILED`, with its name. All wanted values are worked out by hand: a quarter note has 480 ticks, and C is 60. The plays
+// of the tunes are in plays.txt; another program than this one found them.
 
+import { readFileSync } from "node:fs";
 import { pathToFileURL } from "node:url";
 
 import { run, same } from "./testing.mjs";
 
 const folder = process.argv[2];
 const script = (name) => import(pathToFileURL(`${folder}/${name}.js`));
-const { placesOf } = await script("places");
+const { Places } = await script("places");
+const { TuneWords } = await script("tune_words");
 const { Grid, beatOf } = await script("grid");
 const { lanesOf } = await script("lanes");
 const { Shades } = await script("shades");
@@ -28,20 +31,35 @@ function scoreWith(...tracks) {
   return { ...score, voices };
 }
 
-const HEAD = ["X:1", "L:1/4"];
+/** The tunes of plays.txt by their names: the lines of each, and what it plays, with lines and columns from 0. */
+const TUNES = new Map(readFileSync(new URL("plays.txt", import.meta.url), "utf8").split(/^tune /m).slice(1).map((block) => {
+  const [name, ...lines] = block.trimEnd().split("\n"), rows = lines.splice(lines.indexOf("play")).slice(1);
+  const tracks = [{ entries: [] }];
+  for (const row of rows) {
+    const [track, on, off, kind, key, velocity, joined, line, from, to] = row.split(" ").map((word) => (/^\d+$/.test(word) ? Number(word) : word === "-" ? null : word));
+    while (tracks.length <= track) tracks.push({ entries: [] });
+    const entry = { on, off, kind: kind[0].toUpperCase() + kind.slice(1), key, velocity, joined: joined === 1 };
+    tracks[track].entries.push({ ...entry, line: line - 1, from: from - 1, to: to - 1 });
+  }
+  return [name, { lines, play: { number: 1, tracks } }];
+}));
 
-/** The places of a tune with quarter notes as its unit: these are the lines after the first two. */
-function tune(lines, ...tracks) {
-  return placesOf([...HEAD, ...lines], [], scoreWith(...tracks));
+/** The places of a tune of plays.txt, in a file of these tracks; `more` is what else the score has. */
+function tune(name, tracks, more = {}) {
+  const { lines, play } = TUNES.get(name);
+  return new Places(play, new TuneWords(lines, 0, lines.length), { ...scoreWith(...tracks), ...more });
 }
 
-/** What is known, voice by voice: the text of each token that is played, the tick, the keys of its notes. */
-function known(lines, ...tracks) {
-  const text = [...HEAD, ...lines];
-  return tune(lines, ...tracks).voices.map(({ tokens }) => {
-    return tokens.map(({ mark, start, notes }) => [text[mark.line].slice(mark.from, mark.to), start, ...notes.map(({ note }) => note.key)]);
+/** What is known, voice by voice: the text of each moment that is played, the tick, the keys of its notes. */
+function known(name, ...tracks) {
+  const places = tune(name, tracks);
+  return places.voices.map(({ moments }) => {
+    return moments.map((moment) => [places.words.at(moment), moment.start, ...moment.tones.flatMap(({ note }) => note?.key ?? [])]);
   });
 }
+
+/** A meter from the begin of a score on. */
+const inMeter = (over, under) => ({ meters: [{ tick: 0, over, under }] });
 
 /** The ticks of notes that follow each other, each a quarter long. */
 const quarters = (...keys) => keys.map((key, n) => [480 * n, 480 * n + 480, key]);
@@ -61,165 +79,145 @@ function contrast(...colours) {
 
 const tests = {
   "notes and rests have their places"() {
-    same(known(["K:C", "C D z E|"], [[0, 480, 60], [480, 960, 62], [1440, 1920, 64]]), [[["C", 0, 60], ["D", 480, 62], ["z", 960], ["E", 1440, 64]]]);
-  },
-
-  "lengths, octaves and a comment"() {
-    const notes = [[0, 960, 48], [960, 1200, 72], [1200, 1560, 84], [1560, 1680, 60]];
-    same(known(["K:C", "C,2 c/ c'3/4C/4| % D"], notes), [[["C,2", 0, 48], ["c/", 960, 72], ["c'3/4", 1200, 84], ["C/4", 1560, 60]]]);
-  },
-
-  "the unit of the meter"() {
-    const places = placesOf(["X:1", "M:2/4", "K:C", "CD"], [], scoreWith([[0, 120, 60], [120, 240, 62]]));
-    same(places.voices[0].until, Infinity);
-  },
-
-  "what the file header sets"() {
-    const header = ["% words", "L:1/2", "%%propagate-accidentals octave", "", "L:1/4"];
-    const places = placesOf(["X:1", "K:C", "^F f"], header, scoreWith([[0, 960, 66], [960, 1920, 77]]));
-    same(places.voices[0].until, Infinity);
-  },
-
-  "a key signature, accidentals and what ends them"() {
-    const notes = quarters(66, 65, 65, 66, 61, 61, 60);
-    same(known(["K:G", "F =F F|F ^C C|C"], notes), [[["F", 0, 66], ["=F", 480, 65], ["F", 960, 65], ["F", 1440, 66], ["^C", 1920, 61], ["C", 2400, 61], ["C", 2880, 60]]]);
-  },
-
-  "modes, listed accidentals and a change of key"() {
-    same(known(["K:Edor", "F C [K:Dm] B [K:C ^f] F|"], quarters(66, 61, 70, 66))[0].length, 4);
-    same(known(["K:D exp _b", "F B|"], quarters(65, 70))[0].length, 2);
-  },
-
-  "octaves of clefs and properties"() {
-    same(known(["K:C clef=treble-8", "C|"], quarters(48))[0].length, 1);
-    same(known(["K:C octave=1 transpose=-2", "C|"], quarters(70))[0].length, 1);
-    same(known(["V:1 octave=-1", "K:C", "V:1", "C|"], quarters(48))[0].length, 1);
+    same(known("notes and rests", [[0, 480, 60], [480, 960, 62], [1440, 1920, 64]]), [[["C", 0, 60], ["D", 480, 62], ["z", 960], ["E", 1440, 64]]]);
   },
 
   "a chord has a place for each of its notes"() {
-    const places = tune(["K:C", "[CEG]2 [D-F]|D|"], [[0, 960, 60], [0, 960, 64], [0, 960, 67], [960, 1920, 62], [960, 1440, 65]]);
-    same(places.voices[0].tokens.map(({ notes }) => notes.map(({ tone, note }) => [tone.from, tone.to, note.key])), [
+    const places = tune("chords", [[[0, 960, 60], [0, 960, 64], [0, 960, 67], [960, 1920, 62], [960, 1440, 65]]]);
+    same(places.voices[0].moments.map(({ tones }) => tones.map(({ entry, note }) => [entry.from, entry.to, note.key])), [
       [[1, 2, 60], [2, 3, 64], [3, 4, 67]], [[8, 9, 62], [10, 11, 65]], [[13, 14, 62]],
     ]);
     same([...places.notesUnder(3, 2)].map(({ key }) => key), [64]);
-    same([...places.notesUnder(3, 0)].map(({ key }) => key), [60, 64, 67]);
+    const tokens = [{ from: 0, to: 6, kind: "Chord", depth: 0 }, { from: 1, to: 2, kind: "Note", depth: 1 }];
+    for (const column of [0, 5, 6]) same([...places.notesUnder(3, column, tokens)].map(({ key }) => key), [60, 64, 67]);
+    same(places.under(3, 0), []);
   },
 
   "a tie over a bar is one note with two places"() {
-    const places = tune(["K:C", "C ^F-|F F|"], [[0, 480, 60], [480, 1440, 66], [1440, 1920, 65]]);
+    const places = tune("tie", [[[0, 480, 60], [480, 1440, 66], [1440, 1920, 65]]]);
     const [, tied] = places.score.notes;
-    same(places.tonesOf(tied).map(({ token }) => [token.mark.from, token.start, token.end]), [[2, 480, 960], [6, 960, 1440]]);
-    same(places.at(1000).map(({ mark }) => mark.from), [6]);
+    same(places.tonesOf(tied).map(({ entry, start }) => [entry.from, start]), [[2, 480], [5, 960]]);
+    same(places.at(1000).map(({ from }) => from), [5]);
   },
 
-  "tuplets and broken rhythm"() {
-    const notes = [[0, 320, 60], [320, 640, 62], [640, 960, 64], [960, 1680, 60], [1680, 1920, 62], [1920, 2040, 60], [2040, 2880, 62]];
-    same(known(["K:C", "(3CDE C>D|C<<D|"], notes)[0].map(([, start]) => start), [0, 320, 640, 960, 1680, 1920, 2040]);
+  "a note shorter than a tick is not in the file, and a silent one has a place"() {
+    const places = tune("silent and short", [[[0, 960, 60], [1440, 1920, 62]]]);
+    same(places.voices[0].until, Infinity);
+    same(places.voices[0].moments.map(({ from, tones }) => [from, ...tones.map(({ note }) => note?.start ?? null)]), [[0, null], [6, 0], [9, 0], [11, null], [18, 1440]]);
   },
 
   "repeats with endings are unrolled"() {
     const wanted = [["C", 0, 60], ["D", 480, 62], ["E", 960, 64], ["C", 1440, 60], ["D", 1920, 62], ["F", 2400, 65], ["G", 2880, 67]];
-    same(known(["K:C", "|:C D|1 E:|2 F|]G|"], quarters(60, 62, 64, 60, 62, 65, 67)), [wanted]);
+    same(known("endings", quarters(60, 62, 64, 60, 62, 65, 67)), [wanted]);
   },
 
   "endings that sound the same have their own places"() {
-    const places = tune(["K:C", "|:C|1 D:|2 D|]"], quarters(60, 62, 60, 62));
-    same(places.voices[0].tokens.map(({ mark }) => mark.from), [2, 6, 2, 11]);
-  },
-
-  "a repeat in the midst, played three times"() {
-    same(known(["K:C", "C|:D::|E|"], quarters(60, 62, 62, 62, 64))[0].map(([text]) => text), ["C", "D", "D", "D", "E"]);
+    same(tune("same endings", [quarters(60, 62, 60, 62)]).voices[0].moments.map(({ from }) => from), [2, 6, 2, 11]);
   },
 
   "parts are played in their order"() {
-    const wanted = [["D", 0, 62], ["C", 480, 60], ["D", 960, 62]];
-    same(known(["P:BAB", "K:C", "P:A", "C|", "P:B", "D|"], quarters(62, 60, 62)), [wanted]);
+    same(known("parts", quarters(62, 60, 62)), [[["D", 0, 62], ["C", 480, 60], ["D", 960, 62]]]);
   },
 
   "two voices, each with its track"() {
-    const lines = ["V:high", "V:low", "K:C", "V:high", "c2 d|", "V:low", "C D2|"];
     const tracks = [[[0, 960, 72], [960, 1440, 74]], [[0, 480, 60], [480, 1440, 62]]];
-    same(known(lines, ...tracks), [[["c2", 0, 72], ["d", 960, 74]], [["C", 0, 60], ["D2", 480, 62]]]);
-    same([...tune(lines, ...tracks).names], [[0, "high"], [1, "low"]]);
-    same(tune(lines, ...tracks).at(500).map(({ mark }) => [mark.line, mark.from]), [[6, 0], [8, 2]]);
+    same(known("voices", ...tracks), [[["c2", 0, 72], ["d", 960, 74]], [["C", 0, 60], ["D2", 480, 62]]]);
+    const places = tune("voices", tracks);
+    same([places.nameOf(0), places.nameOf(1), places.nameOf(2)], ["high", "low", ""]);
+    same(places.at(500).map(({ line, from }) => [line, from]), [[6, 0], [8, 2]]);
   },
 
   "voices in brackets, and one of rests alone"() {
-    const lines = ['V:1 name="Air"', "V:2", "K:C", "[V:1] C D|[V:2] z2|[V:1] E|[V:2] z|"];
-    same(known(lines, quarters(60, 62, 64), []), [[["C", 0, 60], ["D", 480, 62], ["E", 960, 64]], [["z2", 0], ["z", 960]]]);
-    same([...tune(lines, quarters(60, 62, 64), []).names], [[0, "Air"]]);
+    same(known("voices in brackets", quarters(60, 62, 64), []), [[["C", 0, 60], ["D", 480, 62], ["E", 960, 64]], [["z2", 0], ["z", 960]]]);
+    same(tune("voices in brackets", [quarters(60, 62, 64), []]).nameOf(0), "Air");
+    same(tune("first voice", [quarters(60, 62), []]).nameOf(0), "One");
   },
 
-  "grace notes, texts and decorations are no notes"() {
-    same(known(["K:C", '{ag}C "Am"!trill!D ~E y2|'], quarters(60, 62, 64))[0].map(([text]) => text), ["C", "D", "E"]);
+  "a note is spelled as it is written"() {
+    const { lines } = TUNES.get("spelling"), words = new TuneWords(lines, 0, lines.length);
+    const place = (line, from, to) => ({ line, from, to });
+    same([words.spelling(place(3, 0, 1), 63), words.spelling(place(3, 2, 4), 66), words.spelling(place(3, 8, 10), 61)], [
+      { letter: "E", alteration: -1 }, { letter: "F", alteration: 1 }, { letter: "D", alteration: -1 },
+    ]);
+    same(words.spelling(place(5, 0, 1), 58), null);
   },
 
   "what comes after a note that does not fit has no place"() {
-    same(known(["K:C", "C D E F|"], quarters(60, 62, 63, 65)), [[["C", 0, 60], ["D", 480, 62]]]);
+    same(known("scale", quarters(60, 62, 63, 65)), [[["C", 0, 60], ["D", 480, 62]]]);
   },
 
   "a note more in the file, or one less, ends what is known"() {
-    same(known(["K:C", "C D|"], quarters(60, 62, 64)), [[["C", 0, 60], ["D", 480, 62]]]);
-    same(known(["K:C", "C D E|"], quarters(60, 62)), [[["C", 0, 60], ["D", 480, 62]]]);
+    same(known("no space", [[0, 960, 60], [960, 1440, 62], [1440, 1920, 64], [1920, 2400, 64]]), [[["C2", 0, 60], ["D", 960, 62], ["E", 1440, 64]]]);
+    same(tune("scale", [quarters(60, 62, 64, 65, 67)]).grid, null);
+    same(known("scale", quarters(60, 62, 64)), [[["C", 0, 60], ["D", 480, 62], ["E", 960, 64]]]);
   },
 
   "a voice that does not fit leaves the others alone"() {
-    const lines = ["V:1", "V:2", "K:C", "V:1", "C D|", "V:2", "E F|"];
-    same(known(lines, quarters(60, 62), quarters(64, 66)), [[["C", 0, 60], ["D", 480, 62]], [["E", 0, 64]]]);
+    same(known("voices", [[0, 960, 72], [960, 1440, 74]], quarters(60, 66)), [[["c2", 0, 72], ["d", 960, 74]], [["C", 0, 60]]]);
   },
 
-  "a text that is that of another file marks nothing"() {
-    for (const tracks of [[quarters(62, 60)], [[[0, 240, 60], [240, 480, 62]]], [quarters(60, 62), quarters(60, 62)]]) {
-      const places = tune(["K:C", "C D|"], ...tracks);
+  "a play that is that of another file marks nothing"() {
+    for (const tracks of [[quarters(62, 60)], [quarters(60, 62), quarters(60, 62)]]) {
+      const places = tune("scale", tracks);
       same([places.at(0), places.under(3, 0), places.tickFrom(3, 0), places.rangeOf(0, 9), places.lines.size], [[], [], null, null, 0]);
     }
+    same(new Places(null, new TuneWords([], 0, 0), scoreWith(quarters(60))).at(0), []);
   },
 
-  "a tune that is too long to follow marks nothing"() {
-    const places = tune(["K:C", "C".repeat(20_001)], quarters(60));
-    same([places.voices.length, places.at(0)], [0, []]);
+  "a line that was removed has no places"() {
+    const { lines, play } = TUNES.get("lines"), [conductor, { entries }] = play.tracks;
+    const moved = entries.map((entry) => ({ ...entry, line: entry.line === 4 ? -1 : entry.line }));
+    const score = scoreWith(quarters(60, 62, 64, 65, 62, 64, 67));
+    const places = new Places({ number: 1, tracks: [conductor, { entries: moved }] }, new TuneWords(lines, 0, lines.length), score);
+    same([places.at(500), places.at(1000).map(({ line }) => line), [...places.lines.keys()]], [[], [5], [3, 5]]);
   },
 
   "the caret is at a note that it is in, else at the one before it"() {
-    const places = tune(["K:C", "C2D E"], [[0, 960, 60], [960, 1440, 62], [1440, 1920, 64]]);
-    const texts = [0, 1, 2, 3, 4, 5, 6].map((column) => places.under(3, column).map(({ mark }) => mark.from));
-    same(texts, [[0], [0], [2], [2], [4], [4], []]);
+    const places = tune("no space", [[[0, 960, 60], [960, 1440, 62], [1440, 1920, 64]]]);
+    same([0, 1, 2, 3, 4, 5, 6].map((column) => places.under(3, column).map(({ from }) => from)), [[0], [0], [2], [2], [4], [4], []]);
   },
 
   "from the caret: the next note of its voice, where it is played first"() {
-    const lines = ["V:1", "V:2", "K:C", "V:1", "|:C D |", "V:2", "|:E F |", "V:1", "E F:|", "V:2", "G A:|"];
-    const places = tune(lines, quarters(60, 62, 64, 65, 60, 62, 64, 65), quarters(64, 65, 67, 69, 64, 65, 67, 69));
+    const places = tune("from the caret", [quarters(60, 62, 64, 65, 60, 62, 64, 65), quarters(64, 65, 67, 69, 64, 65, 67, 69)]);
     same([[0, 0], [6, 0], [6, 4], [6, 7], [8, 7], [10, 1], [12, 4]].map(([line, column]) => places.tickFrom(line, column)), [0, 0, 480, 960, 960, 960, null]);
   },
 
   "lines are looped where they are played first"() {
-    const places = tune(["K:C", "C|", "|:D|", "E|1 F:|2 G|]"], quarters(60, 62, 64, 65, 62, 64, 67));
+    const places = tune("lines", [quarters(60, 62, 64, 65, 62, 64, 67)]);
     same([places.rangeOf(3, 3), places.rangeOf(4, 4), places.rangeOf(5, 5), places.rangeOf(3, 5), places.rangeOf(0, 2)], [[0, 480], [480, 960], [960, 1920], [0, 3360], null]);
   },
 
   "bars: a pickup is not counted, and the bar that a repeat cuts is one"() {
-    const lines = ["M:3/4", "K:C", "C|:D E F|G A:|B|c3|]"];
-    same(barsOf(tune(lines, [...quarters(60, 62, 64, 65, 67, 69, 62, 64, 65, 67, 69, 71), [5760, 7200, 72]])), [
-      "0:0+", "480:1", "1920:2", "2880:1", "4320:2", "5280:2+", "5760:3",
-    ]);
+    const notes = [...quarters(60, 62, 64, 65, 67, 69, 62, 64, 65, 67, 69, 71), [5760, 7200, 72]];
+    same(barsOf(tune("pickups", [notes], inMeter(3, 4))), ["0:0+", "480:1", "1920:2", "2880:1", "4320:2", "5280:2+", "5760:3"]);
   },
 
   "bars: a second ending has the numbers of the first"() {
-    const lines = ["M:1/4", "K:C", "|:C|1 D|E:|2 F|G|]A|"];
-    same(barsOf(tune(lines, quarters(60, 62, 64, 60, 65, 67, 69))), ["0:1", "480:2", "960:3", "1440:1", "1920:2", "2400:3", "2880:4"]);
+    const { bars } = tune("bars of endings", [quarters(60, 62, 64, 60, 65, 67, 69)], inMeter(1, 4)).grid;
+    same(bars.map(({ tick, number, pass }) => [tick, number, pass]), [[0, 1, 1], [480, 2, 1], [960, 3, 1], [1440, 1, 2], [1920, 2, 2], [2400, 3, 2], [2880, 4, 1]]);
+  },
+
+  "bars: a short ending is no pickup"() {
+    const notes = [[0, 480, 60], [480, 1920, 62], [1920, 2880, 64], [2880, 3360, 60], [3360, 4800, 62], [4800, 5760, 65], [5760, 6240, 67]];
+    same(barsOf(tune("short ending", [notes], inMeter(3, 4))), ["0:0+", "480:1", "1920:2", "2880:0+", "3360:1", "4800:2", "5760:2+"]);
   },
 
   "bars: a repeated bar begins anew"() {
-    same(barsOf(tune(["M:1/4", "K:C", "|:C:|"], quarters(60, 60))), ["0:1", "480:1"]);
+    same(barsOf(tune("repeated bar", [quarters(60, 60)], inMeter(1, 4))), ["0:1", "480:1"]);
   },
 
-  "bars of a file whose text is not known go by the meters"() {
-    const score = { ...scoreWith(quarters(60, 62)), meters: [{ tick: 0, over: 1, under: 4 }], bars: [0, 480, 960] };
-    same(barsOf(placesOf(["X:1", "K:C", "E"], [], score)), ["0:1", "480:2"]);
+  "bars: parts have the numbers of the text"() {
+    same(barsOf(tune("bars of parts", [quarters(64, 60, 62, 64, 65)], inMeter(1, 4))), ["0:3", "480:1", "960:2", "1440:3", "1920:4"]);
+  },
+
+  "bars of a file whose play is not known go by the meters"() {
+    const score = { ...scoreWith(quarters(60, 62)), ...inMeter(1, 4), bars: [0, 480, 960] };
+    same(barsOf({ grid: Grid.ofMeters(score) }), ["0:1", "480:2"]);
   },
 
   "beats, moments and steps"() {
-    const jig = tune(["M:6/8", "L:1/8", "K:C", "C|DEF GAB|c3|"], [[0, 240, 60], [240, 480, 62], [480, 720, 64], [720, 960, 65], [960, 1200, 67], [1200, 1440, 69], [1440, 1680, 71], [1680, 2400, 72]]).grid;
+    const notes = [[0, 240, 60], [240, 480, 62], [480, 720, 64], [720, 960, 65], [960, 1200, 67], [1200, 1440, 69], [1440, 1680, 71], [1680, 2400, 72]];
+    const jig = tune("jig", [notes], inMeter(6, 8)).grid;
     same([beatOf({ over: 6, under: 8 }, 480), beatOf({ over: 3, under: 8 }, 480), beatOf({ over: 2, under: 2 }, 480)], [720, 240, 960]);
     same([jig.beatsOf(0), jig.beatsOf(1), jig.beatsOf(2)], [[0], [240, 960], [1680]]);
     same([0, 240, 1000, 1700].map((tick) => jig.momentOf(tick)), [
@@ -236,7 +234,7 @@ const tests = {
   },
 
   "a count-in is a bar, and the beats before a pickup"() {
-    const waltz = tune(["M:3/4", "K:C", "C|D3|"], [[0, 480, 60], [480, 1920, 62]]).grid;
+    const waltz = tune("waltz", [[[0, 480, 60], [480, 1920, 62]]], inMeter(3, 4)).grid;
     const clicks = (tick) => waltz.countIn(tick).clicks.map(({ at, isFirst }) => `${at}${isFirst ? "!" : ""}`);
     same([clicks(480), waltz.countIn(480).length], [["0!", "480", "960"], 1440]);
     same([clicks(0), waltz.countIn(0).length], [["0!", "480", "960", "1440!", "1920"], 2400]);

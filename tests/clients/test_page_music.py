@@ -1,11 +1,16 @@
-"""What the page knows of music, in node, and tunes at random with the files of the program. Skipped without node."""
+"""What the page knows of music, in node, and plays of the library beside the files of the program. Skipped without node."""
 
 import json
 import random
+import unittest
 from collections.abc import Sequence
+from typing import Any, Optional
 
 import page_in_node
 import trial
+
+from abc2midi_live import EntryKind, LibraryMissing, Session
+from abc2midi_live.opening import library_session
 
 LENGTHS = ["", "", "", "2", "/", "3/2", "/4"]
 BARS = ["|", "|", "|", "|:", ":|", "::", "||", "|]", "|1 ", ":|2 ", "|2 ", "|1,3 ", "\n"]
@@ -20,13 +25,22 @@ class Scripts(page_in_node.PageScripts):
 class Places(page_in_node.PageScripts):
     """Each note of a file has its place in the text, whatever the text is."""
 
+    def setUp(self) -> None:
+        super().setUp()
+        try:
+            self.session = library_session(None)
+        except LibraryMissing as missing:
+            raise unittest.SkipTest(str(missing)) from missing
+        self.addCleanup(self.session.close)
+
     def known(self, tunes: list[list[str]], header: Sequence[str] = ()) -> int:
         """All voices of these tunes are known from beginning to end."""
         lines = [line for tune in tunes for line in [*tune, ""]]
-        book = "\n".join([*header, *([""] if header else []), *lines]).encode()
-        files = trial.fresh(book).files
+        book = "\n".join([*header, *([""] if header else []), *lines])
+        files = trial.fresh(book.encode()).files
+        self.session.set_text(book)
         asked = [(number, tune) for number, tune in enumerate(tunes, 1) if f"{number}.mid" in files]
-        words = [{"lines": tune, "header": list(header), "file": files[f"{number}.mid"].hex()} for number, tune in asked]
+        words = [{"lines": book.split("\n"), "play": play_of(self.session, number), "file": files[f"{number}.mid"].hex()} for number, _ in asked]
         told = [json.loads(line) for line in self.node("page_places.mjs", json.dumps(words))]
         self.assertEqual(len(told), len(asked))
         for (_, tune), found in zip(asked, told):
@@ -53,6 +67,22 @@ class Places(page_in_node.PageScripts):
             tunes = [without_blank_lines(lines[start:end]) for start, end in zip(starts, [*starts[1:], len(lines)])]
             header = [line for line in lines[: starts[0]] if line]
             self.assertGreater(self.known(tunes, header), 100)
+
+
+def play_of(session: Session, number: int) -> Optional[dict[str, Any]]:
+    """What a number plays, as the page gets it: lines and columns are counted from 0."""
+    tracks = session.play(number)
+    if tracks is None:
+        return None
+    kinds = {EntryKind.NOTE: "Note", EntryKind.REST: "Rest", EntryKind.BAR: "Bar"}
+    entries = [
+        [
+            {"on": on, "off": off, "kind": kinds[kind], "key": key, "velocity": velocity, "joined": joined, "line": line - 1, "from": start - 1, "to": end - 1}
+            for on, off, kind, key, velocity, joined, line, start, end in track
+        ]
+        for track in tracks
+    ]
+    return {"number": number, "tracks": [{"entries": those} for those in entries]}
 
 
 def without_blank_lines(lines: list[str]) -> list[str]:

@@ -1,21 +1,20 @@
 // The text and the roll follow each other: what sounds is marked in the text, the caret's notes are marked in the roll, and a note in
 // the roll leads to its place in the text. What has no known place is not marked.
 
-import { placesOf } from "./places.js";
+import { Places } from "./places.js";
 import { nameOf } from "./roll_picture.js";
+import { TuneWords } from "./tune_words.js";
 
 /** @typedef {import("./midi.js").Score} Score
  * @typedef {import("./midi.js").Note} Note
- * @typedef {import("./places.js").Places} Places
- * The tune in the roll: its score, its lines first..last of the book, and how many lines precede the first tune.
- * @typedef {{ score: Score, first: number, last: number, before: number }} TuneInBook
- * A place in the text.
- * @typedef {{ line: number, from: number, to: number }} TextPlace */
+ * The tune in the roll: its score, its number, and its lines first..last of the book.
+ * @typedef {{ score: Score, number: number, first: number, last: number }} TuneInBook
+ * @typedef {import("./tune_words.js").TextPlace} TextPlace
+ * What the places were found of.
+ * @typedef {{ score: Score | null, play: import("./seen.js").Play | null, lines: string[], first: number, own: string[], places: Places | null }} Known */
 
 const PAUSE = 4000; // milliseconds for which the text stays where someone scrolls it
 const SOON = 80; // milliseconds after which the caret's notes are marked
-/** @type {Record<string, number>} */
-const STEPS = { C: 0, D: 2, E: 4, F: 5, G: 7, A: 9, B: 11 };
 /** @type {Record<number, string>} */
 const TIMES = { 2: "second", 3: "third" };
 /** @type {Record<number, string>} */
@@ -26,17 +25,18 @@ export class Follower {
    * @param {import("./text.js").Text} text
    * @param {import("./sheet.js").Sheet} sheet
    * @param {import("./roll.js").Roll} roll
+   * @param {import("./seen.js").Seen} seen
    * @param {() => TuneInBook | null} tune */
-  constructor(text, sheet, roll, tune) {
+  constructor(text, sheet, roll, seen, tune) {
     this.text = text;
     this.sheet = sheet;
     this.roll = roll;
+    this.seen = seen;
     this.tune = tune;
-    this.first = 0; // line of the tune
     /** @type {ReturnType<typeof setTimeout> | null} */
     this.timer = null;
-    /** @type {{ score: Score | null, lines: string[] | null, own: string[], head: string[], places: Places | null }} */
-    this.known = { score: null, lines: null, own: [], head: [], places: null };
+    /** @type {Known} */
+    this.known = { score: null, play: null, lines: [], first: 0, own: [], places: null };
     /** @type {TextPlace[]} */
     this.sounding = []; // places in the text: { line, from, to }
     /** @type {TextPlace[]} */
@@ -53,38 +53,37 @@ export class Follower {
     for (const name of ["wheel", "touchmove", "pointerdown"]) sheet.scroller.addEventListener(name, pause, { passive: true });
   }
 
-  /** The places of the notes of the tune in the roll, null without one. They are found again when its text or its file changes. */
+  /** The places of the notes of the tune in the roll, null without one. They are found again when its text, play or file changes. */
   get places() {
     const tune = this.tune(), { known } = this, { lines } = this.text;
     if (!tune) return null;
-    this.first = tune.first;
-    if (known.score === tune.score && known.lines === lines) return known.places;
-    const own = lines.slice(tune.first, tune.last), head = lines.slice(0, tune.before);
-    const isSame = (/** @type {string[]} */ a, /** @type {string[]} */ b) => a.length === b.length && a.every((line, n) => line === b[n]);
-    const places = known.score === tune.score && isSame(own, known.own) && isSame(head, known.head)
-      ? known.places : placesOf(own, head, tune.score);
-    this.known = { score: tune.score, lines, own, head, places };
+    const { score, first, last } = tune, play = this.seen.playOf(tune.number), isSame = known.score === score && known.play === play && known.first === first;
+    if (isSame && known.lines === lines) return known.places;
+    const own = lines.slice(first, last);
+    const isOld = isSame && own.length === known.own.length && own.every((line, n) => line === known.own[n]);
+    const places = isOld ? known.places : new Places(play, new TuneWords(lines, first, last), score);
+    this.known = { score, play, lines, first, own, places };
     return places;
   }
 
-  /** The place in the book of a place in the tune.
+  /** The token of the text at a place, as the chord of a tone.
    * @type {(place: TextPlace) => TextPlace} */
-  inBook({ line, from, to }) {
-    return { line: this.first + line, from, to };
+  tokenAt({ line, from, to }) {
+    const token = this.seen.tokensOf(line)?.find((one) => one.depth === 0 && one.from <= from && to <= one.to);
+    return { line, from: token?.from ?? from, to: token?.to ?? to };
   }
 
   /** The name of a voice in the text, with a word before it if it is a number.
    * @type {(voice: number) => string} */
   voiceName(voice) {
-    const name = this.places?.names.get(voice) ?? String(voice + 1);
+    const name = this.places?.nameOf(voice) || String(voice + 1);
     return /^\d+$/.test(name) ? `Voice ${name}` : name;
   }
 
   /** Marks what sounds at a tick, or nothing.
    * @type {(tick: number | null) => void} */
   sound(tick) {
-    const tokens = tick === null ? [] : this.places?.at(tick) ?? [];
-    const sounding = tokens.map(({ mark }) => this.inBook(mark));
+    const sounding = (tick === null ? [] : this.places?.at(tick) ?? []).map((moment) => this.tokenAt(moment));
     if (JSON.stringify(sounding) === JSON.stringify(this.sounding)) return;
     this.sounding = sounding;
     this.draw();
@@ -138,9 +137,9 @@ export class Follower {
   caret() {
     const { roll, places } = this, { line, column } = this.sheet.caret();
     const isSelected = JSON.stringify(this.sheet.selection().start) !== JSON.stringify(this.sheet.selection().end);
-    const tokens = places && !isSelected ? places.under(line - this.first, column) : [];
-    this.picked = tokens.slice(0, 1).map(({ mark }) => this.inBook(mark));
-    roll.pointedAt = places && tokens.length ? places.notesUnder(line - this.first, column) : new Set();
+    const tokens = this.seen.tokensOf(line), moments = places && !isSelected ? places.under(line, column, tokens) : [];
+    this.picked = moments.slice(0, 1).map((moment) => this.tokenAt(moment));
+    roll.pointedAt = places && moments.length ? places.notesUnder(line, column, tokens) : new Set();
     roll.soon();
     this.draw();
   }
@@ -149,7 +148,7 @@ export class Follower {
   get tickOfCaret() {
     const { places } = this, { line, column } = this.sheet.caret(), tune = this.tune();
     if (!places || !tune || line < tune.first || line >= tune.last) return null;
-    return places.tickFrom(line - tune.first, column);
+    return places.tickFrom(line, column, this.seen.tokensOf(line));
   }
 
   /** The ticks of the lines that are selected, or of the caret's line; null if they are not known. */
@@ -157,27 +156,26 @@ export class Follower {
     const { places } = this, { start, end } = this.sheet.selection();
     if (!places) return null;
     const last = end.line > start.line && end.column === 0 ? end.line - 1 : end.line;
-    return places.rangeOf(start.line - this.first, last - this.first);
+    return places.rangeOf(start.line, last);
   }
 
   /** Puts the caret at the place of a note: of the tone that sounds at a tick, if several are tied.
    * @type {(note: Note, tick: number) => void} */
   goTo(note, tick) {
     const tones = this.places?.tonesOf(note) ?? [];
-    const found = tones.findLast((one) => one.token.start <= tick) ?? tones[0];
+    const found = tones.findLast(({ start }) => start <= tick) ?? tones[0];
     if (!found) return;
-    const { token, tone } = found;
-    const place = { line: this.first + token.mark.line, column: tone.from };
+    const place = { line: found.entry.line, column: found.entry.from };
     this.sheet.select(place, place);
   }
 
   /** The name of a note, spelled as in the text if its place is known.
    * @type {(note: Note) => string} */
   noteName(note) {
-    const tone = this.places?.tonesOf(note)[0]?.tone;
-    const isSpelled = tone && (STEPS[tone.letter] + tone.alteration - note.key) % 12 === 0;
-    if (!isSpelled) return nameOf(note.key);
-    return `${tone.letter}${SIGNS[tone.alteration]}${Math.floor((note.key - tone.alteration) / 12) - 1}`;
+    const { places } = this, tone = places?.tonesOf(note)[0], spelling = tone && places?.words.spelling(tone.entry, note.key);
+    if (!spelling) return nameOf(note.key);
+    const { letter, alteration } = spelling;
+    return `${letter}${SIGNS[alteration]}${Math.floor((note.key - alteration) / 12) - 1}`;
   }
 
   /** What a note is: its name, its voice, its bar and beat.

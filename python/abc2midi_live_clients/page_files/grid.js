@@ -2,66 +2,88 @@
 // number, and a second ending has those of the first.
 
 import { secondOf } from "./midi.js";
-import { tickAt } from "./played_tune.js";
+import { isBefore } from "./tune_words.js";
 
-/** @typedef {import("./fields.js").Meter} Meter
+/** @typedef {import("./seen.js").Entry} Entry
+ * @typedef {{ over: number, under: number }} Meter
  * A bar that is played: where it begins, its number, how much of its begin is missing (of a pickup), its meter, the pass.
- * @typedef {{ tick: number, number: number, offset: number, meter: Meter | null | undefined, pass: number }} Bar
- * @typedef {import("./played_tune.js").Strain} Strain
- * @typedef {import("./played_tune.js").TimeMark} TimeMark */
-
-/** Numbers the bars of a voice, by its strains in the order of the text.
- * @type {(strains: Map<number, Strain[]>) => void} */
-function numberBars(strains) {
-  let number = 0;
-  for (const { common, endings } of [...strains].sort(([a], [b]) => a - b).flatMap(([, those]) => those)) {
-    number = numberSome(common, number, false);
-    const before = number;
-    for (const { marks } of endings) number = numberSome(marks, before, true);
-  }
-}
-
-/** Numbers the bars of some marks after a number: the last number. A short bar after a double or repeat bar is a pickup.
- * @type {(marks: TimeMark[], before: number, beginsEnding: boolean) => number} */
-function numberSome(marks, before, beginsEnding) {
-  let number = before, isFirst = beginsEnding;
-  for (const { bar } of marks) {
-    if (bar.number !== undefined) continue;
-    const whole = measureOf(bar.meter);
-    const isPickup = bar.isSoft && !isFirst && whole > 0 && tickAt(bar.length) < whole;
-    if (!isPickup) number += 1;
-    bar.number = number;
-    bar.offset = isPickup ? whole - tickAt(bar.length) : 0;
-    isFirst = false;
-  }
-  return number;
-}
+ * @typedef {{ tick: number, number: number, offset: number, meter: Meter | null, pass: number }} Bar
+ * What is played without a bar line in it: its place in the text and its section, its ticks, and whether it may be a pickup.
+ * @typedef {{ place: string, section: number, start: number, length: number, isSoft: boolean }} Span */
 
 /** The ticks of a measure, 0 in free meter.
- * @type {(meter: Meter | null | undefined) => number} */
+ * @type {(meter: Meter | null) => number} */
 const measureOf = (meter) => (meter ? (1920 * meter.over) / meter.under : 0);
 
-/** The bars that the tokens of a voice play, from the place of each on.
- * @type {(tokens: { mark: TimeMark, pass: number, start: number, opens: boolean }[], strains: Map<number, Strain[]>) => Bar[]} */
-export function writtenBars(tokens, strains) {
-  numberBars(strains);
+/** The bars that a voice plays, from the place of each on. Each has the number that follows that of the bar played before it in its
+ * section, so an ending has the numbers of the one that it replaces. Sections are numbered in the order of the text.
+ * @type {(entries: Entry[], words: import("./tune_words.js").TuneWords, meters: import("./midi.js").Meter[]) => Bar[]} */
+export function playedBars(entries, words, meters) {
+  /** @type {Map<string, { number: number, offset: number }>} */
+  const written = new Map(); // by place: the number in its section, and what is missing of a pickup
+  const spans = spansOf(entries, words);
+  /** @type {number[]} */
+  const most = []; // by section: the greatest number
   /** @type {Bar[]} */
   const bars = [];
-  /** @type {TimeMark | null} */
-  let before = null;
-  for (const { mark, pass, start, opens } of tokens) {
-    const { bar } = mark;
-    if (opens || !before || bar !== before.bar || mark.place <= before.place) {
-      if (bars.at(-1)?.tick === start) bars.pop();
-      bars.push({ tick: start, number: bar.number ?? 0, offset: bar.offset ?? 0, meter: bar.meter, pass });
-    }
-    before = mark;
+  let before = { section: -1, number: 0 };
+  for (const { place, section, start, length, isSoft } of spans) {
+    const meter = meters.findLast(({ tick }) => tick <= start) ?? null, whole = measureOf(meter);
+    const isPickup = isSoft && length < whole, last = before.section === section ? before.number : 0;
+    const bar = written.get(place) ?? (isPickup ? { number: last, offset: whole - length } : { number: last + 1, offset: 0 });
+    written.set(place, bar);
+    most[section] = Math.max(most[section] ?? 0, bar.number);
+    bars.push({ tick: start, ...bar, meter, pass: 1 });
+    before = { section, number: bar.number };
+  }
+  bars.forEach((bar, n) => (bar.number += most.slice(0, spans[n].section).reduce((sum, number) => sum + (number ?? 0), 0)));
+  return withPasses(bars);
+}
+
+/** Counts how often each bar was played.
+ * @type {(bars: Bar[]) => Bar[]} */
+function withPasses(bars) {
+  /** @type {Map<string, number>} */
+  const passes = new Map(); // by number
+  for (const bar of bars) {
+    const name = `${bar.number} ${bar.offset > 0}`;
+    bar.pass = (passes.get(name) ?? 0) + 1;
+    passes.set(name, bar.pass);
   }
   return bars;
 }
 
+/** What a voice plays between bar lines, and from one section to the next. What comes after a bar line that is not a thin line alone, or
+ * opens a section, is soft: it may be a pickup.
+ * @type {(entries: Entry[], words: import("./tune_words.js").TuneWords) => Span[]} */
+function spansOf(entries, words) {
+  /** @type {Span[]} */
+  const spans = [];
+  let isSoft = false, isBar = false;
+  /** @type {Entry | null} */
+  let before = null;
+  for (const entry of entries) {
+    if (entry.kind === "Bar") {
+      isSoft ||= words.at(entry) !== "|";
+      isBar = true;
+      continue;
+    }
+    const section = words.sectionOf(entry), last = spans.at(-1), opens = !last || section !== last.section;
+    if (opens || isBar || (before && isBefore(entry, before))) {
+      if (last) last.length = Math.min(entry.on, last.start + last.length) - last.start;
+      if (last?.length === 0) spans.pop();
+      spans.push({ place: `${entry.line} ${entry.from}`, section, start: entry.on, length: 0, isSoft: isSoft || opens });
+      [isSoft, isBar] = [false, false];
+    }
+    const span = spans[spans.length - 1];
+    span.length = Math.max(span.length, entry.off - span.start);
+    before = entry;
+  }
+  return spans;
+}
+
 /** The ticks of a beat: in compound meters three of the lower number, else one.
- * @type {(meter: Meter | null | undefined, division: number) => number} */
+ * @type {(meter: Meter | null, division: number) => number} */
 export function beatOf(meter, division) {
   if (!meter) return division;
   const isCompound = meter.over > 3 && meter.over % 3 === 0 && meter.under >= 8;
@@ -82,7 +104,7 @@ export class Grid {
   /** The grid of the bars of a text. If their voice ends before the tune does, it goes on by the meter.
    * @type {(bars: Bar[], score: { end: number, division: number }, endOfVoice: number) => Grid} */
   static ofBars(bars, { end, division }, endOfVoice) {
-    const grid = new Grid(bars, end, division), last = bars.at(-1), measure = measureOf(last?.meter);
+    const grid = new Grid(bars, end, division), last = bars.at(-1), measure = measureOf(last?.meter ?? null);
     if (!last || !measure) return grid;
     const next = Math.max(endOfVoice, last.tick + measure - last.offset);
     for (let n = 1, tick = next; tick < end; n += 1, tick += measure) bars.push({ ...last, tick, number: last.number + n, offset: 0 });
@@ -147,7 +169,7 @@ export class Grid {
   /** How many beats a minute has at a tick.
    * @type {(tick: number, score: import("./midi.js").Score) => number} */
   tempoAt(tick, score) {
-    const beat = beatOf(this.barAt(tick)?.meter, this.division);
+    const beat = beatOf(this.barAt(tick)?.meter ?? null, this.division);
     return 60 / (secondOf(score, tick + beat) - secondOf(score, tick));
   }
 

@@ -17,25 +17,31 @@ import { TuneBar } from "./tune_bar.js";
  * @property {import("./link.js").Link} link
  * @property {import("./sheet.js").Sheet} sheet
  * @property {import("./findings.js").Findings} findings
+ * @property {import("./seen.js").Seen} seen
  * @property {import("./caret_tune.js").CaretTune} caretTune
  * @property {import("./tip.js").Tip} tip
  * @property {(words: string) => void} say */
 
 export class Music {
   /** @param {Parts} parts */
-  constructor({ server, link, sheet, findings, caretTune, tip, say }) {
+  constructor({ server, link, sheet, findings, seen, caretTune, tip, say }) {
     this.caretTune = caretTune;
     this.shown = new ShownTune(server, link, findings);
     this.roll = new Roll(find("roll"), /** @type {HTMLCanvasElement} */ (document.querySelector("canvas")));
     this.player = new Player();
     this.player.font = this.font = new Font(server);
-    this.follower = new Follower(sheet.text, sheet, this.roll, () => this.shown.inBook);
+    this.follower = new Follower(sheet.text, sheet, this.roll, seen, () => this.shown.inBook);
     this.practice = new Practice(this.player, this.roll, this.follower);
     this.transport = new Transport(this.shown, this.player, this.roll, this.follower, this.practice);
     this.bar = new TuneBar(this.shown, this.roll, this.follower);
     this.practice.say = say;
     this.came = () => {}; // a score is there, or there is none
-    this.shown.asks = (isOther) => this.transport.rewind(isOther);
+    this.shown.asks = (isOther) => {
+      seen.want({ tune: this.shown.number ?? null });
+      this.transport.rewind(isOther);
+    };
+    seen.hearers.push(() => this.practice.hear());
+    this.practice.renewed = () => this.describe();
     this.shown.came = () => this.take();
     this.roll.pointed = (note, event) => tip.show(note ? [this.follower.describe(note)] : [], event);
     this.roll.recoloured = () => {

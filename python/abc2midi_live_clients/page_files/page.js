@@ -60,7 +60,7 @@ export class Application {
     this.faultBar = new FaultBar(sheet, findings);
     this.undoStore = new UndoStore(text, link, (version) => server.ask(`changes/${version}`));
     this.caretTune = new CaretTune(sheet, findings);
-    this.music = new Music({ server, link, sheet, findings, caretTune: this.caretTune, tip: this.tip, say });
+    this.music = new Music({ server, link, sheet, findings, seen, caretTune: this.caretTune, tip: this.tip, say });
     this.allMidi = new AllMidi(server, link, book, findings);
     this.hints = new HintReader(server, link, book);
     const dialog = new DifferencesDialog(/** @type {HTMLDialogElement} */ (find("differences")));

@@ -1,171 +1,123 @@
-// The places of a tune's notes in its text: what the text says is compared with the tune's file note by note, and whatever does
-// not agree has no place.
+// The places of a tune's notes in its text: each entry of the tune's play beside the note of its file. If a play and a file differ, as
+// when one of them is older, nothing has a place from the first difference on.
 
-import { TooLong } from "./fields.js";
-import { Grid, writtenBars } from "./grid.js";
-import { playedTune, tickAt } from "./played_tune.js";
-import { defaultsOf, writtenTune } from "./written_tune.js";
+import { Grid, playedBars } from "./grid.js";
 
 /** @typedef {import("./midi.js").Score} Score
  * @typedef {import("./midi.js").Note} Note
- * @typedef {import("./written_tune.js").Tone} Tone
- * @typedef {import("./written_tune.js").TimeMark} TimeMark
- * @typedef {import("./played_tune.js").PlayedVoice} PlayedVoice
- * A token as it is played, in ticks, with the notes of the score that it sounds.
- * @typedef {{ mark: TimeMark, pass: number, opens: boolean, start: number, end: number, voice: number, notes: { note: Note, tone: Tone }[] }} Token
- * A note that the text asks for; `overlaps` is whether another one of its key sounds at the same time.
- * @typedef {import("./played_tune.js").PlayedNote & { overlaps?: boolean }} Wanted
- * What is known of a voice: from which tick on text and file differ, and its tokens up to there.
- * @typedef {{ voice: import("./written_tune.js").Voice, until: number, tokens: Token[] }} KnownVoice
- * A tone of the text that sounds in a note of the score.
- * @typedef {{ token: Token, tone: Tone }} Sounded */
-
-/** The places of the notes of a score, whose tune has these lines; `header` has the lines before the first tune.
- * @type {(lines: string[], header: string[], score: Score) => Places} */
-export function placesOf(lines, header, score) {
-  try {
-    return new Places(playedTune(writtenTune(lines, defaultsOf(header))), score);
-  } catch (error) {
-    if (!(error instanceof TooLong)) throw error;
-    return new Places([], score);
-  }
-}
-
-/** Notes in the order of a score: by their starts, those that start together by their keys. */
-const inOrder = (/** @type {{ start: number, key: number }} */ a, /** @type {{ start: number, key: number }} */ b) => a.start - b.start || a.key - b.key;
-
-/** The tick from which on the notes of the text and those of the file differ, Infinity if they are the same. Notes of one key
- * that overlap cut each other short in a file, so their ends may differ.
- * @type {(wanted: Wanted[], found: Note[]) => number} */
-function firstDifference(wanted, found) {
-  const least = Math.min(wanted.length, found.length);
-  for (let n = 0; n < least; n += 1) {
-    const [want, have] = [wanted[n], found[n]];
-    const isSame = want.start === have.start && want.key === have.key && (want.end === have.end || want.overlaps);
-    if (!isSame) return Math.min(want.start, have.start);
-  }
-  return wanted.length === found.length ? Infinity : (wanted[least] ?? found[least]).start;
-}
-
-/** Marks the notes of which another one of the same key sounds at the same time.
- * @type {(notes: Wanted[]) => void} */
-function markOverlaps(notes) {
-  /** @type {Map<number, Wanted>} */
-  const last = new Map(); // by key: the note that ends last so far
-  for (const note of notes) {
-    const before = last.get(note.key);
-    if (before && note.start < before.end) note.overlaps = before.overlaps = true;
-    if (!before || note.end > before.end) last.set(note.key, note);
-  }
-}
+ * @typedef {import("./seen.js").Entry} Entry
+ * @typedef {import("./tune_words.js").TuneWords} TuneWords
+ * @typedef {{ from: number, to: number }} Span of columns
+ * A tone of the text, and the note of the score that it sounds in; null if it is silent.
+ * @typedef {{ entry: Entry, note: Note | null }} Tone
+ * What a voice plays from a tick to another: a note, a chord or a rest.
+ * @typedef {{ line: number, from: number, to: number, start: number, end: number, track: number, tones: Tone[] }} Moment
+ * What is known of a voice: from which tick on play and file differ, and what it plays up to there.
+ * @typedef {{ until: number, moments: Moment[], entries: Entry[] }} KnownVoice */
 
 export class Places {
-  /** @param {PlayedVoice[]} played
+  /** @param {import("./seen.js").Play | null} play
+   * @param {TuneWords} words
    * @param {Score} score */
-  constructor(played, score) {
+  constructor(play, words, score) {
+    this.words = words;
     this.score = score;
-    /** @type {Map<number, string>} */
-    this.names = new Map(); // by voice of the score: its name in the text
+    const tracks = play?.tracks ?? [], isSame = tracks.length === score.tracks.length;
+    /** @type {Map<Note, Moment[]>} */
+    this.sounds = new Map(); // by note of the score: where its tones are
     /** @type {KnownVoice[]} */
-    this.voices = []; // what is known of each voice: its tokens in the order of play
-    /** @type {Map<Note, Sounded[]>} */
-    this.tones = new Map(); // by note of the score: the tones of the text that it is made of
-    played.forEach((voice, n) => this.align(voice, score.tracks[n + 1] ?? null, played.length === score.tracks.length - 1));
-    /** @type {Map<number, Token[]>} */
-    this.lines = new Map(); // by line: the tokens in it, by their columns
-    for (const { tokens } of this.voices) for (const token of tokens) this.index(token);
-    for (const tokens of this.lines.values()) tokens.sort((a, b) => a.mark.from - b.mark.from || a.start - b.start);
-    this.grid = this.gridOf(played) ?? Grid.ofMeters(score);
+    this.voices = isSame ? tracks.slice(1).map(({ entries }, n) => this.align(entries, n)) : [];
+    /** @type {Map<number, Moment[]>} */
+    this.lines = new Map(); // by line: what is in it, by its columns
+    for (const { moments } of this.voices) for (const moment of moments) this.index(moment);
+    for (const moments of this.lines.values()) moments.sort((a, b) => a.from - b.from || a.start - b.start);
+    this.grid = this.gridOf();
   }
 
-  /** Compares a voice with its track.
-   * @type {(voice: PlayedVoice, track: { voice: number | null } | null, isComplete: boolean) => void} */
-  align({ voice, tokens, notes }, track, isComplete) {
-    if (track === null || !isComplete) return;
-    if (track.voice !== null && voice.name) this.names.set(track.voice, voice.name);
-    /** @type {Wanted[]} */
-    const timed = notes.map((note) => ({ ...note, start: tickAt(note.start), end: tickAt(note.end) }));
-    const wanted = timed.filter(({ start, end }) => start < end).sort(inOrder);
-    markOverlaps(wanted);
-    const found = track.voice === null ? [] : this.score.notes.filter((note) => note.voice === track.voice);
-    const until = firstDifference(wanted, found);
-    /** @type {Token[]} */
-    const known = tokens.map(({ mark, pass, start, end, opens }) => {
-      return { mark, pass, opens, start: tickAt(start), end: tickAt(end), voice: this.voices.length, notes: [] };
-    });
-    const tokenOf = new Map(tokens.map((token, n) => [token, known[n]]));
-    for (let n = 0; n < wanted.length && wanted[n].start < until; n += 1) this.place(wanted[n], found[n], tokenOf, until);
-    this.voices.push({ voice, until, tokens: known.filter(({ end }) => end <= until) });
+  /** Compares what a voice plays with the notes of its track.
+   * @type {(entries: Entry[], track: number) => KnownVoice} */
+  align(entries, track) {
+    const notes = new Waiting(this.score, this.score.tracks[track + 1].voice);
+    const moments = momentsOf(entries, track);
+    let until = Infinity;
+    for (const { start, tones } of moments) {
+      for (const tone of tones) {
+        tone.note = notes.take(tone.entry);
+        if (!tone.note && tone.entry.key !== null && start < tone.entry.off) until = Math.min(until, start);
+      }
+    }
+    until = Math.min(until, notes.first);
+    const known = moments.filter(({ line, end }) => line >= 0 && end <= until);
+    for (const moment of known) for (const { note } of moment.tones) if (note) this.sounds.set(note, [...(this.sounds.get(note) ?? []), moment]);
+    return { until, moments: known, entries };
   }
 
-  /** Notes the tones of a note of the score.
-   * @type {(wanted: Wanted, note: Note, tokenOf: Map<import("./played_tune.js").Played, Token>, until: number) => void} */
-  place(wanted, note, tokenOf, until) {
-    const tones = wanted.tones.flatMap(({ token, tone }) => {
-      const known = tokenOf.get(token);
-      return known && known.end <= until ? [{ token: known, tone }] : [];
-    });
-    this.tones.set(note, tones);
-    for (const { token, tone } of tones) token.notes.push({ note, tone });
-  }
-
-  /** @type {(token: Token) => void} */
-  index(token) {
-    const { line } = token.mark;
-    const those = this.lines.get(line) ?? [];
-    those.push(token);
-    this.lines.set(line, those);
+  /** @type {(moment: Moment) => void} */
+  index(moment) {
+    const those = this.lines.get(moment.line) ?? [];
+    those.push(moment);
+    this.lines.set(moment.line, those);
   }
 
   /** The bars of the first voice that is known from beginning to end, null if there is none.
-   * @type {(played: PlayedVoice[]) => Grid | null} */
-  gridOf(played) {
-    const known = this.voices.find(({ until, tokens }) => until === Infinity && tokens.length);
+   * @type {() => Grid | null} */
+  gridOf() {
+    const known = this.voices.find(({ until, moments }) => until === Infinity && moments.length);
     if (!known) return null;
-    const { strains } = played.find(({ voice }) => voice === known.voice) ?? { strains: new Map() };
-    return Grid.ofBars(writtenBars(known.tokens, strains), this.score, known.tokens[known.tokens.length - 1].end);
+    const bars = playedBars(known.entries, this.words, this.score.meters);
+    return Grid.ofBars(bars, this.score, known.moments[known.moments.length - 1].end);
   }
 
-  /** The tokens that are played at a tick.
-   * @type {(tick: number) => Token[]} */
+  /** The name of a voice of the score, "" without one.
+   * @type {(voice: number) => string} */
+  nameOf(voice) {
+    const track = this.score.tracks.findIndex((one) => one.voice === voice), first = this.voices[track - 1]?.moments[0];
+    return first ? this.words.voiceAt(first) : "";
+  }
+
+  /** What is played at a tick.
+   * @type {(tick: number) => Moment[]} */
   at(tick) {
-    return this.voices.flatMap(({ tokens }) => {
-      let low = 0, high = tokens.length;
+    return this.voices.flatMap(({ moments }) => {
+      let low = 0, high = moments.length;
       while (low < high) {
         const middle = (low + high) >> 1;
-        if (tokens[middle].start <= tick) low = middle + 1;
+        if (moments[middle].start <= tick) low = middle + 1;
         else high = middle;
       }
-      const token = tokens[low - 1];
-      return token && tick < token.end ? [token] : [];
+      const moment = moments[low - 1];
+      return moment && tick < moment.end ? [moment] : [];
     });
   }
 
-  /** The tokens at a place of the text, one for each time that it is played: one that begins there or that the place is in, else
-   * one that ends there.
-   * @type {(line: number, column: number) => Token[]} */
-  under(line, column) {
-    const those = this.lines.get(line) ?? [];
-    const inside = those.filter(({ mark }) => mark.from <= column && column < mark.to);
-    return inside.length ? inside : those.filter(({ mark }) => mark.to === column);
+  /** What is at a place of the text, one for each time that it is played: in the token that the place is in, else in the one that ends
+   * there. `tokens` are those of the line, null if they are not known.
+   * @type {(line: number, column: number, tokens?: import("./seen.js").Token[] | null) => Moment[]} */
+  under(line, column, tokens = null) {
+    const own = this.lines.get(line) ?? [];
+    /** @type {Span[]} */
+    const spans = tokens?.filter(({ depth }) => depth === 0) ?? own;
+    const within = (/** @type {Span[]} */ those) => own.filter((one) => those.some(({ from, to }) => from <= one.from && one.to <= to));
+    const found = within(spans.filter(({ from, to }) => from <= column && column < to));
+    return found.length ? found : within(spans.filter(({ to }) => to === column));
   }
 
   /** The notes of the score at a place: in a chord those of the tone at the place, if there is one.
-   * @type {(line: number, column: number) => Set<Note>} */
-  notesUnder(line, column) {
-    const notes = this.under(line, column).flatMap((token) => token.notes);
-    const own = notes.filter(({ tone }) => tone.from <= column && column < tone.to);
-    return new Set((own.length ? own : notes).map(({ note }) => note));
+   * @type {(line: number, column: number, tokens?: import("./seen.js").Token[] | null) => Set<Note>} */
+  notesUnder(line, column, tokens = null) {
+    const tones = this.under(line, column, tokens).flatMap((moment) => moment.tones);
+    const own = tones.filter(({ entry }) => entry.from <= column && column < entry.to);
+    return new Set((own.length ? own : tones).flatMap(({ note }) => note ?? []));
   }
 
   /** The tick at which what is at a place, else what follows it in its voice, is played first; null if that is not known.
-   * @type {(line: number, column: number) => number | null} */
-  tickFrom(line, column) {
+   * @type {(line: number, column: number, tokens?: import("./seen.js").Token[] | null) => number | null} */
+  tickFrom(line, column, tokens = null) {
     const own = this.lines.get(line) ?? [];
-    const token = this.under(line, column)[0] ?? own.find(({ mark }) => mark.to > column);
-    if (token) return token.start;
+    const moment = this.under(line, column, tokens)[0] ?? own.find(({ to }) => to > column);
+    if (moment) return moment.start;
     const last = own.at(-1);
-    if (last) return this.voices[last.voice].tokens.find(({ mark }) => mark.place > last.mark.place)?.start ?? null;
+    if (last) return this.voices[last.track].moments.find((one) => one.line > line)?.start ?? null;
     const next = [...this.lines.keys()].filter((one) => one > line).reduce((least, one) => Math.min(least, one), Infinity);
     return this.lines.get(next)?.[0].start ?? null;
   }
@@ -173,19 +125,73 @@ export class Places {
   /** From which tick to which the lines from..to are played first, without others between; null if that is not known.
    * @type {(from: number, to: number) => [from: number, to: number] | null} */
   rangeOf(from, to) {
-    const inside = (/** @type {Token} */ { mark }) => from <= mark.line && mark.line <= to;
-    const ranges = this.voices.flatMap(({ tokens }) => {
-      const first = tokens.findIndex(inside), after = tokens.findIndex((token, n) => n > first && !inside(token));
-      return first < 0 ? [] : [[tokens[first].start, tokens[after < 0 ? tokens.length - 1 : after - 1].end]];
+    const inside = (/** @type {Moment} */ { line }) => from <= line && line <= to;
+    const ranges = this.voices.flatMap(({ moments }) => {
+      const first = moments.findIndex(inside), after = moments.findIndex((moment, n) => n > first && !inside(moment));
+      return first < 0 ? [] : [[moments[first].start, moments[after < 0 ? moments.length - 1 : after - 1].end]];
     });
     /** @type {[from: number, to: number]} */
     const range = [Math.min(...ranges.map(([start]) => start)), Math.max(...ranges.map(([, end]) => end))];
     return range[0] < range[1] ? range : null;
   }
 
-  /** The tones of the text that a note of the score is made of.
-   * @type {(note: Note) => Sounded[]} */
+  /** The places of a note of the score, several if its tones are tied: each with the tick at which it is played.
+   * @type {(note: Note) => { entry: Entry, start: number }[]} */
   tonesOf(note) {
-    return this.tones.get(note) ?? [];
+    return (this.sounds.get(note) ?? []).flatMap(({ start, tones }) => tones.filter((tone) => tone.note === note).map(({ entry }) => ({ entry, start })));
+  }
+}
+
+/** What a voice plays, moment by moment. The tones of a chord are one: it ends with its first tone.
+ * @type {(entries: Entry[], track: number) => Moment[]} */
+function momentsOf(entries, track) {
+  /** @type {Moment[]} */
+  const moments = [];
+  /** @type {Entry | null} */
+  let before = null;
+  for (const entry of entries) {
+    const last = moments.at(-1), tones = entry.kind === "Note" ? [{ entry, note: null }] : [];
+    const isChord = before?.kind === "Note" && before.on === entry.on && entry.on < before.off && entry.line === before.line && entry.from >= before.to;
+    if (last && tones.length && isChord) {
+      last.to = entry.to;
+      last.tones.push(...tones);
+    } else if (entry.kind === "Note" || entry.kind === "Rest") {
+      moments.push({ line: entry.line, from: entry.from, to: entry.to, start: entry.on, end: entry.off, track, tones });
+    }
+    before = entry;
+  }
+  return moments;
+}
+
+/** The notes of a voice of a score that no tone has taken. */
+class Waiting {
+  /** @param {Score} score
+   * @param {number | null} voice */
+  constructor(score, voice) {
+    /** @type {Map<string, Note[]>} */
+    this.notes = new Map(); // by start and key
+    /** @type {Map<number, { on: number, note: Note | null }>} */
+    this.begun = new Map(); // by key: when the last sound began, and its note
+    for (const note of voice === null ? [] : score.notes) {
+      if (note.voice !== voice) continue;
+      const name = `${note.start} ${note.key}`;
+      this.notes.set(name, [...(this.notes.get(name) ?? []), note]);
+    }
+  }
+
+  /** The note that a tone sounds in: one that begins with it, or with the tones that it is joined with.
+   * @type {(entry: Entry) => Note | null} */
+  take({ on, off, key, joined }) {
+    if (key === null) return null;
+    if (!joined) this.begun.set(key, { on, note: null });
+    const sound = this.begun.get(key);
+    if (!sound) return null;
+    if (on < off) sound.note ??= this.notes.get(`${sound.on} ${key}`)?.shift() ?? null;
+    return sound.note;
+  }
+
+  /** The tick of the first note that no tone has taken, Infinity without one. */
+  get first() {
+    return [...this.notes.values()].flat().reduce((least, { start }) => Math.min(least, start), Infinity);
   }
 }

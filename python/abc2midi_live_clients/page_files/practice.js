@@ -28,6 +28,8 @@ export class Practice {
     this.alone = new Set();
     /** @type {Map<number, number>} */
     this.volumes = new Map(); // by voice
+    this.isCounted = false; // whether the bars are those of the play
+    this.renewed = () => {}; // the bars are others
     /** @type {(tick: number) => void} */
     this.played = () => {}; // a tick: play from there
     /** @type {(words: string) => void} */
@@ -70,7 +72,9 @@ export class Practice {
   show(score, number) {
     const { roll, follower } = this, isOther = number !== this.number;
     this.number = number;
-    roll.show(score, (score && follower.places?.grid) ?? undefined);
+    const grid = score && follower.places?.grid;
+    this.isCounted = Boolean(grid);
+    roll.show(score, grid ?? undefined);
     if (isOther) {
       this.range = null;
       field("looping").checked = false;
@@ -88,14 +92,31 @@ export class Practice {
     follower.caret();
   }
 
+  /** What the tune plays may be known now: at once if nothing was known of it. */
+  hear() {
+    if (this.isCounted) this.refresh();
+    else this.renew();
+  }
+
   /** The text has changed: its bars are those of the roll, as soon as nothing more is typed. */
   refresh() {
     clearTimeout(this.timer);
-    this.timer = setTimeout(() => {
-      const { roll, follower } = this, grid = follower.places?.grid;
-      if (grid && grid !== roll.grid && follower.known.score === roll.score) roll.show(roll.score, grid);
-      follower.caret();
-    }, REST);
+    this.timer = setTimeout(() => this.renew(), REST);
+  }
+
+  /** Takes the bars and the names of the play. */
+  renew() {
+    const { roll, follower } = this, { score } = roll, grid = follower.places?.grid;
+    if (score && grid && grid !== roll.grid && follower.known.score === score) {
+      this.isCounted = true;
+      roll.show(score, grid);
+      this.fillBars(false);
+      this.showVoices(score.voices, false);
+      this.silence();
+      this.tell(roll.tick ?? 0);
+      this.renewed();
+    }
+    follower.caret();
   }
 
   /** How a tune begins: plays it, after a bar of clicks if that is wanted.

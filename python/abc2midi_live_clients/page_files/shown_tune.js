@@ -59,11 +59,11 @@ export class ShownTune {
     return this.findings.tunes.findIndex((row) => row[1] === this.number && row[3]);
   }
 
-  /** The score with its lines in the book, and how many lines precede the first tune; null without.
+  /** The score with its number and its lines in the book; null without.
    * @returns {import("./follower.js").TuneInBook | null} */
   get inBook() {
     const { score, owner, findings } = this, { tunes } = findings;
     const at = score ? tunes.findIndex((row) => row[1] === owner && row[3]) : -1;
-    return score && at >= 0 ? { score, first: tunes[at][0], last: findings.endOf(at), before: tunes[0][0] } : null;
+    return score && owner !== null && at >= 0 ? { score, number: owner, first: tunes[at][0], last: findings.endOf(at) } : null;
   }
 }
