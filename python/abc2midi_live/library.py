@@ -9,6 +9,7 @@ import weakref
 from ctypes import byref, c_size_t, c_uint32
 from itertools import islice
 from operator import index
+from struct import Struct
 from typing import Any, Optional
 
 from .bindings import BAD_LINE, BAD_RANGE, NO_KEY, NOT_FOUND, OK, OUT_OF_MEMORY, SHORT_BUFFER, TOO_LARGE, TOO_LONG
@@ -26,6 +27,7 @@ ROOM = 4096  # bytes at first, for what the library copies
 ROOM_FOR_NUMBERS = 64  # at first
 ROOM_FOR_TOKENS = 256  # at first: more than most lines have
 ROOM_FOR_TRACKS = 16  # at first: as many as a file has
+TOKEN, ENTRY = Struct("@4I"), Struct("@2Q3I4B")  # CToken and CEntry
 _HERE = threading.local()
 
 
@@ -91,11 +93,14 @@ class LibrarySession(Session):
 
     @property
     def titles(self) -> list[Title]:
+        return self.titles_in(0, MOST_NUMBER)
+
+    def titles_in(self, start: int, stop: int) -> list[Title]:
         self._check_open()
         number, found, call = c_uint32(), [], self._calls.abc_live_title
         number_here = byref(number)
         check(self._calls.abc_live_title_count(self._here, self._count_here))
-        for row in range(self._count.value):
+        for row in range(self._count.value)[start:stop]:
             text = self._copied_bytes(call, self._here, row, number_here)
             found.append(Title(number.value, text or b""))
         return found
@@ -118,8 +123,8 @@ class LibrarySession(Session):
             self._tokens = (CToken * self._count.value)()
             code = self._copy_tokens(index(number))
         check(code)
-        copied = self._tokens[: self._count.value]
-        return tuple(Token(getattr(token, "from"), token.to, kind_of(token.kind), token.depth) for token in copied)
+        copied = ctypes.string_at(self._tokens, self._count.value * ctypes.sizeof(CToken))
+        return tuple(Token(start, end, kind_of(kind), depth) for start, end, kind, depth in TOKEN.iter_unpack(copied))
 
     def _copy_tokens(self, number: int) -> int:
         """Copies the tokens of a line, and returns the code of the call."""
@@ -131,16 +136,17 @@ class LibrarySession(Session):
         self._check_open()
         if not 0 <= index(number) <= MOST_NUMBER:
             return None
-        sizes = self._copied_play(self._calls.abc_live_tracks, number, (c_size_t * ROOM_FOR_TRACKS)())
-        if sizes is None:
+        tracks = self._copied_play(self._calls.abc_live_tracks, number, (c_size_t * ROOM_FOR_TRACKS)())
+        if tracks is None:
             return None
+        sizes = tracks[: self._count.value]
         entries = self._copied_play(self._calls.abc_live_play, number, (CEntry * sum(sizes))())
         assert entries is not None, "the session has not changed since the sizes were copied"
-        played = map(entry_of, entries)
+        played = map(entry_of, ENTRY.iter_unpack(ctypes.string_at(entries, ctypes.sizeof(entries))))
         return tuple(tuple(islice(played, size)) for size in sizes)
 
     def _copied_play(self, call: Any, number: int, room: Any) -> Optional[Any]:
-        """What a call copies of the play of a number into a room, or into a larger one; None if no tune owns the number."""
+        """What a call copies of the play of a number, in a room that it fills; None if no tune owns the number."""
         code = call(self._here, number, room, len(room), self._count_here)
         if code == SHORT_BUFFER:
             room = (room._type_ * self._count.value)()
@@ -148,7 +154,7 @@ class LibrarySession(Session):
         if code == NOT_FOUND:
             return None
         check(code)
-        return room[: self._count.value]
+        return room
 
     @property
     def work(self) -> Optional[Work]:
@@ -216,12 +222,12 @@ def check(code: int) -> None:
         raise RuntimeError(f"the library answered {code}: this is a mistake in the package abc2midi_live")
 
 
-def entry_of(copied: CEntry) -> Entry:
-    """An entry of the library."""
-    has_key = copied.key != NO_KEY
-    sound = (copied.key, copied.velocity) if has_key else (None, None)
-    place = (copied.line, getattr(copied, "from"), copied.to)
-    return Entry(copied.on, copied.off, entry_kind_of(copied.kind), *sound, copied.joined == 1, *place)
+def entry_of(copied: tuple[int, ...]) -> Entry:
+    """An entry of the library, by the values of its struct."""
+    on, off, line, start, end, kind, key, velocity, joined = copied
+    if key == NO_KEY:
+        return Entry(on, off, entry_kind_of(kind), None, None, joined == 1, line, start, end)
+    return Entry(on, off, entry_kind_of(kind), key, velocity, joined == 1, line, start, end)
 
 
 def text_of(lines: list[bytes]) -> bytes:

@@ -33,8 +33,9 @@ class Entry(NamedTuple):
 
 Track = tuple[Entry, ...]
 KINDS = {kind.value: kind for kind in EntryKind}
+OTHER = EntryKind.OTHER
 
 
 def entry_kind_of(number: int) -> EntryKind:
     """The kind of a number of the C library."""
-    return KINDS.get(number, EntryKind.OTHER)
+    return KINDS.get(number, OTHER)

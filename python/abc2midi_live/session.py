@@ -192,6 +192,10 @@ class Session(ABC):
         """The number and the title of each tune, in the order of the text. Of tunes of one number the first one that is not
         too long has the file."""
 
+    def titles_in(self, start: int, stop: int) -> list[Title]:
+        """The titles of the tunes from `start` to `stop`, counted from 0 and without `stop`, as far as there are such tunes."""
+        return self.titles[start:stop]
+
     @property
     @abstractmethod
     def faults(self) -> list[Fault]:

@@ -49,8 +49,9 @@ class Token(NamedTuple):
 
 
 KINDS = {kind.value: kind for kind in TokenKind}
+OTHER = TokenKind.OTHER
 
 
 def kind_of(number: int) -> TokenKind:
     """The kind of a number of the C library."""
-    return KINDS.get(number, TokenKind.OTHER)
+    return KINDS.get(number, OTHER)

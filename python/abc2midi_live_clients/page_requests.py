@@ -11,8 +11,6 @@ from collections.abc import Callable
 from http.server import BaseHTTPRequestHandler
 from typing import TYPE_CHECKING, Any, Optional
 
-from abc2midi_live import ProgramEnded, ProgramMissing
-
 from .rows import Json
 from .shared_book import WINDOW, Refused
 
@@ -57,8 +55,6 @@ class Request(BaseHTTPRequestHandler):
                 answer(self.checked_path())
         except Refused as refused:
             self.refuse(refused)
-        except (ProgramEnded, ProgramMissing) as error:
-            self.refuse(Refused(503, str(error)))
         except (BrokenPipeError, ConnectionResetError):
             self.close_connection = True
 
@@ -156,13 +152,13 @@ class Request(BaseHTTPRequestHandler):
         return name == "font" or bool(font and (program or samples))
 
     def post(self, name: Optional[str]) -> None:
-        """Follows an edit, saves the book or a copy, loads the book from disk, starts the program again, or draws a tune."""
+        """Follows an edit, looks at lines and a tune, saves the book or a copy, loads the book from disk, or draws a tune."""
         book = self.server.book
         if name == "score":
             self.send(self.server.scorer.answer(self.body()), "application/json")
             return
         saves = {"save": book.save, "save-in-utf-8": book.save_in_utf8, "save-as": book.save_as}
-        known = {"edit": book.edit, **saves, "load": book.load, "restart": book.restart}
+        known = {"edit": book.edit, "view": book.view, **saves, "load": book.load}
         follow = known.get(name or "")
         if follow is None:
             raise Refused(404, "There is nothing of that name.")
@@ -197,7 +193,7 @@ class Request(BaseHTTPRequestHandler):
 
     def send_json(self, answer: Json, status: int = 200) -> None:
         """Sends an object."""
-        self.send(json.dumps(answer).encode(), "application/json", status=status)
+        self.send(json.dumps(answer, separators=(",", ":")).encode(), "application/json", status=status)
 
     def send_events(self, seen: int, name: str) -> None:
         """Sends each change after a version, and the state of the book, for as long as the window is open: an object a line, and

@@ -2,11 +2,11 @@
 
 import argparse
 import errno
+import gc
 import os
 import secrets
 import socket
 import sys
-import tempfile
 import threading
 import time
 import zlib
@@ -15,7 +15,7 @@ from http.server import ThreadingHTTPServer
 from pathlib import Path
 from typing import Any
 
-from abc2midi_live import ProgramEnded, ProgramMissing
+from abc2midi_live import LibraryMissing
 
 from .connections import Connections
 from .faults import sentence_pairs
@@ -24,10 +24,10 @@ from .opening_page import PageNote
 from .own_process import ENDED
 from .page_requests import Request
 from .printing import printable
-from .program import add_common_options, find_program
+from .program import add_version_option
 from .book_keys import book_key, proof
 from .scorer import Scorer
-from .shared_book import SharedBook
+from .shared_book import Refused, SharedBook
 from .signals import when_told_to_end
 from .sound_font import BadFont, find_font
 
@@ -63,7 +63,8 @@ def arguments() -> argparse.Namespace:
     sound = parser.add_mutually_exclusive_group()
     sound.add_argument("--sound-font", metavar="FILE", help="play with the instruments of this SoundFont instead of an installed one")
     sound.add_argument("--plain-sounds", action="store_true", help="play with plain sounds, also if a SoundFont is installed")
-    add_common_options(parser)
+    parser.add_argument("--library", metavar="FILE", help="compile by this C library instead of the installed or built one")
+    add_version_option(parser)
     return parser.parse_args()
 
 
@@ -258,27 +259,27 @@ def main() -> int:
             return open_window(note)
         if words.book:
             refuse_missing_folder(words.book)
-        with tempfile.TemporaryDirectory() as directory:
-            book = SharedBook(words.book, words.program or find_program(), directory)
-            with serving(words, book) as server:
-                if book.is_new():
-                    tell(f"{words.book}: there is no such file; the page begins with an empty text, and the first save makes the file")
-                threading.Thread(target=keep_looking, args=(book,), daemon=True).start()
-                keeper = None if words.no_hints else HintKeeper(book)
-                if keeper:
-                    threading.Thread(target=keeper.keep, daemon=True).start()
-                print(f"http://127.0.0.1:{server.server_port}/{server.token}/", flush=True)
-                if words.open:
-                    open_page(server, note)
-                elif sys.stdout.isatty():
-                    tell("open this address in a browser of this machine; Ctrl-C ends the page")
-                serve(server)
+        book = SharedBook(words.book, words.library)
+        gc.freeze()  # an edit does not wait until all lines and tunes were looked at
+        with serving(words, book) as server:
+            if book.is_new():
+                tell(f"{words.book}: there is no such file; the page begins with an empty text, and the first save makes the file")
+            threading.Thread(target=keep_looking, args=(book,), daemon=True).start()
+            keeper = None if words.no_hints else HintKeeper(book)
+            if keeper:
+                threading.Thread(target=keeper.keep, daemon=True).start()
+            print(f"http://127.0.0.1:{server.server_port}/{server.token}/", flush=True)
+            if words.open:
+                open_page(server, note)
+            elif sys.stdout.isatty():
+                tell("open this address in a browser of this machine; Ctrl-C ends the page")
+            serve(server)
         return 0
     except KeyboardInterrupt:
         return 0
-    except (OSError, ProgramMissing, ProgramEnded, BadFont) as error:
+    except (OSError, LibraryMissing, Refused, BadFont) as error:
         tell(f"{error.filename}: {error.strerror}" if isinstance(error, OSError) and error.filename else str(error))
-        return 127 if isinstance(error, ProgramMissing) else 1
+        return 127 if isinstance(error, LibraryMissing) else 1
     finally:
         note.remove()
         if keeper:

@@ -1,4 +1,4 @@
-"""A tune book in a running program, as the clients need it, and the options that all clients have."""
+"""A tune book in a session, as the clients need it, and the options that all clients have."""
 
 import argparse
 import os
@@ -6,9 +6,11 @@ from bisect import bisect_left
 from typing import Any, NamedTuple, Optional
 
 import abc2midi_live
-from abc2midi_live import Built, Edit, Fault, ProcessSession, ProgramMissing, Report, Title
+from abc2midi_live import Built, Edit, Fault, LibraryMissing, ProcessSession, ProgramMissing, Report, Session, Title, Token
 from abc2midi_live.edits import edits, join_edits
 from abc2midi_live.lines import MOST_BYTES, MOST_LINES
+from abc2midi_live.opening import library_session
+from abc2midi_live.plays import Track
 
 from .places import is_inside_character, text_of
 
@@ -23,8 +25,16 @@ class Tune(NamedTuple):
     line: int
 
 
+class Renewal(NamedTuple):
+    """The titles that an edit may have changed: those from `start` to `stop` of the text before became those from `start` to `end`."""
+
+    start: int
+    stop: int
+    end: int
+
+
 class KnownTunes(NamedTuple):
-    """What is known of the tunes: the titles as the program sent them, the lines that begin tunes, and the tunes."""
+    """What is known of the tunes: the titles as the session has them, the lines that begin tunes, and the tunes."""
 
     titles: list[Title]
     starts: list[int]
@@ -39,6 +49,14 @@ def find_program() -> str:
         raise ProgramMissing(f"{missing} by --program") from missing
 
 
+def open_library(library: Optional[str]) -> Session:
+    """A session over a library, or over the installed or built one. Raises LibraryMissing."""
+    try:
+        return library_session(library)
+    except LibraryMissing as missing:
+        raise LibraryMissing(str(missing) if library else f"{missing} by --library") from missing
+
+
 class ShowVersion(argparse.Action):
     """The option `--version`."""
 
@@ -48,47 +66,51 @@ class ShowVersion(argparse.Action):
 
 
 def add_common_options(parser: argparse.ArgumentParser) -> None:
-    """Adds the options that all clients have."""
+    """Adds the options of the clients over the program."""
     parser.add_argument("--program", metavar="FILE", help="start this program instead of the installed or built one")
+    add_version_option(parser)
+
+
+def add_version_option(parser: argparse.ArgumentParser) -> None:
+    """Adds the option `--version`."""
     parser.add_argument("--version", action=ShowVersion, nargs=0, help="print the version and end")
 
 
-class LiveBook:
-    """A text that a running program holds. Lines that the program would refuse are comments there, and faults here."""
+class SessionBook:
+    """A text in a session. Lines that the session would refuse are comments there, and faults here."""
 
-    def __init__(self, program: str, directory: str):
+    def __init__(self, session: Session):
         self.lines: list[bytes] = []
         self.starts: list[int] = []  # the lines that begin tunes, counted from 0
         self.left_out: list[int] = []  # the lines that are too long, counted from 0
+        self.renewal: Optional[Renewal] = None  # since the tunes were asked for
         self.known = KnownTunes([], [], [])
         self.report = Report((), ())  # of the last replacement
-        self.directory = directory
-        self.session = ProcessSession(program, directory)
-        self.process = self.session.process
-
-    def close(self) -> int:
-        """Ends the program after its present command, and returns its exit status."""
-        self.session.close()
-        return self.process.returncode
+        self.session = session
 
     def replace(self, start: int, stop: int, lines: list[bytes]) -> list[Edit]:
         """Replaces the lines from `start` to `stop`, counted from 0 and without `stop`, by few edits, and returns them."""
-        old, new = self.lines, self.lines[:start] + lines + self.lines[stop:]
-        if max(len(old), len(new)) <= MOST_LINES:
+        old, count = self.lines, len(self.lines) + len(lines) - (stop - start)
+        if max(len(old), count) <= MOST_LINES:
             found = [Edit(start + a, start + b, put) for a, b, put in edits(old[start:stop], lines)]
         else:
-            found = edits(old[:MOST_LINES], new[:MOST_LINES])
+            found = edits(old[:MOST_LINES], (old[:start] + lines + old[stop:])[:MOST_LINES])
         sent = join_edits(found, old)
         self.report = self.session.apply([Edit(a, b, [line_to_send(line) for line in put]) for a, b, put in sent])
-        self.lines = new
+        self.lines[start:stop] = lines
         starts, left_out = places_in(lines)
-        self.starts = splice_places(self.starts, start, stop, starts, len(lines))
+        old_starts, self.starts = self.starts, splice_places(self.starts, start, stop, starts, len(lines))
         self.left_out = splice_places(self.left_out, start, stop, left_out, len(lines))
+        self.renewal = self.renewal_by(old_starts, start, stop)
         return sent
 
-    def build(self) -> Built:
-        """Brings the folder up to date."""
-        return self.session.build()
+    def renewal_by(self, old_starts: list[int], start: int, stop: int) -> Renewal:
+        """The titles that may be others after an edit: from the tune before it to the tune after it. If no tune begins before it, the
+        file header may be another, and so may all titles."""
+        known, first, last = len(self.known.titles), bisect_left(old_starts, start), bisect_left(old_starts, stop)
+        if self.renewal or first == 0 or max(len(self.lines), known) > MOST_LINES or known != len(old_starts):
+            return Renewal(0, known, len(self.starts))
+        return Renewal(first - 1, last, last + len(self.starts) - len(old_starts))
 
     def faults(self) -> list[Fault]:
         """The faults of the text in order, and of the lines that are left out. Of `BadByte` at each byte of a character only
@@ -102,17 +124,50 @@ class LiveBook:
         return sorted(found, key=lambda fault: fault[:2])
 
     def tunes(self) -> list[Tune]:
-        """The tunes of the text in order: each `X:` line begins one. If no title and no place changed, they are those of the
+        """The tunes of the text in order: each `X:` line begins one. If no title and no place changed, they are the list of the
         last time."""
-        titles = self.session.titles
-        if titles != self.known.titles or self.starts != self.known.starts:
-            tunes = [Tune(number, text_of(title), n + 1) for (number, title), n in zip(titles, self.starts)]
-            self.known = KnownTunes(titles, self.starts, tunes)
-        return list(self.known.tunes)
+        if self.renewal:
+            start, stop, end = self.renewal
+            (titles, starts, tunes), fresh = self.known, self.session.titles_in(start, end)
+            if fresh != titles[start:stop] or self.starts != starts:
+                new = [Tune(number, text_of(title), n + 1) for (number, title), n in zip(fresh, self.starts[start:])]
+                after = [Tune(number, title, n + 1) for (number, title, _), n in zip(tunes[stop:], self.starts[end:])]
+                self.known = KnownTunes(titles[:start] + fresh + titles[stop:], self.starts, tunes[:start] + new + after)
+            self.renewal = None
+        return self.known.tunes
 
     def midi(self, number: int) -> Optional[bytes]:
         """The bytes of the MIDI file of a number, without a build."""
         return self.session.output(number)
+
+    def tokens(self, line: int) -> tuple[Token, ...]:
+        """The tokens of a line, counted from 0. A line that is left out has none. Raises LibraryNeeded over a process."""
+        if line >= min(len(self.lines), MOST_LINES) or len(self.lines[line]) > MOST_BYTES:
+            return ()
+        return self.session.tokens(line + 1)
+
+    def play(self, number: int) -> Optional[tuple[Track, ...]]:
+        """What is played of a number, None if it has no file. Raises LibraryNeeded over a process, and PlayTooLong."""
+        return self.session.play(number)
+
+
+class LiveBook(SessionBook):
+    """A text in a running program, which stores its files in a folder."""
+
+    def __init__(self, program: str, directory: str):
+        self.directory = directory
+        self.running = ProcessSession(program, directory)
+        self.process = self.running.process
+        super().__init__(self.running)
+
+    def close(self) -> int:
+        """Ends the program after its present command, and returns its exit status."""
+        self.running.close()
+        return self.process.returncode
+
+    def build(self) -> Built:
+        """Brings the folder up to date."""
+        return self.running.build()
 
     def path(self, number: int) -> str:
         """The MIDI file of a number."""
@@ -132,13 +187,18 @@ def places_in(lines: list[bytes]) -> tuple[list[int], list[int]]:
 
 def splice_places(places: list[int], start: int, stop: int, put: list[int], count: int) -> list[int]:
     """Places of a text after the lines from `start` to `stop` became `count` others, which have the places `put`."""
-    before, after = bisect_left(places, start), bisect_left(places, stop)
-    return places[:before] + [start + n for n in put] + [n + start + count - stop for n in places[after:]]
+    before, after, more = bisect_left(places, start), bisect_left(places, stop), count - (stop - start)
+    return places[:before] + [start + n for n in put] + ([n + more for n in places[after:]] if more else places[after:])
+
+
+def lines_too_long(faults: list[Fault]) -> set[int]:
+    """The lines of the tunes that are too long, counted from 1."""
+    return {fault.line for fault in faults if fault.name == "TuneTooLong"}
 
 
 def files_of(tunes: list[Tune], faults: list[Fault]) -> dict[int, Tune]:
     """The tune that has the file of each number: the first one of that number that is not too long."""
-    too_long = {fault.line for fault in faults if fault.name == "TuneTooLong"}
+    too_long = lines_too_long(faults)
     found: dict[int, Tune] = {}
     for tune in tunes:
         if tune.line not in too_long:

@@ -2,12 +2,15 @@
 
 The windows do so by `page_files/rows.js`, which mirrors `moved` and `difference`: tests/clients/test_rows.py compares the two."""
 
+from bisect import bisect_left
 from collections.abc import Sequence
 from itertools import groupby
 from typing import Any, NamedTuple
 
+from abc2midi_live import Fault
 from abc2midi_live.edits import common_front
 
+from .program import Tune, files_of, lines_too_long
 from .texts import Text
 
 NOTHING_FOUND = {"faults": {"at": 0, "out": 0, "put": []}, "tunes": {"at": 0, "out": 0, "put": []}, "written": [], "removed": []}
@@ -24,15 +27,38 @@ class Rows(NamedTuple):
     tunes: list[TuneRow]
 
 
+class TuneRows:
+    """The rows of the tunes of a book. They are the same list until a tune is another one."""
+
+    def __init__(self) -> None:
+        self.tunes: list[Tune] = []
+        self.too_long: set[int] = set()
+        self.rows: list[TuneRow] = []
+
+    def of(self, tunes: list[Tune], faults: list[Fault]) -> list[TuneRow]:
+        """The rows of tunes of a text with some faults."""
+        too_long = lines_too_long(faults)
+        if tunes is not self.tunes or too_long != self.too_long:
+            owners = files_of(tunes, faults)
+            self.rows = [(tune.line - 1, tune.number, tune.title, owners.get(tune.number) is tune) for tune in tunes]
+            self.tunes, self.too_long = tunes, too_long
+        return self.rows
+
+
 def moved(rows: Sequence[Any], edit: Json) -> list[Any]:
     """The rows of a text after an edit, without those of the lines that it replaces."""
     start, stop = edit["start"], edit["stop"]
     grown = len(edit["lines"]) - (stop - start)
-    return [row if row[0] < start or not grown else (row[0] + grown, *row[1:]) for row in rows if not start <= row[0] < stop]
+    first, last = bisect_left(rows, (start,)), bisect_left(rows, (stop,))
+    if not grown:
+        return [*rows[:first], *rows[last:]]
+    return [*rows[:first], *((row[0] + grown, *row[1:]) for row in rows[last:])]
 
 
 def difference(old: Sequence[Any], new: Sequence[Any]) -> Json:
     """How a window makes new rows of old ones: at a place some rows go and others come."""
+    if old == new:
+        return {"at": len(new), "out": 0, "put": []}
     front = common_front(old, new)
     back = common_front(old[front:][::-1], new[front:][::-1])
     return {"at": front, "out": len(old) - front - back, "put": new[front : len(new) - back]}

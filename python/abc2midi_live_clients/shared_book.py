@@ -5,28 +5,32 @@ import re
 import secrets
 import threading
 import time
-from collections.abc import Iterator
-from contextlib import contextmanager, suppress
-from typing import Any, NamedTuple, Optional
+from collections.abc import Callable
+from concurrent.futures import TimeoutError as TooLate
+from contextlib import suppress
+from typing import Any, NamedTuple, Optional, TypeVar
 
-from abc2midi_live import ClosedError, Edit, Fault, ProgramEnded, ProgramMissing
+from abc2midi_live import Edit, Fault, OutOfMemory, Report
 from abc2midi_live.lines import without_empty_end
 
 from .book_file import BookFile
 from .copies import BadName, copy_path, save_copy
 from .hint_process import HintRow, Question
 from .midi_names import zip_of
+from .own_thread import OwnThread
 from .printing import printable
-from .program import LiveBook, Tune, files_of
+from .program import SessionBook, Tune, open_library
 from .recent_changes import RecentChanges
-from .rows import NOTHING_FOUND, Json, Rows, difference, moved, shown_rows
+from .rows import NOTHING_FOUND, Json, Rows, TuneRows, difference, moved, shown_rows
 from .saving import BookChanged, NotSaved, digest, digest_of, read_book, save_book
 from .texts import Text, edits_of
+from .views import Sight, view_of
 from .windows import Windows
 
-SECONDS_OF_PATIENCE = 3  # with a program that does not answer, before the windows say so
-SECONDS_TO_END = 3  # for a program that is asked to end
+SECONDS_OF_PATIENCE = 3  # with an edit or a save, before a look at the file
+SECONDS_TO_END = 3  # for the session
 GONE = "the book is not on the disk any more"
+Result = TypeVar("Result")
 WINDOW = re.compile(r"[\w.-]{1,64}", re.ASCII)  # the name of a window
 
 
@@ -50,24 +54,27 @@ class Disk(NamedTuple):
 
 
 class Version(NamedTuple):
-    """A text, what the program finds in it, and what is known of the file if the text comes from there."""
+    """A text, what the session finds in it and changed by it, and what is known of the file if the text comes from there."""
 
     text: Text
     rows: Rows
+    report: Report
     disk: Optional[Disk] = None
 
 
 class SharedBook:
-    """A tune book on disk, its text as the windows see it, and the running program that holds the same text. A line that nobody
-    edits stays as it is.
+    """A tune book on disk, its text as the windows see it, and the session of the library that holds the same text. A line that
+    nobody edits stays as it is.
 
-    Whoever asks the program holds `turn`; whoever reads or writes the file holds `file_lock`; `moved` guards what windows see,
-    and is held for a moment only, so that windows hear of a program that does not answer."""
+    Whoever asks the session holds `turn`; whoever reads or writes the file holds `file_lock`; `moved` guards what windows see,
+    and is held for a moment only, so that windows hear of the state during a long edit."""
 
-    def __init__(self, path: Optional[str], program: str, directory: str):
+    def __init__(self, path: Optional[str], library: Optional[str] = None):
         self.path = os.path.realpath(path) if path else None
         self.name = printable(os.path.basename(self.path)) if self.path else ""
-        self.program, self.directory = program, directory
+        self.library = library
+        self.thread = OwnThread()  # of the session
+        self.session_book: Optional[SessionBook] = None  # None if an allocation failed
         self.turn, self.file_lock, self.moved = threading.Lock(), threading.Lock(), threading.Condition()
         self.run = secrets.token_hex(8)
         self.version = self.moment = 0  # the moment counts saves and what is known of the file, too
@@ -76,70 +83,54 @@ class SharedBook:
         self.windows = Windows()
         self.hints: list[HintRow] = []
         self.hints_told = 0  # how often there were other ones
-        self.asked_since: Optional[float] = None  # when the program was asked
-        self.is_ended = False
         self.file = BookFile(self.path) if self.path else None
         self.was_gone = False  # at the last look
         content = read_book(self.path) if self.path else b""
         self.text = Text.of(content or b"")
         self.disk = Disk(self.text, digest_of(content), digest_of(content))
         self.is_unsaved = False
-        self.begin()
+        self.tune_rows = TuneRows()
+        self.rows = self.in_session(self.found_in)
 
     def is_new(self) -> bool:
         """Whether the book has a name, and no file yet."""
         return self.path is not None and self.disk.saved is None
 
-    def begin(self) -> None:
-        """Starts the program with the present text."""
-        self.book = LiveBook(self.program, self.directory)
-        self.book.replace(0, 0, without_empty_end(self.text.lines))
-        self.rows = self.ask()
+    def in_session(self, act: Callable[[SessionBook], Result]) -> Result:
+        """Does something with the session, on its thread. If an allocation fails, another session begins with the text that is there."""
+        return self.thread.do(lambda: self.carry_out(act))
 
-    def ask(self) -> Rows:
-        """What the program finds in its text."""
-        faults, tunes = self.book.faults(), self.book.tunes()
-        owners = files_of(tunes, faults)
-        return Rows(
-            [(fault.line - 1, fault.column, fault.name) for fault in faults],
-            [(tune.line - 1, tune.number, tune.title, owners.get(tune.number) is tune) for tune in tunes],
-        )
-
-    @contextmanager
-    def asking(self) -> Iterator[None]:
-        """While the program is asked. A program that ends is started again with the text that is there."""
-        self.asked_since = time.monotonic()
+    def carry_out(self, act: Callable[[SessionBook], Result]) -> Result:
+        """Does something with the session, on its thread."""
         try:
-            yield
-        except (ProgramEnded, ClosedError) as error:
-            if self.is_ended:
-                raise
-            self.end_program()
-            self.begin()
-            raise Refused(503, f"{error}; it was started again") from error
-        finally:
-            self.asked_since = None
+            self.session_book = self.session_book or self.opened()
+            return act(self.session_book)
+        except OutOfMemory as error:
+            self.drop()
+            raise Refused(413, str(error)) from error
 
-    def end_program(self) -> None:
-        """Ends the program, by force if it does not follow."""
-        force = threading.Timer(SECONDS_TO_END, self.book.process.kill)
-        force.start()
-        with suppress(OSError, ValueError):
-            self.book.close()
-        force.cancel()
+    def found_in(self, book: SessionBook) -> Rows:
+        """What a session finds in its text."""
+        faults = book.faults()
+        return Rows([(fault.line - 1, fault.column, fault.name) for fault in faults], self.tune_rows.of(book.tunes(), faults))
 
-    def restart(self, _: Json) -> Json:
-        """Ends a program that does not answer: whoever waits for it starts it again."""
-        self.book.process.kill()
-        return {}
+    def opened(self) -> SessionBook:
+        """A session with the present text. Raises LibraryMissing."""
+        book = SessionBook(open_library(self.library))
+        book.replace(0, 0, without_empty_end(self.text.lines))
+        return book
+
+    def drop(self) -> None:
+        """Ends the session, on its thread."""
+        if self.session_book:
+            self.session_book.session.close()
+        self.session_book = None
 
     def close(self) -> None:
-        """Ends the program, also if it does not answer."""
-        self.is_ended = True
-        if not self.turn.acquire(timeout=SECONDS_TO_END):
-            self.book.process.kill()
-            self.turn.acquire()
-        self.end_program()
+        """Ends the session, unless it is busy for long: then it ends with the process."""
+        with suppress(TooLate):
+            self.thread.do(self.drop, SECONDS_TO_END)
+        self.thread.end()
 
     def snapshot(self) -> Json:
         """The whole book as a window sees it, with what the file has now if nothing is unsaved."""
@@ -159,7 +150,6 @@ class SharedBook:
     def state(self) -> Json:
         """How the book is: `saved` is what the text was last, `disk` is what the file is now. `mark`, `returns` and `letters` are
         what windows do not see of the text. Of two states the later one has the larger `moment`."""
-        since = self.asked_since
         return {
             "run": self.run,
             "version": self.version,
@@ -171,7 +161,6 @@ class SharedBook:
             "saved": self.disk.saved,
             "disk": self.disk.present,
             "trouble": self.disk.trouble,
-            "slow": since is not None and time.monotonic() - since > SECONDS_OF_PATIENCE,
             "windows": self.windows.count(),
             "hints": self.hints_told,
         }
@@ -238,42 +227,48 @@ class SharedBook:
 
     def midi(self, number: int) -> bytes:
         """The MIDI file of a number."""
-        with self.turn, self.asking():
-            data = self.book.midi(number)
+        with self.turn:
+            data = self.in_session(lambda book: book.midi(number))
         if data is None:
             raise Refused(404, f"number {number} has no file")
         return data
 
     def all_midi(self) -> bytes:
         """The MIDI files of all numbers, in a .zip."""
-        with self.turn, self.asking():
+        with self.turn:
             owners = [(number, title) for _, number, title, has_file in self.rows.tunes if has_file]
-            found = [(number, title, self.book.midi(number)) for number, title in owners]
+            found = self.in_session(lambda book: [(number, title, book.midi(number)) for number, title in owners])
         return zip_of((number, title, data) for number, title, data in found if data is not None)
 
     def edit(self, asked: Json) -> Json:
-        """Replaces lines, for a window that saw all changes before; returns what that changed."""
+        """Replaces lines, for a window that saw all changes before; returns what that changed, and what the window sees of it."""
         with self.turn:
             self.same_version(asked)
             start, stop, lines = self.checked(asked)
-            window, has = window_of(asked), edits_in(asked)
+            window, has, sight = window_of(asked), edits_in(asked), sight_of(asked)
             since = time.perf_counter()
             edit = self.text.edit_of(start, stop, lines)
             text = self.text.edited(edit)
-            with self.asking():
-                self.hand_over(edit, text)
-                rows = self.ask()
-            shown = {"start": start, "stop": stop, "lines": lines}
-            return self.publish([shown], Version(text, rows), window, since, has)[-1]
 
-    def hand_over(self, edit: Edit, text: Text) -> None:
-        """Lets the program have an edit that makes a text. An empty last line is none there."""
-        if edit.stop < len(self.text.lines):
-            self.book.replace(*edit)
-        else:
-            new_lines = without_empty_end(text.lines)
-            start = min(edit.start, len(new_lines), len(self.book.lines))
-            self.book.replace(start, len(self.book.lines), new_lines[start:])
+            def compile_and_look(book: SessionBook) -> tuple[Version, Optional[Json]]:
+                hand_over(book, edit, text)
+                version = Version(text, self.found_in(book), book.report)
+                return version, view_of(book, text, sight) if sight else None
+
+            version, view = self.in_session(compile_and_look)
+            shown = {"start": start, "stop": stop, "lines": lines}
+            change = self.publish([shown], version, window, since, has)[-1]
+            return {**change, "view": view} if view else change
+
+    def view(self, asked: Json) -> Json:
+        """What a window sees of the text, for one that saw all changes."""
+        with self.turn:
+            self.same_version(asked)
+            sight = sight_of(asked)
+            if not sight:
+                raise Refused(400, "a view has lines")
+            text, seen = self.text, sight
+            return {"view": self.in_session(lambda book: view_of(book, text, seen))}
 
     def publish(
         self, made: list[Json], version: Version, window: Optional[str], since: float, has: Optional[dict[str, int]] = None
@@ -290,8 +285,8 @@ class SharedBook:
             changes[-1] |= {
                 "faults": {**found, "put": shown_rows(version.text, found["put"])},
                 "tunes": difference(tunes, version.rows.tunes),
-                "written": list(self.book.report.written),
-                "removed": list(self.book.report.removed),
+                "written": list(version.report.written),
+                "removed": list(version.report.removed),
             }
         with self.moved:
             self.text, self.rows = version.text, version.rows
@@ -348,7 +343,7 @@ class SharedBook:
         except OSError as error:
             self.know(self.disk.present, error.strerror or str(error))
             self.file = BookFile(self.file.path)
-        except (Refused, ProgramEnded, ProgramMissing):
+        except Refused:
             self.file = BookFile(self.file.path)
         finally:
             self.file_lock.release()
@@ -379,14 +374,17 @@ class SharedBook:
     def become(self, text: Text, window: Optional[str], disk: Optional[Disk] = None) -> list[Json]:
         """Makes a text that of the book, by few edits, and returns the changes. Whoever calls this has the turn."""
         since = time.perf_counter()
-        with self.asking():
-            self.book.replace(0, len(self.book.lines), without_empty_end(text.lines))
-            rows = self.ask()
+
+        def compile_whole(book: SessionBook) -> Version:
+            book.replace(0, len(book.lines), without_empty_end(text.lines))
+            return Version(text, self.found_in(book), book.report, disk)
+
+        version = self.in_session(compile_whole)
         made = [
             {"start": start, "stop": stop, "lines": [text.shown(line) for line in lines]}
             for start, stop, lines in reversed(edits_of(self.text, text))
         ]
-        return self.publish(made, Version(text, rows, disk), window, since)
+        return self.publish(made, version, window, since)
 
     def know(self, present: Optional[str], trouble: str = "") -> None:
         """Sends the windows the present state of the file."""
@@ -399,7 +397,7 @@ class SharedBook:
 
     def remind(self) -> None:
         """Wakes those who wait for news, since time alone may have brought some."""
-        if self.asked_since is not None or self.windows.asked:
+        if self.windows.asked:
             with self.moved:
                 self.moved.notify_all()
 
@@ -499,9 +497,31 @@ class SharedBook:
         return self.now()
 
 
+def hand_over(book: SessionBook, edit: Edit, text: Text) -> None:
+    """Lets a session have an edit that makes a text. An empty last line is none there."""
+    if edit.stop < len(text.lines) - len(edit.lines) + edit.stop - edit.start:
+        book.replace(*edit)
+    else:
+        new_lines = without_empty_end(text.lines)
+        start = min(edit.start, len(new_lines), len(book.lines))
+        book.replace(start, len(book.lines), new_lines[start:])
+
+
+def sight_of(asked: Json) -> Optional[Sight]:
+    """What a window shows, if it says so."""
+    seen = asked.get("sees")
+    if seen is None:
+        return None
+    if isinstance(seen, dict):
+        start, stop, tune = seen.get("from"), seen.get("to"), seen.get("tune")
+        if type(start) is int and type(stop) is int and start >= 0 and stop >= 0 and (tune is None or is_count(tune)):
+            return Sight(start, stop, tune)
+    raise Refused(400, "these are no lines and no tune that a window sees")
+
+
 def shown_lines(text: Text) -> Json:
     """The lines of a text as windows see them."""
-    return {"lines": [text.shown(line) for line in text.lines]}
+    return {"lines": text.shown_lines()}
 
 
 def window_of(asked: Json) -> Optional[str]:

@@ -58,6 +58,14 @@ class Text(NamedTuple):
         """A line as windows see it: each control is a half of a pair."""
         return text_of(self.content(line)).translate(CONTROLS)
 
+    def shown_lines(self) -> list[str]:
+        """All lines as windows see them: at once if the text is UTF-8."""
+        data = b"\n".join(self.lines)
+        if not is_utf8(data):
+            return [self.shown(line) for line in self.lines]
+        plain = self.content(data.replace(b"\r\n", b"\n")) if self.returns else data
+        return plain.decode().translate(CONTROLS).split("\n")
+
     def content(self, line: bytes) -> bytes:
         """A line without the carriage return that all lines have."""
         return line.removesuffix(b"\r") if self.returns else line
