@@ -4,6 +4,7 @@ import { WorkerSession } from "./abc2midi-live/worker.js";
 import { bytesOf } from "./book_text.js";
 import { spanOf } from "./fault_spans.js";
 import { difference } from "./lines.js";
+import { ENTRY_KINDS, KINDS } from "./seen.js";
 
 /** @typedef {import("./book_text.js").Line} Line
  * @typedef {import("./book_text.js").BookText} BookText
@@ -11,11 +12,14 @@ import { difference } from "./lines.js";
  * @typedef {import("./rows.js").TuneRow} TuneRow
  * What the compiler finds in a text.
  * @typedef {{ faults: FaultRow[], tunes: TuneRow[] }} Rows
- * @typedef {import("./abc2midi-live/index.js").Report} Report */
+ * @typedef {import("./abc2midi-live/index.js").Report} Report
+ * @typedef {import("./abc2midi-live/index.js").Entry} Entry */
 
 const MOST_LINES = 1048576, MOST_BYTES = 65535; // of a text, of a line
 const MOST_BYTES_OF_A_UNIT = 3;
 const LEFT_OUT = "%"; // instead of a longer line: a comment has no effect
+const MOST_SEEN = 1000; // lines of a window
+const NO_KEY = 128;
 
 /** Whether a line has too many bytes.
  * @type {(line: Line) => boolean} */
@@ -109,11 +113,43 @@ export class CompiledBook {
     });
   }
 
+  /** What is seen of the session's text: the tokens of lines, and the play of a number, as rows of numbers.
+   * @type {(wanted: import("./seen.js").Want) => Promise<import("./seen.js").View>} */
+  async view({ from, to, tune }) {
+    const count = Math.max(0, Math.min(to, from + MOST_SEEN, this.lines.length) - from);
+    const tokens = Promise.all(Array.from({ length: count }, (_, n) => this.tokens(from + n)));
+    return { from, to, tokens: await tokens, tune, play: tune === null ? null : await this.play(tune) };
+  }
+
+  /** The numbers of the tokens of a line. A line that is left out has none.
+   * @type {(line: number) => Promise<number[]>} */
+  async tokens(line) {
+    if (!this.session || isTooLong(this.lines[line])) return [];
+    const tokens = await this.session.tokens(line + 1);
+    return tokens.flatMap(({ utf16From, utf16To, kind, depth }) => [utf16From - 1, utf16To - 1, KINDS.indexOf(kind), depth]);
+  }
+
+  /** The numbers of the entries of each track of a number; null if it has no file, or plays too much.
+   * @type {(number: number) => Promise<number[][] | null>} */
+  async play(number) {
+    const tracks = await this.session?.play(number).catch((error) => {
+      if (error.name !== "PlayTooLong") throw error;
+      return null;
+    });
+    return tracks?.map((entries) => entries.flatMap(numbersOf)) ?? null;
+  }
+
   /** The bytes of the file of a number, or null.
    * @type {(number: number) => Promise<Uint8Array | null>} */
   async midi(number) {
     return this.session ? this.session.output(number) : null;
   }
+}
+
+/** The numbers of an entry.
+ * @type {(entry: Entry) => number[]} */
+function numbersOf({ on, off, line, utf16From, utf16To, kind, key, velocity, joined }) {
+  return [on, off, line - 1, utf16From - 1, utf16To - 1, ENTRY_KINDS.indexOf(kind), key ?? NO_KEY, velocity ?? 0, Number(joined)];
 }
 
 /** Whether a line begins a tune.

@@ -9,7 +9,7 @@ import { SENTENCES } from "./sentences.js";
 /** @typedef {import("./rows.js").Edit} Edit
  * @typedef {import("./compiled_book.js").Rows} Rows
  * What asks for a change: a version and a window, and what is asked.
- * @typedef {{ version: number, window: string } & Partial<Edit> & { has?: import("./ancestry.js").Edits, over?: string | null }} Asked
+ * @typedef {{ version: number, window: string } & Partial<Edit> & { has?: import("./ancestry.js").Edits, over?: string | null, sees?: import("./seen.js").Want | null }} Asked
  * A content of the file, with a name that no other content had; the name is null if there is no file.
  * @typedef {{ name: string | null, text: BookText }} Content
  * A file that the user picked.
@@ -87,6 +87,7 @@ export class WorkerBook {
       if (name === "saved") return { lines: this.saved.text.shownLines };
       if (name === "disk") return this.onDisk();
       if (name === "edit") return this.edit(asked);
+      if (name === "view") return this.view(asked);
       if (name === "load") return this.load(asked);
       if (name === "save") return this.save(asked);
       if (name === "save-as") return this.saveElsewhere();
@@ -155,15 +156,22 @@ export class WorkerBook {
     const { run, version, moment, text, isUnsaved, saved, present } = this;
     return {
       run, version, moment, mark: text.mark, returns: text.returns, letters: text.letters, unsaved: isUnsaved,
-      saved: saved.name, disk: present.name, trouble: "", slow: false, windows: 1, hints: 0,
+      saved: saved.name, disk: present.name, trouble: "", windows: 1, hints: 0,
     };
   }
 
   /** Replaces lines, as the page's window asks. */
-  async edit(/** @type {Asked} */ { version, window, start = 0, stop = 0, lines = [], has }) {
+  async edit(/** @type {Asked} */ { version, window, start = 0, stop = 0, lines = [], has, sees }) {
     if (version !== this.version) throw refusal(409, "the text was changed meanwhile", this.state);
     const text = this.text.edited(this.text.editOf(start, stop, lines));
-    return this.publish({ start, stop, lines }, text, window, has);
+    const change = await this.publish({ start, stop, lines }, text, window, has);
+    return sees ? { ...change, view: await this.compiled.view(sees) } : change;
+  }
+
+  /** What is seen of the text. */
+  async view(/** @type {Asked} */ { version, sees }) {
+    if (version !== this.version || !sees) throw refusal(409, "the text was changed meanwhile", this.state);
+    return { view: await this.compiled.view(sees) };
   }
 
   /** Makes another text that of the book: the change. `has` says which edits of the window the text has in it since then.

@@ -51,6 +51,7 @@ def view_of(book: SessionBook, text: Text, sight: Sight) -> Json:
     columns = Columns(text)
     return {
         "from": sight.start,
+        "to": sight.stop,
         "tokens": token_rows(book, columns, range(len(text.lines))[sight.start : sight.stop][:MOST_LINES]),
         "tune": sight.tune,
         "play": None if sight.tune is None else track_rows(book, columns, sight.tune),

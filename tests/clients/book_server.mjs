@@ -42,7 +42,7 @@ export class Book {
 
   get state() {
     const { run, saved, disk, unsaved, version, moment } = this;
-    return { run, version, moment, unsaved, saved, disk, trouble: "", slow: false, windows: 1, hints: 0 };
+    return { run, version, moment, unsaved, saved, disk, trouble: "", windows: 1, hints: 0 };
   }
 
   put(window, { start, stop, lines }, writing = String(this.version + 1), has = { [this.run]: this.version + 1 }) {
@@ -87,9 +87,15 @@ export class Book {
     if (body.length > this.most) return [413, { error: "too long" }];
     if (asked.run !== this.run) return [409, { error: "another run", ...this.state }];
     if (asked.version !== this.version) return [409, { error: "another", changes: this.changes.slice(asked.version), ...this.state }];
+    if (name === "view") return [200, { view: this.viewOf(asked.sees) }];
     if (name === "save") return this.save(asked);
     if (name === "load") return this.load();
     return this.edit(asked);
+  }
+
+  /** What is seen: a token of the kind 1 for each line, and no play. */
+  viewOf({ from, to, tune }) {
+    return { from, to, tokens: this.lines.slice(from, to).map((line) => [0, line.length, 1, 0]), tune, play: null };
   }
 
   save({ over }) {
@@ -116,7 +122,7 @@ export class Book {
     return [200, { changes, ...this.state }];
   }
 
-  edit({ window, start, stop, lines, has }) {
+  edit({ window, start, stop, lines, has, sees }) {
     const { lose } = this;
     this.lose = null;
     if (lose === "edit") this.cut();
@@ -124,7 +130,7 @@ export class Book {
     const edit = { start, stop, lines };
     if (lose === "late") this.late = () => this.put(window, edit, undefined, has);
     const change = lose === "late" ? null : this.put(window, edit, undefined, has);
-    if (!lose) return [200, change];
+    if (!lose) return [200, sees ? { ...change, view: this.viewOf(sees) } : change];
     this.cut();
     throw new Error("lost");
   }

@@ -15,7 +15,6 @@ import { difference, replaced } from "./lines.js";
  * @property {string | null} saved
  * @property {string | null} disk
  * @property {string} trouble
- * @property {boolean} slow
  * @property {number} windows
  * @property {number} hints how often there were others */
 /** A whole book as the server sends it. `has` says which edits its text has in it.
@@ -56,7 +55,6 @@ import { difference, replaced } from "./lines.js";
  * @typedef {{ name: "returning", away: string }} Returning it proves itself, and says what happened
  * @typedef {Joining | Following | Lost | Returning} Situation */
 
-const SOON = 10; // milliseconds after a key
 const AGAIN = [500, 1000, 2000, 4000]; // milliseconds before it is tried again
 const POLL = 1000; // milliseconds between questions for news, if there are many windows
 const TRIES = 5; // of a save, while edits of others arrive
@@ -71,13 +69,14 @@ export class Link {
     /** @type {Situation} */
     this.situation = { name: "joining", away: "" };
     /** @type {State | null} */
-    this.state = null; // of the server: run, version, moment, mark, returns, letters, unsaved, saved, disk, trouble, slow, windows, hints
+    this.state = null; // of the server: run, version, moment, mark, returns, letters, unsaved, saved, disk, trouble, windows, hints
     /** @type {Ancestry | null} */
     this.ancestry = null; // the texts of the server
     /** @type {import("./ancestry.js").Edits} */
     this.has = {}; // the edits that this window's text has in it
     this.author = this.window; // of the edits of this window
     this.number = 0; // of the last one
+    this.awaited = 0; // edits without an answer, also those that are known to have arrived
     /** @type {Set<string | null>} */
     this.files = new Set(); // what was in the file when the text was the file's
     /** @type {string[] | null} */
@@ -103,6 +102,10 @@ export class Link {
     /** @type {(why: string) => void} */
     this.refused = () => {}; // an edit that the server does not take
     this.twice = () => {}; // another window changed the same letters
+    /** @type {(start: number, stop: number) => import("./seen.js").Want | null} */
+    this.sees = () => null; // what is seen of some lines and after them: an edit asks for it
+    /** @type {(view: import("./seen.js").View, version: number) => void} */
+    this.viewed = () => {}; // what an edit's answer has of that
   }
 
   /** The edit on its way. */
@@ -356,12 +359,12 @@ export class Link {
     if (isTwice) this.twice();
   }
 
-  /** Something was typed: it is sent soon, and at once when the edit before it arrived. */
+  /** Something was typed: it is sent when the page has shown it, and the edit before it arrived. */
   soon() {
     this.timer ??= setTimeout(() => {
       this.timer = null;
       this.send();
-    }, SOON);
+    });
   }
 
   async send() {
@@ -373,9 +376,12 @@ export class Link {
     this.has = { ...this.has, [this.author]: this.number };
     const sent = (situation.sent = { ...taken, number: this.number, has: lackedBy(this.has, this.texts.has) });
     const { run, version } = this.known, { start, stop, lines, has } = sent;
+    this.awaited += 1;
     try {
-      const change = await this.server.ask("edit", { run, version, window: this.window, start, stop, lines, has });
+      const asked = { run, version, window: this.window, start, stop, lines, has, sees: this.sees(start, start + lines.length) };
+      const { view, ...change } = await this.server.ask("edit", asked).finally(() => (this.awaited -= 1));
       if (this.situation === situation) this.advance(change);
+      if (this.situation === situation && view) this.viewed(view, change.version);
     } catch (error) {
       if (situation.sent === sent) this.failed(/** @type {Failure} */ (error));
     }
@@ -485,6 +491,6 @@ function isNext({ state, changes }, { run, version }) {
 }
 
 /** @type {(state: State) => State} */
-function stateOf({ run, version, moment, mark, returns, letters, unsaved, saved, disk, trouble, slow, windows, hints }) {
-  return { run, version, moment, mark, returns, letters, unsaved, saved, disk, trouble, slow, windows, hints };
+function stateOf({ run, version, moment, mark, returns, letters, unsaved, saved, disk, trouble, windows, hints }) {
+  return { run, version, moment, mark, returns, letters, unsaved, saved, disk, trouble, windows, hints };
 }

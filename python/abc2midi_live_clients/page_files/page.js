@@ -217,6 +217,7 @@ export class Application {
       this.search.renew();
       if (isFirst) this.undoStore.open(fresh.id);
     }
+    this.seen.forget();
     music.shown.doubt();
     if (isFirst) {
       find("loading").hidden = true;
@@ -235,6 +236,7 @@ export class Application {
     const { written, removed } = change;
     this.undoStore.soon();
     this.book.change(change);
+    this.seen.change(change.edit);
     this.follow();
     this.tunes.light(written, removed);
     this.music.shown.reload(written.concat(removed));
@@ -244,6 +246,7 @@ export class Application {
   /** The state of the server is another one. */
   told() {
     const { link, book, news } = this;
+    this.seen.look();
     this.titleBar.show();
     this.allMidi.show();
     news.reportAway();

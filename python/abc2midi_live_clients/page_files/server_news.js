@@ -1,4 +1,4 @@
-// What the page says of the server: which files changed, that it is away, slow, or does not take an edit.
+// What the page says of the server: which files changed, that it is away, or does not take an edit.
 
 const MOST_NAMES = 8; // of files in a sentence
 const KEPT = "What you type is kept in this browser, and sent when it is there again";
@@ -58,16 +58,9 @@ export class ServerNews {
     this.trouble = trouble;
   }
 
-  /** Asks what to do if the program does not answer, and takes back questions that have no point any more. */
+  /** Takes back a question that has no point any more. */
   askAboutTheServer() {
-    const { link, questions } = this;
-    if (!link.isStuck) questions.withdraw("refused");
-    if (link.state?.slow && !link.away) {
-      const answers = { "Start it again": () => void this.restart(), Wait: null };
-      questions.ask({ name: "slow", words: "The program has not answered for some seconds. Starting it again keeps your text.", answers });
-    } else {
-      questions.withdraw("slow");
-    }
+    if (!this.link.isStuck) this.questions.withdraw("refused");
   }
 
   /** Says why the server does not take an edit.
@@ -81,11 +74,6 @@ export class ServerNews {
   /** Says that another window changed the same letters. */
   twice() {
     this.status.say("Another window changed the same letters: both lines are there.");
-  }
-
-  /** Starts the program again. */
-  async restart() {
-    await this.server.ask("restart", {}).catch((error) => this.status.say(`The program was not started again: ${error.message}.`));
   }
 }
 
