@@ -43,7 +43,6 @@ class Page(trial.Folder):
         super().setUp()
         self.path = self.folder / "book.abc"
         self.path.write_bytes(self.opening)
-        self.write_starter()
         self.start(str(self.path))
 
     def start(self, *words: str, port: Optional[str] = "0", descriptors: int = 1024, hints: bool = False, font: str = "") -> None:
@@ -51,7 +50,7 @@ class Page(trial.Folder):
         options = [*(["--port", port] if port else []), *([] if hints else ["--no-hints"])]
         options += ["--sound-font", font] if font else ["--plain-sounds"]
         self.server = subprocess.Popen(
-            [sys.executable, str(trial.CLIENTS / "page"), *words, *options, "--program", str(self.folder / "program")],
+            [sys.executable, str(trial.CLIENTS / "page"), *words, *options, "--library", trial.library],
             stdout=subprocess.PIPE, stderr=subprocess.PIPE,
             env={**os.environ, "TMPDIR": str(self.files), "XDG_STATE_HOME": str(self.folder / "state")},
             preexec_fn=lambda: resource.setrlimit(resource.RLIMIT_NOFILE, (descriptors, descriptors)),
@@ -226,24 +225,6 @@ class Requests(Page):
             self.assertEqual(archive.namelist(), ["1 Kesh.mid", "2.mid", "12 A B Frère.mid"])
             self.assertEqual([archive.read(name) for name in archive.namelist()], [files[f"{number}.mid"] for number in (1, 2, 12)])
 
-    def test_the_program_ends(self) -> None:
-        self.edit(3, 4, "G")
-        os.kill(int((self.folder / "pid").read_text()), signal.SIGKILL)
-        self.assertEqual(self.edit(3, 4, "A")["status"], 503)
-        self.assertEqual(self.edit(3, 4, "A")["written"], [1])
-        self.assertEqual(self.book()["lines"][3], "A")
-        self.finish()
-
-    def test_no_program_for_a_while(self) -> None:
-        starter, away = self.folder / "program", self.folder / "away"
-        starter.rename(away)
-        os.kill(int((self.folder / "pid").read_text()), signal.SIGKILL)
-        self.assertEqual([self.edit(3, 4, "A")["status"] for _ in range(2)], [503, 503])
-        away.rename(starter)
-        self.assertEqual(self.edit(3, 4, "A")["status"], 503)
-        self.assertEqual(self.edit(3, 4, "A")["written"], [1])
-        self.finish()
-
     def test_windows(self) -> None:
         with self.window() as news:
             self.assertEqual(next(news)["state"]["windows"], 1)
@@ -267,7 +248,7 @@ class Requests(Page):
     def test_a_terminal_shows_what_to_do_with_the_address(self) -> None:
         self.finish()
         terminal, other = os.openpty()
-        words = [sys.executable, str(trial.CLIENTS / "page"), str(self.path), "--port", "0", "--no-hints", "--program", str(self.folder / "program")]
+        words = [sys.executable, str(trial.CLIENTS / "page"), str(self.path), "--port", "0", "--no-hints", "--library", trial.library]
         with os.fdopen(terminal, "rb") as shown, os.fdopen(other, "wb") as stream:
             self.server = subprocess.Popen(words, stdout=stream, stderr=subprocess.PIPE)
             self.limit(self.server)
@@ -338,29 +319,6 @@ class Requests(Page):
             self.assertLess(next(news)["state"]["windows"], 5)
             self.finish()
 
-    def test_a_program_that_hangs(self) -> None:
-        """The page says so soon; the book can be saved, the program be started again, and the server be ended."""
-        self.edit(3, 4, "G")
-        with self.window() as news:
-            hung = int((self.folder / "pid").read_text())
-            os.kill(hung, signal.SIGSTOP)
-            answers = []
-            asking = threading.Thread(target=lambda: answers.append(self.edit(3, 4, "A")))
-            asking.start()
-            while not next(news).get("state", {}).get("slow"):
-                pass
-            self.assertEqual(self.save()["unsaved"], False)
-            self.assertEqual(self.path.read_bytes(), BOOK.replace(b"GABc &", b"G"))
-            self.assertEqual(self.ask("restart", {}), {})
-            asking.join(trial.SECONDS)
-            self.assertEqual(answers[0]["status"], 503)
-            self.assertEqual(self.edit(3, 4, "A")["written"], [1])
-        os.kill(int((self.folder / "pid").read_text()), signal.SIGSTOP)
-        with socket.create_connection(("127.0.0.1", self.port)) as connection:
-            connection.sendall(f"GET /{self.token}/midi/1 HTTP/1.1\r\nHost: 127.0.0.1:{self.port}\r\n\r\n".encode())
-            self.server.send_signal(signal.SIGTERM)
-            self.assertEqual(self.server.wait(trial.SECONDS), 0)
-
     def test_random_edits(self) -> None:
         """What a window makes of the answers is what a fresh run gives."""
         chance = random.Random(trial.seed)
@@ -394,7 +352,7 @@ class Files(Page):
         self.edit(4, 5, "% é 𝄞")
         state = self.save()
         self.assertEqual((self.path.read_bytes(), state["unsaved"]), (BOOK.replace(b"\n\n", "\n% é 𝄞\n".encode()), False))
-        self.assertEqual((self.path.stat().st_mode & 0o777, sorted(os.listdir(self.folder))), (0o640, ["book.abc", "files", "link", "pid", "program", "state"]))
+        self.assertEqual((self.path.stat().st_mode & 0o777, sorted(os.listdir(self.folder))), (0o640, ["book.abc", "files", "link", "state"]))
         self.edit(0, 0, "%")
         self.path.write_bytes(b"another's")
         asked = self.save()
@@ -598,7 +556,7 @@ class Files(Page):
 
     def test_a_book_in_a_folder_that_is_missing(self) -> None:
         missing = self.folder / "missing"
-        words = [sys.executable, str(trial.CLIENTS / "page"), str(missing / "book.abc"), "--program", str(self.folder / "program")]
+        words = [sys.executable, str(trial.CLIENTS / "page"), str(missing / "book.abc"), "--library", trial.library]
         ran = subprocess.run(words, capture_output=True, text=True, timeout=trial.SECONDS)
         said = f"page: {missing}: there is no such folder; make it first, or correct the name of the book\n"
         self.assertEqual((ran.returncode, ran.stdout, ran.stderr), (1, "", said))
@@ -700,7 +658,7 @@ class Strangers(Page):
             said = self.server.communicate(timeout=trial.SECONDS)[1].decode()
             before = ", perhaps by a page that you started before"
             self.assertEqual(said, f"page: port {port} of this book is taken{before}; this page is at port {self.port}\n")
-            words = [sys.executable, str(trial.CLIENTS / "page"), "--program", trial.program, "--port", str(port)]
+            words = [sys.executable, str(trial.CLIENTS / "page"), "--library", trial.library, "--port", str(port)]
             again = subprocess.run(words, capture_output=True, timeout=trial.SECONDS)
             remedy = "; name another one by --port, or leave out --port"
             self.assertEqual(again.stderr.decode(), f"page: port {port}: Address already in use{before}{remedy}\n")
@@ -708,19 +666,20 @@ class Strangers(Page):
 
     def test_no_port(self) -> None:
         for port in ("65536", "-1", "x"):
-            words = [sys.executable, str(trial.CLIENTS / "page"), "--program", trial.program, f"--port={port}"]
+            words = [sys.executable, str(trial.CLIENTS / "page"), "--library", trial.library, f"--port={port}"]
             said = subprocess.run(words, capture_output=True, timeout=trial.SECONDS)
             self.assertEqual((said.returncode, said.stderr.endswith(b"write a number from 0 to 65535\n")), (2, True))
         self.finish()
 
-    def test_no_program(self) -> None:
-        words = [sys.executable, str(trial.CLIENTS / "page"), "--program", str(self.folder / "missing")]
-        said = subprocess.run(words, capture_output=True, timeout=trial.SECONDS)
-        self.assertEqual((said.returncode, said.stderr), (127, b"page: %s/missing: No such file or directory\n" % os.fsencode(self.folder)))
+    def test_no_library(self) -> None:
+        missing = self.folder / "missing"
+        words = [sys.executable, str(trial.CLIENTS / "page"), "--library", str(missing)]
+        said = subprocess.run(words, capture_output=True, text=True, timeout=trial.SECONDS)
+        self.assertEqual((said.returncode, said.stderr.startswith(f"page: {missing}: cannot open"), said.stderr.count("\n")), (127, True, 1))
         self.finish()
 
     def test_a_folder_is_no_book(self) -> None:
-        words = [sys.executable, str(trial.CLIENTS / "page"), "--program", trial.program, str(self.folder)]
+        words = [sys.executable, str(trial.CLIENTS / "page"), "--library", trial.library, str(self.folder)]
         said = subprocess.run(words, capture_output=True, timeout=trial.SECONDS)
         self.assertEqual((said.returncode, said.stderr), (1, b"page: %s: it is not a regular file\n" % os.fsencode(self.folder)))
         self.finish()
@@ -729,7 +688,7 @@ class Strangers(Page):
         """The key is in the user's home, and the tests have another one."""
         self.finish()
         self.assertNotEqual(Path.home(), Path(pwd.getpwuid(os.getuid()).pw_dir))
-        words = [sys.executable, str(trial.CLIENTS / "page"), "--program", trial.program]
+        words = [sys.executable, str(trial.CLIENTS / "page"), "--library", trial.library]
         server = subprocess.Popen(words, stdout=subprocess.PIPE)
         self.limit(server)
         assert server.stdout
@@ -769,7 +728,7 @@ class Strangers(Page):
         self.start(str(self.folder / "a\x1b[31m\nb\u202e.abc"))
         self.assertEqual(self.book()["name"], "a?[31m?b?.abc")
         self.finish(new=self.folder / "a?[31m?b?.abc")
-        words = [sys.executable, str(trial.CLIENTS / "page"), str(self.folder / "\x1b[31m" / "book"), "--program", str(self.folder / "\x1b[31m")]
+        words = [sys.executable, str(trial.CLIENTS / "page"), str(self.folder / "\x1b[31m" / "book"), "--library", str(self.folder / "\x1b[31m")]
         said = subprocess.run(words, capture_output=True, timeout=trial.SECONDS, env={**os.environ, "XDG_STATE_HOME": str(self.folder)}).stderr
         self.assertEqual((said.count(b"\x1b"), said.count(b"?[31m"), said.count(b"\n")), (0, 1, 1))
 
@@ -814,9 +773,7 @@ class Faults(trial.Folder):
         """A line is made ready to be shown once, for all its faults; a byte of a line in Latin-1 is a letter of its own."""
         path = self.folder / "book.abc"
         path.write_bytes(b"X:1\nK:C\n" + "é𝄞&\x1bC\n".encode() + b"&" * 1000 + b"\n[]2 C0 \"\n\xff\xbf&")
-        book = shared_book.SharedBook(str(path), trial.program, str(self.files))
-        assert book.book.process.stdout
-        self.addCleanup(book.book.process.stdout.close)
+        book = shared_book.SharedBook(str(path), trial.library)
         self.addCleanup(book.close)
         with mock.patch.object(texts.Text, "shown", autospec=True, side_effect=texts.Text.shown) as shown:
             found = [row[:3] for row in rows.shown_rows(book.text, book.rows.faults)]

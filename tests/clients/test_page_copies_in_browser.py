@@ -90,7 +90,7 @@ class CopiesInBrowser(test_page_in_browser.Browser):
             self.wait(partial(self.says, words))
         self.press(ESCAPE)
         self.wait(lambda: not self.run_script(COPY))
-        self.assertEqual(sorted(one.name for one in self.folder.iterdir()), ["book.abc", "files", "pid", "program", "state"])
+        self.assertEqual(sorted(one.name for one in self.folder.iterdir()), ["book.abc", "files", "state"])
 
 
 class DownloadsInBrowser(test_page_in_browser.Browser):

@@ -727,12 +727,3 @@ class Losing(Browser):
         self.answer("Close")
         self.press("s", CONTROL)
         self.wait(lambda: self.path.read_bytes() == b"C")
-
-    def test_a_program_that_hangs(self) -> None:
-        self.type("X:1")
-        self.settled("X:1")
-        os.kill(int((self.folder / "pid").read_text()), signal.SIGSTOP)
-        self.press("2")
-        self.answer("Start it again")
-        self.settled("X:12")
-        self.wait(lambda: not self.question())

@@ -31,7 +31,6 @@ class Opening(trial.Folder):
         browser = self.folder / "browser"
         browser.write_text(f'#!/bin/sh\nprintf "%s\\n" "$1" >>"{self.folder}/opened"\n')
         browser.chmod(0o755)
-        self.write_starter()
         self.environment = {
             **os.environ,
             "BROWSER": f"{browser} %s",
@@ -43,7 +42,7 @@ class Opening(trial.Folder):
     def start(self, alone: float = 60) -> subprocess.Popen[str]:
         """Starts the page as a desktop does."""
         words = [sys.executable, "-c", START.format(alone=alone), str(self.book), "--open", "--no-hints"]
-        words += ["--port", "0", "--program", str(self.folder / "program")]
+        words += ["--port", "0", "--library", trial.library]
         page = subprocess.Popen(words, env=self.environment, stdout=subprocess.PIPE, stderr=subprocess.PIPE, text=True)
         self.limit(page)
         return page

@@ -69,8 +69,6 @@ class Programs(test_page.Page):
     drawing: Optional[str] = None  # the script of an `abcm2ps`; empty for none
 
     def start(self, *words: str, **more: Any) -> None:
-        starter = self.folder / "program"
-        starter.write_text(starter.read_text().replace("\necho", f"\nexport PATH='{os.environ['PATH']}'\necho", 1))
         found = self.folder / "bin"
         found.mkdir(exist_ok=True)
         if self.drawing is not None:

@@ -16,7 +16,7 @@ class Saves(trial.Folder):
         super().setUp()
         self.path = self.folder / "book.abc"
         self.path.write_bytes(b"X:1\nK:C\nC\n")
-        self.book = SharedBook(str(self.path), trial.program, str(self.files))
+        self.book = SharedBook(str(self.path), trial.library)
         self.addCleanup(self.book.close)
 
     def ask(self, call: Callable[[Json], Json], **more: Any) -> Json:
