@@ -26,8 +26,9 @@ export class ShownTune {
    * @type {(number: number | null) => Promise<void>} */
   async load(number) {
     const asked = (this.asked += 1);
-    this.asks(number !== this.number);
+    const isOther = number !== this.number;
     this.number = number;
+    this.asks(isOther);
     let score = null;
     try {
       if (number !== null && this.link.away) throw new Error(this.link.away);
