@@ -159,7 +159,7 @@ const tests = {
   "a play that is that of another file marks nothing"() {
     for (const tracks of [[quarters(62, 60)], [quarters(60, 62), quarters(60, 62)]]) {
       const places = tune("scale", tracks);
-      same([places.at(0), places.under(3, 0), places.tickFrom(3, 0), places.rangeOf(0, 9), places.lines.size], [[], [], null, null, 0]);
+      same([places.at(0), places.under(3, 0), places.tickFrom(3, 0), places.rangeOf(0, 9)], [[], [], null, null]);
     }
     same(new Places(null, new TuneWords([], 0, 0), scoreWith(quarters(60))).at(0), []);
   },
@@ -169,7 +169,7 @@ const tests = {
     const moved = entries.map((entry) => ({ ...entry, line: entry.line === 4 ? -1 : entry.line }));
     const score = scoreWith(quarters(60, 62, 64, 65, 62, 64, 67));
     const places = new Places({ number: 1, tracks: [conductor, { entries: moved }] }, new TuneWords(lines, 0, lines.length), score);
-    same([places.at(500), places.at(1000).map(({ line }) => line), [...places.lines.keys()]], [[], [5], [3, 5]]);
+    same([places.at(500), places.at(1000).map(({ line }) => line), places.inLine(-1)], [[], [5], []]);
   },
 
   "the caret is at a note that it is in, else at the one before it"() {

@@ -2,6 +2,7 @@
 
 import test_page_in_browser
 from browser_keys import CONTROL, END
+from music_page import CARET
 
 TEXT = ['X:1', 'T:Kesh % jig', 'K:G', '%%MIDI program 41', '|:"Am"G2 !p!A {c}B "^slow"c :|', 'w:la la', '% end', '', 'No tune: |:C']
 COLOURED = """
@@ -85,6 +86,18 @@ class Colours(test_page_in_browser.Browser):
         self.press('\nX:2\nK:C\n"C"C')
         wanted += [[["X:", "field"], ["2", "value"]], [["K:", "field"], ["C", "value"]], [['"C"', "chord"]]]
         self.wait(lambda: self.run_script(COLOURED) == wanted)
+
+    def test_a_line_that_is_typed_keeps_its_colours(self) -> None:
+        """Till the server has found its tokens."""
+        self.edit(0, 1, "X:1", "K:C", '|:"Am"C D:|% end')
+        self.load()
+        wanted = [["|:", "barline"], ['"Am"', "chord"], [":|", "barline"], ["% end", "comment"]]
+        self.wait(lambda: self.run_script(COLOURED)[2] == wanted)
+        self.kill()
+        self.run_script(CARET, 2, 7)
+        self.press("!f!")
+        self.wait(lambda: self.run_script(PLACES)["text"].endswith('"Am"C!f! D:|% end'))
+        self.assertEqual(self.run_script(COLOURED)[2], wanted)
 
     def test_the_layer_is_below_the_text(self) -> None:
         """It has the same letters at the same places, after scrolling and edits too, and is none for those who listen."""

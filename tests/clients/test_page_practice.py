@@ -237,16 +237,19 @@ class Practising(music_page.MusicPage):
         return self.text("tip")
 
     def test_what_is_not_known_is_not_marked(self) -> None:
-        """A text that the server does not have yet differs from the file: nothing lights up after the difference."""
+        """While the server does not have what was typed, that has no note, and all else has the one that it had."""
         self.open(SCALE, "4 bars")
         self.kill()
         self.wait(lambda: "The server is away" in self.text("status"))
         self.caret(6, 0)
         self.wait(lambda: self.run_script(FRAMES))
+        fifth = self.run_script(FRAMES)
         self.caret(5, 0)
         self.press("A")
-        self.caret(6, 0)
+        self.caret(5, 0)
         self.wait(lambda: self.run_script(FRAMES) is None)
+        self.caret(6, 0)
+        self.wait(lambda: self.run_script(FRAMES) == fifth)
 
     def test_on_a_telephone(self) -> None:
         """All of it is in a window of 390 pixels, and nothing scrolls aside."""

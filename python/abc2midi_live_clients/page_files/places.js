@@ -27,10 +27,6 @@ export class Places {
     this.sounds = new Map(); // by note of the score: where its tones are
     /** @type {KnownVoice[]} */
     this.voices = isSame ? tracks.slice(1).map(({ entries }, n) => this.align(entries, n)) : [];
-    /** @type {Map<number, Moment[]>} */
-    this.lines = new Map(); // by line: what is in it, by its columns
-    for (const { moments } of this.voices) for (const moment of moments) this.index(moment);
-    for (const moments of this.lines.values()) moments.sort((a, b) => a.from - b.from || a.start - b.start);
     this.grid = this.gridOf();
   }
 
@@ -52,11 +48,11 @@ export class Places {
     return { until, moments: known, entries };
   }
 
-  /** @type {(moment: Moment) => void} */
-  index(moment) {
-    const those = this.lines.get(moment.line) ?? [];
-    those.push(moment);
-    this.lines.set(moment.line, those);
+  /** What is played in a line, by its columns.
+   * @type {(line: number) => Moment[]} */
+  inLine(line) {
+    const own = this.voices.flatMap(({ moments }) => moments.filter((one) => one.line === line));
+    return own.sort((a, b) => a.from - b.from || a.start - b.start);
   }
 
   /** The bars of the first voice that is known from beginning to end, null if there is none.
@@ -94,7 +90,7 @@ export class Places {
    * there. `tokens` are those of the line, null if they are not known.
    * @type {(line: number, column: number, tokens?: import("./seen.js").Token[] | null) => Moment[]} */
   under(line, column, tokens = null) {
-    const own = this.lines.get(line) ?? [];
+    const own = this.inLine(line);
     /** @type {Span[]} */
     const spans = tokens?.filter(({ depth }) => depth === 0) ?? own;
     const within = (/** @type {Span[]} */ those) => own.filter((one) => those.some(({ from, to }) => from <= one.from && one.to <= to));
@@ -113,13 +109,13 @@ export class Places {
   /** The tick at which what is at a place, else what follows it in its voice, is played first; null if that is not known.
    * @type {(line: number, column: number, tokens?: import("./seen.js").Token[] | null) => number | null} */
   tickFrom(line, column, tokens = null) {
-    const own = this.lines.get(line) ?? [];
+    const own = this.inLine(line);
     const moment = this.under(line, column, tokens)[0] ?? own.find(({ to }) => to > column);
     if (moment) return moment.start;
     const last = own.at(-1);
     if (last) return this.voices[last.track].moments.find((one) => one.line > line)?.start ?? null;
-    const next = [...this.lines.keys()].filter((one) => one > line).reduce((least, one) => Math.min(least, one), Infinity);
-    return this.lines.get(next)?.[0].start ?? null;
+    const later = this.voices.flatMap(({ moments }) => moments.filter((one) => one.line > line));
+    return this.inLine(later.reduce((least, one) => Math.min(least, one.line), Infinity))[0]?.start ?? null;
   }
 
   /** From which tick to which the lines from..to are played first, without others between; null if that is not known.
