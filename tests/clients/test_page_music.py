@@ -2,14 +2,13 @@
 
 import json
 import random
-import unittest
 from collections.abc import Sequence
 from typing import Any, Optional
 
 import page_in_node
 import trial
 
-from abc2midi_live import EntryKind, LibraryMissing, Session
+from abc2midi_live import EntryKind, Session
 from abc2midi_live.opening import library_session
 
 LENGTHS = ["", "", "", "2", "/", "3/2", "/4"]
@@ -27,10 +26,7 @@ class Places(page_in_node.PageScripts):
 
     def setUp(self) -> None:
         super().setUp()
-        try:
-            self.session = library_session(None)
-        except LibraryMissing as missing:
-            raise unittest.SkipTest(str(missing)) from missing
+        self.session = library_session(trial.library)
         self.addCleanup(self.session.close)
 
     def known(self, tunes: list[list[str]], header: Sequence[str] = ()) -> int:
