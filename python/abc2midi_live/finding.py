@@ -37,7 +37,8 @@ def find_program() -> str:
             raise ProgramMissing(f"{program} is missing; install it again, or name a program")
         return str(program)
     if is_checkout():
-        if not is_built(TOP / "crates/program/out/program", TOP / "crates/program/out/program.digest"):
+        program = TOP / "crates/program/out/program"
+        if not os.access(program, os.X_OK) or not is_of_sources(program.with_name("program.digest")):
             raise ProgramMissing("there is no build of these sources; run ./build, or name a program")
         return str(TOP / "scripts/installed/launcher")
     found = shutil.which("abc2midi_live")
@@ -56,20 +57,20 @@ def find_library() -> str:
         return str(library) if library.is_file() else LIBRARY
     if is_checkout():
         library = TOP / "out/c_library/lib" / LIBRARY
-        if not is_built(library, TOP / "out/c_library/digest"):
-            raise LibraryMissing("there is no library of these sources; run ./check and scripts/package/c_library, or name a library")
+        if not library.is_file() or not is_of_sources(TOP / "out/c_library/digest"):
+            raise LibraryMissing("there is no library of these sources; run ./build, or name a library")
         return str(library)
     return LIBRARY
 
 
-def is_built(file: Path, digest: Path) -> bool:
-    """Returns whether a file of the checkout was built of its present sources, of which there is a digest beside it."""
+def is_of_sources(digest: Path) -> bool:
+    """Returns whether this file has the digest of the present sources of the checkout."""
     try:
         of = digest.read_text().strip()
         asked = subprocess.run([TOP / "scripts/build/digest_of_sources"], capture_output=True, text=True, check=True)
     except (OSError, subprocess.CalledProcessError):
         return False
-    return bool(of) and of == asked.stdout.strip() and os.access(file, os.X_OK)
+    return bool(of) and of == asked.stdout.strip()
 
 
 def version() -> str:

@@ -74,9 +74,9 @@ def measure(crate: Crate, folder: Path, below: int) -> None:
     )
 
 
-def needed_by(crates: dict[str, Crate], top: str) -> dict[str, Crate]:
-    """The crate of this name and all below it, lowest first."""
-    names = {top}
+def needed_by(crates: dict[str, Crate], *tops: str) -> dict[str, Crate]:
+    """The crates of these names and all below them, lowest first."""
+    names = set(tops)
     for crate in reversed(list(crates.values())):
         if crate.name in names:
             names.update(crate.uses)

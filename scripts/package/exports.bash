@@ -1,7 +1,8 @@
 #!/usr/bin/env bash
-# What the scripts share that compile what ./check proved: the crates, and the header. They read this file by `source`.
+# What the scripts share that compile what ./check or ./build proved: the crates, and the header. They read this file by `source`.
 top=$(dirname "$(dirname "$(dirname "$(readlink -f "${BASH_SOURCE[0]}")")")")
 header=$top/c/abc2midi_live.h
+proved=$top # below crates/ there are the proved libraries
 
 # Prints why nothing is made, and ends.
 refuse() {
@@ -9,7 +10,7 @@ refuse() {
     exit 1
 }
 
-# Sets `kit` to the folder of the toolkit, and `over` to the flags of the libraries that a crate uses, as ./check left them.
+# Sets `kit` to the folder of the toolkit, and `over` to the flags of the proved libraries that a crate uses.
 find_libraries() {
     local name used library
     command -v rt >/dev/null || refuse 'the Rattle toolkit is missing: put its command rt on the path'
@@ -20,7 +21,7 @@ find_libraries() {
         library=$(library_of "$name") # a failure ends the script
         over+=(--extern "$name=$library")
     done
-    for name in "$top"/crates/*/out/rlib; do
+    for name in "$proved"/crates/*/out/rlib; do
         over+=(-L "dependency=$name")
     done
 }
@@ -29,8 +30,8 @@ find_libraries() {
 library_of() {
     if [ ! -d "$top/crates/$1" ]; then
         printf '%s\n' "$kit/rlibs/$1.rlib"
-    elif [ -d "$top/crates/$1/out/rlib/$1.rlib" ]; then
-        printf '%s\n' "$top/crates/$1/out/rlib/$1.rlib"
+    elif [ -d "$proved/crates/$1/out/rlib/$1.rlib" ]; then
+        printf '%s\n' "$proved/crates/$1/out/rlib/$1.rlib"
     else
         refuse "$1 is not proved yet: run ./check first"
     fi

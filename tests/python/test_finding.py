@@ -44,7 +44,8 @@ class Found(setting.Room):
             finding.find_program()
         library = self.write("out/c_library/lib/libabc2midi_live.so.1")
         of_library = self.write("out/c_library/digest", "before\n")
-        with self.assertRaisesRegex(LibraryMissing, "scripts/package/c_library"):
+        library.chmod(0o644)  # as scripts/package/c_library leaves it
+        with self.assertRaisesRegex(LibraryMissing, "run ./build"):
             finding.find_library()
         of_library.write_text("now\n")
         self.assertEqual(finding.find_library(), str(library))

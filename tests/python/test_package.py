@@ -124,7 +124,7 @@ class Installed(setting.Room):
         words = [str(word) for word in (WHEEL, "--library", self.folder / "none", self.folder)]
         done = subprocess.run(words, capture_output=True, text=True)
         self.assertEqual((done.returncode, done.stdout), (1, ""))
-        self.assertRegex(done.stderr, "^wheel: there is no library .*/none: run ./check")
+        self.assertRegex(done.stderr, "^wheel: there is no library .*/none: run ./build")
 
 
 class Commands(setting.Room):
