@@ -10,6 +10,7 @@ from typing import BinaryIO, Optional
 from abc2midi_live.reading import bytes_of_book
 
 SECONDS_TO_SETTLE = 0.01  # between two reads that must agree
+SECONDS_OF_EMPTINESS = 0.4  # an editor may empty a file before it writes it
 SECONDS_OF_A_TICK = 3  # no file system's clock ticks more slowly; two saves within one tick may look the same
 
 Signature = tuple[int, int, int, int, int]
@@ -32,7 +33,7 @@ class BookFile:
         self.signature: Optional[Signature] = None  # at the last look
         self.since = 0.0  # when a look found that signature first
         self.is_settled = False  # no other save can have that signature
-        self.was_empty = False  # at the last look: an editor may empty a file before it writes it
+        self.empty_since: Optional[float] = None  # when a look found it empty first
 
     def saved(self) -> Optional[bytes]:
         """The bytes of the book if somebody saved it since the last call that returned some, or if it could not be read
@@ -40,7 +41,7 @@ class BookFile:
         try:
             return self.read_if_changed()
         except OSError:
-            self.signature, self.data_signature, self.was_empty = None, None, False
+            self.signature, self.data_signature, self.empty_since = None, None, None
             raise
 
     def read_if_changed(self) -> Optional[bytes]:
@@ -53,13 +54,21 @@ class BookFile:
                 return None
             age = self.clock() - self.since
             data = bytes_of_book(file)
-        was_empty, self.was_empty = self.was_empty, not data
-        if not data and not was_empty:
+        if self.is_just_emptied(data):
             return None
         if (signature, data) == (self.data_signature, self.data):
             self.is_settled = age >= SECONDS_OF_A_TICK
             return None
         return self.read_again(signature, data)
+
+    def is_just_emptied(self, data: bytes) -> bool:
+        """Returns whether the book has been empty for a moment only."""
+        if data:
+            self.empty_since = None
+            return False
+        if self.empty_since is None:
+            self.empty_since = self.clock()
+        return self.clock() - self.empty_since < SECONDS_OF_EMPTINESS
 
     def read_again(self, signature: Signature, data: bytes) -> Optional[bytes]:
         """These bytes if a second read finds the same, else None: then the save goes on."""

@@ -8,11 +8,11 @@ import shutil
 import signal
 import sys
 import threading
-import time
 from typing import Any
 
 from abc2midi_live import ProgramMissing
 
+from .book_events import BookEvents
 from .book_file import BookFile
 from .faults import sentences
 from .hints import Finder
@@ -97,12 +97,13 @@ def start_book(words: argparse.Namespace, folder: MidiFolder, report: Report) ->
 def watch(words: argparse.Namespace, folder: MidiFolder, report: Report) -> int:
     """Watches the book until Ctrl-C, or builds it once; the exit status."""
     book = start_book(words, folder, report)
+    events = BookEvents(words.book)
     try:
         while not interrupted.is_set():
             book.update()
             if words.once and book.status is not None:
                 return book.status
-            time.sleep(SECONDS_BETWEEN_LOOKS)
+            events.wait(SECONDS_BETWEEN_LOOKS)
         raise KeyboardInterrupt
     finally:
         book.close()

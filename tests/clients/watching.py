@@ -52,8 +52,9 @@ class Looks(trial.Folder):
         return book
 
     def look(self) -> list[str]:
-        """What a look tells, without how long it took and without the name of the folder."""
+        """What a look tells, without how long it took and without the name of the folder. Looks are half a second apart."""
         self.told.clear()
+        self.seconds_now += 0.5
         self.watch.update()
         return [re.sub(r"; \d+ ms$", "", line).replace(str(self.folder), "") for line in self.told]
 
