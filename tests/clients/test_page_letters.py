@@ -26,6 +26,14 @@ class Letters(unittest.TestCase):
         whole = text.in_utf8()
         self.assertEqual((whole.data(), whole.letters.name()), ("T:é\nT:è\n".encode(), "utf-8"))
 
+    def test_lines_that_stay_keep_their_bytes(self) -> None:
+        """Of lines with the same letters each keeps its own bytes: those before the typed ones, after them, and between them."""
+        latin1, utf8 = b"T:\xe9", "T:é".encode()
+        text = Text.of(b"\n".join([latin1, utf8, latin1, b"C", utf8, b"\xe9"]))
+        self.assertEqual(text.edit_of(0, 3, ["T:é", "T:é", "D"]).lines, [latin1, utf8, b"D"])
+        self.assertEqual(text.edit_of(0, 3, ["D", "T:é", "T:é"]).lines, [b"D", utf8, latin1])
+        self.assertEqual(text.edit_of(3, 6, ["D", "T:é", "E"]).lines, [b"D", utf8, b"E"])
+
     def test_the_name_follows_edits(self) -> None:
         text = Text.of(b"\xe9\n\xe8\n")
         for edit, name in (((0, 1, ["a"]), "latin-1"), ((1, 2, ["€"]), "utf-8"), ((0, 1, ["é"]), "utf-8")):

@@ -385,6 +385,16 @@ await run({
     same((await thrown(() => textIn(new URL(link).hash))).message, "it is not whole");
   },
 
+  async "lines with the same letters keep their own bytes: those before the typed ones, after them, and between them"() {
+    const latin1 = Uint8Array.of(0x54, 0x3a, 0xe9), utf8 = bytes("T:é");
+    const rows = [latin1, utf8, latin1, bytes("C"), utf8, Uint8Array.of(0xe9)];
+    const book = BookText.of(Uint8Array.from(rows.flatMap((row, n) => (n ? [10, ...row] : [...row]))));
+    const put = (start, stop, ...lines) => new BookText(false, book.editOf(start, stop, lines).lines, false).bytes;
+    same(Buffer.from(put(0, 3, "T:é", "T:é", "D")).toString("hex"), Buffer.from("T:\xe9\nT:\xc3\xa9\nD", "latin1").toString("hex"));
+    same(Buffer.from(put(0, 3, "D", "T:é", "T:é")).toString("hex"), Buffer.from("D\nT:\xc3\xa9\nT:\xe9", "latin1").toString("hex"));
+    same(Buffer.from(put(3, 6, "D", "T:é", "E")).toString("hex"), Buffer.from("D\nT:\xc3\xa9\nE", "latin1").toString("hex"));
+  },
+
   async "the bytes of a text without letters beyond ASCII are those of its lines"() {
     same(text(BookText.of(bytes("\ufeffa\r\nb")).bytes), text(bytes("\ufeffa\r\nb")));
   },
