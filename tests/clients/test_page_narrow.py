@@ -26,6 +26,14 @@ const mark = document.querySelector("mark"), { left, right, top, bottom } = mark
 return document.elementsFromPoint((left + right) / 2, (top + bottom) / 2).includes(mark);
 """
 
+WORDS = """
+const view = document.querySelector("#score svg").getBoundingClientRect();
+return [...document.querySelectorAll("#score text")].filter((one) => /Tune|Trad/.test(one.textContent)).map((one) => {
+  const { left, right } = one.getBoundingClientRect();
+  return [one.textContent, view.left <= left && right <= view.right];
+});
+"""
+
 
 class Narrow(test_page_in_browser.Browser):
     """A window of 390 pixels over a tune of two voices with a fault."""
@@ -82,3 +90,11 @@ class Narrow(test_page_in_browser.Browser):
         self.wait(lambda: self.run_script(REACHED, "print"))
         self.run_script("document.getElementById('score').scrollIntoView({ block: 'nearest' })")
         self.wait(lambda: self.run_script(STAVES))
+
+    @unittest.skipUnless(shutil.which("abcm2ps"), "abcm2ps is not installed")
+    def test_long_words_of_the_score(self) -> None:
+        """A title and a composer are seen whole."""
+        title = "The Tune of the Gentle Maiden, as the Fiddlers of County Clare play it"
+        composer = "Trad., arranged by the Society of Pipers for a Flute and two Fiddles"
+        self.edit(1, 2, f"T:{title}", f"C:{composer}")
+        self.wait(lambda: self.run_script(WORDS) == [[title, True], [composer, True]])

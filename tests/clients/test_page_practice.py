@@ -27,6 +27,7 @@ for (let y = 0; y < high; y += 1) for (let x = 0; x < wide; x += 1) {
 return box[2] < 0 ? null : box.map((pixel) => pixel / devicePixelRatio);
 """  # the box of what has the colour of the cursor in the roll
 LIT = "return [...document.querySelectorAll('#score .score-lit')].map(({ note }) => [note.line, note.column])"
+VOICES = "return [...document.querySelectorAll('#voices > span, #parts .part > span')].map((one) => one.textContent)"
 LISTEN = """
 const connect = AudioNode.prototype.connect, start = OscillatorNode.prototype.start;
 window.sources = [];
@@ -160,6 +161,14 @@ class Practising(music_page.MusicPage):
         self.run_script("document.querySelector('[aria-label=\"Volume of Low\"]').focus()")
         self.press(HOME)
         self.assertEqual(self.run_script("return heard()"), [60])
+
+    def test_names_of_voices_follow_the_text(self) -> None:
+        """Also if the file stays as it is, so that nothing new comes from the server."""
+        self.open(DUET, "2 voices")
+        self.assertEqual(self.run_script(VOICES), ["Voice 1", "Low", "Voice 1", "Low"])
+        self.caret(4, 3)
+        self.run_script("document.execCommand('insertText', false, ' name=\"Flute\"')")
+        self.wait(lambda: self.run_script(VOICES) == ["Flute", "Low", "Flute", "Low"])
 
     def test_steps_by_keys(self) -> None:
         """The roll says to those who do not see it where its cursor is."""

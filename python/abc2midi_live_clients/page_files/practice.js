@@ -29,7 +29,7 @@ export class Practice {
     /** @type {Map<number, number>} */
     this.volumes = new Map(); // by voice
     this.isCounted = false; // whether the bars are those of the play
-    this.renewed = () => {}; // the bars are others
+    this.renewed = () => {}; // the bars or the names may be others
     /** @type {(tick: number) => void} */
     this.played = () => {}; // a tick: play from there
     /** @type {(words: string) => void} */
@@ -104,18 +104,18 @@ export class Practice {
     this.timer = setTimeout(() => this.renew(), REST);
   }
 
-  /** Takes the bars and the names of the play. */
+  /** Takes the bars of the play, and the names of the voices. */
   renew() {
     const { roll, follower } = this, { score } = roll, grid = follower.places?.grid;
     if (score && grid && grid !== roll.grid && follower.known.score === score) {
       this.isCounted = true;
       roll.show(score, grid);
       this.fillBars(false);
-      this.showVoices(score.voices, false);
       this.silence();
       this.tell(roll.tick ?? 0);
-      this.renewed();
     }
+    this.showVoices(roll.score?.voices ?? 0, false);
+    this.renewed();
     follower.caret();
   }
 

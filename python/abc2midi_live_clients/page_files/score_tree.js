@@ -12,6 +12,7 @@ const ATTRIBUTES = new Set([
   "class", "cx", "cy", "d", "dx", "dy", "font-family", "font-size", "font-style", "font-weight", "height", "href", "id", "r", "rx", "ry",
   "stroke-dasharray", "stroke-width", "text-anchor", "transform", "viewBox", "width", "x", "x1", "x2", "y", "y1", "y2",
 ]);
+const EDGE = 4; // pixels between words and the edge of their image
 
 /** An image of a drawing: its element is there at once, what is in it when it is filled. */
 export class Page {
@@ -19,6 +20,8 @@ export class Page {
    * @param {DrawnPlace[]} places */
   constructor([, attributes, ...inside], places) {
     this.inside = inside;
+    /** @type {SVGElement[]} */
+    this.words = [];
     /** @type {Map<Content, SVGElement>} */
     this.covers = new Map(); // by the node of a note: the element that covers it
     this.element = made("svg", attributes);
@@ -45,6 +48,17 @@ export class Page {
   fill() {
     this.element.append(...this.contents(this.inside));
     this.inside = [];
+    this.fit();
+  }
+
+  /** Writes words smaller that would be cut at an edge of the image, such as a long title. */
+  fit() {
+    const image = this.element.getBoundingClientRect();
+    const rooms = this.words.map((words) => roomOf(words, image));
+    this.words.forEach((words, n) => {
+      if (rooms[n] < 1) words.setAttribute("font-size", (parseFloat(getComputedStyle(words).fontSize) * rooms[n]).toFixed(2));
+    });
+    this.words = [];
   }
 
   /** @type {(nodes: Content[]) => (string | SVGElement)[]} */
@@ -62,8 +76,20 @@ export class Page {
     if (!TAGS.has(tag)) return null;
     const element = made(tag, attributes);
     element.append(...this.contents(inside));
+    if (tag === "text") this.words.push(element);
     return element;
   }
+}
+
+/** The part of their width that words may have in an image. Words that fit, or have no room at all, may have all of it.
+ * @type {(words: SVGElement, image: DOMRect) => number} */
+function roomOf(words, image) {
+  const { left, right, width } = words.getBoundingClientRect();
+  if (!width || (left >= image.left && right <= image.right)) return 1;
+  const anchor = words.getAttribute("text-anchor"), middle = (left + right) / 2;
+  const rooms = { middle: 2 * Math.min(middle - image.left, image.right - middle) - EDGE, end: right - image.left };
+  const room = (rooms[/** @type {"middle" | "end"} */ (anchor)] ?? image.right - left) - EDGE;
+  return room > 0 ? Math.min(1, room / width) : 1;
 }
 
 /** An element, with those of its attributes that are known.
