@@ -59,6 +59,20 @@ const tests = {
     same(had, ["wrote: save", "Saved book.abc.", "wrote: save-in-utf-8", "Saved book.abc in UTF-8.", "opened"]);
   },
 
+  async "a book that is gone from the disk was not changed by another program"() {
+    for (const [disk, begin, answer, words] of [
+      [null, "book.abc is not on the disk any more.", "Save this text", "Not saved: book.abc is not on the disk any more."],
+      ["b", "Another program changed book.abc on the disk,", "Save this text over it", "Not saved: another program changed book.abc."],
+    ]) {
+      const { had, files } = filesOf(), asked = [];
+      Object.assign(files.link, { known: { disk, saved: "a" }, away: "" });
+      Object.assign(files.questions, { find: () => asked[0], ask: (question) => asked.push(question) });
+      files.askAboutTheFile();
+      await files.save();
+      same([asked.length, asked[0].words.slice(0, begin.length), Object.keys(asked[0].answers)[0], had], [1, begin, answer, ["asked: disk", words]]);
+    }
+  },
+
   "a book that is not UTF-8 has a button, which passes its focus on when it goes"() {
     same([button("book.abc", "latin-1"), button("book.abc", "both")], [[false, "utf-8"], [false, "utf-8"]]);
     same([button("book.abc", "utf-8"), button("", "latin-1")], [[true, "back"], [true, "back"]]);
