@@ -4,34 +4,49 @@ import sys
 import tempfile
 from collections.abc import Callable
 from contextlib import suppress
-from typing import Optional, TypeVar
+from typing import NamedTuple, Optional, TypeVar
 
-from abc2midi_live import Fault, ProgramEnded, ProgramMissing
+from abc2midi_live import Fault, ProgramEnded, ProgramMissing, Track
 from abc2midi_live.lines import without_empty_end
 
+from ..hints import Finder, Hint, number_is_used
+from ..places import utf8
+from ..program import LiveBook, Tune, files_of
 from .changes import Change, Position
 from .editor_lines import EditorLines
-from .hints import Finder, Hint, number_is_used
+from .encodings import UTF16, Encoding
 from .messages import REQUEST_FAILED, Failure, Json
-from .places import from_utf16, utf8, utf16
 from .played_files import PlayedFiles
-from .program import LiveBook, Tune, files_of
+from .reading import Reading, TokenText, token_texts
 
 Answer = TypeVar("Answer")
+
+
+class TuneLines(NamedTuple):
+    """A tune, its first line, and the line after its last one: a blank line, the next tune's, or the end. Lines count from 0."""
+
+    tune: Tune
+    start: int
+    end: int
 
 
 class Document:
     """A tune book that an editor has open. A running program holds the same text. If there is none, the next question starts
     it. What the program finds in a text is asked once."""
 
-    def __init__(self, text: str, program: str, words: dict[str, str], with_hints: bool = True):
-        self.text = EditorLines(text)
+    def __init__(
+        self, text: str, program: str, words: dict[str, str], with_hints: bool = True, encoding: Encoding = UTF16
+    ):
+        self.text = EditorLines(text, encoding)
+        self.encoding = encoding
+        self.version: Optional[int] = None  # of the text, as the editor counts
         self.program = program
         self.words = words
         self.finder = Finder() if with_hints else None
         self.changed = 0  # the line of the last change
         self.is_lost = False  # a change could not be read, so the text is not the editor's
         self.book: Optional[LiveBook] = None
+        self.reading: Optional[Reading] = None
         self.files = PlayedFiles()
         self.known_faults: Optional[list[Fault]] = None  # of the present text
         self.known_hints: Optional[list[Hint]] = None
@@ -57,8 +72,12 @@ class Document:
             self.book = LiveBook(self.program, tempfile.gettempdir())
         except ProgramMissing as missing:
             raise ProgramEnded(str(missing)) from missing
-        self.book.replace(0, 0, without_empty_end([utf8(line) for line in self.lines]))
+        self.book.replace(0, 0, self.data())
         return self.book
+
+    def data(self) -> list[bytes]:
+        """The lines of the text as the program gets them."""
+        return without_empty_end([utf8(line) for line in self.lines])
 
     def end_program(self) -> None:
         """Ends the program."""
@@ -69,6 +88,8 @@ class Document:
     def close(self) -> None:
         """Ends the program, and removes the files that were played."""
         self.end_program()
+        if self.reading:
+            self.reading.close()
         self.files.close()
 
     def faults(self) -> list[Fault]:
@@ -84,6 +105,26 @@ class Document:
             self.known_hints = self.finder.hints(lines, tunes, self.faults()) if self.finder else []
         return self.known_hints
 
+    # ---- what the library reads
+
+    def read(self) -> Reading:
+        """The text as the library reads it. The first question opens a session."""
+        if self.reading is None:
+            self.reading = Reading(self.data())
+        return self.reading
+
+    def tokens(self, line: int) -> list[TokenText]:
+        """The tokens of a line, counted from 0."""
+        return list(token_texts(line, self.lines[line], self.read().tokens(line)))
+
+    def column(self, line: int, character: int) -> int:
+        """The column of a character, as the library counts: in bytes from 1."""
+        return len(utf8(self.lines[line][:character])) + 1
+
+    def play(self, tune: Tune) -> tuple[Track, ...]:
+        """What is played of a tune; nothing if it has no file."""
+        return self.read().play(tune.number) if self.has_file(tune) else ()
+
     # ---- changes
 
     def put(self, start: int, stop: int, text: str) -> None:
@@ -92,10 +133,13 @@ class Document:
         texts = text.split("\n")
         self.text.replace(start, stop, texts)
         self.known_faults = self.known_hints = None
+        lines = [utf8(line) for line in texts]
+        lines = without_empty_end(lines) if at_end else lines
         if self.book:
-            lines = [utf8(line) for line in texts]
             with suppress(ProgramEnded):  # the next question starts another one
-                self.book.replace(start, min(stop, len(self.book.lines)), without_empty_end(lines) if at_end else lines)
+                self.book.replace(start, min(stop, len(self.book.lines)), lines)
+        if self.reading:
+            self.reading.replace(start, stop, lines)
 
     def change(self, change: Change) -> None:
         """Changes a range of the text, or the whole."""
@@ -105,18 +149,18 @@ class Document:
             return
         first, before = self.place(change.range.start)
         last, after = self.place(change.range.end)
-        units = utf16(self.lines[first])[: 2 * before] + utf16(change.text) + utf16(self.lines[last])[2 * after :]
-        self.put(first, last + 1, from_utf16(units))
+        text = self.encoding.splice((self.lines[first], before), change.text, (self.lines[last], after))
+        self.put(first, last + 1, text)
         self.changed = first
 
     def place(self, position: Position) -> tuple[int, int]:
-        """The line and the UTF-16 unit of a position. One after the text or a line is its end."""
+        """The line and the unit of a position. One after the text or a line is its end."""
         return self.text.place(position)
 
     def character(self, position: Position) -> tuple[int, int]:
         """The line and the character of it that has a position."""
         line, unit = self.place(position)
-        return line, len(from_utf16(utf16(self.lines[line])[: 2 * unit]))
+        return line, len(self.encoding.before(self.lines[line], unit))
 
     def range(self, first: int, start: int, last: int, end: int) -> Json:
         """The range from a character of a line to a character of a line, all counted from 0."""
@@ -124,11 +168,19 @@ class Document:
 
     # ---- tunes
 
-    def tunes(self) -> list[tuple[Tune, int]]:
-        """The tunes, each with the line after it, counted from 0: a blank line, the next tune's, or the end."""
+    def tunes(self) -> list[TuneLines]:
+        """The tunes with their lines."""
         tunes = self.ask(LiveBook.tunes)
         ends = [tune.line - 1 for tune in tunes[1:]] + [len(self.lines)]
-        return [(tune, self.blank_line(tune.line, end)) for tune, end in zip(tunes, ends)]
+        return [TuneLines(tune, tune.line - 1, self.blank_line(tune.line, end)) for tune, end in zip(tunes, ends)]
+
+    def tune_lines_at(self, line: int) -> Optional[TuneLines]:
+        """The tune that has a line, counted from 0, with its lines."""
+        tune = self.tune_at(line)
+        if tune is None:
+            return None
+        after = (each.line - 1 for each in self.ask(LiveBook.tunes) if each.line > tune.line)
+        return TuneLines(tune, tune.line - 1, self.blank_line(tune.line, next(after, len(self.lines))))
 
     def blank_line(self, start: int, end: int) -> int:
         """The first blank line from `start` on, or `end`."""

@@ -8,7 +8,7 @@ class BadChange(Exception):
 
 
 class Position(NamedTuple):
-    """A line and a UTF-16 unit in it, both from 0."""
+    """A line and a unit in it, both from 0. `encodings` has the units."""
 
     line: int
     character: int

@@ -5,14 +5,14 @@ The program cuts a text at line feeds. In the Language Server Protocol a carriag
 from bisect import bisect_right
 from typing import NamedTuple
 
+from ..program import splice_places
 from .changes import Position
-from .places import utf16
-from .program import splice_places
+from .encodings import UTF16, Encoding
 
 
 class Part(NamedTuple):
     """A line of the editor in a line of the program: where it begins and ends there, and its end before a carriage return, all
-    in UTF-16 units."""
+    in units of the editor."""
 
     start: int
     end: int
@@ -22,7 +22,8 @@ class Part(NamedTuple):
 class EditorLines:
     """The lines of a text, cut at line feeds; the last one is empty if the text ends with a line feed."""
 
-    def __init__(self, text: str):
+    def __init__(self, text: str, encoding: Encoding = UTF16):
+        self.encoding = encoding
         self.texts = text.split("\n")
         self.parted = parted_lines(self.texts)  # those in which a carriage return ends a line of the editor, but for the last line
 
@@ -32,7 +33,7 @@ class EditorLines:
         self.parted = splice_places(self.parted, start, stop, parted_lines(texts), len(texts))
 
     def place(self, position: Position) -> tuple[int, int]:
-        """The line and the UTF-16 unit of a position. One after the text is its end. One after a line is the line's end,
+        """The line and the unit of a position. One after the text is its end. One after a line is the line's end,
         before its carriage return."""
         line, unit = position
         number = 0
@@ -43,13 +44,13 @@ class EditorLines:
                 break
             line -= more
         if line >= len(self.texts):
-            return len(self.texts) - 1, len(utf16(self.texts[-1])) // 2
+            return len(self.texts) - 1, self.encoding.length(self.texts[-1])
         part = self.parts(line)[number]
         return line, part.start + unit if part.start + unit <= part.end else part.limit
 
     def position(self, line: int, character: int) -> Position:
         """The position of a character of a line."""
-        unit = len(utf16(self.texts[line][:character])) // 2
+        unit = self.encoding.length(self.texts[line][:character])
         before = sum(len(self.parts(n)) - 1 for n in self.all_parted() if n < line)
         starts = [part.start for part in self.parts(line)]
         number = bisect_right(starts, unit) - 1
@@ -64,7 +65,7 @@ class EditorLines:
         """The lines of the editor in a line."""
         text, is_last = self.texts[line], line == len(self.texts) - 1
         bare = text if is_last else text.removesuffix("\r")
-        lengths = [len(utf16(part)) // 2 for part in bare.split("\r")]
+        lengths = [self.encoding.length(part) for part in bare.split("\r")]
         found, start = [], 0
         for length in lengths:
             found.append(Part(start, start + length, start + length))

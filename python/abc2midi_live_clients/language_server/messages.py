@@ -6,12 +6,13 @@ from typing import Any, BinaryIO, Optional
 
 # The protocol's numbers.
 PARSE_ERROR, INVALID_REQUEST, METHOD_NOT_FOUND, INVALID_PARAMS = -32700, -32600, -32601, -32602
-NOT_INITIALIZED, REQUEST_FAILED = -32002, -32803
+NOT_INITIALIZED, REQUEST_FAILED, REQUEST_CANCELLED = -32002, -32803, -32800
 INCREMENTAL = 2  # changes of documents
 WHOLE = 1  # changes of documents that are sent as their whole text
-MODULE = 2  # the kind of a symbol
+MODULE, NAMESPACE, CLASS, ARRAY = 2, 3, 5, 18  # the kinds of symbols
 ERROR, WARNING, INFO = 1, 2, 3  # of diagnostics and messages
-VALUE, KEYWORD = 12, 14  # the kinds of completions
+VALUE, KEYWORD, SNIPPET = 12, 14, 15  # the kinds of completions
+AS_SNIPPET = 2  # the format of a completion's text
 
 LONGEST_MESSAGE = 1 << 30
 DIGITS = len(str(LONGEST_MESSAGE))

@@ -1,19 +1,24 @@
 """The faults and hints of a tune book as an editor shows them."""
 
 from collections.abc import Iterator
-from typing import NamedTuple, TypeVar
+from functools import lru_cache
+from pathlib import Path
+from typing import NamedTuple, Optional, TypeVar
 
 from abc2midi_live import Fault
 
+from ..fault_groups import FaultGroup, groups_of, line_and_name
+from ..faults import sentence_pairs
+from ..hints import NAMES, Hint
+from ..places import character_of, span_of
 from .document import Document
-from .fault_groups import FaultGroup, groups_of, line_and_name
-from .hints import Hint
 from .messages import ERROR, INFO, WARNING, Json
-from .places import character_of, span_of
 
 LEAVE_OUT = {"TuneTooLong", "BadLine", "TooLarge"}  # faults by which a whole tune or line is left out
 MOST_FAULTS, MOST_HINTS = 1_000, 200  # of a book that an editor is sent
 MORE_FAULTS = "MoreFaults"  # the name of a remark that faults are left out
+PACKAGES = Path(__file__).resolve().parents[2]
+DOCUMENTS = (PACKAGES.parent / "docs", PACKAGES.parent / "doc/abc2midi_live/docs")  # in a checkout, and installed
 
 Found = TypeVar("Found", FaultGroup, Hint)
 
@@ -100,12 +105,22 @@ def nearest(found: list[Found], line: int, most: int) -> list[Found]:
     return found[start : start + most]
 
 
-def diagnostic(document: Document, remark: Remark) -> Json:
-    """Returns a fault or a hint as the protocol has it."""
+def diagnostic(document: Document, remark: Remark, with_link: bool = False) -> Json:
+    """Returns a fault or a hint as the protocol has it, with a link to the page about it."""
+    page = page_about(remark.name) if with_link else None
     return {
         "range": document.range(remark.line, remark.start, remark.line, remark.end),
         "severity": remark.severity,
         "code": remark.name,
         "source": "abc2midi_live",
         "message": remark.text,
+        **({"codeDescription": {"href": page}} if page else {}),
     }
+
+
+@lru_cache(maxsize=None)
+def page_about(name: str) -> Optional[str]:
+    """Returns the address of the page about a fault or a hint, if it is installed or in this checkout."""
+    page = "hints.md" if name in NAMES else "faults.md" if name in sentence_pairs() else None
+    paths = [folder / page for folder in DOCUMENTS if page]
+    return next((path.as_uri() for path in paths if path.is_file()), None)

@@ -1,0 +1,56 @@
+"""The command that an editor starts."""
+
+import argparse
+import shutil
+import sys
+from typing import Optional
+
+from abc2midi_live import ProgramMissing
+
+from ..players import Player, command
+from ..program import add_common_options, find_program
+from ..signals import when_told_to_end
+from .messages import BadMessage, write_message
+from .server import Server
+from .workspace import Settings
+
+ABOUT = "Shows the faults and tunes of tune books in an editor, by the Language Server Protocol on standard input and output."
+
+
+def program_of(named: Optional[str]) -> str:
+    """Returns the program to start. Raises ProgramMissing if it is missing when the server starts; later a message says so."""
+    program = named or find_program()
+    if not shutil.which(program):
+        raise ProgramMissing(f"{program}: no such program")
+    return program
+
+
+def arguments() -> argparse.Namespace:
+    """The arguments of the command line."""
+    parser = argparse.ArgumentParser(description=ABOUT)
+    parser.add_argument("--play", metavar="COMMAND", type=command, help="the player for the action Play")
+    add_common_options(parser)
+    parser.add_argument("--no-hints", action="store_true", help="show no hints")
+    return parser.parse_args()
+
+
+def main() -> int:
+    """Serves one editor; the exit status."""
+    words = arguments()
+    when_told_to_end(lambda *_: sys.exit(1))
+    server = None
+    try:
+        player = Player(words.play) if words.play else None
+        server = Server(write_message, Settings(program_of(words.program), player, not words.no_hints))
+        return server.serve(open(sys.stdin.fileno(), "rb", buffering=0, closefd=False))
+    except (ProgramMissing, BadMessage) as error:
+        print(f"language_server: {error}", file=sys.stderr)
+        return 127 if isinstance(error, ProgramMissing) else 1
+    except MemoryError:
+        print("language_server: out of memory", file=sys.stderr)
+        return 1
+    except (KeyboardInterrupt, BrokenPipeError):
+        return 1
+    finally:
+        if server:
+            server.end()

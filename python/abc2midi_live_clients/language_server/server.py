@@ -1,0 +1,153 @@
+"""The state of a session with an editor: which messages come when, and which function answers each."""
+
+import sys
+from collections.abc import Callable
+from typing import Any, BinaryIO, Optional
+
+from abc2midi_live import ProgramEnded, version
+
+from .changes import BadChange
+from .client import Client
+from .features import CAPABILITIES, REQUESTS
+from .inbox import NO_JSON, Inbox, is_request
+from .messages import (
+    ERROR,
+    INVALID_PARAMS,
+    INVALID_REQUEST,
+    METHOD_NOT_FOUND,
+    NOT_INITIALIZED,
+    PARSE_ERROR,
+    REQUEST_CANCELLED,
+    REQUEST_FAILED,
+    Failure,
+    Json,
+)
+from .workspace import Settings, Workspace
+
+WRONG_PARAMS = (KeyError, TypeError, AttributeError, IndexError)
+
+
+class Server:
+    """A session with an editor."""
+
+    def __init__(self, write: Callable[[Json], None], settings: Settings):
+        self.write = write
+        self.workspace = Workspace(self.notify, self.send, settings)
+        self.initialized = False
+        self.is_shut_down = False
+        self.status: Optional[int] = None  # the exit status, once the session is over
+        self.notifications: dict[str, Callable[[Any], None]] = {
+            "exit": self.exit,
+            "textDocument/didOpen": self.workspace.open,
+            "textDocument/didChange": self.workspace.change,
+            "textDocument/didSave": self.workspace.save,
+            "textDocument/didClose": self.workspace.close,
+        }
+
+    def serve(self, stream: BinaryIO) -> int:
+        """Handles each message until the session is over; the exit status."""
+        inbox = Inbox(stream)
+        while self.status is None:
+            if self.workspace.publisher.due and not inbox.has_more(self.workspace.publisher.seconds_of_rest):
+                self.publish_what_is_due()
+            try:
+                message, is_cancelled = inbox.next()
+            except EOFError:
+                return 1
+            if is_cancelled:
+                self.refuse(message["id"], REQUEST_CANCELLED, "the editor cancelled this request")
+            else:
+                self.handle(message)
+        return self.status
+
+    def handle(self, message: Any) -> None:
+        """Answers a request, follows a notification, and takes no notice of an answer."""
+        if message is NO_JSON:
+            self.refuse(None, PARSE_ERROR, "this is no JSON")
+        elif not isinstance(message, dict) or not isinstance(message.get("method", ""), str):
+            self.refuse(None, INVALID_REQUEST, "this is no request")
+        elif is_request(message):
+            self.answer(message["id"], message["method"], message.get("params"))
+        elif "method" in message:
+            self.follow(message["method"], message.get("params"))
+
+    def answer(self, identifier: Any, method: str, params: Any) -> None:
+        """Answers a request."""
+        try:
+            self.send({"id": identifier, "result": self.result(method, params)})
+        except Failure as failure:
+            self.refuse(identifier, *failure.args)
+        except ProgramEnded as ended:
+            self.refuse(identifier, REQUEST_FAILED, str(ended))
+        except (*WRONG_PARAMS, BadChange) as error:
+            self.refuse(identifier, INVALID_PARAMS, f"the parameters of {method} are wrong: {error}")
+
+    def result(self, method: str, params: Any) -> Any:
+        """The result of a request. Raises Failure if it comes at a wrong time, or is not known."""
+        if self.is_shut_down:
+            raise Failure(INVALID_REQUEST, "the server is shut down")
+        if method == "initialize":
+            return self.initialize(params)
+        if not self.initialized:
+            raise Failure(NOT_INITIALIZED, "the first request is initialize")
+        if method == "shutdown":
+            return self.shutdown()
+        if method not in REQUESTS:
+            raise Failure(METHOD_NOT_FOUND, f"there is no method {method} here")
+        return REQUESTS[method](self.workspace, params)
+
+    def follow(self, method: str, params: Any) -> None:
+        """Follows a notification that is known and comes at its time."""
+        if method == "exit" or self.initialized and not self.is_shut_down and method in self.notifications:
+            self.guarded(method, lambda: self.notifications[method](params))
+
+    def publish_what_is_due(self) -> None:
+        """Sends the diagnostics that waited for a rest."""
+        for uri in list(self.workspace.publisher.due):
+            self.guarded("textDocument/didChange", lambda: self.workspace.publish(uri))
+
+    def guarded(self, method: str, work: Callable[[], None]) -> None:
+        """Does what a notification asks for. Nobody waits for an answer, so what fails is a message."""
+        try:
+            work()
+        except ProgramEnded as ended:
+            self.notify("window/showMessage", {"type": ERROR, "message": f"abc2midi_live: {ended}"})
+        except WRONG_PARAMS as error:
+            print(f"language_server: ignored a wrong {method}: {error}", file=sys.stderr)
+
+    def send(self, message: Json) -> None:
+        """Sends a message."""
+        self.write({"jsonrpc": "2.0", **message})
+
+    def refuse(self, identifier: Any, code: int, sentence: str) -> None:
+        """Answers a request by an error."""
+        self.send({"id": identifier, "error": {"code": code, "message": sentence}})
+
+    def notify(self, method: str, params: Json) -> None:
+        """Sends a notification."""
+        self.send({"method": method, "params": params})
+
+    def initialize(self, params: Any) -> Json:
+        """What the server can do, in the encoding of positions that the editor offers."""
+        if self.initialized:
+            raise Failure(INVALID_REQUEST, "the server is initialized")
+        self.initialized = True
+        self.workspace.client = Client(params)
+        return {
+            "capabilities": {"positionEncoding": self.workspace.client.encoding.name, **CAPABILITIES},
+            "serverInfo": {"name": "abc2midi_live", "version": version()},
+        }
+
+    def shutdown(self) -> None:
+        """Ends the programs; only `exit` may follow."""
+        self.is_shut_down = True
+        self.end()
+
+    def exit(self, _: Any) -> None:
+        """Ends the session."""
+        self.status = 0 if self.is_shut_down else 1
+
+    def end(self) -> None:
+        """Ends what is played, and each program, and removes their files: an editor may not wait for more."""
+        self.workspace.end()
+

@@ -1,0 +1,151 @@
+"""The tune books that an editor has open."""
+
+from collections.abc import Callable
+from typing import Any, NamedTuple, Optional
+from urllib.parse import unquote
+
+from ..faults import sentences
+from ..players import Player
+from ..printing import printable
+from .changes import BadChange, Change, changes_of
+from .client import Client
+from .document import Document
+from .messages import ERROR, INVALID_PARAMS, REQUEST_FAILED, WHOLE, Failure, Json
+from .publishing import Publisher
+
+
+class Settings(NamedTuple):
+    """What the command line decides: the program, the player, and whether there are hints."""
+
+    program: str
+    player: Optional[Player] = None
+    with_hints: bool = True
+
+
+class Workspace:
+    """The open documents, and how they follow their editor."""
+
+    def __init__(self, notify: Callable[[str, Json], None], send: Callable[[Json], None], settings: Settings):
+        self.notify = notify
+        self.send = send
+        self.settings = settings
+        self.client = Client()
+        self.words = sentences()
+        self.documents: dict[str, Document] = {}
+        self.publisher = Publisher()
+
+    # ---- what the editor reports
+
+    def open(self, params: Json) -> None:
+        """An editor opens a tune book, which has a program of its own."""
+        sent = params["textDocument"]
+        if sent["uri"] in self.documents:
+            self.documents.pop(sent["uri"]).close()
+        program, _, with_hints = self.settings
+        document = Document(sent["text"], program, self.words, with_hints, self.client.encoding)
+        document.version = sent.get("version")
+        self.documents[sent["uri"]] = document
+        self.publish(sent["uri"])
+
+    def change(self, params: Any) -> None:
+        """An editor changes a tune book. After a change that cannot be read only a whole text is taken."""
+        uri = uri_of(params)
+        if uri is None:
+            for each in self.documents:
+                self.lose(each, "a change does not say of which book it is")
+            return
+        document = self.documents[uri]
+        try:
+            changes = changes_of(params.get("contentChanges"))
+        except BadChange as bad:
+            self.lose(uri, str(bad))
+            return
+        if not document.is_lost or changes and changes[0].range is None:
+            document.version = params["textDocument"].get("version")
+            for change in changes:
+                document.change(change)
+            self.publisher.due[uri] = None
+
+    def lose(self, uri: str, why: str) -> None:
+        """The text of a book is unknown: asks once for the whole text."""
+        if self.documents[uri].is_lost:
+            return
+        self.documents[uri].is_lost = True
+        self.clear(uri)
+        if self.client.can_register:
+            self.client.can_register = False  # it is for all documents
+            options = {"documentSelector": [{"pattern": "**/*"}], "syncKind": WHOLE}
+            asked = {"id": "whole", "method": "textDocument/didChange", "registerOptions": options}
+            params = {"registrations": [asked]}
+            self.send({"id": f"whole {uri}", "method": "client/registerCapability", "params": params})
+        text = f"abc2midi_live: the text of {name_of(uri)} is unknown: {why}. Save it, or open it again."
+        self.notify("window/showMessage", {"type": ERROR, "message": text})
+
+    def save(self, params: Json) -> None:
+        """An editor saved a tune book, and sends its text: if another one is known here, that text is taken."""
+        uri, text = params["textDocument"]["uri"], params.get("text")
+        document = self.documents[uri]
+        if isinstance(text, str) and (document.is_lost or document.lines != text.split("\n")):
+            document.change(Change(None, text))
+            document.version = params["textDocument"].get("version")
+            self.publish(uri)
+
+    def close(self, params: Json) -> None:
+        """An editor closes a tune book: its diagnostics go."""
+        uri = params["textDocument"]["uri"]
+        self.documents.pop(uri).close()
+        self.clear(uri)
+
+    def end(self) -> None:
+        """Ends what is played, and each program, and removes their files."""
+        if self.settings.player:
+            self.settings.player.stop()
+        for document in self.documents.values():
+            document.close()
+        self.documents = {}
+        self.publisher.due.clear()
+
+    # ---- what the editor is sent
+
+    def publish(self, uri: str) -> None:
+        """Sends the diagnostics of a tune book."""
+        report = self.publisher.report(uri, self.documents[uri], self.client.has_links)
+        self.notify("textDocument/publishDiagnostics", report)
+        self.publisher.has_sent()
+
+    def clear(self, uri: str) -> None:
+        """Removes the diagnostics of a tune book."""
+        self.publisher.forget(uri)
+        self.notify("textDocument/publishDiagnostics", {"uri": uri, "diagnostics": []})
+
+    # ---- what requests ask for
+
+    def document(self, params: Json) -> Document:
+        """The tune book that a request names."""
+        uri = params["textDocument"]["uri"]
+        if uri not in self.documents:
+            raise Failure(INVALID_PARAMS, f"{name_of(uri)} is not open")
+        if self.documents[uri].is_lost:
+            raise Failure(REQUEST_FAILED, f"the text of {name_of(uri)} is unknown; save it, or open it again")
+        return self.documents[uri]
+
+    def edit(self, uri: str, edits: list[Json]) -> Json:
+        """Edits of a document as the protocol has them: of its version, if the editor can compare versions."""
+        if not self.client.has_versions:
+            return {"changes": {uri: edits}}
+        document = {"uri": uri, "version": self.documents[uri].version}
+        return {"documentChanges": [{"textDocument": document, "edits": edits}]}
+
+
+def name_of(uri: str) -> str:
+    """Returns the name of the file of a document, for a person."""
+    return printable(unquote(uri.rstrip("/").rpartition("/")[2]))
+
+
+def uri_of(params: Any) -> Optional[str]:
+    """Returns the document of parameters, if they name one."""
+    try:
+        uri = params["textDocument"]["uri"]
+    except (KeyError, TypeError):
+        return None
+    return uri if isinstance(uri, str) else None

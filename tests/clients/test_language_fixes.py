@@ -1,0 +1,94 @@
+"""Quick fixes: what the sentences of faults and hints name."""
+
+import trial
+from abc2midi_live_clients.language_server.messages import Json
+from language_editor import URI, Editor, edited, span
+
+# The name of a fault or a hint, a text with it, the text after its fix, and whether the fix is preferred.
+MENDED = [
+    ("Unclosed", 'X:1\nK:C\n"Em DEFD|\n', 'X:1\nK:C\n"Em" DEFD|\n', True),
+    ("SameNumber", "X:1\nK:C\nC\n\nX: 1 % x\nK:C\nC\n", "X:1\nK:C\nC\n\nX: 2 % x\nK:C\nC\n", True),
+    ("BadReference", "X:0 % x\nK:C\nC\n", "X:1 % x\nK:C\nC\n", True),
+    ("BadByte", "X:1\nK:C\n+trill+C\n", "X:1\nK:C\n!trill!C\n", True),
+    ("BadByte", "X:1\nK:C\nC5}D\n", "X:1\nK:C\nC5D\n", False),
+    ("LostSharp", "X:1\nK:C\nF#2 #G|\nA#|\n", "X:1\nK:C\n^F2 ^G|\n^A|\n", True),
+    ("LooseTie", "X:1\nK:C\nC2 -|C\n", "X:1\nK:C\nC2-|C\n", True),
+    ("MissingKey", "X:1\nT:a\n% b\nCDE\n", "X:1\nT:a\n% b\nK:C\nCDE\n", True),
+    ("BadMeter", "X:1\nM:4 / 4 % x\nK:C\nC\n", "X:1\nM:4/4 % x\nK:C\nC\n", True),
+    ("BadTempo", "X:1\nQ:Lively\nK:C\nC\n", 'X:1\nQ:"Lively"\nK:C\nC\n', True),
+    ("BadPart", "X:1\nK:C\nP:a\nC\n", "X:1\nK:C\nP:A\nC\n", True),
+    ("BadProgram", "X:1\n%%MIDI program 128\nK:C\nC\n", "X:1\n%%MIDI program 127\nK:C\nC\n", True),
+    ("LostProgram", "X:1\n%%MIDI program 1 41\nK:C\nC\n", "X:1\n%%MIDI program 41\nK:C\nC\n", True),
+    ("BagpipeKey", "X:1\nK: HP\nC\n", "X:1\nK: D\nC\n", True),
+    ("FreeMusic", "X:1\nK:C\nCDE|\n\nFGA|CDE|\n", "X:1\nK:C\nCDE|\n%\nFGA|CDE|\n", True),
+    ("FreeMusic", "T:a\nK:C\nCDE|FGA|\n\nX:4\nK:C\nC\n", "X:5\nT:a\nK:C\nCDE|FGA|\n\nX:4\nK:C\nC\n", True),
+    ("TextBlock", "X:1\nK:C\nC|\n%%begintext\nabc d\nef\n%%endtext\nC|\n", "X:1\nK:C\nC|\n%%begintext\n%abc d\n%ef\n%%endtext\nC|\n", True),
+    ("OpenRepeat", "X:1\nK:C\n|:CDE|FGA|]\n", "X:1\nK:C\n|:CDE|FGA:|\n", False),
+    ("OpenRepeat", "X:1\nK:C\n|:CDE|FGA\n", "X:1\nK:C\n|:CDE|FGA:|\n", False),
+    ("EmptyChord", "X:1\nK:C\n[]2C\n", "X:1\nK:C\nz2C\n", False),
+    ("LoneReturns", "X:1\nK:C\nC|\rD|\n", "X:1\nK:C\nC|\nD|\n", True),
+    ("NoTune", "K:C\nCDE|\n", "X:1\nK:C\nCDE|\n", False),
+]
+
+
+class Fixes(Editor):
+    def actions(self, kinds: list[str]) -> list[Json]:
+        """The actions of some kinds in the whole book."""
+        context: Json = {"diagnostics": [], "only": kinds}
+        found: list[Json] = self.of_book("codeAction", range=span(0, 0, 99, 0), context=context)
+        return found
+
+    def test_each(self) -> None:
+        """The fix of each fault or hint makes the text that its sentence asks for, of the version that the editor has."""
+        for name, before, after, is_preferred in MENDED:
+            self.open(before, version=3)
+            found = [each for each in self.actions(["quickfix"]) if name in [cause["code"] for cause in each["diagnostics"]]]
+            self.assertTrue(found, (name, before))
+            (change,) = found[0]["edit"]["documentChanges"]
+            self.assertEqual(edited_lines(before, change["edits"]), after, name)
+            self.assertEqual((found[0]["isPreferred"], change["textDocument"]), (is_preferred, {"uri": URI, "version": 3}), name)
+
+    def test_all_at_once(self) -> None:
+        """All preferred fixes are one edit. Two tunes get two numbers."""
+        before = 'X:1\nK:C\n"Em F|}\nF#|\nX:1\nK:C\nC -\n\nX:1\nC\n'
+        self.open(before)
+        (action,) = self.actions(["source.fixAll"])
+        (change,) = action["edit"]["documentChanges"]
+        after = 'X:1\nK:C\n"Em" F|}\n^F|\nX:2\nK:C\nC-\n\nX:3\nK:C\nC\n'
+        self.assertEqual(edited(before, change["edits"]), after)
+        self.assertEqual([each["kind"] for each in self.actions(["source"])], ["source.fixAll"])
+        self.assertNotIn("source.fixAll", [each.get("kind") for each in self.actions([""])])
+        self.open("X:1\nK:C\nC\n")
+        self.assertEqual(self.actions(["source.fixAll"]), [])
+
+    def test_ends_of_lines(self) -> None:
+        """A line that is put in ends like the others."""
+        self.open("X:1\r\nT:a\r\nC\r\n")
+        (found,) = [each for each in self.actions(["quickfix"]) if each["diagnostics"][0]["code"] == "MissingKey"]
+        self.assertEqual(found["edit"]["documentChanges"][0]["edits"], [{"range": span(2, 0, 2, 0), "newText": "K:C\r\n"}])
+        self.open("X:1\nT:a")
+        (found,) = [each for each in self.actions(["quickfix"]) if each["diagnostics"][0]["code"] == "MissingKey"]
+        self.assertEqual(found["edit"]["documentChanges"][0]["edits"], [{"range": span(1, 3, 1, 3), "newText": "\nK:C"}])
+
+    def test_an_editor_without_versions(self) -> None:
+        self.abilities = {}
+        self.setUp()
+        self.open('X:1\nK:C\n"Em D\n')
+        (found,) = self.actions(["quickfix"])
+        self.assertEqual(found["edit"], {"changes": {URI: [{"range": span(2, 3, 2, 3), "newText": '"'}]}})
+
+
+class Links(Editor):
+    def test_pages(self) -> None:
+        """A diagnostic has a link to the page about it."""
+        found = self.open("X:1\nK:C\n|:C}|\n")
+        pages = {each["code"]: each["codeDescription"]["href"] for each in found}
+        self.assertEqual(pages, {name: (trial.TOP / "docs" / page).as_uri() for name, page in (("BadByte", "faults.md"), ("OpenRepeat", "hints.md"))})
+        self.abilities = {}
+        self.setUp()
+        self.assertFalse(any("codeDescription" in each for each in self.open("X:1\nK:C\n|:C}|\n")))
+
+
+def edited_lines(text: str, edits: list[Json]) -> str:
+    """A text after edits. For an editor a carriage return ends a line, too."""
+    return edited(text, edits) if "\r" not in text else edited(text.replace("\r", "\n"), [each for each in edits if each["newText"] != "\n"])
