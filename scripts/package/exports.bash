@@ -48,6 +48,24 @@ on_exports() {
     on_crate c_library lib.rt "$1" --crate-type staticlib "${@:2}"
 }
 
+# Makes a folder of tools as the toolkit's, whose clang also copies the module of LLVM that it compiles to a file.
+make_tools() {
+    mkdir -p "$1/bin"
+    ln -s "$kit"/toolchain/bin/* "$1/bin"
+    ln -s "$kit/toolchain/lib" "$1"
+    rm "$1/bin/clang"
+    cat >"$1/bin/clang" <<END
+#!/usr/bin/env bash
+for word; do
+    case \$word in
+    module.bc | */module.bc) cp "\$word" '$2' ;;
+    esac
+done
+exec '$kit/toolchain/bin/clang' "\$@"
+END
+    chmod +x "$1/bin/clang"
+}
+
 # Prints the names of the calls in the header.
 calls() {
     grep -o '\babc_live_[a-z_]*(' "$header" | tr -d '(' | LC_ALL=C sort -u
