@@ -52,7 +52,7 @@ class Events(trial.Folder):
         self.path = self.inside / "book.abc"
         self.path.write_bytes(b"X:1\n")
 
-    def seconds(self, events: BookEvents, save: Callable[[], object], most: float = LONG) -> float:
+    def waits(self, events: BookEvents, save: Callable[[], object], most: float = LONG) -> float:
         """How long a wait is during which somebody saves."""
         saving = threading.Timer(0.3, save)
         saving.start()
@@ -69,23 +69,23 @@ class Events(trial.Folder):
 
     def test_a_file_that_is_written_or_renamed(self) -> None:
         events = BookEvents(str(self.path))
-        self.assertLess(self.seconds(events, lambda: self.path.write_bytes(b"X:2\n")), LONG / 2)
-        self.assertLess(self.seconds(events, lambda: self.rename_to(str(self.path))), LONG / 2)
-        self.assertLess(self.seconds(events, lambda: self.path.write_bytes(b"X:3\n")), LONG / 2)
+        self.assertLess(self.waits(events, lambda: self.path.write_bytes(b"X:2\n")), LONG / 2)
+        self.assertLess(self.waits(events, lambda: self.rename_to(str(self.path))), LONG / 2)
+        self.assertLess(self.waits(events, lambda: self.path.write_bytes(b"X:3\n")), LONG / 2)
 
     def test_other_files_of_the_folder(self) -> None:
         """Their names may be of any bytes."""
         events = BookEvents(str(self.path))
-        self.assertGreaterEqual(self.seconds(events, lambda: (self.inside / "other").write_bytes(b""), 2), 1.9)
-        self.seconds(events, lambda: open(os.fsencode(self.inside) + b"/\xff", "wb").close(), 2)
-        self.assertLess(self.seconds(events, lambda: self.path.write_bytes(b"X:3\n")), LONG / 2)
+        self.assertGreaterEqual(self.waits(events, lambda: (self.inside / "other").write_bytes(b""), 2), 1.9)
+        self.waits(events, lambda: open(os.fsencode(self.inside) + b"/\xff", "wb").close(), 2)
+        self.assertLess(self.waits(events, lambda: self.path.write_bytes(b"X:3\n")), LONG / 2)
 
     def test_a_link_to_a_book_elsewhere(self) -> None:
         link = self.folder / "link.abc"
         link.symlink_to("books/book.abc")
         events = BookEvents(str(link))
-        self.assertLess(self.seconds(events, lambda: self.rename_to(str(self.path))), LONG / 2)
-        self.assertLess(self.seconds(events, lambda: self.rename_to(str(link))), LONG / 2)
+        self.assertLess(self.waits(events, lambda: self.rename_to(str(self.path))), LONG / 2)
+        self.assertLess(self.waits(events, lambda: self.rename_to(str(link))), LONG / 2)
 
     def test_a_folder_that_vanishes_and_comes_back(self) -> None:
         events = BookEvents(str(self.path))
@@ -96,7 +96,7 @@ class Events(trial.Folder):
         self.assertGreaterEqual(time.monotonic() - since, 0.5)
         self.inside.mkdir()
         events.wait(LONG)  # it returns at once: the folder is new
-        self.assertLess(self.seconds(events, lambda: self.path.write_bytes(b"X:2\n")), LONG / 2)
+        self.assertLess(self.waits(events, lambda: self.path.write_bytes(b"X:2\n")), LONG / 2)
         self.assertLess(time.monotonic() - since, LONG)
 
     def test_another_folder_of_the_same_name(self) -> None:
@@ -104,7 +104,7 @@ class Events(trial.Folder):
         self.inside.rename(self.folder / "old")
         self.inside.mkdir()
         events.wait(LONG)
-        self.assertLess(self.seconds(events, lambda: self.path.write_bytes(b"X:2\n")), LONG / 2)
+        self.assertLess(self.waits(events, lambda: self.path.write_bytes(b"X:2\n")), LONG / 2)
 
 
 class NoEvents(trial.Folder):

@@ -104,8 +104,8 @@ class Names(Editor):
         self.assertEqual([(each["range"]["start"]["line"], each["newText"]) for each in change["edits"]], [(4, "bass"), (10, "bass"), (13, "bass")])
         for name in "hi", "", "a b", "a]", "a%":
             self.assertEqual(self.at("rename", 13, 12, newName=name), -32602, name)
-        for name in "A", "AB", "b", "", 7:
-            self.assertEqual(self.at("rename", 2, 3, newName=name), -32602, name)
+        for letter in "A", "AB", "b", "", 7:
+            self.assertEqual(self.at("rename", 2, 3, newName=letter), -32602, letter)
         self.assertEqual(self.at("rename", 9, 0, newName="x"), -32803)
 
     def test_other_tunes(self) -> None:
