@@ -5,7 +5,8 @@ from typing import Any
 from unittest import mock
 
 import trial
-from abc2midi_live_clients import shared_book
+from abc2midi_live import OutOfMemory, TokenKind
+from abc2midi_live_clients import shared_book, views
 from abc2midi_live_clients.rows import Json
 from abc2midi_live_clients.saving import digest, save_book
 from abc2midi_live_clients.shared_book import SharedBook
@@ -100,3 +101,74 @@ class Saves(trial.Folder):
         self.assertEqual(self.book.hints_now(), {"version": known + 1, "hints": 0, "rows": []})
         self.book.know_hints(known + 1, [hint])
         self.assertEqual(self.book.hints_now(), {"version": known + 1, "hints": 1, "rows": [hint]})
+
+
+NOTE, REST, BAR, FREE = TokenKind.NOTE.value, TokenKind.REST.value, TokenKind.BAR_LINE.value, TokenKind.FREE_TEXT.value
+
+
+class Views(trial.Folder):
+    """What a window sees: tokens of lines, and the play of a tune."""
+
+    def setUp(self) -> None:
+        super().setUp()
+        self.path = self.folder / "book.abc"
+        self.path.write_bytes("X:1\nL:1/4\nK:C\n\"é𝄞\"CD|z\nC\n".encode())
+        self.book = SharedBook(str(self.path), trial.library)
+        self.addCleanup(self.book.close)
+
+    def ask(self, call: Callable[[Json], Json], first: int, last: int, tune: Any, **more: Any) -> Json:
+        """What answers a window that has the present version, and sees lines and a tune."""
+        seen = {"from": first, "to": last, "tune": tune}
+        return call({"run": self.book.run, "version": self.book.version, "sees": seen, **more})["view"]
+
+    def test_tokens(self) -> None:
+        """Columns are those of UTF-16, from 0: the clef has two units there."""
+        view = self.ask(self.book.view, 3, 9, None)
+        quoted = TokenKind.QUOTED.value
+        music = [0, 5, quoted, 0, 5, 6, NOTE, 0, 6, 7, NOTE, 0, 7, 8, BAR, 0, 8, 9, REST, 0]
+        self.assertEqual(view, {"from": 3, "to": 9, "tokens": [music, [0, 1, NOTE, 0], []], "tune": None, "play": None})
+
+    def test_play(self) -> None:
+        """A quarter note has 480 ticks."""
+        conductor, voice = self.ask(self.book.view, 0, 0, 1)["play"]
+        entries = [voice[at : at + 9] for at in range(0, len(voice), 9)]
+        self.assertEqual(conductor, [])
+        notes = [[0, 480, 3, 5, 6, 1, 60], [480, 960, 3, 6, 7, 1, 62], [1440, 1920, 4, 0, 1, 1, 60]]
+        self.assertEqual([entry[:7] for entry in entries if entry[5] == 1], notes)
+        self.assertEqual([entry for entry in entries if entry[5] == 2], [[960, 1440, 3, 8, 9, 2, 128, 0, 0]])
+        self.assertEqual([entry[:7] for entry in entries if entry[5] == 3][:1], [[960, 960, 3, 7, 8, 3, 128]])
+        self.assertEqual(self.ask(self.book.view, 0, 0, 2)["play"], None)
+
+    def test_the_answer_to_an_edit(self) -> None:
+        """It has what is seen after the edit, in the same answer; windows that follow do not get it."""
+        view = self.ask(self.book.edit, 3, 5, 1, start=3, stop=4, lines=["", "D"])
+        self.assertEqual(view["tokens"][1], [0, 1, FREE, 0])
+        self.assertNotIn("view", self.book.changes_after(0)["changes"][0])
+        view = self.ask(self.book.edit, 3, 4, 1, start=3, stop=5, lines=["D"])
+        self.assertEqual((view["tokens"], view["play"][1][:7]), ([[0, 1, NOTE, 0]], [0, 480, 3, 0, 1, 1, 62]))
+
+    def test_what_is_no_view(self) -> None:
+        bad: list[Any] = [None, [], {"from": -1, "to": 1}, {"from": 0}, {"from": 0, "to": True, "tune": None}, {"from": 0, "to": 1, "tune": "1"}]
+        for seen in bad:
+            with self.assertRaises(shared_book.Refused):
+                self.book.view({"run": self.book.run, "version": self.book.version, "sees": seen})
+        with self.assertRaises(shared_book.Refused):
+            self.book.view({"run": self.book.run, "version": 7, "sees": {"from": 0, "to": 1, "tune": None}})
+
+    def test_limits(self) -> None:
+        """Of very many lines, tokens or entries a window gets some, or none."""
+        with mock.patch.multiple(views, MOST_LINES=4, MOST_TOKENS=6, MOST_ENTRIES=3):
+            view = self.ask(self.book.view, 2, 6, 1)
+            self.assertEqual((len(view["tokens"]), view["play"]), (2, None))
+            self.assertEqual(len(self.ask(self.book.view, 0, 6, None)["tokens"]), 3)
+
+    def test_an_allocation_that_fails(self) -> None:
+        """The edit is refused, and the next one finds another session with the text that is there."""
+        before = self.book.session_book
+        assert before
+        with mock.patch.object(before.session, "apply", side_effect=OutOfMemory("an allocation failed")):
+            with self.assertRaises(shared_book.Refused) as caught:
+                self.ask(self.book.edit, 3, 4, None, start=4, stop=5, lines=["D"])
+        self.assertEqual((caught.exception.status, self.book.version), (413, 0))
+        self.assertEqual(self.ask(self.book.edit, 4, 5, None, start=4, stop=5, lines=["z"])["tokens"], [[0, 1, REST, 0]])
+        self.assertIsNot(self.book.session_book, before)
