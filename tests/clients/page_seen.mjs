@@ -118,7 +118,7 @@ const tests = {
   async "an answer on another version does not count, and nothing is asked while an edit has no answer"() {
     const world = begin("AB", "z"), { seen, link, host, asked } = world;
     seen.learn(view({}), 2);
-    same(seen.tokensOf(0), null);
+    same([seen.tokensOf(0), seen.tokensOf(2)], [null, null]); // the text has two lines
     link.awaited = 1;
     seen.want({ from: 0, to: 2 });
     await soon();

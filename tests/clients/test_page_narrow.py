@@ -27,8 +27,8 @@ return document.elementsFromPoint((left + right) / 2, (top + bottom) / 2).includ
 """
 
 WORDS = """
-const view = document.querySelector("#score svg").getBoundingClientRect();
-return [...document.querySelectorAll("#score text")].filter((one) => /Tune|Trad/.test(one.textContent)).map((one) => {
+const view = document.querySelector("#score svg")?.getBoundingClientRect();
+return !view ? [] : [...document.querySelectorAll("#score text")].filter((one) => /Tune|Trad/.test(one.textContent)).map((one) => {
   const { left, right } = one.getBoundingClientRect();
   return [one.textContent, view.left <= left && right <= view.right];
 });

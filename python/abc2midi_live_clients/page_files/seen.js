@@ -97,6 +97,7 @@ export class Seen {
    * @type {(line: number) => Token[] | null} */
   tokensOf(line) {
     const text = this.text.lines[line], row = this.here.get(line);
+    if (text === undefined) return null; // the text has fewer lines by now
     if (row?.text === text) return row.tokens;
     return this.remembered.get(text) ?? (row ? movedTokens(row, text) : null);
   }
