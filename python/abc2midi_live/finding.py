@@ -5,7 +5,6 @@ The package is in one of three places: in a checkout, below `share` of an instal
 import os
 import shutil
 import subprocess
-from importlib import metadata
 from pathlib import Path
 from typing import Union
 
@@ -79,4 +78,6 @@ def version() -> str:
         return INSTALLED.read_text().strip()
     if is_checkout():
         return subprocess.run([TOP / "scripts/build/version"], capture_output=True, text=True, check=True).stdout.strip()
+    from importlib import metadata  # a slow import, which no other place needs
+
     return metadata.version("abc2midi_live")
