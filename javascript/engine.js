@@ -5,6 +5,7 @@ import { NotSupportedError, OutOfMemory, TrapError, refusal } from "./errors.js"
 const MODULE = new URL("./abc2midi_live.wasm", import.meta.url);
 const WITH_MEMORY_64 = new Uint8Array([0, 0x61, 0x73, 0x6d, 1, 0, 0, 0, 5, 3, 1, 4, 0]); // a module of one 64-bit memory, and nothing else
 const FILES = "node:fs/promises"; // a name that bundlers for browsers do not look for
+const MOST_ROOM = 65536, ROOM_STEP = 4096; // bytes of the block that an engine has for the texts and reports of edits
 
 /** Whether this browser or program has the 64-bit memories that the module needs. */
 export function isSupported() {
@@ -27,6 +28,8 @@ async function content(source) {
 export class Engine {
   #exports;
   #trap = null;
+  #view = new DataView(new ArrayBuffer(0)); // of the memory; its buffer has no bytes as soon as the memory grows
+  #room = { at: 0n, size: 0 }; // a block for the texts and reports of edits
 
   constructor(exports) {
     this.#exports = exports;
@@ -65,14 +68,15 @@ export class Engine {
     return new TrapError(why, { cause: this.#trap });
   }
 
-  /** The bytes of the memory from a place on. They are valid up to the next call, after which the memory may be another one. */
-  bytes(at, count) {
-    return new Uint8Array(this.#exports.memory.buffer, Number(at), count);
+  /** A view of the memory, valid up to the next call, after which the memory may be another one. */
+  get view() {
+    if (this.#view.buffer.byteLength === 0) this.#view = new DataView(this.#exports.memory.buffer);
+    return this.#view;
   }
 
-  /** A view of the memory from a place on, valid up to the next call. */
-  view(at, count) {
-    return new DataView(this.#exports.memory.buffer, Number(at), count);
+  /** The bytes of the memory from a place on, valid up to the next call. */
+  bytes(at, count) {
+    return new Uint8Array(this.view.buffer, Number(at), count);
   }
 
   /** Allocates bytes: at least one, so that each block has a place of its own. */
@@ -84,6 +88,27 @@ export class Engine {
 
   free(at) {
     this.call("free", at);
+  }
+
+  /** What `use` returns for the place of a block of some bytes, which is another's afterwards. Small blocks are all at one place. */
+  inBlock(count, use) {
+    if (count <= MOST_ROOM) return use(this.#roomFor(count));
+    const at = this.allocate(count);
+    try {
+      return use(at);
+    } finally {
+      if (!this.isStopped) this.free(at);
+    }
+  }
+
+  /** The place of the block for edits, which becomes large enough. */
+  #roomFor(count) {
+    if (count > this.#room.size) {
+      const size = Math.ceil(count / ROOM_STEP) * ROOM_STEP, at = this.allocate(size), { size: had, at: old } = this.#room;
+      this.#room = { at, size };
+      if (had > 0) this.free(old);
+    }
+    return this.#room.at;
   }
 }
 

@@ -34,6 +34,7 @@ function check(code) {
 export class Session {
   #engine;
   #block;
+  #places; // of what is in the block
   #report = { written: [], removed: [] };
   #text = null; // the text, if `setText` made it and no other edit followed; else it is read when it is needed
 
@@ -41,6 +42,7 @@ export class Session {
   constructor(engine) {
     this.#engine = engine;
     this.#block = engine.allocate(BLOCK);
+    this.#places = placesIn(this.#block);
     engine.bytes(this.#block, ANSWER).fill(0);
     const code = engine.call("abc_live_open", this.#block);
     if (code !== OK) engine.free(this.#block);
@@ -107,16 +109,13 @@ export class Session {
     if (places.includes(null)) throw refusal(BadRange);
     const size = bytes?.length ?? 0, engine = this.#engine;
     const tunes = this.#titleCount() + Math.floor(size / SHORTEST_TUNE) + 1; // the text has no more after the edit
-    const block = engine.allocate(Math.max(size, tunes * NUMBER_SIZE));
-    try {
+    engine.inBlock(Math.max(size, tunes * NUMBER_SIZE), (block) => {
       if (bytes) engine.bytes(block, size).set(bytes);
       const text = bytes ? [block, BigInt(size)] : [];
-      check(engine.call(call, this.#block, ...places, ...text, this.#at(WORK)));
+      check(engine.call(call, this.#block, ...places, ...text, this.#places.work));
       this.#text = null;
       this.#report = { written: this.#numbersAt("abc_live_written", block, tunes), removed: this.#numbersAt("abc_live_removed", block, tunes) };
-    } finally {
-      if (!engine.isStopped) engine.free(block);
-    }
+    });
     return this.report;
   }
 
@@ -141,8 +140,8 @@ export class Session {
   get titles() {
     this.#checkOpen();
     return Array.from({ length: this.#titleCount() }, (_, index) => {
-      const bytes = this.#copied("abc_live_title", 1, [this.#block, BigInt(index), this.#at(NUMBER)]);
-      return { number: this.#engine.view(this.#at(NUMBER), NUMBER_SIZE).getUint32(0, true), text: textOf(bytes), bytes };
+      const bytes = this.#copied("abc_live_title", 1, [this.#block, BigInt(index), this.#places.number]);
+      return { number: this.#number(), text: textOf(bytes), bytes };
     });
   }
 
@@ -162,7 +161,7 @@ export class Session {
 
   tokens(number) {
     const columns = utf16ColumnsOf(this.lineBytes(number));
-    const numbers = numbersIn(this.#copied("abc_live_tokens", TOKEN_SIZE, [this.#block, number], [this.#at(WORK)]));
+    const numbers = numbersIn(this.#copied("abc_live_tokens", TOKEN_SIZE, [this.#block, number], [this.#places.work]));
     return Array.from({ length: numbers.length / 4 }, (_, n) => {
       const [from, to, kind, depth] = numbers.slice(4 * n, 4 * n + 4);
       return { from, to, utf16From: columns[from - 1], utf16To: columns[to - 1], kind: kindOf(kind), depth };
@@ -190,8 +189,8 @@ export class Session {
 
   get lineCount() {
     this.#checkOpen();
-    check(this.#engine.call("abc_live_line_count", this.#block, this.#at(NUMBER)));
-    return this.#engine.view(this.#at(NUMBER), NUMBER_SIZE).getUint32(0, true);
+    check(this.#engine.call("abc_live_line_count", this.#block, this.#places.number));
+    return this.#number();
   }
 
   get lines() {
@@ -220,8 +219,7 @@ export class Session {
 
   get work() {
     this.#checkOpen();
-    const view = this.#engine.view(this.#at(WORK), COUNT - WORK);
-    const [scanned, folded, built] = [0, 8, 16].map((at) => Number(view.getBigUint64(at, true)));
+    const [scanned, folded, built] = [0, 8, 16].map((more) => this.#sizeAt(WORK + more));
     return { scanned, folded, built };
   }
 
@@ -248,17 +246,21 @@ export class Session {
 
   // ---- the memory
 
-  /** A place in the block of the session. */
-  #at(place) {
-    return this.#block + BigInt(place);
+  /** The number of 64 bits at a place in the block of the session. */
+  #sizeAt(place) {
+    return Number(this.#engine.view.getBigUint64(this.#places.block + place, true));
   }
 
   #count() {
-    return Number(this.#engine.view(this.#at(COUNT), 8).getBigUint64(0, true));
+    return this.#sizeAt(COUNT);
+  }
+
+  #number() {
+    return this.#engine.view.getUint32(this.#places.block + NUMBER, true);
   }
 
   #titleCount() {
-    check(this.#engine.call("abc_live_title_count", this.#block, this.#at(COUNT)));
+    check(this.#engine.call("abc_live_title_count", this.#block, this.#places.count));
     return this.#count();
   }
 
@@ -272,27 +274,31 @@ export class Session {
    * and the room of a buffer, a count, and the last words.
    */
   #copied(call, size, words, last = []) {
-    const engine = this.#engine;
-    const code = engine.call(call, ...words, this.#at(ANSWER), BigInt(Math.floor(ROOM / size)), this.#at(COUNT), ...last);
+    const engine = this.#engine, { answer, count: countAt } = this.#places;
+    const code = engine.call(call, ...words, answer, BigInt(Math.floor(ROOM / size)), countAt, ...last);
     if (code === NOT_FOUND) return null;
     if (code !== SHORT_BUFFER) {
       check(code);
-      return engine.bytes(this.#at(ANSWER), this.#count() * size).slice();
+      return engine.bytes(answer, this.#count() * size).slice();
     }
-    const count = this.#count(), block = engine.allocate(count * size);
-    try {
-      check(engine.call(call, ...words, block, BigInt(count), this.#at(COUNT), ...last));
+    const count = this.#count();
+    return engine.inBlock(count * size, (block) => {
+      check(engine.call(call, ...words, block, BigInt(count), countAt, ...last));
       return engine.bytes(block, count * size).slice();
-    } finally {
-      if (!engine.isStopped) engine.free(block);
-    }
+    });
   }
 
   /** The numbers that a call copies to a block with room for `most`. */
   #numbersAt(call, block, most) {
-    check(this.#engine.call(call, this.#block, block, BigInt(most), this.#at(COUNT)));
-    return numbersIn(this.#engine.bytes(block, this.#count() * NUMBER_SIZE));
+    check(this.#engine.call(call, this.#block, block, BigInt(most), this.#places.count));
+    return numbersOf(this.#engine.view, Number(block), this.#count());
   }
+}
+
+/** The places of what is in the block of a session: as words of a call, and the block as a number. */
+function placesIn(block) {
+  const [work, count, number, answer] = [WORK, COUNT, NUMBER, ANSWER].map((place) => block + BigInt(place));
+  return { block: Number(block), work, count, number, answer };
 }
 
 /** A view of bytes. */
@@ -300,10 +306,16 @@ function viewOf(bytes) {
   return new DataView(bytes.buffer, bytes.byteOffset, bytes.byteLength);
 }
 
+/** The 32-bit numbers of the module from a place on. */
+function numbersOf(view, from, count) {
+  const numbers = [];
+  for (let n = 0; n < count; n += 1) numbers.push(view.getUint32(from + n * NUMBER_SIZE, true)); // each edit is here: `Array.from` is slow
+  return numbers;
+}
+
 /** The 32-bit numbers in bytes of the module. */
 function numbersIn(bytes) {
-  const view = viewOf(bytes);
-  return Array.from({ length: bytes.byteLength / NUMBER_SIZE }, (_, n) => view.getUint32(n * NUMBER_SIZE, true));
+  return numbersOf(viewOf(bytes), 0, bytes.byteLength / NUMBER_SIZE);
 }
 
 /** The sizes in bytes of the module, of 64 bits each. */

@@ -271,6 +271,32 @@ await run({
     same(two.output(1), other.output(1));
     for (const session of [two, other]) session.close();
   },
+  "small edits share one block, which also grows; a large one has its own": async () => {
+    const { exports } = await WebAssembly.instantiate(new WebAssembly.Module(readFileSync(`${folder}/abc2midi_live.wasm`)));
+    const blocks = new Map();
+    let calls = 0;
+    const malloc = (size) => {
+      const at = exports.malloc(size);
+      blocks.set(at, Number(size));
+      calls += 1;
+      return at;
+    };
+    const free = (at) => {
+      blocks.delete(at);
+      exports.free(at);
+    };
+    const engine = new Engine({ ...exports, malloc, free });
+    const [one, two] = [await Session.open({ engine }), await Session.open({ engine })];
+    const opened = calls, sizes = [...blocks.values()];
+    for (const session of [one, two]) for (const line of ["C|", "D|", "E|"]) same(session.setText(SCALE + line), { written: [1], removed: [] });
+    same([calls, [...blocks.values()]], [opened + 1, [...sizes, 4096]]);
+    one.insert(1, "%".repeat(5000));
+    same([calls, [...blocks.values()]], [opened + 2, [...sizes, 8192]]);
+    one.insert(1, "\n".repeat(70000));
+    same([calls, [...blocks.values()]], [opened + 3, [...sizes, 8192]]);
+    same([one.output(1), one.lineCount], [two.output(1), 70006]);
+    for (const session of [one, two]) session.close();
+  },
   "an engine that stops refuses all later calls, and another one takes its place": async () => {
     const { exports } = await WebAssembly.instantiate(new WebAssembly.Module(readFileSync(`${folder}/abc2midi_live.wasm`)));
     let stops = false;
