@@ -14,6 +14,7 @@ ALL_ABILITIES: Json = {
     "textDocument": {
         "documentSymbol": {"hierarchicalDocumentSymbolSupport": True},
         "completion": {"completionItem": {"snippetSupport": True}},
+        "hover": {"contentFormat": ["markdown", "plaintext"]},
         "publishDiagnostics": {"codeDescriptionSupport": True},
     },
     "workspace": {"workspaceEdit": {"documentChanges": True}},

@@ -32,6 +32,13 @@ class Hover(Editor):
         self.assertIn("1 a\\*b, 0:01", found["contents"]["value"])
         self.assertNotIn("range", self.at("hover", 3, 2))
 
+    def test_an_editor_without_markdown(self) -> None:
+        self.abilities = {}
+        self.setUp()
+        self.open("X:1\nT:a*b\nK:C\nC3 D\n")
+        contents = self.at("hover", 3, 1)["contents"]
+        self.assertEqual(contents, {"kind": "plaintext", "value": "C4, MIDI key 60, velocity 80, length 3/8\n\n1 a*b, 0:01"})
+
     def test_a_shifted_note(self) -> None:
         """A note that a voice moves by a fifth has another letter: it is G4."""
         self.open("X:1\nV:1 transpose=7\nK:C\nV:1\nC\n")

@@ -1,7 +1,7 @@
 """What is known at a place of a tune book: the note there, its faults and hints, and its tune."""
 
 from fractions import Fraction
-from typing import Any, Optional
+from typing import Any, NamedTuple, Optional
 
 from abc2midi_live import Entry, EntryKind, TokenKind
 
@@ -19,19 +19,29 @@ SIGNS = {-2: "𝄫", -1: "♭", 0: "", 1: "♯", 2: "𝄪"}
 SHARPS = ("C", "C♯", "D", "D♯", "E", "F", "F♯", "G", "G♯", "A", "A♯", "B")
 
 
+class Note(NamedTuple):
+    """A note or a rest: its name, and what else is known of it. Both are empty if none is there."""
+
+    name: str
+    sound: str
+
+
 def hover(workspace: Workspace, params: Any) -> Optional[Json]:
-    """What is known at a place, as Markdown, with the range of the token there."""
+    """What is known at a place, as Markdown if the editor shows that, with the range of the token there."""
     document = workspace.document(params)
     line, character = document.character(position_of(params["position"]))
     token = token_at(document, line, character)
     place = line, character
     found = [remark.text for remark in remarks_in(document, line, line) if remark.meets(place, place)]
-    note = [about_note(document, token)] if token else []
-    parts = [*filter(None, note), *map(escaped, found), *about_tune(document, line, found)]
-    if not parts:
-        return None
+    note = about_note(document, token) if token else Note("", "")
+    parts = [*found, *about_tune(document, line, found)]
+    if workspace.client.has_markdown:
+        kind, first, parts = "markdown", f"**{note.name}**{note.sound}" if note.name else "", [escaped(part) for part in parts]
+    else:
+        kind, first = "plaintext", note.name + note.sound
+    parts = [first, *parts] if first else parts
     where = {"range": document.range(line, token.start, line, token.end)} if token else {}
-    return {"contents": {"kind": "markdown", "value": "\n\n".join(parts)}, **where}
+    return {"contents": {"kind": kind, "value": "\n\n".join(parts)}, **where} if parts else None
 
 
 def token_at(document: Document, line: int, character: int) -> Optional[TokenText]:
@@ -40,18 +50,18 @@ def token_at(document: Document, line: int, character: int) -> Optional[TokenTex
     return found[-1] if found and found[-1].kind != TokenKind.BLANK else None
 
 
-def about_note(document: Document, token: TokenText) -> str:
+def about_note(document: Document, token: TokenText) -> Note:
     """Returns the pitch, the key and the length of a note, or the length of a rest; nothing of other tokens."""
     tune = document.tune_at(token.line)
     column = document.column(token.line, token.start)
     played = (entry for track in document.play(tune) for entry in track) if tune else ()
     entry = next((each for each in played if (each.line, each.from_column) == (token.line + 1, column)), None)
     if entry is None or entry.kind not in (EntryKind.NOTE, EntryKind.REST):
-        return ""
-    length = f"length {Fraction(entry.off - entry.on, TICKS)}"
+        return Note("", "")
+    length = f", length {Fraction(entry.off - entry.on, TICKS)}"
     if entry.kind == EntryKind.REST:
-        return f"**rest**, {length}"
-    return f"**{pitch_of(entry, token.text)}**, {sound_of(entry)}, {length}"
+        return Note("rest", length)
+    return Note(pitch_of(entry, token.text), f", {sound_of(entry)}{length}")
 
 
 def sound_of(entry: Entry) -> str:
@@ -75,10 +85,10 @@ def about_tune(document: Document, line: int, found: list[str]) -> list[str]:
     tune = document.tune_at(line)
     if not tune:
         return []
-    title = escaped(title_of(tune))
+    title = title_of(tune)
     if not document.has_file(tune):
         reason = document.why_no_file(tune)
-        return [title if reason in found else f"{title}: {escaped(reason)}"]
+        return [title if reason in found else f"{title}: {reason}"]
     number = tune.number
     data = document.ask(lambda book: book.midi(number))
     return [f"{title}, {clock(seconds_of(data))}" if data else title]
