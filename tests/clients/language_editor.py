@@ -4,7 +4,6 @@ import unittest
 from typing import Any
 
 import trial
-from abc2midi_live import LibraryMissing, find_library
 from abc2midi_live_clients.language_server.messages import Json
 from abc2midi_live_clients.language_server.server import Server
 from abc2midi_live_clients.language_server.workspace import Settings
@@ -21,16 +20,6 @@ ALL_ABILITIES: Json = {
 }
 
 
-def has_library() -> bool:
-    """Whether the C library is built or installed."""
-    try:
-        find_library()
-    except LibraryMissing:
-        return False
-    return True
-
-
-@unittest.skipUnless(has_library(), "the C library is not built")
 class Editor(unittest.TestCase):
     """An editor with one book."""
 
@@ -38,7 +27,7 @@ class Editor(unittest.TestCase):
 
     def setUp(self) -> None:
         self.sent: list[Json] = []
-        self.server = Server(self.sent.append, Settings(trial.program))
+        self.server = Server(self.sent.append, Settings(trial.library))
         self.addCleanup(self.server.end)
         self.asked = 0
         self.capabilities = self.ask("initialize", {"capabilities": self.abilities})["capabilities"]

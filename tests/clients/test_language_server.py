@@ -18,6 +18,7 @@ from abc2midi_live_clients import program
 from abc2midi_live_clients.language_server import changes, document, remarks
 from abc2midi_live_clients.faults import sentences
 from abc2midi_live_clients.hints import Finder
+from abc2midi_live_clients.program import open_library
 from abc2midi_live_clients.language_server.messages import Json
 from abc2midi_live import version
 from abc2midi_live.lines import lines_of_book
@@ -35,7 +36,7 @@ class Editor(trial.Folder):
 
     def start(self, *words: str) -> None:
         """Starts the server, with a folder for what it leaves for a moment."""
-        command = [sys.executable, str(trial.CLIENTS / "language_server"), "--program", trial.program, *words]
+        command = [sys.executable, str(trial.CLIENTS / "language_server"), "--library", trial.library, *words]
         self.server = subprocess.Popen(
             command, stdin=subprocess.PIPE, stdout=subprocess.PIPE, stderr=subprocess.PIPE,
             env={**os.environ, "TMPDIR": str(self.files)},
@@ -571,82 +572,17 @@ class Starts(Editor):
         self.assertEqual((self.server.wait(trial.SECONDS), self.errors.read()), (1, b""))
 
 
-class Programs(Editor):
-    """The programs that the server starts, each of which tells its process."""
+class Played(Editor):
+    """Books that are opened again, and files that are played."""
 
     def setUp(self) -> None:
-        super(Editor, self).setUp()
-        self.starter = self.folder / "program"
-        self.starter.write_text(f'#!/bin/sh\necho $$ >>"{self.folder}/pids"\nexec "{trial.program}" "$@"\n')
-        self.starter.chmod(0o755)
-        self.start("--program", str(self.starter))
+        super().setUp()
         self.ask("initialize", {})
-
-    def programs(self) -> list[Any]:
-        """The processes that were started, one after another."""
-        return [int(line) for line in (self.folder / "pids").read_text().split()]
 
     def test_a_book_that_is_opened_twice(self) -> None:
         self.open("X:1\nK:C\n&")
         self.assertEqual(starts(self.open("X:1\nK:C\nC-")), [])
         self.assertEqual(starts(self.change(1, (span(2, 2, 2, 2), "&"))), [(2, 2, "BadByte")])
-        first, second = self.programs()
-        with self.assertRaises(ProcessLookupError):
-            os.kill(first, 0)
-        os.kill(second, 0)
-        self.finish()
-
-    def test_a_program_that_ends(self) -> None:
-        """It is started again, with its present text, and the other books stay."""
-        other = "file:///other"
-        self.open(BOOK)
-        self.open("X:2\nK:C\nC", other)
-        os.kill(self.programs()[0], signal.SIGKILL)
-        changes = (span(3, 4, 3, 6), ""), (span(0, 0, 0, 0), "X:9\nK:C\n-\n\n")
-        self.assertEqual(starts(self.change(1, *changes)), [(2, 0, "LooseTie"), (11, 4, "LooseTie")])
-        self.assertEqual([os.path.basename(self.play(*place)) for place in ((URI, 0), (URI, 5), (other, 0))], ["9.mid", "1.mid", "2.mid"])
-        os.kill(self.programs()[2], signal.SIGKILL)
-        symbols = self.ask("textDocument/documentSymbol", {"textDocument": {"uri": URI}})
-        self.assertEqual([symbol["name"] for symbol in symbols], ["9", "1 Kesh", "2"])
-        self.ask("shutdown")
-        self.notify("exit")
-        told = b"language_server: the program ended with status -9; restarting it\n"
-        self.assertEqual((self.server.wait(trial.SECONDS), self.errors.read(), len(self.programs())), (0, 2 * told, 4))
-
-    def test_no_program_for_a_while(self) -> None:
-        """The session goes on, and the book is there again with the program."""
-        other = "file:///other"
-        self.open("X:1\nK:C\nC")
-        self.open("X:2\nK:C\nC", other)
-        self.starter.rename(self.folder / "away")
-        os.kill(self.programs()[0], signal.SIGKILL)
-        told = [{"text": "&", "range": span(2, 1, 2, 1)}]
-        self.notify("textDocument/didChange", {"textDocument": {"uri": URI, "version": 1}, "contentChanges": told})
-        message = self.read()
-        self.assertEqual((message["method"], message["params"]["type"]), ("window/showMessage", 1))
-        self.assertEqual(self.ask("textDocument/documentSymbol", {"textDocument": {"uri": URI}}), -32803)
-        self.assertEqual(os.path.basename(self.play(other, 0)), "2.mid")
-        (self.folder / "away").rename(self.starter)
-        self.assertEqual(starts(self.change(2, (span(2, 0, 2, 0), "-"))), [(2, 0, "LooseTie"), (2, 2, "BadByte")])
-        self.assertIsNone(self.ask("shutdown"))
-        self.assertEqual(os.listdir(self.files), [])
-
-
-    def test_no_program_for_another_book(self) -> None:
-        """The session and its other books go on, and the book gets its program later."""
-        other = "file:///other"
-        self.open("X:1\nK:C\n&")
-        self.starter.rename(self.folder / "away")
-        book = {"uri": other, "languageId": "abc", "version": 0, "text": "X:2\nK:C\n-"}
-        self.notify("textDocument/didOpen", {"textDocument": book})
-        message = self.read()
-        self.assertEqual((message["method"], message["params"]["type"]), ("window/showMessage", 1))
-        self.assertEqual(message["params"]["message"], f"abc2midi_live: {self.starter}: No such file or directory")
-        self.assertEqual(self.ask("textDocument/documentSymbol", {"textDocument": {"uri": other}}), -32803)
-        self.assertEqual(starts(self.change(1, (span(2, 0, 2, 1), "-"))), [(2, 0, "LooseTie")])
-        self.assertEqual(os.listdir(self.files), [])
-        (self.folder / "away").rename(self.starter)
-        self.assertEqual(os.path.basename(self.play(other, 0)), "2.mid")
         self.finish()
 
     def test_files_that_the_system_removes(self) -> None:
@@ -674,9 +610,9 @@ class Documents(trial.Folder):
 
     def test_the_lines_that_are_held(self) -> None:
         chance = random.Random(trial.seed)
-        book = document.Document("", trial.program, {})
+        book = document.Document("", open_library(trial.library), {})
         self.addCleanup(book.close)
-        self.assertEqual(book.ask(lambda held: held.lines), [])
+        self.assertEqual(book.book.lines, [])
         text = ""
         for _ in range(200):
             start = chance.randrange(len(text) + 1)
@@ -685,7 +621,7 @@ class Documents(trial.Folder):
             place = changes.Range(changes.Position(*place_of(text, start)), changes.Position(*place_of(text, end)))
             book.change(changes.Change(place, put))
             text = text[:start] + put + text[end:]
-            self.assertEqual(book.ask(lambda held: held.lines), lines_of_book(text.encode()))
+            self.assertEqual(book.book.lines, lines_of_book(text.encode()))
             for at in [at for at in range(len(text) + 1) if text[at - 1 : at + 1] != "\r\n"]:
                 line, _, before = text[:at].rpartition("\n")
                 position = changes.Position(*place_of(text, at))
@@ -694,9 +630,9 @@ class Documents(trial.Folder):
 
     def test_what_is_asked_once(self) -> None:
         """A text that did not change has the same faults and hints."""
-        book = document.Document("X:1\nK:C\n|:C&D|\n", trial.program, {})
+        book = document.Document("X:1\nK:C\n|:C&D|\n", open_library(trial.library), {})
         self.addCleanup(book.close)
-        faults = mock.patch.object(program.LiveBook, "faults", autospec=True, side_effect=program.LiveBook.faults)
+        faults = mock.patch.object(program.SessionBook, "faults", autospec=True, side_effect=program.SessionBook.faults)
         hints = mock.patch.object(Finder, "hints", autospec=True, side_effect=Finder.hints)
         with faults as asked, hints as sought:
             for _ in range(3):
@@ -769,12 +705,12 @@ class Protocol(Editor):
         self.assertEqual(os.path.basename(path), "1.mid")
         self.finish()
 
-    def test_a_program_that_is_not_there(self) -> None:
+    def test_a_library_that_is_not_there(self) -> None:
         self.server.kill()
         name = self.folder / "none"
-        self.start("--program", str(name))
+        self.start("--library", str(name))
         self.assertEqual((self.server.wait(trial.SECONDS), self.output.read()), (127, b""))
-        self.assertEqual(self.errors.read().decode(), f"language_server: {name}: no such program\n")
+        self.assertRegex(self.errors.read().decode(), rf"\Alanguage_server: {name}: .*\n\Z")
 
 
 def place_of(text: str, at: int) -> tuple[int, int]:

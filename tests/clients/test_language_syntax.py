@@ -10,7 +10,6 @@ import trial
 from abc2midi_live import TokenKind
 from abc2midi_live.opening import library_session
 from abc2midi_live_clients.language_server.token_styles import STYLES
-from language_editor import has_library
 
 BOOK = """\
 % a book
@@ -26,15 +25,16 @@ w:la la
 """
 
 
-class Files(unittest.TestCase):
+class Written(unittest.TestCase):
     def test_they_are_what_the_script_writes(self) -> None:
         asked = subprocess.run([trial.TOP / "scripts/documents/syntax", "--look"], capture_output=True, text=True)
         self.assertEqual((asked.returncode, asked.stderr), (0, ""))
 
-    @unittest.skipUnless(has_library(), "the C library is not built")
-    def test_they_agree_with_the_program(self) -> None:
+
+class Patterns(unittest.TestCase):
+    def test_they_agree_with_the_library(self) -> None:
         """Each line of a book is cut into the same tokens by the patterns as by the library."""
-        with library_session(None) as session:
+        with library_session(trial.library) as session:
             session.set_text(BOOK)
             for number, line in enumerate(BOOK.splitlines(), 1):
                 tokens = [(token.from_column - 1, token.kind) for token in session.tokens(number) if not token.depth]

@@ -20,7 +20,7 @@ SECONDS = 300  # that a process may take, on a slow machine too
 sys.path[:0] = [str(PACKAGES)]
 
 program = ""
-library = str(TOP / "out/c_library/lib/libabc2midi_live.so.1")  # that the page runs over
+library = str(TOP / "out/c_library/lib/libabc2midi_live.so.1")  # that the page and the language server run over
 oracle: list[str] = []  # the command of the program whose answers are expected
 saves, tunes, changes, seed = 25, 20, 60, 1
 

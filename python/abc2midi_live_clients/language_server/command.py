@@ -1,14 +1,12 @@
 """The command that an editor starts."""
 
 import argparse
-import shutil
 import sys
-from typing import Optional
 
-from abc2midi_live import ProgramMissing
+from abc2midi_live import LibraryMissing
 
 from ..players import Player, command
-from ..program import add_common_options, find_program
+from ..program import add_version_option, open_library
 from ..signals import when_told_to_end
 from .messages import BadMessage, write_message
 from .server import Server
@@ -17,19 +15,12 @@ from .workspace import Settings
 ABOUT = "Shows the faults and tunes of tune books in an editor, by the Language Server Protocol on standard input and output."
 
 
-def program_of(named: Optional[str]) -> str:
-    """Returns the program to start. Raises ProgramMissing if it is missing when the server starts; later a message says so."""
-    program = named or find_program()
-    if not shutil.which(program):
-        raise ProgramMissing(f"{program}: no such program")
-    return program
-
-
 def arguments() -> argparse.Namespace:
     """The arguments of the command line."""
     parser = argparse.ArgumentParser(description=ABOUT)
     parser.add_argument("--play", metavar="COMMAND", type=command, help="the player for the action Play")
-    add_common_options(parser)
+    parser.add_argument("--library", metavar="FILE", help="compile by this C library instead of the installed or built one")
+    add_version_option(parser)
     parser.add_argument("--no-hints", action="store_true", help="show no hints")
     return parser.parse_args()
 
@@ -41,11 +32,12 @@ def main() -> int:
     server = None
     try:
         player = Player(words.play) if words.play else None
-        server = Server(write_message, Settings(program_of(words.program), player, not words.no_hints))
+        open_library(words.library).close()  # if there is none, the editor shows it now
+        server = Server(write_message, Settings(words.library, player, not words.no_hints))
         return server.serve(open(sys.stdin.fileno(), "rb", buffering=0, closefd=False))
-    except (ProgramMissing, BadMessage) as error:
+    except (LibraryMissing, BadMessage) as error:
         print(f"language_server: {error}", file=sys.stderr)
-        return 127 if isinstance(error, ProgramMissing) else 1
+        return 127 if isinstance(error, LibraryMissing) else 1
     except MemoryError:
         print("language_server: out of memory", file=sys.stderr)
         return 1

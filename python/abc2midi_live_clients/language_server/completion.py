@@ -4,7 +4,6 @@ from typing import Any, NamedTuple, Optional
 
 from abc2midi_live import TokenKind
 
-from ..program import LiveBook
 from .changes import position_of
 from .completed_values import Item, decorations, programs, values_of
 from .document import Document
@@ -88,7 +87,7 @@ def item_of(item: Item, where: Json, place: int, with_snippets: bool) -> Json:
 
 def situation(document: Document, line: int, character: int) -> Situation:
     """Returns where a place of a document is."""
-    tunes = document.ask(LiveBook.tunes)
+    tunes = document.book.tunes()
     start = max((tune.line for tune in tunes if tune.line <= line), default=line)
     in_tune = start < line or any(tune.line == line for tune in tunes)
     in_tune = in_tune and document.blank_line(start, line) == line

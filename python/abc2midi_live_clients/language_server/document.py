@@ -1,25 +1,21 @@
-"""A tune book that an editor has open: its text, the program that holds it, and its tunes."""
+"""A tune book that an editor has open: its text, the session that holds it, and its tunes."""
 
-import sys
 import tempfile
-from collections.abc import Callable
 from contextlib import suppress
-from typing import NamedTuple, Optional, TypeVar
+from typing import NamedTuple, Optional
 
-from abc2midi_live import Fault, ProgramEnded, ProgramMissing, Track
+from abc2midi_live import Fault, PlayTooLong, Session, Track
 from abc2midi_live.lines import without_empty_end
 
 from ..hints import Finder, Hint, number_is_used
 from ..places import utf8
-from ..program import LiveBook, Tune, files_of
+from ..program import SessionBook, Tune, files_of
 from .changes import Change, Position
 from .editor_lines import EditorLines
 from .encodings import UTF16, Encoding
 from .messages import REQUEST_FAILED, Failure, Json
 from .played_files import PlayedFiles
-from .reading import Reading, TokenText, token_texts
-
-Answer = TypeVar("Answer")
+from .token_texts import TokenText, token_texts
 
 
 class TuneLines(NamedTuple):
@@ -31,99 +27,71 @@ class TuneLines(NamedTuple):
 
 
 class Document:
-    """A tune book that an editor has open. A running program holds the same text. If there is none, the next question starts
-    it. What the program finds in a text is asked once."""
+    """A tune book that an editor has open. A session of its own has the same text. What it finds in a text is asked once."""
 
     def __init__(
-        self, text: str, program: str, words: dict[str, str], with_hints: bool = True, encoding: Encoding = UTF16
+        self, text: str, session: Session, words: dict[str, str], with_hints: bool = True, encoding: Encoding = UTF16
     ):
         self.text = EditorLines(text, encoding)
         self.encoding = encoding
         self.version: Optional[int] = None  # of the text, as the editor counts
-        self.program = program
         self.words = words
         self.finder = Finder() if with_hints else None
         self.changed = 0  # the line of the last change
         self.is_lost = False  # a change could not be read, so the text is not the editor's
-        self.book: Optional[LiveBook] = None
-        self.reading: Optional[Reading] = None
+        self.book = SessionBook(session)
         self.files = PlayedFiles()
-        self.known_faults: Optional[list[Fault]] = None  # of the present text
+        self.forget()
+        self.book.replace(0, 0, without_empty_end([utf8(line) for line in self.lines]))
+
+    def forget(self) -> None:
+        """Forgets what was found in the text before."""
+        self.known_faults: Optional[list[Fault]] = None
         self.known_hints: Optional[list[Hint]] = None
+        self.known_tokens: dict[int, list[TokenText]] = {}
+        self.known_plays: dict[int, tuple[Track, ...]] = {}
+
+    def close(self) -> None:
+        """Ends the session, and removes the files that were played."""
+        self.book.session.close()
+        self.files.close()
 
     @property
     def lines(self) -> list[str]:
         """The lines of the text, cut at line feeds; the last one is empty if the text ends with a line feed."""
         return self.text.texts
 
-    def ask(self, question: Callable[[LiveBook], Answer]) -> Answer:
-        """What the program answers. Raises ProgramEnded if there is none, and none can be started."""
-        if self.book:
-            try:
-                return question(self.book)
-            except ProgramEnded as ended:
-                print(f"language_server: {ended}; restarting it", file=sys.stderr)
-                self.end_program()
-        return question(self.start())
-
-    def start(self) -> LiveBook:
-        """Starts the program with the present text. Raises ProgramEnded if that fails."""
-        try:
-            self.book = LiveBook(self.program, tempfile.gettempdir())
-        except ProgramMissing as missing:
-            raise ProgramEnded(str(missing)) from missing
-        self.book.replace(0, 0, self.data())
-        return self.book
-
-    def data(self) -> list[bytes]:
-        """The lines of the text as the program gets them."""
-        return without_empty_end([utf8(line) for line in self.lines])
-
-    def end_program(self) -> None:
-        """Ends the program."""
-        if self.book:
-            book, self.book = self.book, None
-            book.close()
-
-    def close(self) -> None:
-        """Ends the program, and removes the files that were played."""
-        self.end_program()
-        if self.reading:
-            self.reading.close()
-        self.files.close()
-
     def faults(self) -> list[Fault]:
         """The faults of the text in order."""
         if self.known_faults is None:
-            self.known_faults = self.ask(LiveBook.faults)
+            self.known_faults = self.book.faults()
         return self.known_faults
 
     def hints(self) -> list[Hint]:
         """The hints on the text in order."""
         if self.known_hints is None:
-            lines, tunes = self.ask(lambda book: (book.lines, book.tunes()))
-            self.known_hints = self.finder.hints(lines, tunes, self.faults()) if self.finder else []
+            found = self.finder.hints(self.book.lines, self.book.tunes(), self.faults()) if self.finder else []
+            self.known_hints = found
         return self.known_hints
-
-    # ---- what the library reads
-
-    def read(self) -> Reading:
-        """The text as the library reads it. The first question opens a session."""
-        if self.reading is None:
-            self.reading = Reading(self.data())
-        return self.reading
 
     def tokens(self, line: int) -> list[TokenText]:
         """The tokens of a line, counted from 0."""
-        return list(token_texts(line, self.lines[line], self.read().tokens(line)))
+        if line not in self.known_tokens:
+            self.known_tokens[line] = list(token_texts(line, self.lines[line], self.book.tokens(line)))
+        return self.known_tokens[line]
 
     def column(self, line: int, character: int) -> int:
         """The column of a character, as the library counts: in bytes from 1."""
         return len(utf8(self.lines[line][:character])) + 1
 
     def play(self, tune: Tune) -> tuple[Track, ...]:
-        """What is played of a tune; nothing if it has no file."""
-        return self.read().play(tune.number) if self.has_file(tune) else ()
+        """What is played of a tune; nothing if it has no file, or plays too much to list."""
+        number = tune.number
+        if number not in self.known_plays and self.has_file(tune):
+            self.known_plays[number] = ()
+            with suppress(PlayTooLong):
+                self.known_plays[number] = self.book.play(number) or ()
+        return self.known_plays[number] if self.has_file(tune) else ()
 
     # ---- changes
 
@@ -132,14 +100,10 @@ class Document:
         at_end = stop == len(self.lines)
         texts = text.split("\n")
         self.text.replace(start, stop, texts)
-        self.known_faults = self.known_hints = None
+        self.forget()
         lines = [utf8(line) for line in texts]
         lines = without_empty_end(lines) if at_end else lines
-        if self.book:
-            with suppress(ProgramEnded):  # the next question starts another one
-                self.book.replace(start, min(stop, len(self.book.lines)), lines)
-        if self.reading:
-            self.reading.replace(start, stop, lines)
+        self.book.replace(start, min(stop, len(self.book.lines)), lines)
 
     def change(self, change: Change) -> None:
         """Changes a range of the text, or the whole."""
@@ -170,7 +134,7 @@ class Document:
 
     def tunes(self) -> list[TuneLines]:
         """The tunes with their lines."""
-        tunes = self.ask(LiveBook.tunes)
+        tunes = self.book.tunes()
         ends = [tune.line - 1 for tune in tunes[1:]] + [len(self.lines)]
         return [TuneLines(tune, tune.line - 1, self.blank_line(tune.line, end)) for tune, end in zip(tunes, ends)]
 
@@ -179,7 +143,7 @@ class Document:
         tune = self.tune_at(line)
         if tune is None:
             return None
-        after = (each.line - 1 for each in self.ask(LiveBook.tunes) if each.line > tune.line)
+        after = (each.line - 1 for each in self.book.tunes() if each.line > tune.line)
         return TuneLines(tune, tune.line - 1, self.blank_line(tune.line, next(after, len(self.lines))))
 
     def blank_line(self, start: int, end: int) -> int:
@@ -188,13 +152,13 @@ class Document:
 
     def tune_at(self, line: int) -> Optional[Tune]:
         """The tune that has a line, counted from 0, or None."""
-        before = [tune for tune in self.ask(LiveBook.tunes) if tune.line - 1 <= line]
+        before = [tune for tune in self.book.tunes() if tune.line - 1 <= line]
         is_in = before and line < len(self.lines) and self.blank_line(before[-1].line, line + 1) > line
         return before[-1] if is_in else None
 
     def has_file(self, tune: Tune) -> bool:
         """Returns whether the file of its number is a tune's."""
-        return files_of(self.ask(LiveBook.tunes), self.faults()).get(tune.number) == tune
+        return files_of(self.book.tunes(), self.faults()).get(tune.number) == tune
 
     def file_at(self, line: int) -> str:
         """A file with the music of the tune that has a line."""
@@ -202,7 +166,7 @@ class Document:
         if tune is None:
             raise Failure(REQUEST_FAILED, "no tune is here")
         number = tune.number
-        data = self.ask(lambda book: book.midi(number)) if self.has_file(tune) else None
+        data = self.book.midi(number) if self.has_file(tune) else None
         if data is None:
             raise Failure(REQUEST_FAILED, self.why_no_file(tune))
         try:
@@ -212,7 +176,7 @@ class Document:
 
     def why_no_file(self, tune: Tune) -> str:
         """The reason why a tune has no file."""
-        owner = files_of(self.ask(LiveBook.tunes), self.faults()).get(tune.number)
+        owner = files_of(self.book.tunes(), self.faults()).get(tune.number)
         if owner is None or tune.line < owner.line:
             return self.words["TuneTooLong"]
         return number_is_used(tune.number, owner.line)

@@ -5,9 +5,8 @@ from typing import NamedTuple, Optional
 
 from abc2midi_live import TokenKind
 
-from ..program import LiveBook
 from .document import Document, TuneLines
-from .reading import TokenText
+from .token_texts import TokenText
 from .remarks import Remark
 
 LARGEST = 999_999_999  # number of a tune
@@ -95,6 +94,6 @@ class Known(NamedTuple):
 
     def free_number(self, after: int) -> Optional[int]:
         """The first number after one that no tune has."""
-        taken = {tune.number for tune in self.document.ask(LiveBook.tunes)} | self.promised
+        taken = {tune.number for tune in self.document.book.tunes()} | self.promised
         numbers = range(after + 1, after + len(taken) + 2)
         return next((number for number in numbers if number not in taken and number <= LARGEST), None)

@@ -9,7 +9,7 @@ from ..midi import clock, seconds_of
 from .changes import position_of
 from .document import Document, title_of
 from .messages import Json
-from .reading import TokenText
+from .token_texts import TokenText
 from .remarks import remarks_in
 from .workspace import Workspace
 
@@ -89,8 +89,7 @@ def about_tune(document: Document, line: int, found: list[str]) -> list[str]:
     if not document.has_file(tune):
         reason = document.why_no_file(tune)
         return [title if reason in found else f"{title}: {reason}"]
-    number = tune.number
-    data = document.ask(lambda book: book.midi(number))
+    data = document.book.midi(tune.number)
     return [f"{title}, {clock(seconds_of(data))}" if data else title]
 
 

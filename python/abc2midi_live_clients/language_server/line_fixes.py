@@ -5,7 +5,6 @@ from typing import Optional
 
 from abc2midi_live import TokenKind
 
-from ..program import LiveBook
 from .fix import Fix, Known, LineChange
 
 BLANKS = " \t"
@@ -16,7 +15,7 @@ FIELDS = (TokenKind.TITLE_FIELD, TokenKind.OTHER_FIELD, TokenKind.KEY_FIELD, Tok
 
 def renumbering(known: Known) -> Optional[Fix]:
     """Gives a tune the next number that is free."""
-    numbers = {tune.line - 1: tune.number for tune in known.document.ask(LiveBook.tunes)}
+    numbers = {tune.line - 1: tune.number for tune in known.document.book.tunes()}
     number = known.free_number(numbers.get(known.number, 0))
     if not known.line.startswith("X:") or number is None:
         return None
@@ -99,7 +98,7 @@ def heading(known: Known) -> Optional[Fix]:
     at = known.number
     while at > 0 and known.text(at - 1)[1:2] == ":" or at > 0 and known.text(at - 1).startswith("%"):
         at -= 1
-    number = known.free_number(max((tune.number for tune in known.document.ask(LiveBook.tunes)), default=0))
+    number = known.free_number(max((tune.number for tune in known.document.book.tunes()), default=0))
     return Fix(f"Write X:{number}", (known.insertion(at, f"X:{number}"),)) if number else None
 
 

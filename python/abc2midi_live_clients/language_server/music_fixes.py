@@ -6,7 +6,7 @@ from typing import Optional
 from abc2midi_live import TokenKind
 
 from .fix import Fix, Known, LineChange
-from .reading import TokenText
+from .token_texts import TokenText
 
 CLOSING = {'"': '"', "!": "!", "{": "}", "[": "]"}
 ENDS_OF_WORDS = frozenset(' \t\r|%"!{}[]')

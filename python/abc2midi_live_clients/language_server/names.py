@@ -8,7 +8,7 @@ from abc2midi_live import TokenKind
 from .changes import Position, position_of
 from .document import Document, TuneLines
 from .messages import INVALID_PARAMS, REQUEST_FAILED, Failure, Json
-from .reading import TokenText
+from .token_texts import TokenText
 from .workspace import Workspace
 
 VOICE, PART = "V", "P"

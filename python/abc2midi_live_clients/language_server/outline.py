@@ -9,7 +9,7 @@ from abc2midi_live import TokenKind
 from .document import Document, TuneLines, title_of
 from .messages import ARRAY, CLASS, MODULE, NAMESPACE, Json
 from .names import PART, Name, names_in
-from .reading import TokenText
+from .token_texts import TokenText
 from .workspace import Workspace, name_of
 
 MOST_FOUND = 1_000  # tunes that a search in the workspace lists

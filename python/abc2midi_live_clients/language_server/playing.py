@@ -5,7 +5,7 @@ from itertools import chain
 from typing import Any, Optional
 
 from ..players import Player
-from ..program import LiveBook, Tune, files_of
+from ..program import Tune, files_of
 from .changes import Range, position_of
 from .document import Document, title_of
 from .messages import INFO, INVALID_PARAMS, REQUEST_FAILED, Failure, Json
@@ -56,7 +56,7 @@ def lenses(workspace: Workspace, params: Any) -> list[Json]:
 
 def playable(document: Document) -> Iterable[Tune]:
     """Returns the tunes that have a file, in the order of the text."""
-    owners = files_of(document.ask(LiveBook.tunes), document.faults())
+    owners = files_of(document.book.tunes(), document.faults())
     return sorted(owners.values(), key=lambda tune: tune.line)
 
 
@@ -70,6 +70,6 @@ def play_action(document: Document, uri: str, place: Range) -> list[Json]:
     """Returns the command that plays the tune at the start of a range, or else the first one in it, if one has a file."""
     first, last = document.place(place.start)[0], document.place(place.end)[0]
     here = document.tune_at(first)
-    later = (tune for tune in document.ask(LiveBook.tunes) if first < tune.line <= last + 1)
+    later = (tune for tune in document.book.tunes() if first < tune.line <= last + 1)
     tune = next((tune for tune in chain([here] if here else [], later) if document.has_file(tune)), None)
     return [play_command(document, uri, tune, f"Play {title_of(tune)}")] if tune else []

@@ -8,7 +8,7 @@ from abc2midi_live import TokenKind
 from .changes import Position, range_of
 from .document import Document
 from .messages import Json
-from .reading import TokenText
+from .token_texts import TokenText
 from .token_styles import STYLES
 from .workspace import Workspace
 

@@ -4,21 +4,19 @@ import sys
 from collections.abc import Callable
 from typing import Any, BinaryIO, Optional
 
-from abc2midi_live import ProgramEnded, version
+from abc2midi_live import version
 
 from .changes import BadChange
 from .client import Client
 from .features import CAPABILITIES, REQUESTS
 from .inbox import NO_JSON, Inbox, is_request
 from .messages import (
-    ERROR,
     INVALID_PARAMS,
     INVALID_REQUEST,
     METHOD_NOT_FOUND,
     NOT_INITIALIZED,
     PARSE_ERROR,
     REQUEST_CANCELLED,
-    REQUEST_FAILED,
     Failure,
     Json,
 )
@@ -77,8 +75,6 @@ class Server:
             self.send({"id": identifier, "result": self.result(method, params)})
         except Failure as failure:
             self.refuse(identifier, *failure.args)
-        except ProgramEnded as ended:
-            self.refuse(identifier, REQUEST_FAILED, str(ended))
         except (*WRONG_PARAMS, BadChange) as error:
             self.refuse(identifier, INVALID_PARAMS, f"the parameters of {method} are wrong: {error}")
 
@@ -107,11 +103,9 @@ class Server:
             self.guarded("textDocument/didChange", lambda: self.workspace.publish(uri))
 
     def guarded(self, method: str, work: Callable[[], None]) -> None:
-        """Does what a notification asks for. Nobody waits for an answer, so what fails is a message."""
+        """Does what a notification asks for. Nobody waits for an answer, so what is wrong is a message."""
         try:
             work()
-        except ProgramEnded as ended:
-            self.notify("window/showMessage", {"type": ERROR, "message": f"abc2midi_live: {ended}"})
         except WRONG_PARAMS as error:
             print(f"language_server: ignored a wrong {method}: {error}", file=sys.stderr)
 
@@ -139,7 +133,7 @@ class Server:
         }
 
     def shutdown(self) -> None:
-        """Ends the programs; only `exit` may follow."""
+        """Ends the sessions; only `exit` may follow."""
         self.is_shut_down = True
         self.end()
 
@@ -148,6 +142,6 @@ class Server:
         self.status = 0 if self.is_shut_down else 1
 
     def end(self) -> None:
-        """Ends what is played, and each program, and removes their files: an editor may not wait for more."""
+        """Ends what is played, and each session, and removes their files: an editor may not wait for more."""
         self.workspace.end()
 

@@ -7,6 +7,7 @@ from urllib.parse import unquote
 from ..faults import sentences
 from ..players import Player
 from ..printing import printable
+from ..program import open_library
 from .changes import BadChange, Change, changes_of
 from .client import Client
 from .document import Document
@@ -15,9 +16,9 @@ from .publishing import Publisher
 
 
 class Settings(NamedTuple):
-    """What the command line decides: the program, the player, and whether there are hints."""
+    """What the command line decides: the library, if it names one, the player, and whether there are hints."""
 
-    program: str
+    library: Optional[str] = None
     player: Optional[Player] = None
     with_hints: bool = True
 
@@ -37,12 +38,12 @@ class Workspace:
     # ---- what the editor reports
 
     def open(self, params: Json) -> None:
-        """An editor opens a tune book, which has a program of its own."""
+        """An editor opens a tune book, which has a session of its own."""
         sent = params["textDocument"]
         if sent["uri"] in self.documents:
             self.documents.pop(sent["uri"]).close()
-        program, _, with_hints = self.settings
-        document = Document(sent["text"], program, self.words, with_hints, self.client.encoding)
+        session = open_library(self.settings.library)
+        document = Document(sent["text"], session, self.words, self.settings.with_hints, self.client.encoding)
         document.version = sent.get("version")
         self.documents[sent["uri"]] = document
         self.publish(sent["uri"])
@@ -97,7 +98,7 @@ class Workspace:
         self.clear(uri)
 
     def end(self) -> None:
-        """Ends what is played, and each program, and removes their files."""
+        """Ends what is played, and each session, and removes their files."""
         if self.settings.player:
             self.settings.player.stop()
         for document in self.documents.values():
