@@ -10,7 +10,7 @@ from abc2midi_live import Fault
 from ..fault_groups import FaultGroup, groups_of, line_and_name
 from ..faults import sentence_pairs
 from ..hints import NAMES, Hint
-from ..places import character_of, span_of
+from ..places import WITH_THEIR_LINE, character_of
 from .document import Document
 from .messages import ERROR, INFO, WARNING, Json
 
@@ -92,10 +92,12 @@ def hint_remark(document: Document, hint: Hint) -> Remark:
 
 
 def remark_at(document: Document, line: int, column: int, name: str, text: str, severity: int) -> Remark:
-    """Returns a fault or a hint. It begins at its byte; its end is a guess of the field or token there."""
+    """Returns a fault or a hint. It begins at its byte, and ends with the token there, or with its line if it is about that."""
     content = document.lines[line - 1].removesuffix("\r")
-    start, end = span_of(content, character_of(content, column), name)
-    return Remark(line - 1, start, end, name, text, severity)
+    start = character_of(content, column)
+    ends = [token.end for token in document.tokens(line - 1) if token.start <= start < token.end]
+    end = len(content) if name in WITH_THEIR_LINE else ends[-1] if ends else min(start + 1, len(content))
+    return Remark(line - 1, start, max(start, end), name, text, severity)
 
 
 def nearest(found: list[Found], line: int, most: int) -> list[Found]:
