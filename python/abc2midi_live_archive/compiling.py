@@ -66,7 +66,7 @@ def compile_book(data: bytes, digest: str, unit: Unit) -> Result:
         found.faults.extend(Fault(n, MOST_BYTES + 1, "BadLine") for n, line in enumerate(whole, 1) if len(line) > MOST_BYTES)
     for n, part in enumerate(cut.parts):
         with open_session(unit.backend) as session:
-            compile_part(session, part, n == 0, unit.with_hints, found)
+            compile_part(session, part, n == 0, Finder(unit.backend.library) if unit.with_hints else None, found)
     found.faults.sort(key=lambda fault: fault[:2])
     faults = (fault_remark(fault, whole) for fault in found.faults[:MOST_REMARKS])
     return Result(
@@ -88,7 +88,7 @@ def open_session(backend: Backend) -> Session:
     return abc2midi_live.open(library=backend.library, program=backend.program)
 
 
-def compile_part(session: Session, part: Part, is_first: bool, with_hints: bool, found: Compiled) -> None:
+def compile_part(session: Session, part: Part, is_first: bool, finder: Optional[Finder], found: Compiled) -> None:
     """Adds what a part of a book has. A number belongs to its first tune in the book that is not too long."""
     session.insert(1, part.lines)
     faults = [fault for fault in session.faults if is_first or fault.line > part.header]
@@ -100,8 +100,8 @@ def compile_part(session: Session, part: Part, is_first: bool, with_hints: bool,
             found.files[number] = data
         found.tunes.append(tune_row(Tune(number, title, part.line_of_book(line)), data))
     found.faults.extend(placed(faults, part))
-    if with_hints:
-        remarks = Finder().hints(part.lines, tunes, faults)
+    if finder:
+        remarks = finder.hints(part.lines, tunes, faults)
         found.hints.extend(
             Remark(Kind.HINT.value, part.line_of_book(line), column, name, sentence, *excerpt(part.lines[line - 1], column))
             for line, column, name, sentence in remarks

@@ -99,6 +99,12 @@ class Examples(trial.Folder):
             self.assertEqual(found, Finder().hints(lines, *told), f"change {change}: {lines}")
             self.assertEqual(found, sorted(found))
 
+    def test_without_a_library(self) -> None:
+        """The hints that need no reading of ABC are found without a library."""
+        lines = [b"X:1", b"K:C", b"|:C|", b"T:Fr\xe8re", b"X:1"]
+        found = Finder(str(self.folder / "libmissing.so")).hints(lines, [Tune(1, "", 1), Tune(1, "", 5)], [])
+        self.assertEqual([hint[:3] for hint in found], [(4, 5, "NotUtf8"), (5, 1, "SameNumber")])
+
     def test_lines_that_nothing_closes(self) -> None:
         """Long lines of bytes that begin a token and end none are read to their end."""
         for piece in (b"{", b"[K:", b'"', b"!", b"[", b"[1", b"(3:", b":", b"^", b"C/", b"[|", b"\xff", b"-", b"(", b"}{"):

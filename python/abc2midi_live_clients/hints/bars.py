@@ -8,9 +8,7 @@ from fractions import Fraction
 from typing import Optional
 
 from .hint import TuneHint, counted
-from .reading import FAULT, METER, PLAYED, Item, TuneText, Voice
-from .tokens import BAR, ENDING, bar_line
-from .values import WHOLE, Meter
+from .tune import BAR, BREAK, ENDING, METER, ODD, PLAYED, WHOLE, Item, Meter, TuneText, Voice, bar_line
 
 MOST_BARS = 8  # that are named one by one in a tune
 
@@ -31,14 +29,14 @@ class Piece:
 
     def add(self, item: Item) -> None:
         """Adds music."""
-        self.length += item.length
-        self.rests_alone &= item.segment.rests_alone
-        self.is_compared &= not item.segment.has_fault
+        self.length += item.length or 0
+        self.rests_alone &= item.is_rest
+        self.is_compared &= item.length is not None
 
     def fills(self) -> bool:
         """Returns whether it is a whole bar, or rests of whole bars."""
-        bar = self.meter.grains
-        return self.length == bar or self.rests_alone and self.length % bar == 0
+        bar = self.meter.ticks
+        return self.length == bar or self.rests_alone and bar > 0 and self.length % bar == 0
 
 
 def pieces_of(items: list[Item], meter: Meter) -> list[Piece]:
@@ -48,16 +46,16 @@ def pieces_of(items: list[Item], meter: Meter) -> list[Piece]:
     soft = True  # the bound before the next piece
     is_compared = True  # the piece has no fault
     for item in items:
-        if item.kind == METER:
-            meter = item.meter
-        elif item.kind == FAULT:
-            is_compared = False
-        elif item.kind == PLAYED:
+        if item.kind == PLAYED:
             if piece is None:
                 piece = Piece(meter, item, after_soft=soft)
                 found.append(piece)
                 soft = False
             piece.add(item)
+        elif item.kind == METER:
+            meter = item.meter
+        elif item.kind in (BREAK, ODD):
+            is_compared = False
         elif item.kind in (BAR, ENDING):
             is_soft = item.kind == ENDING or item.hidden or bar_line(item.text) != (0, 0, False)
             soft |= is_soft
@@ -83,7 +81,7 @@ def odd_pieces(voice: Voice, meter: Meter) -> Iterator[Piece]:
         meter = next((item.meter for item in reversed(items) if item.kind == METER), meter)
     starts = {piece.length for piece in pieces if piece.after_soft}
     for piece in pieces:
-        bar = piece.meter.grains
+        bar = piece.meter.ticks
         if not bar or not piece.is_compared or piece.fills():
             continue
         may_be_short = piece.after_soft or piece.before_soft and (bar - piece.length in starts or not piece.is_ended)
@@ -106,9 +104,9 @@ def name_of(meter: Meter) -> str:
     return f"{meter.over}/{meter.under}"
 
 
-def fraction(grains: int, meter: Meter) -> str:
+def fraction(ticks: int, meter: Meter) -> str:
     """Returns a length in the meter's fractions of a whole note, or in smaller ones."""
-    whole = Fraction(grains, WHOLE)
+    whole = Fraction(ticks, WHOLE)
     under = max(whole.denominator, meter.under)
     if under % whole.denominator:
         return f"{whole.numerator}/{whole.denominator}"

@@ -2,26 +2,22 @@
 
 from __future__ import annotations
 
-import re
 from collections.abc import Iterator, Sequence
 from typing import Optional
 
-from abc2midi_live import Fault
+from abc2midi_live import Fault, TokenKind
 
 from ..program import Tune
-from .hint import Hint, TuneHint, counted
-from .lines import BLANK, FIELD, MUSIC, content, kind_of
-from .reading import Place
+from .hint import Hint, Place, TuneHint, counted
+from .reader import FIELDS, Line, is_blank, is_music, kind_of
 
 LOOKED_AT = 400  # bytes by which a text in UTF-16 is known
 NOT_UTF8 = "NotUtf8"  # one for a book
 LEAST_NOTES = 3  # in what looks like a line of music
 
 _IN_TWO_BYTES = (b"\xff\xfe", b"\xfe\xff")
-_RETURN = re.compile(rb"\r(?=.)", re.DOTALL)
-_UNREAD = re.compile(rb'"[^"]*"|![^!]*!|\{[^}]*\}|\[[A-Za-z]:[^\]]*\]')
-_MUSIC = re.compile(rb"[A-GZXa-gzxHLMOPSTuvy0-9/,'^_=\[\]|:<>()~. \t\\&-]+\Z")
-_NOTE = re.compile(rb"[A-Ga-gzx]")
+_MUSIC = frozenset(TokenKind) - {TokenKind.OTHER, TokenKind.BAD_BYTE, TokenKind.UNCLOSED, TokenKind.NO_EFFECT}
+_USUAL = frozenset(b"xzHLMOPSTuv0123456789/,'^_=[]:<>()~.\\&-")  # in music, also if it has no effect there
 
 
 def number_is_used(number: int, line: int) -> str:
@@ -47,8 +43,8 @@ def same_numbers(tunes: Sequence[Tune], faults: Sequence[Fault]) -> list[Hint]:
 
 def no_tune(lines: Sequence[bytes]) -> Iterator[Hint]:
     """Yields a hint if a text without tunes is not empty; lone carriage returns have a hint of their own."""
-    first = next((n for n, line in enumerate(lines) if kind_of(line) != BLANK), None)
-    if first is None or any(_RETURN.search(line) for line in lines[:2]):
+    first = next((n for n, line in enumerate(lines) if not is_blank(line)), None)
+    if first is None or any(b"\r" in line[:-1] for line in lines[:2]):
         return
     start = b"\n".join(lines[:LOOKED_AT])[:LOOKED_AT]
     if start.startswith(_IN_TWO_BYTES) or 4 * start.count(0) > len(start):
@@ -61,11 +57,10 @@ def no_tune(lines: Sequence[bytes]) -> Iterator[Hint]:
 def lone_returns(lines: tuple[bytes, ...]) -> Iterator[TuneHint]:
     """Yields the lines in which carriage returns seem to end lines."""
     for n, line in enumerate(lines):
-        if b"\r" in line:
-            places = [found.start() for found in _RETURN.finditer(line)]
-            if places:
-                what = f"this line has {counted(len(places), 'carriage return')} inside, which end no line"
-                yield TuneHint(Place(n, places[0]), "LoneReturns", f"{what}; save the book with line feeds")
+        count = line[:-1].count(b"\r")
+        if count:
+            what = f"this line has {counted(count, 'carriage return')} inside, which end no line"
+            yield TuneHint(Place(n, line.index(b"\r")), "LoneReturns", f"{what}; save the book with line feeds")
 
 
 def not_utf8(lines: tuple[bytes, ...]) -> Iterator[TuneHint]:
@@ -87,28 +82,29 @@ def first_odd_byte(line: bytes) -> Optional[int]:
     return None
 
 
-def free_music(lines: tuple[bytes, ...], start: int, after_tune: bool) -> Iterator[TuneHint]:
-    """Yields a hint at the first line of each block from a line on that looks like music and is in no tune. After a `K:` of
-    its own every line of music does."""
+def free_music(lines: list[Line], blank: Sequence[bool], start: int, after_tune: bool) -> Iterator[TuneHint]:
+    """Yields a hint at the first line of each block that looks like music and is in no tune; the first line is `start`. After a
+    `K:` of its own every line of music does."""
     is_open, has_key, has_fields = True, False, False
-    for n in range(start, len(lines)):
-        kind = kind_of(lines[n])
-        if kind == BLANK:
+    for n, line in enumerate(lines):
+        if blank[n]:
             is_open, has_key, has_fields = True, False, False
-        elif kind == FIELD:
-            has_key |= lines[n].startswith(b"K:")
+        elif kind_of(line) in FIELDS:
+            has_key |= kind_of(line) == TokenKind.KEY_FIELD
             has_fields = True
-        elif kind == MUSIC and is_open and (has_key or looks_like_music(content(lines[n]))):
+        elif is_music(line) and is_open and (has_key or looks_like_music(line)):
             is_open = False
             if after_tune and not has_key:
                 text = "this music is in no tune: the blank line before it ends the tune; write a `%` on that line"
             else:
                 where = "the first field above it" if has_fields else "it"
                 text = f"this music is in no tune; write a line `X:` with a new number before {where}"
-            yield TuneHint(Place(n, 0), "FreeMusic", text)
+            yield TuneHint(Place(start + n, 0), "FreeMusic", text)
 
 
-def looks_like_music(text: bytes) -> bool:
+def looks_like_music(line: Line) -> bool:
     """Returns whether a line has a bar line and notes, and no other letters but those of common decorations."""
-    bare = _UNREAD.sub(b"", text)
-    return b"|" in bare and _MUSIC.match(bare) is not None and len(_NOTE.findall(bare)) >= LEAST_NOTES
+    kinds = [part.kind for part in line]
+    is_usual = all(part.kind in _MUSIC or part.text[0] in _USUAL for part in line)
+    notes = sum(kind in (TokenKind.NOTE, TokenKind.REST) for kind in kinds)
+    return is_usual and TokenKind.BAR_LINE in kinds and notes >= LEAST_NOTES

@@ -2,38 +2,64 @@
 
 from __future__ import annotations
 
-import re
 from collections.abc import Iterator
+from typing import Optional
 
-from .hint import TuneHint
-from .lines import COMMENT, DIRECTIVE, FIELD, kind_of
-from .reading import UNNAMED, Place, TuneText
+from abc2midi_live import TokenKind
 
-MIDI = re.compile(rb"[ \t]*%%[ \t]*midi(?![A-Za-z])[ \t]*(.*)|\[?I:[ \t]*midi(?![A-Za-z])[ \t=]*(.*)", re.IGNORECASE | re.DOTALL)
-INLINE = re.compile(rb"\[I:[ \t]*midi(?![A-Za-z])[^\]]*", re.IGNORECASE)
-PROGRAM = re.compile(rb"program(?:[ \t]+[0-9]+)?[ \t]+([0-9]+)[ \t]*(?:%.*|\Z)", re.IGNORECASE | re.DOTALL)
-WHERE = {DIRECTIVE: "in a tune or in the first block of the book", COMMENT: "from column 1 on, and no channel before the number"}
+from .hint import Place, TuneHint
+from .reader import FIELDS, Line, kind_of, words_of
+from .tune import UNNAMED, TuneText
+
+IN_TUNE = "in a tune or in the first block of the book"
+FROM_COLUMN_1 = "from column 1 on, and no channel before the number"
 ELSEWHERE = "on a line of its own"
 MOST_PROGRAM = 127
 
 
-def midi_lines(lines: tuple[bytes, ...], kept: range) -> Iterator[TuneHint]:
+def midi_lines(lines: list[Line], kept: range) -> Iterator[TuneHint]:
     """Yields the programs that are not read, and one hint for all other `%%MIDI` lines; directives in the lines `kept` have
     an effect, as those of a tune or a file header have."""
     others = []
     for n, line in enumerate(lines):
-        if b"MIDI" not in line and b"midi" not in line:
-            continue
-        for column, setting in midi_texts(n, line, kept):
-            program = PROGRAM.match(setting)
-            if program:
-                text = f"this program has no effect; write {directive_of(program[1])} {WHERE.get(kind_of(line), ELSEWHERE)}"
-                yield TuneHint(Place(n, column), "LostProgram", text)
+        for column, setting, where in settings_of(line, n in kept):
+            place = Place(n, column)
+            number = program_of(setting)
+            if number is None:
+                others.append(place)
             else:
-                others.append(Place(n, column))
+                yield TuneHint(place, "LostProgram", f"this program has no effect; write {directive_of(number)} {where}")
     if others:
         what = "this line for players has" if len(others) == 1 else f"this line for players and {len(others) - 1} more have"
         yield TuneHint(others[0], "MidiLine", f"{what} no effect; of `%%MIDI` lines only `%%MIDI program N` is read")
+
+
+def settings_of(line: Line, is_kept: bool) -> Iterator[tuple[int, list[bytes], str]]:
+    """Yields the settings of a line for players that have no effect: their columns, the words after `MIDI`, and where a
+    program is to be written instead."""
+    kind = kind_of(line)
+    if kind in (TokenKind.COMMENT, TokenKind.DIRECTIVE) and not (kind == TokenKind.DIRECTIVE and is_kept):
+        text = line[0].text.lstrip(b" \t")
+        words = words_of(text[2:].partition(b"%")[0]) if text.startswith(b"%%") else []
+        if is_midi(words):
+            yield 0, words[1:], IN_TUNE if kind == TokenKind.DIRECTIVE else FROM_COLUMN_1
+    fields = [line[0]] if kind in FIELDS else [part for part in line if part.kind is TokenKind.INLINE_FIELD]
+    for part in fields:
+        text = part.text.strip(b"[]")
+        words = words_of(text[2:].replace(b"=", b" ", 1)) if text.startswith(b"I:") else []
+        if is_midi(words):
+            yield part.start, words[1:], ELSEWHERE
+
+
+def is_midi(words: list[bytes]) -> bool:
+    """Returns whether words are a setting for players."""
+    return bool(words) and words[0].lower() == b"midi"
+
+
+def program_of(setting: list[bytes]) -> Optional[bytes]:
+    """Returns the digits of the program of a setting, without or with a channel before it, if it is one."""
+    is_program = len(setting) in (2, 3) and setting[0].lower() == b"program" and all(map(bytes.isdigit, setting[1:]))
+    return setting[-1] if is_program else None
 
 
 def directive_of(digits: bytes) -> str:
@@ -44,28 +70,12 @@ def directive_of(digits: bytes) -> str:
     return f"`%%MIDI program N`, N from 0 to {MOST_PROGRAM},"
 
 
-def midi_texts(number: int, line: bytes, kept: range) -> Iterator[tuple[int, bytes]]:
-    """Yields the columns and texts of a line for players that have no effect: what follows `MIDI` there."""
-    kind = kind_of(line)
-    if kind == DIRECTIVE and number in kept:
-        return
-    if kind in (COMMENT, DIRECTIVE, FIELD):
-        found = MIDI.match(line)
-        if found:
-            yield 0, found[1] if found[1] is not None else found[2]
-        return
-    for inline in INLINE.finditer(line):
-        found = MIDI.match(inline[0])
-        if found:
-            yield inline.start(), found[2]
-
-
 def programs_without_voice(tune: TuneText) -> Iterator[TuneHint]:
     """Yields the programs in the body before the first `V:` of a tune that plays nothing there and declares no voice."""
     unnamed = tune.voices.get(UNNAMED)
     if unnamed and unnamed.plays or len(tune.voices) < 2:
         return
     for place, voice in tune.programs:
-        if voice == UNNAMED and tune.lines[place.line].startswith(b"%%MIDI"):
+        if voice == UNNAMED and tune.lines[place.line][0].text.startswith(b"%%MIDI"):
             text = "this program belongs to no voice; write it after the `V:`, or before the `K:` for all voices"
             yield TuneHint(place, "LostProgram", text)

@@ -4,7 +4,12 @@ from __future__ import annotations
 
 from typing import NamedTuple
 
-from .reading import Place
+
+class Place(NamedTuple):
+    """A place in a tune: a line and a byte of it, both from 0."""
+
+    line: int
+    column: int
 
 
 class Hint(NamedTuple):

@@ -1,123 +1,73 @@
-"""Hints about repeats and endings: `OpenRepeat`, `LostEnding`, `PartInRepeat`."""
+"""Hints about repeats and endings: `OpenRepeat`, `LostEnding`, `PartInRepeat`. How often a note is played is that of the play."""
 
 from __future__ import annotations
 
 from collections.abc import Iterator
-from dataclasses import dataclass, field
-from itertools import chain
 from typing import Optional
 
 from .hint import TuneHint
-from .reading import PLAYED, Item, TuneText, Voice
-from .tokens import BAR, ENDING, BarLine, bar_line, passes_of
+from .tune import BAR, ENDING, PLAYED, Item, TuneText, Voice, bar_line
 
-IN_COMMON, IN_ENDING, AFTER_ENDING = "in_common", "in_ending", "after_ending"
-
-
-@dataclass
-class Ending:
-    """An ending of a strain: its mark, its passes, and whether it plays anything."""
-
-    mark: Item
-    passes: frozenset[int]
-    plays: bool = False
-
-
-@dataclass
-class Strain:
-    """Music that is repeated as a whole: the bar line that opens it, its endings, and the most colons that close it."""
-
-    opening: Optional[Item] = None
-    closes: int = 0
-    plays: bool = False
-    endings: list[Ending] = field(default_factory=list)
-
-    def passes(self) -> int:
-        """Returns how often it is played."""
-        return max([1 + self.closes, *(max(ending.passes) for ending in self.endings)])
-
-    def is_left_open(self) -> bool:
-        """Returns whether a `|:` opens it and nothing closes it."""
-        return self.opening is not None and self.passes() == 1 and (self.plays or bool(self.endings))
-
-
-class Strains:
-    """The strains of one voice in one section."""
-
-    def __init__(self, items: list[Item]):
-        self.found = [Strain()]
-        self.where = IN_COMMON
-        for item in items:
-            if item.kind == PLAYED:
-                self._play()
-            elif item.kind == ENDING:
-                self.found[-1].endings.append(Ending(item, passes_of(item.text)))
-                self.where = IN_ENDING
-            elif item.kind == BAR:
-                self._bar(item, bar_line(item.text))
-
-    def _begin(self, opening: Optional[Item] = None) -> None:
-        """Begins a strain."""
-        self.found.append(Strain(opening))
-        self.where = IN_COMMON
-
-    def _play(self) -> None:
-        """Something is played: after an ending it begins a strain."""
-        if self.where == AFTER_ENDING:
-            self._begin()
-        if self.where == IN_ENDING:
-            self.found[-1].endings[-1].plays = True
-        else:
-            self.found[-1].plays = True
-
-    def _bar(self, item: Item, bar: BarLine) -> None:
-        """A bar line may end a common part, an ending or a strain."""
-        is_repeat = bool(bar.closes or bar.opens)
-        if not is_repeat and not bar.double:
-            return
-        if self.where == AFTER_ENDING:
-            self._begin()
-        strain = self.found[-1]
-        strain.closes = max(strain.closes, bar.closes)
-        if self.where == IN_ENDING and not bar.opens:
-            self.where = AFTER_ENDING
-        elif is_repeat or not strain.opening:
-            self._begin(item if bar.opens else None)
+PART_IN_REPEAT = "this part begins inside a repeat, which does not reach over it; each part is played on its own"
+OPEN_REPEAT = "nothing closes this repeat, so it is played once; write `:|` at its end"
+LOST_ENDING = "no pass reaches this ending: an earlier one has its number; a double bar (`||`) or `|:` ends a repeat"
 
 
 def repeats(tune: TuneText) -> Iterator[TuneHint]:
     """Yields the hints about repeats of a tune."""
-    for voice in tune.voices.values():
+    for voice in tune.voices.values() if tune.played else ():
         yield from repeats_of(tune, voice)
 
 
 def repeats_of(tune: TuneText, voice: Voice) -> Iterator[TuneHint]:
     """Yields the hints about repeats of a voice."""
-    sections = [(number, Strains(items).found) for number, items in sorted(voice.sections.items())]
-    for (_, strains), (after, next_strains) in zip(sections, [*sections[1:], (0, [Strain()])]):
-        yield from chain.from_iterable(map(lost_endings, strains))
-        if strains[-1].is_left_open() and next_strains[0].closes:
-            yield TuneHint(
-                tune.parts[after - 1],
-                "PartInRepeat",
-                "this part begins inside a repeat, which does not reach over it; each part is played on its own",
-            )
-            strains = strains[:-1]
-        yield from chain.from_iterable(map(open_repeat, strains))
+    sections = sorted(voice.sections.items())
+    end: tuple[int, list[Item]] = (0, [])
+    for (_, items), (after, following) in zip(sections, [*sections[1:], end]):
+        yield from lost_endings(items)
+        last = next((item for item in reversed(items) if is_opening(item)), None)
+        for opening in open_repeats(tune, items):
+            if opening is last and is_closed_first(following):
+                yield TuneHint(tune.parts[after - 1], "PartInRepeat", PART_IN_REPEAT)
+            else:
+                yield TuneHint(opening.place, "OpenRepeat", OPEN_REPEAT)
 
 
-def open_repeat(strain: Strain) -> Iterator[TuneHint]:
-    """Yields the hint about a repeat that nothing closes."""
-    if strain.opening and strain.is_left_open():
-        text = "nothing closes this repeat, so it is played once; write `:|` at its end"
-        yield TuneHint(strain.opening.place, "OpenRepeat", text)
+def is_opening(item: Item) -> bool:
+    """Returns whether an item is a bar line that opens a repeat."""
+    return item.kind == BAR and bar_line(item.text).opens > 0
 
 
-def lost_endings(strain: Strain) -> Iterator[TuneHint]:
-    """Yields the endings that no pass reaches: earlier ones of the strain have all their numbers."""
-    taken: set[int] = set()
-    for ending in strain.endings:
-        if ending.passes <= taken and ending.plays:
-            text = "no pass reaches this ending: an earlier one has its number; a double bar (`||`) or `|:` ends a repeat"
-            yield TuneHint(ending.mark.place, "LostEnding", text)
-        taken |= ending.passes
+def is_closed_first(items: list[Item]) -> bool:
+    """Returns whether the first of the bar lines with colons or more lines than one closes a repeat."""
+    bars = (bar_line(item.text) for item in items if item.kind == BAR)
+    return next((bar.closes > 0 for bar in bars if bar != (0, 0, False)), False)
+
+
+def open_repeats(tune: TuneText, items: list[Item]) -> Iterator[Item]:
+    """Yields the bar lines that open a repeat whose first note is played once. An ending may follow directly: then its first
+    note is, and nothing is known."""
+    opening: Optional[Item] = None
+    for item in items:
+        if is_opening(item):
+            opening = item
+        elif item.kind == ENDING or item.kind == BAR and bar_line(item.text).closes:
+            opening = None
+        elif item.kind == PLAYED:
+            if opening and tune.times_of(item) == 1:
+                yield opening
+            opening = None
+
+
+def lost_endings(items: list[Item]) -> Iterator[TuneHint]:
+    """Yields the endings whose first note is never played: earlier ones of the repeat have all their numbers."""
+    ending: Optional[Item] = None
+    for item in items:
+        if item.kind == ENDING:
+            ending = item
+        elif item.kind == BAR and bar_line(item.text) != (0, 0, False):
+            ending = None
+        elif item.kind == PLAYED:
+            if ending and item.length is None:
+                yield TuneHint(ending.place, "LostEnding", LOST_ENDING)
+            ending = None

@@ -9,8 +9,7 @@ from typing import Optional
 from ..places import text_of
 from .bars import Piece, fraction, pieces_of
 from .hint import TuneHint
-from .reading import PLAYED, UNNAMED, TuneText
-from .values import Meter
+from .tune import PLAYED, UNNAMED, Meter, TuneText
 
 OF_UNEVEN_VOICES = "VoiceLengths"  # kept at tunes whose voices the program finds uneven
 
@@ -29,7 +28,7 @@ def music_before_voice(tune: TuneText) -> Iterator[TuneHint]:
 def voice_lengths(tune: TuneText) -> Iterator[TuneHint]:
     """Yields a hint at the first bar in which a voice has another length than the first voice, in the first part in which the
     voices are not equally long."""
-    for section in range(len(tune.parts) + 1):
+    for section in range(len(tune.parts) + 1 if len(tune.voices) > 1 else 0):
         written = {name: pieces_of(voice.sections.get(section, []), tune.meter) for name, voice in tune.voices.items()}
         bars = {name: pieces for name, pieces in written.items() if pieces}
         totals = {name: sum(piece.length for piece in pieces) for name, pieces in bars.items()}
