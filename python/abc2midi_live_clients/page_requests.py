@@ -152,10 +152,13 @@ class Request(BaseHTTPRequestHandler):
         return name == "font" or bool(font and (program or samples))
 
     def post(self, name: Optional[str]) -> None:
-        """Follows an edit, looks at lines and a tune, saves the book or a copy, loads the book from disk, or draws a tune."""
+        """Follows an edit, looks at lines and a tune, saves the book or a copy, loads the book from disk, or draws tunes."""
         book = self.server.book
         if name == "score":
             self.send(self.server.scorer.answer(self.body()), "application/json")
+            return
+        if name == "pdf":
+            self.send_json(self.server.pdfs.answer(self.body()))
             return
         saves = {"save": book.save, "save-in-utf-8": book.save_in_utf8, "save-as": book.save_as}
         known = {"edit": book.edit, "view": book.view, **saves, "load": book.load}

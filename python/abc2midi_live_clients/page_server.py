@@ -26,6 +26,7 @@ from .page_requests import Request
 from .printing import printable
 from .program import add_version_option
 from .book_keys import book_key, proof
+from .score_pdf import PdfMaker
 from .scorer import Scorer
 from .shared_book import Refused, SharedBook
 from .signals import when_told_to_end
@@ -81,6 +82,7 @@ class Server(ThreadingHTTPServer):
         self.scorer = Scorer()  # first: a server whose port is taken is closed at once
         super().__init__(("127.0.0.1", port), Request)
         self.book = book
+        self.pdfs = PdfMaker()
         self.ends_alone: bool = words.open
         self.is_plain: bool = words.plain_sounds
         self.font = None if words.plain_sounds else find_font(words.sound_font)

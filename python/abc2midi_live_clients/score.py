@@ -1,23 +1,15 @@
 """The score of a tune: the staves that `abcm2ps` draws, within limits of time, memory and output."""
 
 import json
-import os
-import select
-import signal
-import subprocess
-import sys
-import tempfile
-import threading
-import time
-from contextlib import suppress
 from pathlib import Path
 from typing import NamedTuple, Optional
 
 from .own_process import answer_all
 from .places import utf8, utf16
-from .score_limits import UNFILTERED
+from .score_limits import DRAWING
 from .score_markup import Node, NoDrawing, images_of
 from .score_text import TuneLine, header_lines, tune_lines
+from .walled_program import Killed, Output, TooLarge, TooLate, output_of
 
 MOST_LINES, MOST_CHARACTERS = 2_000, 100_000  # of a tune that is drawn; score.js sends no more than 5,000 lines
 MOST_BYTES = 2 << 20  # of a drawing
@@ -63,13 +55,6 @@ class Question(NamedTuple):
 def serve() -> None:
     """Answers questions till there are no more: each is a program and a question."""
     answer_all(lambda asked: answer(*asked), NICENESS)
-
-
-class Drawing(NamedTuple):
-    """What `abcm2ps` writes, and whether no filter of its system calls was set."""
-
-    data: bytes
-    is_unfiltered: bool
 
 
 class Score(NamedTuple):
@@ -137,61 +122,16 @@ def form_of(width: Optional[int]) -> list[str]:
     return [*SCREEN, "--pagewidth", f"{pixels / 96:.3f}in", "-s", f"{scale:.2f}"]
 
 
-def drawing(program: str, width: Optional[int], text: bytes) -> Drawing:
-    """What `abcm2ps` writes for a text. It runs in an empty folder, in a group of processes that is killed at the end."""
-    command = [sys.executable, "-I", "-S", LIMITS, program, *OPTIONS, *form_of(width), *TO_OUTPUT]
+def drawing(program: str, width: Optional[int], text: bytes) -> Output:
+    """What `abcm2ps` writes for a text."""
+    command = [LIMITS, DRAWING, program, *OPTIONS, *form_of(width), *TO_OUTPUT]
     try:
-        with tempfile.TemporaryDirectory() as folder, tempfile.TemporaryFile() as asked:
-            asked.write(text)
-            asked.seek(0)
-            process = subprocess.Popen(
-                command, stdin=asked, stdout=subprocess.PIPE, stderr=subprocess.DEVNULL, cwd=folder, env=ENVIRONMENT, start_new_session=True
-            )
-            try:
-                data = read_output(process)
-            finally:
-                end(process)
+        return output_of(command, text, ENVIRONMENT, SECONDS, MOST_BYTES)
+    except TooLate as error:
+        raise NoScore(LATE) from error
+    except TooLarge as error:
+        raise NoScore("The score of this tune is too large to be shown.") from error
+    except Killed as error:
+        raise NoScore(f"abcm2ps failed on this tune: {error}.") from error
     except OSError as error:
         raise NoScoreNow(f"abcm2ps cannot be run: {error.strerror}.") from error
-    if process.returncode in (-signal.SIGXCPU, -signal.SIGKILL):
-        raise NoScore(LATE)
-    if process.returncode < 0:
-        raise NoScore(f"abcm2ps failed on this tune: {signal.strsignal(-process.returncode)}.")
-    walls, _, drawn = data.partition(b"\n")
-    return Drawing(drawn, walls == UNFILTERED)
-
-
-def read_output(process: "subprocess.Popen[bytes]") -> bytes:
-    """What a process writes until it ends, or is killed because it takes too long."""
-    assert process.stdout
-    until = time.monotonic() + SECONDS
-    looks = select.poll()
-    looks.register(process.stdout, select.POLLIN)
-    data = bytearray()
-    while looks.poll(1000 * max(0.0, until - time.monotonic())):
-        part = os.read(process.stdout.fileno(), 1 << 16)
-        data += part
-        if len(data) > MOST_BYTES:
-            raise NoScore("The score of this tune is too large to be shown.")
-        if not part:
-            break
-    else:
-        raise NoScore(LATE)
-    limit = threading.Timer(max(0.0, until - time.monotonic()), kill, [process])
-    limit.start()
-    os.waitid(os.P_PID, process.pid, os.WEXITED | os.WNOWAIT)  # its number stays its own till it is let go
-    limit.cancel()
-    return bytes(data)
-
-
-def kill(process: "subprocess.Popen[bytes]") -> None:
-    """Kills a process, with all that it started."""
-    with suppress(ProcessLookupError, PermissionError):
-        os.killpg(process.pid, signal.SIGKILL)
-
-
-def end(process: "subprocess.Popen[bytes]") -> None:
-    """Kills a process and all that it started, and lets go of it."""
-    kill(process)
-    with process:
-        pass

@@ -1,8 +1,9 @@
-"""Starts a program within limits: `score_limits.py PROGRAM [WORD..]`. It needs no other module of the package.
+"""Starts a program within limits: `score_limits.py USE PROGRAM [WORD..]`, USE one of `USES`. It needs no other module of the package.
 
-The program has limits of memory and time, and can write no byte into a file. With libseccomp it can open no connection, start no
-process and reach no other one. If Linux has Landlock, it can also create and remove no file, and read none but those of the
-system's programs, libraries and fonts. Before the output of the program comes a line: `FILTERED` or `UNFILTERED`."""
+The program has limits of memory and time. It can write no byte into a file, but for the use `CONVERTING`, and then only in its own
+folder. With libseccomp it can open no connection, start no process and reach no other one. If Linux has Landlock, it can also create
+and remove no other file, and read none but those of the system's programs, libraries and fonts. Before the output of the program
+comes a line: `FILTERED` or `UNFILTERED`."""
 
 import errno
 import os
@@ -14,17 +15,12 @@ from contextlib import suppress
 from typing import Any
 
 MEMORY = 512 << 20  # bytes of addresses
-SECONDS = 4  # of the processor
 DESCRIPTORS = 64
-LIMITS = {
-    resource.RLIMIT_AS: MEMORY,
-    resource.RLIMIT_CPU: SECONDS,
-    resource.RLIMIT_CORE: 0,
-    resource.RLIMIT_FSIZE: 0,  # the output goes to a pipe
-    resource.RLIMIT_NOFILE: DESCRIPTORS,
-}
+DRAWING, DRAWING_PAGES, CONVERTING = "drawing", "drawing-pages", "converting"
+USES = {DRAWING: (4, 0), DRAWING_PAGES: (60, 0), CONVERTING: (60, 64 << 20)}  # seconds of the processor, bytes of a file
 SYSTEM = ["/usr", "/bin", "/lib", "/lib64", "/nix/store", "/dev/null"]
 SYSTEM += ["/etc/fonts", "/etc/ld.so.cache", "/etc/localtime", "/var/cache/fontconfig"]
+SYSTEM += ["/etc/ghostscript", "/var/lib/ghostscript"]
 
 FILTERED, UNFILTERED = b"filtered", b"unfiltered"
 LIBRARY = "libseccomp.so.2"
@@ -43,16 +39,20 @@ OF_THE_CALLER = ["prlimit64"]  # allowed if their first argument is 0
 PR_SET_PDEATHSIG, PR_SET_NO_NEW_PRIVS = 1, 38
 CREATE_RULESET, ADD_RULE, RESTRICT_SELF = 444, 445, 446  # of Landlock, on all processors alike
 ASK_FOR_VERSION, BENEATH_A_PATH = 1, 1
-EXECUTE, READ_FILE, READ_FOLDER = 1 << 0, 1 << 2, 1 << 3
+EXECUTE, WRITE_FILE, READ_FILE, READ_FOLDER, REMOVE_FILE, MAKE_FILE = 1 << 0, 1 << 1, 1 << 2, 1 << 3, 1 << 5, 1 << 8
+READING, WRITING = EXECUTE | READ_FILE, WRITE_FILE | READ_FILE | REMOVE_FILE | MAKE_FILE
 RULESET_SIZES = {1: 8, 4: 16, 6: 24}  # since a version of Landlock
 FILE_RIGHTS = {1: 13, 2: 14, 3: 15, 5: 16}  # how many there are since a version
 NET_RIGHTS = {4: 2}
 SCOPES = {6: 2}
 
 
-def limit() -> None:
-    """Sets the limits, for this process and all that it starts."""
-    for kind, most in LIMITS.items():
+def limit(use: str) -> None:
+    """Sets the limits of a use, for this process and all that it starts. The output goes to a pipe."""
+    seconds, size = USES[use]
+    limits = {resource.RLIMIT_AS: MEMORY, resource.RLIMIT_CPU: seconds, resource.RLIMIT_CORE: 0}
+    limits |= {resource.RLIMIT_FSIZE: size, resource.RLIMIT_NOFILE: DESCRIPTORS}
+    for kind, most in limits.items():
         hard = resource.getrlimit(kind)[1]
         least = most if hard == resource.RLIM_INFINITY else min(most, hard)
         resource.setrlimit(kind, (least, least))
@@ -108,8 +108,8 @@ def landlock_version() -> int:
     return max(0, version)
 
 
-def refuse_files(program: str) -> None:
-    """Takes the right to read anything but the system and the program, for ever."""
+def refuse_files(program: str, writes: bool = False) -> None:
+    """Takes the right to read anything but the system and the program, for ever. A program that writes has its own folder too."""
     import ctypes
 
     libc, version = ctypes.CDLL(None), landlock_version()
@@ -122,29 +122,31 @@ def refuse_files(program: str) -> None:
         return
     for path in [*SYSTEM, os.path.realpath(program)]:
         with suppress(OSError):
-            allow(libc, ruleset, path)
+            allow(libc, ruleset, path, READING)
+    if writes:
+        allow(libc, ruleset, ".", WRITING)
     libc.syscall(RESTRICT_SELF, ruleset, 0)
     os.close(ruleset)
 
 
-def allow(libc: Any, ruleset: int, path: str) -> None:
-    """Gives the right to read and run what is at a path, or beneath it."""
+def allow(libc: Any, ruleset: int, path: str, rights: int) -> None:
+    """Gives rights to what is at a path, or beneath it."""
     parent = os.open(path, os.O_PATH | os.O_CLOEXEC)
-    rights = EXECUTE | READ_FILE | (READ_FOLDER if os.path.isdir(path) else 0)
-    libc.syscall(ADD_RULE, ruleset, BENEATH_A_PATH, struct.pack("=Qi", rights, parent), 0)
+    folder = READ_FOLDER if os.path.isdir(path) else 0
+    libc.syscall(ADD_RULE, ruleset, BENEATH_A_PATH, struct.pack("=Qi", rights | folder, parent), 0)
     os.close(parent)
 
 
 def main() -> None:
     """Becomes the program."""
-    program = sys.argv[1]
+    use, program = sys.argv[1:3]
     is_filtered = refuse_calls()
     with suppress(ImportError, AttributeError):
         end_with_parent()
-        refuse_files(program)
-    limit()
+        refuse_files(program, use == CONVERTING)
+    limit(use)
     os.write(sys.stdout.fileno(), (FILTERED if is_filtered else UNFILTERED) + b"\n")
-    os.execv(program, sys.argv[1:])
+    os.execv(program, sys.argv[2:])
 
 
 if __name__ == "__main__":

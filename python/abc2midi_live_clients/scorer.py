@@ -77,9 +77,9 @@ class Scorer:
             self.folder.cleanup()
 
 
-def found_program() -> Optional[str]:
-    """The program in a folder of the path; relative ones, as that in which the page was started, do not count."""
-    return shutil.which(PROGRAM, path=os.pathsep.join(filter(os.path.isabs, os.get_exec_path())))
+def found_program(name: str = PROGRAM) -> Optional[str]:
+    """A program in a folder of the path; relative ones, as that in which the page was started, do not count."""
+    return shutil.which(name, path=os.pathsep.join(filter(os.path.isabs, os.get_exec_path())))
 
 
 def question_of(asked: Json) -> Question:

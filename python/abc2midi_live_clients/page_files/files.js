@@ -164,6 +164,7 @@ export class SaveAs {
     /** @type {HTMLElement} */
     this.before = sheet.area; // what had the focus
     this.selection = sheet.selection();
+    this.opened = () => {}; // the dialog is there
     dialog.querySelector("form")?.addEventListener("submit", (event) => {
       event.preventDefault();
       if (this.files.writes) this.save({});
@@ -196,6 +197,7 @@ export class SaveAs {
     this.selection = this.sheet.selection();
     this.before.blur();
     dialog.showModal();
+    this.opened();
     name.focus();
     name.setSelectionRange(0, name.value.lastIndexOf("."));
   }

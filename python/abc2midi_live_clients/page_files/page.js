@@ -25,6 +25,7 @@ import { Score, tuneOf } from "./score.js";
 import { Search } from "./search.js";
 import { Seen } from "./seen.js";
 import { ServerNews } from "./server_news.js";
+import { ScorePdf } from "./score_pdf.js";
 import { Sheet } from "./sheet.js";
 import { StatusBar } from "./status_bar.js";
 import { Text } from "./text.js";
@@ -71,7 +72,10 @@ export class Application {
     this.files = new Files({ text, link, book, undoKey, ...asking });
     this.titleBar = new TitleBar(link, book, this.files, sheet.area);
     this.saveAs = new SaveAs(this.files, /** @type {HTMLDialogElement} */ (find("copy")), sheet);
-    this.tuneFiles = new TuneFiles({ music: this.music, staves: this.staves, say, close: () => this.saveAs.dialog.close() });
+    const drawing = { music: this.music, staves: this.staves, say, close: () => this.saveAs.dialog.close() };
+    this.tuneFiles = new TuneFiles(drawing);
+    this.scorePdf = new ScorePdf({ server, link, book, findings, listed: this.tunes, ...drawing });
+    this.saveAs.opened = () => this.scorePdf.show();
     new Colours(sheet, seen);
   }
 

@@ -16,6 +16,7 @@
 //   hasFaults      is asked whether a tune has faults; `abcm2ps` may draw them in another way than the program plays them
 //   doubt()        says below the drawing that it may differ from the sound, if the drawn tune has faults
 //   print()        prints the tune, page by page
+//   printAll(tunes) prints other tunes
 //
 // The element that is given has the attribute `aria-busy` while a drawing is asked for, and `document.body.dataset.score` is
 // "missing" if there is no `abcm2ps`.
@@ -123,8 +124,15 @@ export class Score {
   }
 
   async print() {
-    const answer = this.seen && this.notes.length ? await this.ask({ ...linesOf(this.seen), width: null }).catch(() => null) : null;
-    if (answer?.images) this.layOut(answer.images);
+    await this.printAll(this.seen && this.notes.length ? [this.seen] : []);
+  }
+
+  /** Prints tunes, one after another. Those that cannot be drawn are not there.
+   * @type {(tunes: DrawnTune[]) => Promise<void>} */
+  async printAll(tunes) {
+    const images = [];
+    for (const tune of tunes) images.push(...((await this.ask({ ...linesOf(tune), width: null }).catch(() => null))?.images ?? []));
+    if (images.length) this.layOut(images);
     window.print();
   }
 
