@@ -34,6 +34,7 @@ from .sound_font import BadFont, find_font
 
 FILES = Path(__file__).resolve().parent / "page_files"
 KINDS = {".html": "text/html; charset=utf-8", ".css": "text/css; charset=utf-8", ".js": "text/javascript; charset=utf-8"}
+WORDS = Path(__file__).with_name("completion.json")  # that may be written
 SECONDS_BETWEEN_LOOKS = 0.5  # at the book on disk
 SECONDS_OF_REST = 0.3  # after an edit, before hints are looked for
 SECONDS_FOR_A_DESCRIPTOR = 0.05
@@ -81,8 +82,8 @@ class Server(ThreadingHTTPServer):
     def __init__(self, port: int, book: SharedBook, words: argparse.Namespace):
         self.scorer = Scorer()  # first: a server whose port is taken is closed at once
         super().__init__(("127.0.0.1", port), Request)
-        self.book = book
         self.pdfs = PdfMaker()
+        self.book = book
         self.ends_alone: bool = words.open
         self.is_plain: bool = words.plain_sounds
         self.font = None if words.plain_sounds else find_font(words.sound_font)
@@ -93,6 +94,7 @@ class Server(ThreadingHTTPServer):
         self.hosts = {f"{host}:{self.server_port}" for host in ("127.0.0.1", "localhost")}
         self.sentences = sentence_pairs()
         self.files = {path.name: (path.read_bytes(), KINDS[path.suffix]) for path in FILES.iterdir() if path.suffix in KINDS}
+        self.files[WORDS.name] = WORDS.read_bytes(), "application/json"
         page, kind = self.files.pop("index.html")
         self.files[""] = page.replace(b"KEY OF THE BOOK", self.key.encode()), kind
 

@@ -1,19 +1,12 @@
 """The values that completion offers: those of fields, decorations, and programs."""
 
-from typing import NamedTuple
+import json
+from pathlib import Path
+from typing import Any, NamedTuple
 
-from ..hints.values import sharps_of
 from .general_midi import PROGRAMS
 
-METERS = ["4/4", "3/4", "2/4", "6/8", "9/8", "12/8", "2/2", "3/8", "C", "C|", "none"]
-UNITS = ["1/8", "1/4", "1/16", "1/2", "1"]
-TEMPOS = ["1/4=120", "1/2=100", "3/8=112"]
-MODES = {"": "major", "m": "minor", "dor": "Dorian", "mix": "Mixolydian", "phr": "Phrygian", "lyd": "Lydian", "loc": "Locrian"}
-TONICS = [letter + sign for letter in "CDEFGAB" for sign in ("", "#", "b")]
-DYNAMICS = ["ppp", "pp", "p", "mp", "mf", "f", "ff", "fff"]
-NOT_PLAYED = ["accent", "coda", "D.C.", "D.S.", "downbow", "fermata", "fine", "mordent", "roll", "segno", "tenuto", "trill", "turn", "upbow"]
-CLEFS = ["treble", "bass", "alto", "tenor", "treble-8", "treble+8", "perc", "none"]
-PROPERTIES = {"clef=": "clef", "octave=": "octaves up, or down if less than 0", "transpose=": "semitones up, or down if less than 0"}
+TABLE: dict[str, Any] = json.loads(Path(__file__).parents[1].joinpath("completion.json").read_text("utf-8"))  # which the page reads, too
 BLANKS = " \t"
 
 
@@ -34,24 +27,21 @@ def values_of(letter: str, before: str, start: int, voices: list[str]) -> list[I
     word = len(before) - len(value.replace("\t", " ").rpartition(" ")[2])
     if letter in "KV" and word > start:
         return properties(before[word:], word)
-    if letter == "K":
-        return [*keys(start), *properties(value, start)]
-    if letter == "V":
-        return [Item(name, "voice", start) for name in voices]
-    values, meaning = {"M": (METERS, "meter"), "L": (UNITS, "unit note length"), "Q": (TEMPOS, "tempo")}[letter]
-    return [Item(text, meaning, start) for text in values]
+    values = dict.fromkeys(voices, "voice") if letter == "V" else TABLE["values"][letter]
+    found = [Item(text, meaning, start) for text, meaning in values.items()]
+    return [*found, *properties(value, start)] if letter == "K" else found
 
 
 def properties(word: str, start: int) -> list[Item]:
     """Returns the properties of a key or a voice, or the clefs after `clef=`."""
     if word.startswith("clef="):
-        return [Item(clef, "clef", start + len("clef=")) for clef in CLEFS]
-    return [Item(text, meaning, start) for text, meaning in PROPERTIES.items()]
+        return [Item(clef, "clef", start + len("clef=")) for clef in TABLE["clefs"]]
+    return [Item(text, meaning, start) for text, meaning in TABLE["properties"].items()]
 
 
 def decorations(before: str, start: int) -> list[Item]:
     """Returns what may be written between exclamation marks. Only dynamics are played."""
-    words = [(word, "dynamic") for word in DYNAMICS] + [(word, "decoration, which is not played") for word in NOT_PLAYED]
+    words = TABLE["decorations"].items()
     return [Item(f"!{word}!", meaning, start) for word, meaning in words if f"!{word}!".startswith(before[start:])]
 
 
@@ -61,21 +51,3 @@ def programs(before: str, start: int) -> list[Item]:
     rows = [(str(number), name) for number, name in enumerate(PROGRAMS)]
     found = [(n, name) for n, name in rows if (n.startswith(written) if written.isdigit() else written in name.casefold())]
     return [Item(n, name, start, label=f"{n} {name}") for n, name in found]
-
-
-def keys(start: int) -> list[Item]:
-    """Returns the keys of at most seven sharps or flats, those of few first."""
-    found: list[tuple[int, int, str, str]] = []
-    for place, (mode, name) in enumerate(MODES.items()):
-        for tonic in TONICS:
-            sharps = sharps_of(tonic[:1].encode(), tonic[1:].encode(), mode.encode())
-            if sharps is not None:
-                found.append((abs(sharps), place, tonic + mode, f"{name}, {signs(sharps)}"))
-    return [Item(key, meaning, start) for _, _, key, meaning in sorted(found)]
-
-
-def signs(sharps: int) -> str:
-    """Returns how many sharps or flats a key has."""
-    if not sharps:
-        return "no sharps or flats"
-    return f"{abs(sharps)} {'sharp' if sharps > 0 else 'flat'}{'' if abs(sharps) == 1 else 's'}"

@@ -5,35 +5,12 @@ from typing import Any, NamedTuple, Optional
 from abc2midi_live import TokenKind
 
 from .changes import position_of
-from .completed_values import Item, decorations, programs, values_of
+from .completed_values import TABLE, Item, decorations, programs, values_of
 from .document import Document
 from .messages import AS_SNIPPET, KEYWORD, SNIPPET, VALUE, Json
 from .names import VOICE, names_in
 from .workspace import Workspace
 
-HEADER = {
-    "T:": "title",
-    "C:": "composer",
-    "R:": "rhythm",
-    "M:": "meter",
-    "L:": "unit note length",
-    "Q:": "tempo",
-    "P:": "order of the parts",
-    "V:": "voice",
-    "K:": "key; it ends the header",
-    "%%MIDI program ": "sound, 0 to 127",
-    "%%propagate-accidentals ": "not, octave or pitch",
-}
-BODY = {
-    "M:": "meter",
-    "L:": "unit note length",
-    "Q:": "tempo",
-    "P:": "part",
-    "V:": "voice",
-    "K:": "key",
-    "w:": "lyrics, which are not played",
-    "%%MIDI program ": "sound, 0 to 127",
-}
 TUNE = "X:{}\nT:${{1:title}}\nM:${{2:4/4}}\nL:${{3:1/8}}\nK:${{4:C}}\n$0"
 VOICE_SNIPPET = "V:${1:1} clef=${2|treble,bass,alto,tenor|}$0"
 BLANKS = " \t"
@@ -119,7 +96,7 @@ def completions(where: Situation) -> list[Item]:
 
 def fields(where: Situation) -> list[Item]:
     """Returns the fields and directives that may begin a line, and a new tune."""
-    found = [Item(text, meaning, 0) for text, meaning in (HEADER if where.in_header else BODY).items()]
+    found = [Item(text, meaning, 0) for text, meaning in TABLE["header" if where.in_header else "body"].items()]
     if where.number is not None:
         found.append(Item(f"X:{where.number}", "a tune of this number", 0, snippet=TUNE.format(where.number)))
     found = [item._replace(snippet=VOICE_SNIPPET) if item.text == "V:" else item for item in found]

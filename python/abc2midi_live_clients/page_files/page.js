@@ -2,10 +2,12 @@
 
 import { AllMidi } from "./all_midi.js";
 import { Book } from "./book.js";
+import { Brackets } from "./brackets.js";
 import { CaretTune } from "./caret_tune.js";
 import { Colours } from "./colours.js";
 import { Commands } from "./commands.js";
 import { Comparing } from "./comparing.js";
+import { Completing } from "./completing.js";
 import { DifferencesDialog } from "./differences_dialog.js";
 import { find, hide } from "./elements.js";
 import { Starter } from "./empty.js";
@@ -22,11 +24,12 @@ import { beginTune } from "./new_tune.js";
 import { Questions } from "./questions.js";
 import { Remarks } from "./remarks.js";
 import { Score, tuneOf } from "./score.js";
+import { ScorePdf } from "./score_pdf.js";
 import { Search } from "./search.js";
 import { Seen } from "./seen.js";
 import { ServerNews } from "./server_news.js";
-import { ScorePdf } from "./score_pdf.js";
 import { Sheet } from "./sheet.js";
+import { Signs } from "./signs.js";
 import { StatusBar } from "./status_bar.js";
 import { Text } from "./text.js";
 import { Tip } from "./tip.js";
@@ -77,6 +80,9 @@ export class Application {
     this.scorePdf = new ScorePdf({ server, link, book, findings, listed: this.tunes, ...drawing });
     this.saveAs.opened = () => this.scorePdf.show();
     new Colours(sheet, seen);
+    new Signs(sheet, /** @type {HTMLDialogElement} */ (find("signs")));
+    this.brackets = new Brackets(sheet);
+    this.completing = new Completing(sheet, find("completion"), () => findings.tunes);
   }
 
   /** Connects the parts, and opens the book. */
@@ -87,6 +93,7 @@ export class Application {
     this.connectLink();
     this.connectWindow();
     new Commands(this);
+    void this.completing.open();
     this.link.open();
   }
 
@@ -95,7 +102,10 @@ export class Application {
     text.edited = (...edit) => this.edited(...edit);
     sheet.faultsOf = (first, last) => findings.remarksIn(first, last);
     sheet.composed = (isComposing) => link.hold(isComposing);
-    sheet.placed = (place) => this.status.place(place);
+    sheet.placed = (place) => {
+      this.status.place(place);
+      this.brackets.show(place);
+    };
     sheet.pointed = (under, event) => this.remarks.point(under, event);
     this.remarks.mendOf = (fault) => mendOf(fault, text.lines, () => findings.tunes.map(([, number]) => number));
     this.remarks.mended = ({ start, taken, put }) => sheet.replace({ start, taken, put });

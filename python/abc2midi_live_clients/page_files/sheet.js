@@ -419,6 +419,19 @@ export class Sheet {
     return row;
   }
 
+  /** Where a place is in the window.
+   * @type {(place: Place) => DOMRect} */
+  boxOf({ line, column }) {
+    const row = document.createElement("div"), here = document.createElement("span");
+    row.style.top = `${(line - this.first) * this.height}px`;
+    here.textContent = "\u200b";
+    row.append(this.text.lines[line].slice(0, column), here);
+    this.marks.append(row);
+    const box = here.getBoundingClientRect();
+    row.remove();
+    return box;
+  }
+
   /** The faults at which a mouse points.
    * @type {(event: PointerEvent) => FaultRow[]} */
   faultUnder({ clientX, clientY }) {
