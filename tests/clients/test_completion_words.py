@@ -8,10 +8,10 @@ import test_page_in_browser
 import trial
 from browser_keys import CONTROL, DOWN, END, ENTER, ESCAPE, LEFT, SHIFT, TAB
 from abc2midi_live_clients.language_server.completion import Situation, completions
-from abc2midi_live_clients.hints.values import sharps_of
 
 TABLE = json.loads((trial.PACKAGES / "abc2midi_live_clients/completion.json").read_text("utf-8"))
-MODES = {"major": "", "minor": "m", "Dorian": "dor", "Mixolydian": "mix", "Phrygian": "phr", "Lydian": "lyd", "Locrian": "loc"}
+FIFTHS = "FCGDAEB"  # each a fifth above the one before
+MODES = {"Lydian": "lyd", "major": "", "Mixolydian": "mix", "Dorian": "dor", "minor": "m", "Phrygian": "phr", "Locrian": "loc"}  # each a sharp less
 
 
 class Keys(unittest.TestCase):
@@ -19,12 +19,11 @@ class Keys(unittest.TestCase):
 
     def test_all_keys(self) -> None:
         """Each has the mode and the sharps that its words have, and all keys of at most seven sharps or flats are there."""
-        tonics = [letter + sign for letter in "CDEFGAB" for sign in ("", "#", "b")]
         found = {}
-        for tonic in tonics:
-            for name, mode in MODES.items():
-                sharps = sharps_of(tonic[:1].encode(), tonic[1:].encode(), mode.encode())
-                if sharps is not None:
+        for place, tonic in enumerate(letter + sign for sign in ("b", "", "#") for letter in FIFTHS):
+            for less, (name, mode) in enumerate(MODES.items()):
+                sharps = place - len(FIFTHS) - less  # of F in Lydian none
+                if abs(sharps) <= 7:
                     counted = f"{abs(sharps)} {'sharp' if sharps > 0 else 'flat'}{'s' if abs(sharps) > 1 else ''}" if sharps else "no sharps or flats"
                     found[tonic + mode] = f"{name}, {counted}"
         self.assertEqual(TABLE["values"]["K"], found)
