@@ -28,6 +28,7 @@ return box[2] < 0 ? null : box.map((pixel) => pixel / devicePixelRatio);
 """  # the box of what has the colour of the cursor in the roll
 LIT = "return [...document.querySelectorAll('#score .score-lit')].map(({ note }) => [note.line, note.column])"
 VOICES = "return [...document.querySelectorAll('#voices > span, #parts .part > span')].map((one) => one.textContent)"
+GROUNDS = "return [...document.querySelectorAll('#parts .part i')].map((one) => one.style.background)"
 LISTEN = """
 const connect = AudioNode.prototype.connect, start = OscillatorNode.prototype.start;
 window.sources = [];
@@ -169,6 +170,7 @@ class Practising(music_page.MusicPage):
         self.caret(4, 3)
         self.run_script("document.execCommand('insertText', false, ' name=\"Flute\"')")
         self.wait(lambda: self.run_script(VOICES) == ["Flute", "Low", "Flute", "Low"])
+        self.assertEqual(len(set(self.run_script(GROUNDS))), 2)
 
     def test_steps_by_keys(self) -> None:
         """The roll says to those who do not see it where its cursor is."""

@@ -111,10 +111,10 @@ export class Practice {
       this.isCounted = true;
       roll.show(score, grid);
       this.fillBars(false);
-      this.silence();
       this.tell(roll.tick ?? 0);
     }
     this.showVoices(roll.score?.voices ?? 0, false);
+    this.silence();
     this.renewed();
     follower.caret();
   }
