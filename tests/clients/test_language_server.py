@@ -371,7 +371,7 @@ class Session(Editor):
         faults = self.open("X:1\nK:C\n|:C&D|\n\nX:1\nK:C\nC\n")
         self.assertEqual(starts(faults), [(2, 3, "BadByte")])
         self.assertEqual(starts(self.hints), [(2, 0, "OpenRepeat"), (2, 3, "Overlay"), (4, 0, "SameNumber")])
-        self.assertEqual([each["range"]["end"] for each in self.hints], [{"line": 2, "character": 1}, {"line": 2, "character": 4}, {"line": 4, "character": 3}])
+        self.assertEqual([each["range"]["end"] for each in self.hints], [{"line": 2, "character": 2}, {"line": 2, "character": 4}, {"line": 4, "character": 3}])
         self.assertEqual(self.change(1, (span(2, 3, 2, 6), ":|")), [])
         self.assertEqual(starts(self.hints), [(4, 0, "SameNumber")])
         self.finish()
