@@ -12,9 +12,10 @@ return [...document.querySelectorAll("[role=option]")].map((row) => [row.firstCh
 """
 PLACE = "return document.getElementById('place').textContent"
 IN_THE_ROLL = """
+const names = 34; // pixels at the left of the roll, which has the names of the keys there
 const box = (identifier) => document.getElementById(identifier).getBoundingClientRect();
 const [words, roll] = [box("empty"), box("roll")];
-return words.top >= roll.top && words.bottom <= roll.bottom && words.left >= roll.left && words.right <= roll.right;
+return words.top >= roll.top && words.bottom <= roll.bottom && words.left >= roll.left + names && words.right <= roll.right;
 """
 
 
@@ -74,11 +75,11 @@ class Empty(test_page_in_browser.Browser):
         self.wait(lambda: self.text("empty").startswith("This tune has no number, as the one at line "))
 
     def test_the_words_are_in_the_roll(self) -> None:
-        """So they cover neither what one practises with nor the score, in a window of any width."""
+        """So they cover neither what one practises with nor the score nor the names of keys, in a window of any width."""
         self.type("X:1\nK:C\n")
         self.says("Tune 1 has no notes yet.")
         self.run_script("document.getElementById('practise').click()")
-        for wide, high in ((1280, 900), (390, 844)):
+        for wide, high in ((1280, 900), (768, 1024), (390, 844)):
             self.size(wide, high)
             self.wait(lambda: self.run_script(IN_THE_ROLL))
 

@@ -4,7 +4,7 @@ import shutil
 import unittest
 
 import test_page_in_browser
-from browser_keys import F8
+from browser_keys import CONTROL, F8
 
 PARTS = ("tune", "time", "play", "practise", "midi", "count", "told", "filter", "list", "roll")
 REACHED = """
@@ -14,6 +14,10 @@ const { left, right, top, bottom, width, height } = one.getBoundingClientRect();
 const found = document.elementFromPoint(left + width / 2, top + height / 2);
 const isInside = left >= 0 && right <= innerWidth && top >= 0 && bottom <= innerHeight;
 return isInside && height >= 16 && one.contains(found);
+"""
+ONE_ROW = """
+const [one, last] = ["find-words", "find-close"].map((id) => document.getElementById(id).getBoundingClientRect());
+return last.top < one.bottom && one.top < last.bottom;
 """
 IS_WHOLE = "const one = document.getElementById('tune'); return one.textContent !== '' && one.scrollWidth <= one.clientWidth"
 STAVES = """
@@ -59,6 +63,16 @@ class Narrow(test_page_in_browser.Browser):
     def test_the_parts(self) -> None:
         self.parts_are_reached()
         self.assertTrue(self.has_lines(6))
+
+    def test_a_tablet(self) -> None:
+        """A title has a row of its own with the time, the filter has room for some words, and what finds is one row."""
+        self.size(768, 1024)
+        self.wait(lambda: self.run_script(IS_WHOLE))
+        self.assertGreater(self.run_script("return document.getElementById('filter').clientWidth"), 90)
+        self.press("f", CONTROL)
+        self.press("B")
+        self.wait(lambda: " of " in self.text("found"))
+        self.assertTrue(self.run_script(ONE_ROW))
 
     def test_while_practising(self) -> None:
         self.driver.find_element("id", "practise").click()
