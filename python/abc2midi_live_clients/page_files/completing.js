@@ -51,8 +51,9 @@ export class Completing {
     const { sheet, words } = this, place = sheet.caret();
     if (!words || sheet.composing || sheet.away) return this.close();
     const where = situationOf(sheet.text.lines, this.rows(), place), rest = sheet.text.lines[place.line].slice(place.column);
-    const items = where.before && !/^\w/.test(rest) ? narrowed(completions(words, where), where.before).slice(0, MOST) : [];
-    if (!items.length) return this.close();
+    const items = where.before ? narrowed(completions(words, where), where.before).slice(0, MOST) : [];
+    const isInWord = /^\w/.test(rest) && !items[0]?.text.startsWith("!"); // a mark comes directly before a note
+    if (!items.length || isInWord) return this.close();
     this.show(items, place);
   }
 
