@@ -4,21 +4,19 @@ import argparse
 import errno
 import gc
 import os
-import secrets
-import socket
 import sys
 import threading
 import time
 import zlib
 from contextlib import suppress
-from http.server import ThreadingHTTPServer
 from pathlib import Path
 from typing import Any
 
 from abc2midi_live import LibraryMissing
 
-from .connections import Connections
 from .faults import sentence_pairs
+from .folder_server import FolderServer
+from .guarded_server import GuardedServer
 from .hint_process import HintProcess
 from .opening_page import PageNote
 from .own_process import ENDED
@@ -37,7 +35,6 @@ KINDS = {".html": "text/html; charset=utf-8", ".css": "text/css; charset=utf-8",
 WORDS = Path(__file__).with_name("completion.json")  # that may be written
 SECONDS_BETWEEN_LOOKS = 0.5  # at the book on disk
 SECONDS_OF_REST = 0.3  # after an edit, before hints are looked for
-SECONDS_FOR_A_DESCRIPTOR = 0.05
 SECONDS_ALONE = 60  # without a window, after which a page that was opened on a desktop ends
 PERHAPS = ", perhaps by a page that you started before"
 FIRST_PORT, PORTS, TRIES, MOST_PORT = 20_000, 12_000, 20, 65_535
@@ -56,7 +53,7 @@ def arguments() -> argparse.Namespace:
         description=__doc__,
         epilog="It prints an address. Open it in a browser of this machine. Ctrl-C ends the page.",
     )
-    what = "the tune book; if it is missing, the first save makes it; without BOOK the text is empty"
+    what = "the tune book, or a folder of tune books; a book that is missing is made by the first save; without BOOK the text is empty"
     parser.add_argument("book", metavar="BOOK", nargs="?", help=what)
     parser.add_argument("--port", metavar="N", type=port_number, help="the port; without it the port depends on the book's name")
     parser.add_argument("--no-hints", action="store_true", help="show no hints")
@@ -73,25 +70,19 @@ def arguments() -> argparse.Namespace:
 interrupted = threading.Event()
 
 
-class Server(ThreadingHTTPServer):
-    """The server of one book, for this machine alone."""
-
-    daemon_threads = True
-    request_queue_size = 128
+class Server(GuardedServer):
+    """The server of one book."""
 
     def __init__(self, port: int, book: SharedBook, words: argparse.Namespace):
         self.scorer = Scorer()  # first: a server whose port is taken is closed at once
-        super().__init__(("127.0.0.1", port), Request)
+        super().__init__(port, Request)
         self.pdfs = PdfMaker()
         self.book = book
         self.ends_alone: bool = words.open
         self.is_plain: bool = words.plain_sounds
         self.font = None if words.plain_sounds else find_font(words.sound_font)
         self.seen = time.monotonic()  # when there was a window last, or text that is not saved
-        self.token = secrets.token_urlsafe(24)
         self.key = book_key(book.path)
-        self.connections = Connections()
-        self.hosts = {f"{host}:{self.server_port}" for host in ("127.0.0.1", "localhost")}
         self.sentences = sentence_pairs()
         self.files = {path.name: (path.read_bytes(), KINDS[path.suffix]) for path in FILES.iterdir() if path.suffix in KINDS}
         self.files[WORDS.name] = WORDS.read_bytes(), "application/json"
@@ -102,27 +93,10 @@ class Server(ThreadingHTTPServer):
         """The proof that the server, or the page, has the book's key."""
         return proof(self.key, who, self.server_port, self.book.run, nonce)
 
-    def get_request(self) -> tuple[socket.socket, Any]:
-        """The next connection. If there is no descriptor for it, the server waits a moment for one."""
-        try:
-            connection, address = super().get_request()
-        except OSError:
-            time.sleep(SECONDS_FOR_A_DESCRIPTOR)
-            raise
-        if not self.connections.begin(connection):
-            connection.close()
-            raise OSError("there are too many connections")
-        return connection, address
-
     def server_close(self) -> None:
         """Ends the server, and what draws scores for it."""
         super().server_close()
         self.scorer.close()
-
-    def shutdown_request(self, request: Any) -> None:
-        """Ends a connection."""
-        self.connections.end(request)
-        super().shutdown_request(request)
 
     def is_left(self) -> bool:
         """Returns whether a page that was opened on a desktop had no window for a while, with all of its text saved."""
@@ -134,13 +108,8 @@ class Server(ThreadingHTTPServer):
         """Ends the server if the client is to end, and the connections of strangers that take too long."""
         if interrupted.is_set() or self.is_left():
             raise KeyboardInterrupt
-        self.connections.cut_the_late()
+        super().service_actions()
         self.book.remind()
-
-    def handle_error(self, *_: Any) -> None:
-        """Prints what went wrong in a request, but for a window that was closed."""
-        if not isinstance(sys.exc_info()[1], ConnectionError):
-            super().handle_error(*_)
 
 
 def serving(words: argparse.Namespace, book: SharedBook) -> Server:
@@ -202,6 +171,21 @@ def refuse_missing_folder(book: str) -> None:
         raise FileNotFoundError(errno.ENOENT, "there is no such folder; make it first, or correct the name of the book", folder)
 
 
+def serve_folder(words: argparse.Namespace) -> int:
+    """Serves the list of the books of a folder till Ctrl-C; the exit status."""
+    if words.open:
+        tell("--open needs a book; this is a folder")
+        return 2
+    font = ["--sound-font", os.path.abspath(words.sound_font)] if words.sound_font else []
+    flags = [*(["--no-hints"] if words.no_hints else []), *(["--plain-sounds"] if words.plain_sounds else [])]
+    with FolderServer(words.port or 0, Path(words.book), [*font, *flags, "--program", words.program or find_program()], interrupted) as server:
+        print(f"http://127.0.0.1:{server.server_port}/{server.token}/", flush=True)
+        if sys.stdout.isatty():
+            tell("open this address in a browser of this machine; Ctrl-C ends all pages")
+        server.serve_forever(poll_interval=0.1)
+    return 0
+
+
 def keep_looking(book: SharedBook) -> None:
     """Looks at the book on disk, again and again."""
     while True:
@@ -259,6 +243,8 @@ def main() -> int:
     book = keeper = None
     note = PageNote(words.book or "")
     try:
+        if words.book and os.path.isdir(words.book):
+            return serve_folder(words)
         if words.open and note.address():
             return open_window(note)
         if words.book:
