@@ -9,7 +9,7 @@ import trial
 COMMANDS = ["watch", "page", "language_server", "archive"]
 OURS = ("abc2midi_live", "abc2midi_live_clients", "abc2midi_live_archive")
 SLOW = {"asyncio", "concurrent", "ctypes", "email", "html", "http", "importlib.metadata", "multiprocessing", "ssl", "unittest", "zipfile"}
-MOST_FOR_VERSION, MOST_FOR_ANSWER = 40, 90  # modules
+MOST_FOR_VERSION, MOST_FOR_ANSWER = 40, 115  # modules
 
 # Runs a command, and prints on standard error the modules that it imported.
 RUN = """
