@@ -54,8 +54,8 @@ NOTHING = Known([], (), [], [])
 
 
 class Finder:
-    """Finds the hints of a text, by a library that is named or found. Those on tunes that did not change since the last time
-    stay."""
+    """Finds the hints of a text, by the library at a path or the one that is found. Those on tunes that did not change since the
+    last time stay."""
 
     def __init__(self, library: Optional[str] = None) -> None:
         self.known = NOTHING
