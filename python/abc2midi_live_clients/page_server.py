@@ -178,7 +178,8 @@ def serve_folder(words: argparse.Namespace) -> int:
         return 2
     font = ["--sound-font", os.path.abspath(words.sound_font)] if words.sound_font else []
     flags = [*(["--no-hints"] if words.no_hints else []), *(["--plain-sounds"] if words.plain_sounds else [])]
-    with FolderServer(words.port or 0, Path(words.book), [*font, *flags, "--program", words.program or find_program()], interrupted) as server:
+    library = ["--library", os.path.abspath(words.library)] if words.library else []
+    with FolderServer(words.port or 0, Path(words.book), [*font, *flags, *library], interrupted) as server:
         print(f"http://127.0.0.1:{server.server_port}/{server.token}/", flush=True)
         if sys.stdout.isatty():
             tell("open this address in a browser of this machine; Ctrl-C ends all pages")

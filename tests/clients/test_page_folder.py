@@ -9,6 +9,7 @@ import tempfile
 import unittest
 from email.message import Message
 from pathlib import Path
+from typing import Any
 from unittest import mock
 
 import test_page
@@ -89,13 +90,13 @@ class Served(test_page.Page):
         status, headers, _ = self.request(f"open/{name}")
         return status, headers.get("Location", "")
 
-    def book_at(self, address: str) -> test_page.Json:
+    def book_at(self, address: str) -> dict[str, Any]:
         """The book of a page at an address."""
         found = re.fullmatch(r"http://127\.0\.0\.1:(\d+)(/[\w-]{32}/)", address)
         assert found, address
         connection = http.client.HTTPConnection("127.0.0.1", int(found[1]), timeout=trial.SECONDS)
         connection.request("GET", f"{found[2]}book")
-        answer: test_page.Json = json.loads(connection.getresponse().read())
+        answer: dict[str, Any] = json.loads(connection.getresponse().read())
         connection.close()
         return answer
 

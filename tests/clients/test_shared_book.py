@@ -119,7 +119,8 @@ class Views(trial.Folder):
     def ask(self, call: Callable[[Json], Json], first: int, last: int, tune: Any, **more: Any) -> Json:
         """What answers a window that has the present version, and sees lines and a tune."""
         seen = {"from": first, "to": last, "tune": tune}
-        return call({"run": self.book.run, "version": self.book.version, "sees": seen, **more})["view"]
+        view: Json = call({"run": self.book.run, "version": self.book.version, "sees": seen, **more})["view"]
+        return view
 
     def test_tokens(self) -> None:
         """Columns are those of UTF-16, from 0: the clef has two units there."""
