@@ -630,7 +630,7 @@ class Documents(trial.Folder):
 
     def test_what_is_asked_once(self) -> None:
         """A text that did not change has the same faults and hints."""
-        book = document.Document("X:1\nK:C\n|:C&D|\n", open_library(trial.library), {})
+        book = document.Document("X:1\nK:C\n|:C&D|\n", open_library(trial.library), {}, Finder(trial.library))
         self.addCleanup(book.close)
         faults = mock.patch.object(program.SessionBook, "faults", autospec=True, side_effect=program.SessionBook.faults)
         hints = mock.patch.object(Finder, "hints", autospec=True, side_effect=Finder.hints)

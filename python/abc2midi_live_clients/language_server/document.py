@@ -30,13 +30,18 @@ class Document:
     """A tune book that an editor has open. A session of its own has the same text. What it finds in a text is asked once."""
 
     def __init__(
-        self, text: str, session: Session, words: dict[str, str], with_hints: bool = True, encoding: Encoding = UTF16
+        self,
+        text: str,
+        session: Session,
+        words: dict[str, str],
+        finder: Optional[Finder] = None,
+        encoding: Encoding = UTF16,
     ):
         self.text = EditorLines(text, encoding)
         self.encoding = encoding
         self.version: Optional[int] = None  # of the text, as the editor counts
         self.words = words
-        self.finder = Finder() if with_hints else None
+        self.finder = finder  # of hints
         self.changed = 0  # the line of the last change
         self.is_lost = False  # a change could not be read, so the text is not the editor's
         self.book = SessionBook(session)

@@ -5,6 +5,7 @@ from typing import Any, NamedTuple, Optional
 from urllib.parse import unquote
 
 from ..faults import sentences
+from ..hints import Finder
 from ..players import Player
 from ..printing import printable
 from ..program import open_library
@@ -42,8 +43,9 @@ class Workspace:
         sent = params["textDocument"]
         if sent["uri"] in self.documents:
             self.documents.pop(sent["uri"]).close()
-        session = open_library(self.settings.library)
-        document = Document(sent["text"], session, self.words, self.settings.with_hints, self.client.encoding)
+        library, _, with_hints = self.settings
+        finder = Finder(library) if with_hints else None
+        document = Document(sent["text"], open_library(library), self.words, finder, self.client.encoding)
         document.version = sent.get("version")
         self.documents[sent["uri"]] = document
         self.publish(sent["uri"])
