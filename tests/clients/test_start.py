@@ -8,7 +8,7 @@ import trial
 
 COMMANDS = ["watch", "page", "language_server", "archive"]
 OURS = ("abc2midi_live", "abc2midi_live_clients", "abc2midi_live_archive")
-SLOW = {"asyncio", "concurrent", "ctypes", "email", "html", "http", "importlib.metadata", "multiprocessing", "ssl", "unittest", "zipfile"}
+SLOW = {"asyncio", "concurrent", "email", "html", "http", "importlib.metadata", "multiprocessing", "ssl", "unittest", "zipfile"}
 MOST_FOR_VERSION, MOST_FOR_ANSWER = 40, 115  # modules
 
 # Runs a command, and prints on standard error the modules that it imported.
@@ -27,8 +27,8 @@ def message(**parts: object) -> bytes:
     return b"Content-Length: %d\r\n\r\n%s" % (len(body), body)
 
 
-class Imports(trial.Folder):
-    """A start imports what it needs and no more."""
+class Starts(trial.Folder):
+    """A start of a command that reports what it imported."""
 
     def imported(self, name: str, *words: str, data: bytes = b"") -> tuple[set[str], bytes]:
         """The modules that a command imports, and what it prints."""
@@ -41,6 +41,10 @@ class Imports(trial.Folder):
         """No slow module is among these, and they are few."""
         self.assertEqual({name for name in modules for slow in SLOW if name == slow or name.startswith(f"{slow}.")}, set())
         self.assertLessEqual(len(modules), most, sorted(modules))
+
+
+class Imports(Starts):
+    """The version needs hardly a module."""
 
     def test_the_version(self) -> None:
         for name in COMMANDS:
@@ -55,9 +59,13 @@ class Imports(trial.Folder):
         printed = self.imported("watch", "--no-hints", "--version")[1]
         self.assertEqual(printed, self.imported("watch", "--version")[1])
 
+
+class Answers(Starts):
+    """The first answer needs no module that is slow to import."""
+
     def test_the_first_answer_of_the_language_server(self) -> None:
         asked = message(id=1, method="initialize", params={"capabilities": {}})
         end = message(id=2, method="shutdown") + message(method="exit")
-        modules, printed = self.imported("language_server", "--program", sys.executable, data=asked + end)
+        modules, printed = self.imported("language_server", "--library", trial.library, data=asked + end)
         self.assertIn(b'"capabilities"', printed)
         self.assert_quick(modules, MOST_FOR_ANSWER)
