@@ -26,6 +26,15 @@ for (let y = 0; y < high; y += 1) for (let x = 0; x < wide; x += 1) {
 }
 return box[2] < 0 ? null : box.map((pixel) => pixel / devicePixelRatio);
 """  # the box of what has the colour of the cursor in the roll
+LETTER = """
+const row = document.querySelectorAll(".colours div")[arguments[0]], walker = document.createTreeWalker(row, NodeFilter.SHOW_TEXT), range = document.createRange();
+let at = arguments[1];
+while (walker.nextNode() && at >= walker.currentNode.length) at -= walker.currentNode.length;
+range.setStart(walker.currentNode, at);
+range.setEnd(walker.currentNode, at + 1);
+const { left, top, width, height } = range.getBoundingClientRect();
+return [left + 0.3 * width, top + 0.5 * height];
+"""  # where in the window a letter of the text is
 LIT = "return [...document.querySelectorAll('#score .score-lit')].map(({ note }) => [note.line, note.column])"
 VOICES = "return [...document.querySelectorAll('#voices > span, #parts .part > span')].map((one) => one.textContent)"
 GROUNDS = "return [...document.querySelectorAll('#parts .part i')].map((one) => one.style.background)"
@@ -237,8 +246,30 @@ class Practising(music_page.MusicPage):
         self.wait(lambda: self.run_script(FRAMES) is None)
         self.press_there()
         self.wait(lambda: self.run_script(WHERE) == [5, 3])
-        self.press(" ")
         self.hear(0, 64)
+        self.press(" ")
+        self.hear(0, 64, 64)
+
+    def test_a_click_in_the_text_is_heard(self) -> None:
+        """The note under it sounds at once, and the tune plays from there; a click on the key lets it begin anew."""
+        self.open(SCALE, "4 bars")
+        self.caret(5, 3)
+        self.wait(lambda: self.run_script(FRAMES))
+        self.click_at(6, 1)
+        self.wait(lambda: self.run_script("return played") == [[0, 69]])
+        self.press(" ", CONTROL)
+        self.hear(1, 69, 69, 71)
+        self.click_at(5, 0)
+        self.press(" ", CONTROL)
+        self.click_at(4, 1)
+        self.press(" ", CONTROL)
+        self.hear(1, 69, 69, 71, 60)
+
+    def click_at(self, line: int, column: int) -> None:
+        """Clicks on a letter of the text."""
+        x, y = self.run_script(LETTER, line, column)
+        for event in ("mousePressed", "mouseReleased"):
+            self.driver.execute_cdp_cmd("Input.dispatchMouseEvent", {"type": event, "x": x, "y": y, "button": "left", "clickCount": 1})
 
     def name_in_frame(self) -> str:
         """What the page says of the framed note when the mouse moves onto it."""

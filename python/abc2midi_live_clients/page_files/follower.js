@@ -144,6 +144,18 @@ export class Follower {
     this.draw();
   }
 
+  /** What is at the caret, where it is played first: its tick and its notes. Begins the tune in a line without notes. Null if that is
+   * not known, or something is selected.
+   * @type {{ start: number, notes: Note[] } | null} */
+  get touched() {
+    const { places } = this, { line, column } = this.sheet.caret(), tokens = this.seen.tokensOf(line), tune = this.tune();
+    const { start, end } = this.sheet.selection();
+    if (!places || !tune || line < tune.first || line >= tune.last || start.line !== end.line || start.column !== end.column) return null;
+    const moment = places.under(line, column, tokens)[0], notes = places.notesUnder(line, column, tokens);
+    if (!moment) return places.inLine(line).length ? null : { start: 0, notes: [] };
+    return { start: moment.start, notes: moment.tones.flatMap(({ note }) => (note && notes.has(note) ? note : [])) };
+  }
+
   /** The tick at which the music at the caret begins, null if that is not known. */
   get tickOfCaret() {
     const { places } = this, { line, column } = this.sheet.caret(), tune = this.tune();

@@ -114,7 +114,10 @@ export class Application {
       this.showTune();
     };
     staves.hasFaults = ({ first, lines }) => findings.faultsIn(first, first + lines.length) > 0;
-    staves.picked = (line, column) => sheet.go(line, column, true);
+    staves.picked = (line, column) => {
+      sheet.go(line, column, true);
+      music.transport.touch();
+    };
     staves.drawn = () => {
       hide(find("print"), !staves.notes.length, sheet.area);
       this.tuneFiles.show();

@@ -20,6 +20,7 @@ const LONGEST = 4096; // notes scheduled at once
 const SOON = 0.1; // seconds from a press of the button to the first note
 const MOST_LEGS = 64; // rounds of a loop scheduled at once
 const MOST_SPEED = 2; // to which rounds of a loop rise
+const TOUCHED = 1.5; // seconds for which a note sounds at most that someone points at
 const FADE = 0.02, FADED = 200; // seconds in which what sounds fades away, milliseconds after which its way is taken down
 
 /** The time at which a tick of a leg sounds.
@@ -285,6 +286,17 @@ export class Player {
     const from = Math.max(start, this.audio.currentTime), out = this.outOf(note.voice);
     const sound = this.font?.sound(this.audio, note, from, end, out) ?? soundNote(this.audio, note, from, end, out);
     this.sounding.push(Object.assign(sound, { last }));
+  }
+
+  /** Sounds notes of a score at once, unless a tune plays.
+   * @type {(score: Score, notes: Note[]) => Promise<void>} */
+  async touch(score, notes) {
+    if (this.playing || !notes.length) return;
+    await this.audio.resume();
+    await this.font?.load(this.audio, notes);
+    if (this.playing) return;
+    const now = this.audio.currentTime, leg = { score, tick: 0, time: now, speed: this.speed };
+    for (const note of notes) this.sound(note, now, now + Math.min(TOUCHED, timeIn(leg, note.end) - timeIn(leg, note.start)), note.end);
   }
 
   /** A note that sounds ends by another leg.

@@ -27,8 +27,11 @@ export class Transport {
     this.player.ended = () => this.end();
     this.roll.picked = (tick, note) => {
       this.goTo(tick);
-      if (note) this.follower.goTo(note, tick);
+      if (!note) return;
+      this.follower.goTo(note, tick);
+      if (this.shown.score) this.player.touch(this.shown.score, [note]);
     };
+    this.follower.sheet.area.addEventListener("click", () => this.touch());
     this.practice.played = (tick) => {
       this.goTo(tick);
       if (!this.player.playing) this.playOrStop();
@@ -42,6 +45,14 @@ export class Transport {
     if (!shown.score) return;
     find("play").textContent = "■ Stop";
     this.practice.play(shown.score, start < shown.score.end ? start : 0);
+  }
+
+  /** Someone points at a place of the text, at which the caret is: its notes sound, and the tune is to play from there. */
+  touch() {
+    const { player, shown } = this, touched = player.playing || !shown.score ? null : this.follower.touched;
+    if (!touched || !shown.score) return;
+    this.goTo(touched.start);
+    player.touch(shown.score, touched.notes);
   }
 
   /** Goes to a tick of the tune, and plays on from there if it plays.
