@@ -9,7 +9,7 @@ import trial
 COMMANDS = ["watch", "page", "language_server", "archive"]
 OURS = ("abc2midi_live", "abc2midi_live_clients", "abc2midi_live_archive")
 SLOW = {"asyncio", "concurrent", "email", "html", "http", "importlib.metadata", "multiprocessing", "ssl", "unittest", "zipfile"}
-MOST_FOR_VERSION, MOST_FOR_ANSWER = 40, 115  # modules
+MOST_FOR_VERSION, MOST_FOR_ANSWER = 70, 150  # modules
 
 # Runs a command, and prints on standard error the modules that it imported.
 RUN = """
@@ -31,8 +31,8 @@ class Starts(trial.Folder):
     """A start of a command that reports what it imported."""
 
     def imported(self, name: str, *words: str, data: bytes = b"") -> tuple[set[str], bytes]:
-        """The modules that a command imports, and what it prints."""
-        command = [sys.executable, "-c", RUN, str(trial.CLIENTS / name), *words]
+        """The modules that a command imports, and what it prints. `-S`: no module of another package is imported before."""
+        command = [sys.executable, "-S", "-c", RUN, str(trial.CLIENTS / name), *words]
         ran = subprocess.run(command, input=data, capture_output=True, timeout=trial.SECONDS)
         self.assertEqual(ran.returncode, 0, ran.stderr)
         return set(ran.stderr.decode().split()), ran.stdout
