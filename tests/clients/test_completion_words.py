@@ -2,6 +2,7 @@
 
 import json
 import unittest
+from typing import Optional
 
 import page_in_node
 import test_page_in_browser
@@ -35,9 +36,11 @@ class Scripts(page_in_node.PageScripts):
 
     def test_as_in_editors(self) -> None:
         """The page offers what the language server offers, but for decorations and the properties of a key."""
-        asked = [["", True, 3, []], ["K", True, None, []], ["K:", False, None, []], ["c [M:", False, None, []], ["V: ", False, None, ["a", "b"]], ["%%M", False, None, []], ["w", False, None, []], ["C", False, None, []], ["T:K", True, None, []]]
+        asked: list[tuple[str, bool, Optional[int], list[str]]]
+        asked = [("", True, 3, []), ("K", True, None, []), ("K:", False, None, []), ("c [M:", False, None, []), ("V: ", False, None, ["a", "b"]), ("%%M", False, None, []), ("w", False, None, []), ("C", False, None, []), ("T:K", True, None, [])]
         lines = self.node("page_completion.mjs", json.dumps(asked), (str(trial.PACKAGES / "abc2midi_live_clients/completion.json"), "answer"))
-        wanted = [[[item.text, item.meaning, item.start] for item in completions(Situation(str(before), bool(header), number, list(voices))) if item.text not in TABLE["properties"]] for before, header, number, voices in asked]  # type: ignore[misc, has-type, arg-type]
+        places = [Situation(before, header, number, voices) for before, header, number, voices in asked]
+        wanted = [[[item.text, item.meaning, item.start] for item in completions(place) if item.text not in TABLE["properties"]] for place in places]
         self.assertEqual(json.loads(lines[0]), wanted)
 
 

@@ -6,6 +6,7 @@ import shutil
 import subprocess
 import unittest
 from pathlib import Path
+from contextlib import ExitStack
 from typing import Any, Optional
 from unittest import mock
 
@@ -93,7 +94,9 @@ class Walls(test_score.Harm):
     def outcome(self, script: str, **more: Any) -> Json:
         """What becomes of a script instead of Ghostscript; afterwards no file is left."""
         self.bin_program("gs", script)
-        with mock.patch.multiple(score_pdf, **more) if more else mock.patch.dict({}):
+        with ExitStack() as changed:
+            for attribute, value in more.items():
+                changed.enter_context(mock.patch.object(score_pdf, attribute, value))
             answer = score_pdf.answer(str(self.bin / "abcm2ps"), str(self.bin / "gs"), score_pdf.Question([], [KESH]))
         self.assertEqual(os.listdir(self.files), [])
         return answer
