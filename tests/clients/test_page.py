@@ -678,10 +678,16 @@ class Strangers(Page):
         self.assertEqual((said.returncode, said.stderr.startswith(f"page: {missing}: cannot open"), said.stderr.count("\n")), (127, True, 1))
         self.finish()
 
-    def test_a_folder_is_no_book(self) -> None:
-        words = [sys.executable, str(trial.CLIENTS / "page"), "--library", trial.library, str(self.folder)]
-        said = subprocess.run(words, capture_output=True, timeout=trial.SECONDS)
-        self.assertEqual((said.returncode, said.stderr), (1, b"page: %s: it is not a regular file\n" % os.fsencode(self.folder)))
+    def test_what_is_no_book(self) -> None:
+        """A pipe is no book, and a folder is none that a desktop opens."""
+        pipe = self.folder / "pipe"
+        os.mkfifo(pipe)
+        start = [sys.executable, str(trial.CLIENTS / "page"), "--library", trial.library]
+        refused: list[tuple[list[Union[str, Path]], int, str]]
+        refused = [([pipe], 1, f"{pipe}: it is not a regular file"), (["--open", self.folder], 2, "--open needs a book; this is a folder")]
+        for words, status, why in refused:
+            said = subprocess.run([*start, *words], capture_output=True, text=True, timeout=trial.SECONDS)
+            self.assertEqual((said.returncode, said.stderr), (status, f"page: {why}\n"))
         self.finish()
 
     def test_the_home(self) -> None:
