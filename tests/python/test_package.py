@@ -157,6 +157,11 @@ class Commands(setting.Room):
         command = self.command(name, *words)
         return subprocess.run(command, cwd=self.folder, env=path, input=typed, capture_output=True, text=True, timeout=120)
 
+    def needs_library(self) -> None:
+        """Skips a test if the wheel has no library."""
+        if not setting.library:
+            self.skipTest("no library was named")
+
     def add_program(self) -> None:
         """Puts the program on the path."""
         if not setting.program:
@@ -167,12 +172,17 @@ class Commands(setting.Room):
         for name in COMMANDS:
             self.assertEqual(self.tried(name, "--version").stdout, f"{name} {version()}\n")
 
-    def test_without_the_program_each_says_so_in_one_line(self) -> None:
-        trials: list[tuple[str, list[str]]] = [("watch", ["book.abc", "--dir", "."]), ("page", ["book.abc"]), ("language-server", [])]
-        for name, words in trials:
-            done = self.tried(f"abc2midi_live-{name}", *words)
-            line = f"{name.replace('-', '_')}: there is no command abc2midi_live on the path; install it, or name a program by --program\n"
-            self.assertEqual((done.returncode, done.stdout, done.stderr), (127, "", line))
+    def test_without_the_program_the_watcher_says_so_in_one_line(self) -> None:
+        done = self.tried("abc2midi_live-watch", "book.abc", "--dir", ".")
+        line = "watch: there is no command abc2midi_live on the path; install it, or name a program by --program\n"
+        self.assertEqual((done.returncode, done.stdout, done.stderr), (127, "", line))
+
+    def test_without_a_library_the_others_say_so_in_one_line(self) -> None:
+        words: dict[str, list[str]] = {"page": ["book.abc"], "language-server": []}
+        for name, books in words.items():
+            done = self.tried(f"abc2midi_live-{name}", "--library", "missing", *books)
+            self.assertEqual((done.returncode, done.stdout), (127, ""))
+            self.assertRegex(done.stderr, rf"\A{name.replace('-', '_')}: missing: cannot open [^\n]*\n\Z")
 
     def test_the_watcher_has_the_sentences_of_the_faults(self) -> None:
         self.add_program()
@@ -182,7 +192,7 @@ class Commands(setting.Room):
         self.assertEqual((self.folder / "midi/1.mid").read_bytes()[:4], b"MThd")
 
     def test_the_page_has_its_files(self) -> None:
-        self.add_program()
+        self.needs_library()
         path = {"PATH": f"{self.folder}:/usr/bin:/bin", "HOME": str(self.folder)}
         page = subprocess.Popen(self.command("abc2midi_live-page", self.book), env=path, stdout=subprocess.PIPE, text=True)
         self.addCleanup(page.communicate)
@@ -194,7 +204,7 @@ class Commands(setting.Room):
                 self.assertIn(has, answer.read())
 
     def test_the_language_server_answers(self) -> None:
-        self.add_program()
+        self.needs_library()
         initialize: dict[str, Any] = {"id": 1, "method": "initialize", "params": {"capabilities": {}}}
         texts = [json.dumps({"jsonrpc": "2.0", **message}) for message in (initialize, {"id": 2, "method": "shutdown"}, {"method": "exit"})]
         typed = "".join(f"Content-Length: {len(text)}\r\n\r\n{text}" for text in texts)
@@ -203,8 +213,7 @@ class Commands(setting.Room):
         self.assertIn('"capabilities"', done.stdout)
 
     def test_the_archive_compiles_by_the_library_of_the_wheel(self) -> None:
-        if not setting.library:
-            self.skipTest("no library was named")
+        self.needs_library()
         done = self.tried("abc2midi_live-archive", "book.abc", "--to", "archive", "--jobs", "1")
         self.assertEqual((done.returncode, done.stderr), (0, ""))
         self.assertEqual([path.read_bytes()[:4] for path in (self.folder / "archive").rglob("*.mid")], [b"MThd"])
