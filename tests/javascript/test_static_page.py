@@ -75,7 +75,7 @@ class Writing(StaticBrowser):
         self.type("C -\n")
         self.paste("\nX:2\nT:Second\nK:C\nC\n")
         self.lists("1Scale", "2Second")
-        self.wait(lambda: self.text("status").startswith("changed 2.mid"))
+        self.wait(lambda: "2.mid" in self.text("status"))  # with the edit before it or alone
         self.caret(8, 0)
         self.wait(lambda: self.text("told").startswith(f"Line 9- {self.sentence('LooseTie')}"))
         self.wait(lambda: self.run_script("return [...document.querySelectorAll('mark')].map((mark) => mark.fault)") == [[8, 2, 3, "LooseTie"]])
