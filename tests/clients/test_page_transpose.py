@@ -1,8 +1,0 @@
-"""Transposition, in node."""
-
-import page_in_node
-
-
-class Scripts(page_in_node.PageScripts):
-    def test_scripts(self) -> None:
-        self.assert_ok("page_transpose.mjs", 9)
