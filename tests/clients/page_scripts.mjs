@@ -305,8 +305,10 @@ const tests = {
     const texts = new Ancestry({ lines: ["a"], has: { run: 0 } });
     texts.edit({ start: 1, stop: 1, lines: ["b"] }, { run: 0, one: 1 });
     texts.edit({ start: 1, stop: 2, lines: ["B"] }, { run: 0, one: 1, other: 1 });
-    const shared = (has, ...lines) => texts.sharedWith({ lines, has })?.lines;
+    const all = { run: 9, next: 9, one: 9, other: 9, own: 9, more: 9, many: 9999 };
+    const shared = (has, ...lines) => texts.sharedWith({ lines, has }, all)?.lines;
     same([shared({ run: 0, one: 2 }, "x"), shared({ run: 0, one: 1, other: 4 }, "x"), shared({ run: 0, more: 1 }, "x")], [["a", "b"], ["a", "B"], ["a"]]);
+    same([texts.sharedWith({ lines: [], has: { run: 0, one: 1, other: 4 } }, { run: 0, one: 1 }).lines], [["a", "b"]]);
     same([shared({ next: 0 }, "a", "b"), shared({ next: 0 }, "x"), shared({ next: 0, one: 2, other: 2 }, "x")], [["a", "b"], undefined, undefined]);
     texts.suppose({ start: 0, stop: 0, lines: ["own"] }, { run: 0, one: 1, other: 1, own: 1 });
     same([texts.lines, shared({ run: 0, one: 1, other: 1, own: 3 }, "x"), shared({ run: 0, one: 1, other: 2 }, "x")], [["a", "B"], ["own", "a", "B"], ["a", "B"]]);
@@ -315,7 +317,20 @@ const tests = {
     texts.edit({ start: 1, stop: 2, lines: ["B"] }, { next: 0, run: 0, one: 1, more: 1, other: 1, own: 2 });
     same([texts.tops, texts.lines], [[], ["a", "B", "more"]]);
     for (let n = 0; n < 1500; n += 1) texts.edit({ start: 0, stop: 0, lines: [`line ${n}`] }, { ...texts.has, many: n });
-    same([texts.steps.length, shared({ next: 0, run: 0, one: 1 }, "x"), texts.sharedWith({ lines: texts.lines, has: {} }).lines.length], [1000, undefined, 1503]);
+    same([texts.steps.length, shared({ next: 0, run: 0, one: 1 }, "x"), shared({}, ...texts.lines).length], [1000, undefined, 1503]);
+  },
+
+  "the text of some edits, of which no known text has these alone"() {
+    const texts = new Ancestry({ lines: ["a", "b", "c"], has: { run: 0 } }), wanted = (...authors) => Object.fromEntries([["run", 0], ...authors.map((author) => [author, 1])]);
+    const textOf = (...authors) => texts.textOf(wanted(...authors)).lines.join(" ");
+    texts.edit({ start: 0, stop: 1, lines: ["a1"] }, wanted("one"));
+    texts.edit({ start: 0, stop: 1, lines: ["a12"] }, wanted("one", "two"));
+    texts.edit({ start: 3, stop: 3, lines: ["three"] }, wanted("one", "two", "three"));
+    same([textOf(), textOf("two"), textOf("three"), textOf("one", "three"), textOf("two", "three")], ["a b c", "a2 b c", "a b c three", "a1 b c three", "a2 b c three"]);
+    texts.meet({ lines: ["a", "b4", "c"], has: wanted("four") }, []);
+    same([textOf("four", "one"), textOf("four", "two", "three"), textOf("four", "five")], ["a1 b4 c", "a2 b4 c three", "a b4 c"]);
+    texts.edit({ start: 2, stop: 3, lines: ["c56"] }, wanted("four", "five", "six"));
+    same([textOf("one", "four", "five", "six"), textOf("one", "five")], ["a1 b4 c56", "a1 b c"]);
   },
 
   "where lists differ"() {

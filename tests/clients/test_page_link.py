@@ -7,14 +7,14 @@ from concurrent.futures import ThreadPoolExecutor
 
 import page_in_node
 
-SCHEDULES, PARTS = (3000, 4) if os.environ.get("LONG_LOOPS") else (40, 2)
+# The first and the last seed of each part. In two of them windows have edits in common, and no text that has these alone.
+PARTS = [(1 + 750 * part, 750 + 750 * part) for part in range(4)] if os.environ.get("LONG_LOOPS") else [(1, 20), (21, 40), (287, 287), (307, 307)]
 
 
 class Scripts(page_in_node.PageScripts):
     def test_scripts(self) -> None:
-        def tried(part: int) -> None:
-            first, last = (part * SCHEDULES // PARTS + more for more in (1, SCHEDULES // PARTS))
-            self.assert_ok("page_link.mjs", 7, str(first), str(last))
+        def tried(part: tuple[int, int]) -> None:
+            self.assert_ok("page_link.mjs", 7, *map(str, part))
 
-        with ThreadPoolExecutor(PARTS) as pool:
-            list(pool.map(tried, range(PARTS)))
+        with ThreadPoolExecutor(len(PARTS)) as pool:
+            list(pool.map(tried, PARTS))

@@ -10,11 +10,12 @@ import { mergedLines } from "./merging.js";
  * @typedef {{ has: Edits, start: number, count: number, taken: string[] }} StepBack */
 
 const MOST_STEPS = 1000, MOST_TOPS = 4;
+const NONE = -1; // the count of an author without edits
 const MOST_CHARACTERS = 1 << 24; // of the lines of all steps together
 
 /** Whether a text has an edit of an author.
  * @type {(has: Edits, author: string, count: number) => boolean} */
-export const hasEdit = (has, author, count) => (has[author] ?? -1) >= count;
+export const hasEdit = (has, author, count) => (has[author] ?? NONE) >= count;
 
 /** Whether a text has all edits of another one.
  * @type {(has: Edits, part: Edits) => boolean} */
@@ -28,10 +29,22 @@ export function lackedBy(has, other) {
   return Object.fromEntries(Object.entries(has).filter(([author, count]) => !hasEdit(other, author, count)));
 }
 
-/** The edits of both.
+/** The edits of either.
  * @type {(one: Edits, other: Edits) => Edits} */
 export function joined(one, other) {
   return { ...one, ...lackedBy(other, one) };
+}
+
+/** The edits that two texts both have.
+ * @type {(one: Edits, other: Edits) => Edits} */
+export function common(one, other) {
+  return { ...within(one, other), ...within(other, one) };
+}
+
+/** The edits of a text by those authors of whom another one has them all.
+ * @type {(has: Edits, other: Edits) => Edits} */
+function within(has, other) {
+  return Object.fromEntries(Object.entries(has).filter(([author, count]) => hasEdit(other, author, count)));
 }
 
 export class Ancestry {
@@ -74,11 +87,15 @@ export class Ancestry {
     this.meet({ lines: this.lines, has: this.has }, [{ lines: replaced(this.lines, start, stop, lines), has }, ...this.tops]);
   }
 
-  /** The server has another text, which was made of `base` as the top texts were. What they become by it counts as older texts.
+  /** The server has another text, which was made of `base` as the top texts were, unless it is known what it has of each of them.
+   * What they become by it counts as older texts.
    * @type {(next: Version, base: string[]) => void} */
   rejoin(next, base) {
     const tops = [...this.tops, { lines: this.lines, has: this.has }].filter((top) => !hasAll(next.has, top.has));
-    this.meet(next, tops.map(({ lines, has }) => ({ lines: mergedLines(base, lines, next.lines), has: joined(has, next.has) })));
+    this.meet(next, tops.map(({ lines, has }) => {
+      const shared = this.textOf(common(has, next.has))?.lines ?? base;
+      return { lines: mergedLines(shared, lines, next.lines), has: joined(has, next.has) };
+    }));
   }
 
   /** The server has a text, and others have more than it.
@@ -89,13 +106,31 @@ export class Ancestry {
     this.tops = tops.slice(0, MOST_TOPS);
   }
 
-  /** The text with most edits of those whose edits are all in another text; else the latest that is equal to it, or null.
-   * @type {(other: Version) => Version | null} */
-  sharedWith(other) {
-    const all = [...this.steps.map((step) => step.has), this.has];
+  /** The text of the edits that a text `has` and another one has too; else the latest text that is equal to the other one, or null.
+   * @type {(other: Version, has: Edits) => Version | null} */
+  sharedWith(other, has) {
+    return this.textOf(common(has, other.has)) ?? this.equalTo(other.lines);
+  }
+
+  /** The text of these edits: the known text with most of them, in which those that it lacks are made one after another. It lacks
+   * some if the known texts do not say what they changed. Null if each known text has other edits. Texts from `end` on do not count.
+   * @type {(wanted: Edits, end?: number) => Version | null} */
+  textOf(wanted, end = this.steps.length + 1) {
+    const all = [...this.steps.map((step) => step.has), this.has].slice(0, end);
     let best = -1;
-    for (const [at, has] of all.entries()) if (hasAll(other.has, has) && (best < 0 || hasAll(has, all[best]))) best = at;
-    return best < 0 ? this.equalTo(other.lines) : this.versionAt(best);
+    for (const [at, has] of all.entries()) if (hasAll(wanted, has) && (best < 0 || hasAll(has, all[best]))) best = at;
+    if (best < 0) return null;
+    return all.reduce((text, has, at) => this.withEdits(text, lackedBy(within(has, wanted), text.has), at), this.versionAt(best));
+  }
+
+  /** A text with more edits, which a known text has: what this one changed by them is changed there too.
+   * @type {(text: Version, more: Edits, at: number) => Version} */
+  withEdits(text, more, at) {
+    if (!Object.keys(more).length) return text;
+    const { lines, has } = this.versionAt(at), rest = { ...has };
+    for (const author of Object.keys(more)) rest[author] = text.has[author] ?? NONE;
+    const base = this.textOf(rest, at);
+    return base && hasAll(base.has, rest) ? { lines: mergedLines(base.lines, lines, text.lines), has: joined(text.has, more) } : text;
   }
 
   /** The latest text that is equal to lines, or null.

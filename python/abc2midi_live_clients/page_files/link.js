@@ -200,7 +200,7 @@ export class Link {
   arrive(book) {
     const mine = this.text.lines, isSame = difference(book.lines, mine) === null, isOwn = this.isUnsaved && !isSame;
     const isFile = !book.unsaved && this.files.has(book.saved); // as it was when this window knew it
-    const shared = isOwn ? (this.ancestry?.sharedWith(book) ?? (isFile ? book : null)) : null;
+    const shared = isOwn ? (this.ancestry?.sharedWith(book, this.has) ?? (isFile ? book : null)) : null;
     const isTwice = shared !== null && this.text.rebase(shared.lines, book.lines);
     if (!shared) this.text.open(book.lines);
     if (shared) this.texts.rejoin(book, shared.lines);
@@ -336,23 +336,23 @@ export class Link {
   apply(change) {
     const { situation, texts } = this, { window, edit, has } = change, isSent = this.isSent(change);
     const next = { lines: replaced(texts.lines, edit.start, edit.stop, edit.lines), has: joined(texts.has, has) };
-    const isKnown = Object.entries(lackedBy(has, texts.has)).some(([author, number]) => hasEdit(this.has, author, number));
-    this.has = joined(this.has, has);
+    const isKnown = Object.entries(lackedBy(has, texts.has)).some(([author, number]) => hasEdit(this.has, author, number)), had = this.has;
+    this.has = joined(had, has);
     if (isSent && situation.name === "following") {
       situation.sent = null;
       return texts.edit(edit, next.has);
     }
     this.giveBack(situation);
-    if (isKnown || texts.tops.length) return this.rejoin(next);
+    if (isKnown || texts.tops.length) return this.rejoin(next, had);
     texts.edit(edit, next.has);
     if (this.text.others(edit.start, edit.stop, edit.lines, window === null ? change.writing : null)) this.twice();
   }
 
   /** The server's text got edits that this window's text has too, or lacks some that it had, as after a restart of the server. Both
-   * were made of a text that this window knows.
-   * @type {(next: import("./ancestry.js").Version) => void} */
-  rejoin(next) {
-    const { text, texts } = this, count = text.lines.length, base = (texts.sharedWith(next) ?? texts).lines;
+   * were made of a text that this window knows. `had` is what this window's text had before.
+   * @type {(next: import("./ancestry.js").Version, had: import("./ancestry.js").Edits) => void} */
+  rejoin(next, had) {
+    const { text, texts } = this, count = text.lines.length, base = (texts.sharedWith(next, had) ?? texts).lines;
     const isTwice = text.rebase(base, next.lines);
     texts.rejoin(next, base);
     text.edited(0, count, text.lines.length);
