@@ -8,6 +8,7 @@ import { run, same } from "./testing.mjs";
 
 const folder = process.argv[2];
 const { Ancestry } = await import(pathToFileURL(`${folder}/ancestry.js`));
+const { withMoves } = await import(pathToFileURL(`${folder}/moves.js`));
 const { hunksOf } = await import(pathToFileURL(`${folder}/hunks.js`));
 const { Drafts } = await import(pathToFileURL(`${folder}/drafts.js`));
 const { Files } = await import(pathToFileURL(`${folder}/files.js`));
@@ -306,18 +307,38 @@ const tests = {
     texts.edit({ start: 1, stop: 1, lines: ["b"] }, { run: 0, one: 1 });
     texts.edit({ start: 1, stop: 2, lines: ["B"] }, { run: 0, one: 1, other: 1 });
     const all = { run: 9, next: 9, one: 9, other: 9, own: 9, more: 9, many: 9999 };
-    const shared = (has, ...lines) => texts.sharedWith({ lines, has }, all)?.lines;
+    const sharedBy = (own, has, ...lines) => texts.sharedWith({ lines, has }, { lines, has: own })?.lines;
+    const shared = (has, ...lines) => sharedBy(all, has, ...lines);
     same([shared({ run: 0, one: 2 }, "x"), shared({ run: 0, one: 1, other: 4 }, "x"), shared({ run: 0, more: 1 }, "x")], [["a", "b"], ["a", "B"], ["a"]]);
-    same([texts.sharedWith({ lines: [], has: { run: 0, one: 1, other: 4 } }, { run: 0, one: 1 }).lines], [["a", "b"]]);
+    same([sharedBy({ run: 0, one: 1 }, { run: 0, one: 1, other: 4 }, "x"), sharedBy({ run: 0 }, all, "x")], [["a", "b"], ["a"]]);
     same([shared({ next: 0 }, "a", "b"), shared({ next: 0 }, "x"), shared({ next: 0, one: 2, other: 2 }, "x")], [["a", "b"], undefined, undefined]);
     texts.suppose({ start: 0, stop: 0, lines: ["own"] }, { run: 0, one: 1, other: 1, own: 1 });
     same([texts.lines, shared({ run: 0, one: 1, other: 1, own: 3 }, "x"), shared({ run: 0, one: 1, other: 2 }, "x")], [["a", "B"], ["own", "a", "B"], ["a", "B"]]);
-    texts.rejoin({ lines: ["a", "b", "more"], has: { next: 0, run: 0, one: 1, more: 1 } }, ["a", "b"]);
+    texts.rejoin({ lines: ["a", "b", "more"], has: { next: 0, run: 0, one: 1, more: 1 } }, { lines: ["a", "b"], has: { run: 0, one: 1 } });
     same(texts.tops.map(({ lines, has }) => [lines.join(" "), Object.keys(has).sort().join(" ")]), [["own a B more", "more next one other own run"], ["a B more", "more next one other run"]]);
     texts.edit({ start: 1, stop: 2, lines: ["B"] }, { next: 0, run: 0, one: 1, more: 1, other: 1, own: 2 });
     same([texts.tops, texts.lines], [[], ["a", "B", "more"]]);
     for (let n = 0; n < 1500; n += 1) texts.edit({ start: 0, stop: 0, lines: [`line ${n}`] }, { ...texts.has, many: n });
     same([texts.steps.length, shared({ next: 0, run: 0, one: 1 }, "x"), shared({}, ...texts.lines).length], [1000, undefined, 1503]);
+  },
+
+  "a text that was not made of what this window and the server have in common becomes no other one"() {
+    const texts = new Ancestry({ lines: ["a"], has: { run: 0 } });
+    texts.meet({ lines: ["a", "b"], has: { next: 0, one: 1 } }, []);
+    texts.rejoin({ lines: ["a", "c"], has: { last: 0, two: 1 } }, { lines: ["a", "b"], has: { other: 0 } });
+    same(texts.tops, []);
+    texts.rejoin({ lines: ["d"], has: { four: 1 } }, { lines: ["a"], has: {} });
+    same(texts.tops.map(({ lines, has }) => [lines, has]), [[["d", "c"], { last: 0, two: 1, four: 1 }]]);
+  },
+
+  "what two texts have at another place is there in the text of which they were made"() {
+    same(withMoves(["same", "ABCDEF12", "end"], ["same", "12x", "ABCDEF", "end"], ["same", "1y2", "ABCDEF", "end", "z"]), ["same", "12ABCDEF", "end"]);
+    same(withMoves(["a12", "b"], ["2a1", "b"], ["2xa1", "b"]), ["2a1", "b"]);
+    for (const [base, own, other] of [[["ab"], ["ba"], ["ab"]], [["abc"], ["bca"], ["cab"]], [["a1"], ["1a"], ["a"]], [[], ["a"], ["a"]], [["a"], [""], [""]]]) {
+      same(withMoves(base, own, other), base);
+    }
+    const long = "x".repeat(100_000);
+    same(withMoves(["a", long], [long, "a"], [long, "a"])[0], "a");
   },
 
   "the text of some edits, of which no known text has these alone"() {

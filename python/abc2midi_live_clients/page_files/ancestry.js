@@ -2,6 +2,7 @@
 
 import { difference, replaced } from "./lines.js";
 import { mergedLines } from "./merging.js";
+import { withMoves } from "./moves.js";
 
 /** Which edits a text has in it: by author, how many. An author is a window, or a run of the server for what came from disk.
  * @typedef {Record<string, number>} Edits
@@ -87,14 +88,14 @@ export class Ancestry {
     this.meet({ lines: this.lines, has: this.has }, [{ lines: replaced(this.lines, start, stop, lines), has }, ...this.tops]);
   }
 
-  /** The server has another text, which was made of `base` as the top texts were, unless it is known what it has of each of them.
-   * What they become by it counts as older texts.
-   * @type {(next: Version, base: string[]) => void} */
+  /** The server has another text, which was made of `base` as this window's text was. What the texts become by it of which it is
+   * known what they have in common with it counts as older texts.
+   * @type {(next: Version, base: Version) => void} */
   rejoin(next, base) {
     const tops = [...this.tops, { lines: this.lines, has: this.has }].filter((top) => !hasAll(next.has, top.has));
-    this.meet(next, tops.map(({ lines, has }) => {
-      const shared = this.textOf(common(has, next.has))?.lines ?? base;
-      return { lines: mergedLines(shared, lines, next.lines), has: joined(has, next.has) };
+    this.meet(next, tops.flatMap((top) => {
+      const shared = this.sharedWith(next, top) ?? (hasAll(top.has, base.has) ? base : null);
+      return shared ? [{ lines: mergedLines(shared.lines, top.lines, next.lines), has: joined(top.has, next.has) }] : [];
     }));
   }
 
@@ -106,10 +107,12 @@ export class Ancestry {
     this.tops = tops.slice(0, MOST_TOPS);
   }
 
-  /** The text of the edits that a text `has` and another one has too; else the latest text that is equal to the other one, or null.
-   * @type {(other: Version, has: Edits) => Version | null} */
-  sharedWith(other, has) {
-    return this.textOf(common(has, other.has)) ?? this.equalTo(other.lines);
+  /** The text of the edits that this window's text and another one both have, in their order; else the latest text that is equal to
+   * the other one, or null.
+   * @type {(other: Version, own: Version) => Version | null} */
+  sharedWith(other, own) {
+    const text = this.textOf(common(own.has, other.has));
+    return text ? { lines: withMoves(text.lines, own.lines, other.lines), has: text.has } : this.equalTo(other.lines);
   }
 
   /** The text of these edits: the known text with most of them, in which those that it lacks are made one after another. It lacks

@@ -200,10 +200,10 @@ export class Link {
   arrive(book) {
     const mine = this.text.lines, isSame = difference(book.lines, mine) === null, isOwn = this.isUnsaved && !isSame;
     const isFile = !book.unsaved && this.files.has(book.saved); // as it was when this window knew it
-    const shared = isOwn ? (this.ancestry?.sharedWith(book, this.has) ?? (isFile ? book : null)) : null;
+    const shared = isOwn ? (this.ancestry?.sharedWith(book, { lines: mine, has: this.has }) ?? (isFile ? { lines: book.lines, has: {} } : null)) : null;
     const isTwice = shared !== null && this.text.rebase(shared.lines, book.lines);
     if (!shared) this.text.open(book.lines);
-    if (shared) this.texts.rejoin(book, shared.lines);
+    if (shared) this.texts.rejoin(book, shared);
     else if (isSame && this.ancestry) this.texts.meet(book, [{ lines: mine, has: joined(this.has, book.has) }]);
     else this.begin(book);
     this.has = joined(this.has, book.has);
@@ -352,8 +352,8 @@ export class Link {
    * were made of a text that this window knows. `had` is what this window's text had before.
    * @type {(next: import("./ancestry.js").Version, had: import("./ancestry.js").Edits) => void} */
   rejoin(next, had) {
-    const { text, texts } = this, count = text.lines.length, base = (texts.sharedWith(next, had) ?? texts).lines;
-    const isTwice = text.rebase(base, next.lines);
+    const { text, texts } = this, count = text.lines.length, base = texts.sharedWith(next, { lines: text.lines, has: had }) ?? texts;
+    const isTwice = text.rebase(base.lines, next.lines);
     texts.rejoin(next, base);
     text.edited(0, count, text.lines.length);
     if (isTwice) this.twice();
