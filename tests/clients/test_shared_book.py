@@ -1,18 +1,31 @@
-"""The page's book, called without its server."""
+"""The page's book, called without its server.
 
+LONG_LOOPS=1 in the environment tries four hundred timed saves."""
+
+import os
+import random
+import time
 from collections.abc import Callable
+from concurrent.futures import ThreadPoolExecutor
+from functools import partial
 from typing import Any
 from unittest import mock
 
 import trial
 from abc2midi_live import OutOfMemory, TokenKind
-from abc2midi_live_clients import shared_book, views
+from abc2midi_live_clients import saving, shared_book, views
 from abc2midi_live_clients.rows import Json
 from abc2midi_live_clients.saving import digest, save_book
 from abc2midi_live_clients.shared_book import SharedBook
 
+SAVES = 400 if os.environ.get("LONG_LOOPS") else 60
+SLOWEST = 0.008  # seconds that a call of the disk takes
+SPREAD = 0.03  # seconds after the begin of a save in which keys, another program and a look at the file come
 
-class Saves(trial.Folder):
+
+class OneWindow(trial.Folder):
+    """A book, and a window that has its present version."""
+
     def setUp(self) -> None:
         super().setUp()
         self.path = self.folder / "book.abc"
@@ -28,6 +41,8 @@ class Saves(trial.Folder):
         """Replaces the first line."""
         return self.ask(self.book.edit, start=0, stop=1, lines=[line])
 
+
+class Saves(OneWindow):
     def test_a_save_during_an_edit(self) -> None:
         """It counts after the edit too, so the file is not taken for another program's."""
         self.edit("X:2")
@@ -104,6 +119,97 @@ class Saves(trial.Folder):
 
 
 NOTE, REST, BAR, FREE = TokenKind.NOTE.value, TokenKind.REST.value, TokenKind.BAR_LINE.value, TokenKind.FREE_TEXT.value
+
+
+class TimedSaves(OneWindow):
+    """Saves while keys are typed, another program replaces the file, and the disk is slow."""
+
+    def setUp(self) -> None:
+        super().setUp()
+        self.chance = random.Random(trial.seed)
+        self.had = {self.book.data()}  # the texts of the book
+        self.slow(os, "fsync")
+        self.slow(saving, "read_book")
+        self.slow(saving, "exchange")
+        publish = self.book.publish
+
+        def note(*words: Any) -> list[Json]:
+            changes = publish(*words)
+            self.had.add(self.book.data())
+            return changes
+
+        self.replace(self.book, "publish", note)
+
+    def replace(self, place: Any, name: str, call: Callable[..., Any]) -> None:
+        patch = mock.patch.object(place, name, call)
+        patch.start()
+        self.addCleanup(patch.stop)
+
+    def slow(self, place: Any, name: str) -> None:
+        """Has a call take a while before and after it acts."""
+        call = getattr(place, name)
+
+        def late(*words: Any) -> Any:
+            self.pause(SLOWEST / 2)
+            found = call(*words)
+            self.pause(SLOWEST / 2)
+            return found
+
+        self.replace(place, name, late)
+
+    def pause(self, longest: float) -> None:
+        time.sleep(self.chance.random() * longest)
+
+    def insist(self, call: Callable[[Json], Json], **more: Any) -> bool:
+        """Asks again while the window lacks changes. Whether the answer is not that another program changed the book."""
+        for _ in range(100):
+            try:
+                self.ask(call, **more)
+                return True
+            except shared_book.Refused as refused:
+                if "changes" not in refused.answer:
+                    return False
+        raise AssertionError("the window never has all changes")
+
+    def other_program(self, data: bytes) -> None:
+        """Replaces the file."""
+        new = self.folder / "new"
+        new.write_bytes(data)
+        new.replace(self.path)
+
+    def later(self, act: Callable[[], Any]) -> None:
+        self.pause(SPREAD)
+        act()
+
+    def test_saves_while_others_act(self) -> None:
+        """The file has a text of the book or of the other program, whose text is never lost unread. 'unsaved' is right."""
+        for number in range(SAVES):
+            other = b"X:1\nK:C\n%% %d\n" % number if self.chance.random() < 0.5 else b""
+            self.insist(self.book.edit, start=0, stop=1, lines=[f"X:{number}"])
+            acts: list[Callable[[], Any]] = [self.book.look, partial(self.insist, self.book.edit, start=1, stop=2, lines=[f"K:C % {number}"])]
+            acts += [partial(self.other_program, other)] if other else []
+            with ThreadPoolExecutor(len(acts)) as pool:
+                done = [pool.submit(self.later, act) for act in acts]
+                is_saved = self.insist(self.book.save)
+            for one in done:
+                one.result()
+            self.check(other, is_saved)
+
+    def check(self, other: bytes, is_saved: bool) -> None:
+        """After a save, beside which another program wrote a text, or nothing."""
+        content = self.path.read_bytes()
+        self.assertTrue(content == other or content in self.had and (not other or other in self.had), (content, other))
+        self.assertTrue(is_saved or other != b"")
+        for _ in range(3):
+            self.book.look()
+        state = self.book.now()
+        self.assertEqual((state["disk"], state["unsaved"]), (digest(content), content != self.book.data()))
+        if state["disk"] != state["saved"]:
+            self.assertEqual(content, other)
+            self.assertFalse(self.insist(self.book.save))
+            self.assertEqual(self.path.read_bytes(), other)
+            self.assertTrue(self.insist(self.book.save, over=state["disk"]))
+            self.assertEqual(self.path.read_bytes(), self.book.data())
 
 
 class Views(trial.Folder):
