@@ -25,6 +25,7 @@ const view = document.getElementById("score").getBoundingClientRect();
 const first = (line) => [...document.querySelectorAll(".score-place")].find(({ note }) => note.line === line)?.getBoundingClientRect();
 return [first(5), first(6)].every((note) => note && view.top <= note.top && note.bottom <= view.bottom);
 """
+FRAMES = "const done = arguments[0]; requestAnimationFrame(() => requestAnimationFrame(() => setTimeout(done)))"  # waits till two are shown
 MARK = """
 const mark = document.querySelector("mark"), { left, right, top, bottom } = mark.getBoundingClientRect();
 return document.elementsFromPoint((left + right) / 2, (top + bottom) / 2).includes(mark);
@@ -73,6 +74,14 @@ class Narrow(test_page_in_browser.Browser):
         self.press("B")
         self.wait(lambda: " of " in self.text("found"))
         self.assertTrue(self.run_script(ONE_ROW))
+
+    def test_other_sizes_while_voices_are_shown(self) -> None:
+        """What follows a size changes no size too late for the browser: that is an error, 'ResizeObserver loop'."""
+        self.driver.find_element("id", "practise").click()
+        for wide, high in [(1280, 900), (820, 1180), (390, 844), (390, 500), (1280, 500), (600, 1400)] * 3:
+            self.size(wide, high)
+            self.driver.execute_async_script(FRAMES)
+        self.assertEqual(self.run_script("return window.wrong"), [])
 
     def test_while_practising(self) -> None:
         self.driver.find_element("id", "practise").click()
