@@ -121,6 +121,18 @@ class Search(test_page_in_browser.Browser):
         self.press("a!")
         self.found("1 of 1")
 
+    def test_a_regular_expression_after_a_restart(self) -> None:
+        """The server has another token since then."""
+        self.put("X:1\nK:C\nCDEF\n")
+        self.kill()
+        self.start(str(self.path), port=str(self.port))
+        self.wait_for_lines("X:1", "K:C", "CDEF", "")
+        self.type("f", CONTROL)
+        self.click("regular")
+        self.find("[DE]")
+        self.wait(lambda: self.text("found") in ("1 of 2", "The search cannot begin: the server is away."))
+        self.assertEqual(self.text("found"), "1 of 2")
+
     def test_marks(self) -> None:
         """The matches of the lines that are seen are marked at their places, and follow what is typed."""
         self.edit(0, 1, "X:1", "K:C", "C D C", *300 * ["% C"])
