@@ -396,8 +396,17 @@ const tests = {
     drafts.keep(["three"]);
     drafts.forget();
     same(keys.map((key) => JSON.parse(localStorage[key]).text), ["one", "two"]);
-    same([drafts.left(["x"], new Set()), next.left(["one"], new Set()).text], [null, "two"]);
-    same([Object.keys(localStorage), next.left(["x"], new Set(keys))], [[keys[1]], null]);
+    const state = { run: "1", unsaved: true };
+    same([drafts.left(["x"], new Set(), state), next.left(["one"], new Set(), state).text], [null, "two"]);
+    same([Object.keys(localStorage), next.left(["x"], new Set(keys), state)], [[keys[1]], null]);
+    drafts.forget(keys[1]);
+  },
+
+  "text that the present run of the server had is not asked about"() {
+    const closed = new Drafts("book", "closed"), next = new Drafts("book", "next"), none = new Set();
+    closed.keep(["one"], "1");
+    const left = (run, unsaved) => next.left(["one more"], none, { run, unsaved })?.text;
+    same([left("1", true), left("2", true), left("2", false), left("1", false), left("2", true)], [undefined, "one", "one", undefined, undefined]);
   },
 
   "lines of others before and after one's own"() {

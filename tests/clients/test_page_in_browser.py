@@ -578,6 +578,23 @@ class Losing(Browser):
         self.answer("Take it")
         self.settled("X:1\nK:C\nC")
 
+    def test_text_of_a_window_that_was_closed(self) -> None:
+        """The server had it, so nothing is asked when the page is loaded again."""
+        self.type("X:1\nK:C\nC")
+        self.settled("X:1\nK:C\nC")
+        first = self.driver.current_window_handle
+        self.driver.switch_to.new_window("window")
+        self.load()
+        self.shows("X:1\nK:C\nC")
+        self.driver.close()
+        self.driver.switch_to.window(first)
+        self.wait(lambda: "nC" in self.stored())
+        self.type("DE")
+        self.settled("X:1\nK:C\nCDE")
+        self.load()
+        self.shows("X:1\nK:C\nCDE")
+        self.assertEqual(self.question(), [])
+
     def test_the_book_on_disk_was_changed(self) -> None:
         """What another program writes is shown, and can be undone; if text is unsaved the page asks which one to take."""
         self.type("X:1\nK:C\nC")

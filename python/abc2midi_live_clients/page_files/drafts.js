@@ -1,6 +1,7 @@
 // Text that the server may not have, in the browser's store, by the book and the window.
 
-/** @typedef {{ key: string, when: number, text: string }} Draft */
+/** `run` is that of the server which has the text, "" if none may have it.
+ * @typedef {{ key: string, when: number, text: string, run: string }} Draft */
 
 export class Drafts {
   /** @param {string} book
@@ -11,11 +12,11 @@ export class Drafts {
     this.doubts = 0;
   }
 
-  /** Stores the text of this window; whether there was room for it.
-   * @type {(lines: string[], key?: string) => boolean} */
-  keep(lines, key = this.key) {
+  /** Stores the text of this window, with the run of the server that has it; whether there was room for it.
+   * @type {(lines: string[], run?: string, key?: string) => boolean} */
+  keep(lines, run = "", key = this.key) {
     try {
-      localStorage.setItem(key, JSON.stringify({ when: Date.now(), text: lines.join("\n") }));
+      localStorage.setItem(key, JSON.stringify({ when: Date.now(), text: lines.join("\n"), run }));
       return true;
     } catch {
       return false;
@@ -28,7 +29,7 @@ export class Drafts {
   putAside(lines) {
     this.doubts += 1;
     const key = `${this.key} ${this.doubts}`;
-    return this.keep(lines, key) ? key : null;
+    return this.keep(lines, "", key) ? key : null;
   }
 
   forget(key = this.key) {
@@ -39,18 +40,19 @@ export class Drafts {
     }
   }
 
-  /** What other windows left, or this one before it was loaded anew: the newest that is not this text.
-   * @type {(lines: string[], passed: Set<string>) => Draft | null} */
-  left(lines, passed) {
+  /** What other windows left, or this one before it was loaded anew: the newest that is not this text, and that the present run of
+   * the server has not had.
+   * @type {(lines: string[], passed: Set<string>, state: { run: string, unsaved: boolean }) => Draft | null} */
+  left(lines, passed, { run, unsaved }) {
     const text = lines.join("\n");
     /** @type {Draft | null} */
     let newest = null;
     try {
       for (const key of Object.keys(localStorage)) {
         if (!key.startsWith(this.prefix) || key.startsWith(this.key) || passed.has(key)) continue;
-        const draft = { key, ...JSON.parse(localStorage.getItem(key) ?? "null") };
-        if (draft.text === text) this.forget(key);
-        else if (!newest || draft.when > newest.when) newest = draft;
+        const draft = { key, ...JSON.parse(localStorage.getItem(key) ?? "null") }, isKnown = draft.run === run;
+        if (draft.text === text || (isKnown && !unsaved)) this.forget(key);
+        else if (!isKnown && (!newest || draft.when > newest.when)) newest = draft;
       }
     } catch {
       return newest;

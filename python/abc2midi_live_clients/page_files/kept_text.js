@@ -40,7 +40,8 @@ export class KeptText {
   /** Keeps the text if the server may not have it, or has not saved it: whether there was room.
    * @type {() => boolean} */
   keep() {
-    return !this.drafts || !this.link.isUnsaved || this.drafts.keep(this.text.lines);
+    const { link } = this, run = link.isSettled && !link.away ? link.state?.run : "";
+    return !this.drafts || !link.isUnsaved || this.drafts.keep(this.text.lines, run);
   }
 
   /** Something was typed: it is kept soon if the server is away. */
@@ -67,7 +68,7 @@ export class KeptText {
 
   /** Offers text that an earlier window left, and then the next one. */
   offer() {
-    const draft = this.drafts?.left(this.text.lines, this.passed);
+    const draft = this.drafts?.left(this.text.lines, this.passed, this.link.known);
     if (!draft) return;
     const done = () => {
       this.drafts?.forget(draft.key);
