@@ -57,6 +57,10 @@ const rows = [...document.querySelectorAll(".colours div")].map((one) => one.get
 return rows[0].top <= view.top + 8 && rows.at(-1).bottom >= view.bottom;
 """
 FADES = "return getComputedStyle(document.querySelector('.view'), '::after').backgroundImage.startsWith('linear-gradient')"
+BELOW = """
+const mark = document.querySelector("mark"), { left, width } = mark.getBoundingClientRect();
+return { left, width, bottom: mark.parentNode.getBoundingClientRect().bottom };
+"""
 
 
 class Colours(test_page_in_browser.Browser):
@@ -168,6 +172,17 @@ class Colours(test_page_in_browser.Browser):
         return here.top >= view.getBoundingClientRect().top && here.bottom <= view.getBoundingClientRect().top + view.clientHeight - cover + 0.5;
         """
         self.wait(lambda: self.run_script(seen))
+
+    def test_a_fault_in_the_last_line_is_underlined(self) -> None:
+        """Below the line, where other lines have their underline too."""
+        self.edit(0, 1, "X:1", "K:C", "C!")
+        self.load()
+        self.wait(lambda: self.run_script("return document.querySelector('mark') !== null"))
+        found = self.run_script(BELOW)
+        clip = {"x": found["left"], "y": found["bottom"], "width": found["width"], "height": 3, "scale": 1}
+        before = self.driver.execute_cdp_cmd("Page.captureScreenshot", {"clip": clip})["data"]
+        self.run_script("document.querySelector('mark').style.textDecoration = 'none'")
+        self.assertNotEqual(self.driver.execute_cdp_cmd("Page.captureScreenshot", {"clip": clip})["data"], before)
 
     def test_room_above_the_first_line(self) -> None:
         self.edit(0, 1, *TEXT)
