@@ -174,15 +174,17 @@ class Colours(test_page_in_browser.Browser):
         self.wait(lambda: self.run_script(seen))
 
     def test_a_fault_in_the_last_line_is_underlined(self) -> None:
-        """Below the line, where other lines have their underline too."""
-        self.edit(0, 1, "X:1", "K:C", "C!")
-        self.load()
-        self.wait(lambda: self.run_script("return document.querySelector('mark') !== null"))
-        found = self.run_script(BELOW)
-        clip = {"x": found["left"], "y": found["bottom"], "width": found["width"], "height": 3, "scale": 1}
-        before = self.driver.execute_cdp_cmd("Page.captureScreenshot", {"clip": clip})["data"]
-        self.run_script("document.querySelector('mark').style.textDecoration = 'none'")
-        self.assertNotEqual(self.driver.execute_cdp_cmd("Page.captureScreenshot", {"clip": clip})["data"], before)
+        """Below the line, where other lines have their underline too, also if the text is longer than its view."""
+        for count in (1, 60):
+            self.edit(0, len(self.book()["lines"]), "X:1", "K:C", *["C|"] * count, "C!")
+            self.load()
+            self.type(END, CONTROL)
+            self.wait(lambda: self.run_script("return document.querySelector('mark') !== null"))
+            found = self.run_script(BELOW)
+            clip = {"x": found["left"], "y": found["bottom"], "width": found["width"], "height": 3, "scale": 1}
+            before = self.driver.execute_cdp_cmd("Page.captureScreenshot", {"clip": clip})["data"]
+            self.run_script("document.querySelector('mark').style.textDecoration = 'none'")
+            self.assertNotEqual(self.driver.execute_cdp_cmd("Page.captureScreenshot", {"clip": clip})["data"], before, count)
 
     def test_room_above_the_first_line(self) -> None:
         self.edit(0, 1, *TEXT)

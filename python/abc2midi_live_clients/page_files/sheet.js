@@ -158,11 +158,11 @@ export class Sheet {
     this.look();
   }
 
-  /** Covers a line of which the bottom has no room, and lets the ends of long lines fade. */
+  /** Covers a line of which the bottom has no room, and lets the ends of long lines fade. Nothing after the last line is covered. */
   cover() {
     const { scrollTop, scrollLeft, clientWidth, clientHeight, offsetWidth, offsetHeight, scrollWidth } = this.scroller;
-    const style = this.view.style, rest = (scrollTop + clientHeight - ROOM) % this.height;
-    style.setProperty("--rest", `${Math.max(0, rest)}px`);
+    const style = this.view.style, seen = scrollTop + clientHeight - ROOM;
+    style.setProperty("--rest", seen < this.text.lines.length * this.height ? `${Math.max(0, seen % this.height)}px` : "0px");
     style.setProperty("--below", `${offsetHeight - clientHeight}px`);
     style.setProperty("--beside", `${offsetWidth - clientWidth}px`);
     this.view.classList.toggle("wide", scrollWidth - clientWidth - scrollLeft > 4);
