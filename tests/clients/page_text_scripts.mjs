@@ -22,7 +22,7 @@ const { changed, placeOf, without } = await from("rows");
 const { replacedWords } = await from("search");
 const { bothChanged, changedOnDisk, firstDifference, goneFromDisk, keptByBrowser } = await from("situations");
 const { Text } = await from("text");
-const { UndoStore, printOf } = await from("undo_store");
+const { Prints, UndoStore } = await from("undo_store");
 
 const again = readFileSync(`${folder}/again.js`, "utf8");
 const PLACE = { start: { line: 0, column: 0 }, end: { line: 0, column: 0 }, direction: "forward" };
@@ -275,8 +275,29 @@ const tests = {
   },
 
   "texts that differ have other names"() {
-    const names = [["a", "b"], ["ab"], ["b", "a"], ["a", "b", ""], ["a", "c"]].map(printOf);
-    same([new Set(names).size, printOf(["a", "b"])], [5, names[0]]);
+    const texts = [["a", "b"], ["ab"], ["b", "a"], ["a", "b", ""], ["a", "c"]], one = new Prints();
+    const names = texts.map((lines) => new Prints().of(lines));
+    same([new Set(names).size, new Prints().of(["a", "b"])], [5, names[0]]);
+    same(texts.map((lines) => one.of(lines)), names);
+  },
+
+  async "of a text that is kept again only the lines are read that became others"() {
+    const text = opened(...Array.from({ length: 5000 }, (_, n) => `line ${n}`)), { charCodeAt } = String.prototype;
+    const kept = undoStoreOf(text, storeOf());
+    await kept.open("book");
+    kept.keep();
+    typed(text, 2500, 2501, "CDE", "FGA");
+    let count = 0;
+    String.prototype.charCodeAt = function (at) {
+      count += 1;
+      return charCodeAt.call(this, at);
+    };
+    try {
+      kept.keep();
+    } finally {
+      String.prototype.charCodeAt = charCodeAt;
+    }
+    same([count > 0, count <= 12], [true, true]);
   },
 
   "matches by case, by whole words, and by expressions"() {

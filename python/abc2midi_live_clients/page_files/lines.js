@@ -22,8 +22,12 @@ export function difference(old, now) {
   return edit.start === edit.stop && !edit.put.length ? null : edit;
 }
 
-/** Lines that replace others.
- * @type {(lines: string[], start: number, stop: number, put: string[]) => string[]} */
+/** Lines, or what belongs to each line, after some became others.
+ * @template T
+ * @param {T[]} lines
+ * @param {number} start
+ * @param {number} stop
+ * @param {T[]} put */
 export function replaced(lines, start, stop, put) {
   return lines.slice(0, start).concat(put, lines.slice(stop));
 }

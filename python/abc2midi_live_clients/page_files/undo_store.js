@@ -1,5 +1,7 @@
 // Keeps what can be undone while the page is loaded anew: in the browser's store of this tab, by the book.
 
+import { difference, replaced } from "./lines.js";
+
 const MOST = 1_000_000; // characters
 const REST = 400; // milliseconds without an edit, after which it is kept
 
@@ -16,6 +18,7 @@ export class UndoStore {
     this.link = link;
     this.ask = ask;
     this.store = store;
+    this.prints = new Prints();
     this.key = "";
     /** @type {ReturnType<typeof setTimeout> | undefined} */
     this.timer = undefined;
@@ -28,7 +31,7 @@ export class UndoStore {
     const kept = this.read();
     if (!kept) return;
     const { run, version, print, steps } = kept;
-    const changes = print === printOf(this.text.lines) ? [] : await this.changes(run, version);
+    const changes = print === this.prints.of(this.text.lines) ? [] : await this.changes(run, version);
     const { past, future } = this.text.history;
     if (!changes || past.length || future.length || !this.link.isSettled) return;
     this.text.history.restore(steps);
@@ -66,25 +69,46 @@ export class UndoStore {
     const { run, version } = this.link.state;
     const { lines, history } = this.text;
     try {
-      (this.store ?? sessionStorage).setItem(this.key, JSON.stringify({ run, version, print: printOf(lines), steps: history.stored(MOST) }));
+      (this.store ?? sessionStorage).setItem(this.key, JSON.stringify({ run, version, print: this.prints.of(lines), steps: history.stored(MOST) }));
     } catch {
       // a browser that stores nothing, or has no room: what was kept before is for an older text, and its version says so
     }
   }
 }
 
-/** A short name of a text, so that one text is known from another.
- * @type {(lines: string[]) => string} */
-export function printOf(lines) {
-  let one = 0xdeadbeef, other = 0x41c6ce57;
-  for (const line of lines) {
-    for (let n = 0; n <= line.length; n += 1) {
-      const code = n < line.length ? line.charCodeAt(n) : 10;
-      one = Math.imul(one ^ code, 2654435761);
-      other = Math.imul(other ^ code, 1597334677);
+/** Short names of texts, so that one text is known from another. Of a text only those lines are read that the text before it did not
+ * have at their places. */
+export class Prints {
+  constructor() {
+    /** @type {string[]} */
+    this.lines = []; // of the text before
+    /** @type {number[]} */
+    this.prints = []; // of its lines
+  }
+
+  /** @type {(lines: string[]) => string} */
+  of(lines) {
+    const edit = difference(this.lines, lines);
+    if (edit) this.prints = replaced(this.prints, edit.start, edit.stop, edit.put.map(printOf));
+    this.lines = lines;
+    let one = 0xdeadbeef, other = 0x41c6ce57;
+    for (const print of this.prints) {
+      one = Math.imul(one ^ print, 2654435761);
+      other = Math.imul(other ^ print, 1597334677);
       one ^= one >>> 15;
       other ^= other >>> 13;
     }
+    return `${lines.length} ${one >>> 0} ${other >>> 0}`;
   }
-  return `${lines.length} ${one >>> 0} ${other >>> 0}`;
+}
+
+/** A number for a line.
+ * @type {(line: string) => number} */
+function printOf(line) {
+  let print = 0x811c9dc5;
+  for (let n = 0; n < line.length; n += 1) {
+    print = Math.imul(print ^ line.charCodeAt(n), 2654435761);
+    print ^= print >>> 15;
+  }
+  return print;
 }
