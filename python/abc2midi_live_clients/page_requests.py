@@ -38,6 +38,7 @@ class Request(BaseHTTPRequestHandler):
     server_version, sys_version = "abc2midi_live", ""
     timeout = 60
     disable_nagle_algorithm = True  # an answer follows its headers at once
+    is_last = True  # of its connection, if the sender has its way
 
     def do_GET(self) -> None:
         self.answer_if_permitted(self.get)
@@ -46,8 +47,9 @@ class Request(BaseHTTPRequestHandler):
         self.answer_if_permitted(self.post)
 
     def answer_if_permitted(self, answer: Callable[[Optional[str]], None]) -> None:
-        """Answers a request that may be made, and refuses any other. The body of a `GET` is not read, so the connection ends."""
+        """Answers a request that may be made, and refuses any other. A connection ends after a body that is not read, as that of a `GET`."""
         try:
+            self.is_last = self.close_connection
             has_body = "Content-Length" in self.headers or "Transfer-Encoding" in self.headers
             self.close_connection = self.close_connection or has_body or self.command != "GET"
             self.check_sender()
@@ -175,6 +177,7 @@ class Request(BaseHTTPRequestHandler):
         if int(length) > MOST_BYTES:
             raise Refused(413, f"an edit has at most {MOST_BYTES} bytes")
         data = self.rfile.read(int(length))
+        self.close_connection = self.is_last or len(data) < int(length)
         try:
             asked = json.loads(data) if len(data) == int(length) else None
         except (ValueError, RecursionError):

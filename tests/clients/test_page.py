@@ -729,6 +729,22 @@ class Strangers(Page):
             self.assertEqual((answer.count(b"HTTP/1.1 "), answer.count(b"Connection: close")), (1, 1))
         self.finish()
 
+    def test_edits_of_one_connection(self) -> None:
+        """It stays open after an edit, for the next one, unless the sender ends it or the edit is refused."""
+        run = self.ask("state")["run"]
+
+        def request(version: int, *headers: str) -> bytes:
+            body = json.dumps({"run": run, "version": version, "start": 0, "stop": 1, "lines": [f"X:{version + 1}"]})
+            lines = (f"POST /{self.token}/edit HTTP/1.1", f"Host: 127.0.0.1:{self.port}", f"Content-Length: {len(body)}", *headers, "", body)
+            return "\r\n".join(lines).encode()
+
+        answers = self.raw(request(0) + request(1) + request(2, "Connection: close") + request(3))
+        self.assertEqual((answers.count(b"HTTP/1.1 200 "), answers.count(b"Connection: close")), (3, 1))
+        answers = self.raw(request(0) + request(3))
+        self.assertEqual((answers.count(b"HTTP/1.1 "), answers.count(b"HTTP/1.1 409 ")), (1, 1))
+        self.assertEqual(self.book()["lines"][0], "X:3")
+        self.finish()
+
     def test_a_name_with_controls(self) -> None:
         self.finish()
         self.start(str(self.folder / "a\x1b[31m\nb\u202e.abc"))
