@@ -20,6 +20,9 @@ if (answer) {
   process.exit(0);
 }
 
+/** The pair at a column of a line, by tokens as [kind, from, to, depth]. */
+const pairIn = (line, rows, column) => pairAt(line, rows.map(([kind, start, to, depth = 0]) => ({ kind, from: start, to, depth })), column);
+
 const tests = {
   "the first letter of a line is that of a field, and notes are none"() {
     same(texts("K"), ["K:"]);
@@ -49,12 +52,15 @@ const tests = {
   },
 
   "brackets beside the caret, and their others"() {
-    const line = '"Am"[CE]2 {g}A (AB) [1 (3abc !f! [K:D] c]';
-    const pairs = (column) => pairAt(line, column);
+    const tokens = [["Quoted", 0, 4], ["Chord", 4, 9], ["Note", 5, 6, 1], ["Grace", 10, 13], ["NoEffect", 15, 16], ["Note", 16, 17], ["NoEffect", 18, 19],
+      ["Ending", 20, 22], ["Tuplet", 23, 25], ["Dynamic", 29, 32], ["InlineField", 33, 38], ["BadByte", 40, 41]];
+    const pairs = (column) => pairIn('"Am"[CE]2 {g}A (AB) [1 (3abc !f! [K:D] c]', tokens, column);
     same([pairs(0), pairs(4), pairs(5), pairs(8)], [[0, 3], [4, 7], [4, 7], [4, 7]]);
     same([pairs(11), pairs(15), pairs(19), pairs(20), pairs(23)], [[10, 12], [15, 18], [15, 18], null, null]);
     same([pairs(29), pairs(33), pairs(38), pairs(41)], [[29, 31], [33, 37], [33, 37], null]);
-    same([pairAt("[|: AB :|] % (x)", 0), pairAt("A % (x)", 4), pairAt("([CE] (a) b)", 0), pairAt('"unclosed', 0)], [null, null, [0, 11], null]);
+    same([pairIn("[|: AB :|] % (x)", [["BarLine", 0, 3], ["BarLine", 7, 10], ["Comment", 11, 16]], 0), pairIn('"unclosed', [["Unclosed", 0, 1]], 0)], [null, null]);
+    const slurs = [["NoEffect", 0, 1], ["Chord", 1, 5], ["NoEffect", 6, 7], ["NoEffect", 8, 9], ["NoEffect", 11, 12], ["NoEffect", 12, 13]];
+    same([0, 6, 12, 13].map((column) => pairIn("([CE] (a) b))", slurs, column)), [[0, 11], [6, 8], [0, 11], null]);
   },
 };
 

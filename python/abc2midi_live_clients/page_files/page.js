@@ -81,7 +81,7 @@ export class Application {
     this.saveAs.opened = () => this.scorePdf.show();
     new Colours(sheet, seen);
     new Signs(sheet, /** @type {HTMLDialogElement} */ (find("signs")));
-    this.brackets = new Brackets(sheet);
+    this.brackets = new Brackets(sheet, seen);
     this.completing = new Completing(sheet, find("completion"), () => findings.tunes);
   }
 
