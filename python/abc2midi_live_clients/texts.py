@@ -91,7 +91,8 @@ class Text(NamedTuple):
         """The text after an edit."""
         gone, come = Letters.of(self.lines[edit.start : edit.stop]), Letters.of(edit.lines)
         letters = Letters(self.letters.latin1 - gone.latin1 + come.latin1, self.letters.utf8 - gone.utf8 + come.utf8)
-        lines = self.lines[: edit.start] + edit.lines + self.lines[edit.stop :]
+        lines = self.lines.copy()
+        lines[edit.start : edit.stop] = edit.lines
         return self._replace(lines=lines, letters=letters)
 
     def in_utf8(self) -> "Text":

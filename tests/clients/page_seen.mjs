@@ -99,20 +99,20 @@ const tests = {
   async "an edit asks for the lines that it may change, and the others come later"() {
     const world = begin(..."A".repeat(200)), { seen, link, host, asked } = world;
     seen.want({ from: 0, to: 200, tune: null });
-    same(link.sees(5, 6), { from: 5, to: 66, tune: null });
+    same(link.sees(5, 6), { from: 5, to: 36, tune: null });
     same(link.sees(190, 191), { from: 190, to: 200, tune: null });
     same(link.sees(300, 301), { from: 300, to: 300, tune: null });
-    const all = Array(200).fill([0, 1, NOTE, 0]), free = Array(61).fill([0, 1, FREE, 0]);
+    const all = Array(200).fill([0, 1, NOTE, 0]), free = Array(31).fill([0, 1, FREE, 0]);
     seen.learn(view({ from: 0, to: 200, tokens: all }), 1);
     type(world, 4, 5, "");
     settle(world, { start: 4, stop: 5, lines: [""] });
-    seen.learn(view({ from: 5, to: 66, tokens: free }), 2);
-    same([4, 5, 66].map((line) => seen.tokensOf(line)?.[0]?.kind), [undefined, "FreeText", "Note"]);
+    seen.learn(view({ from: 5, to: 36, tokens: free }), 2);
+    same([4, 5, 36].map((line) => seen.tokensOf(line)?.[0]?.kind), [undefined, "FreeText", "Note"]);
     await soon();
     same(asked, []);
     host.views.push(view({ from: 0, to: 200, tokens: [...all.slice(0, 4), [], ...Array(195).fill([0, 1, FREE, 0])] }));
     await soon(400);
-    same([asked.length, seen.tokensOf(66)[0].kind], [1, "FreeText"]);
+    same([asked.length, seen.tokensOf(36)[0].kind], [1, "FreeText"]);
   },
 
   async "an answer on another version does not count, and nothing is asked while an edit has no answer"() {

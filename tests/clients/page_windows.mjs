@@ -244,8 +244,9 @@ const tests = {
     same(sheet.caret(), at(2, 2));
     sheet.replace({ start: 1, taken: [], put: ["T:a"] });
     same([sheet.caret(), text.lines[3]], [at(3, 2), 'C "Em" DE|G']);
-    text.undo();
+    sheet.history(true);
     same(text.lines[1], "K:C");
+    await agree(window);
   },
 
   async "edits of two windows that touch keep both lines, the other's first"() {

@@ -14,6 +14,8 @@ const NAMES = {
 const FIELDS = ["NumberField", "TitleField", "KeyField", "OtherField"];
 const LYRICS = "wWs"; // letters of fields
 const WORDS = "^_<>@"; // a quoted text that begins with one of these is no chord
+/** @type {import("./seen.js").Token[]} */
+const NONE = [];
 const SIGNS = ".~HIJKLMNOPQRSTUVWhijklmnopqrstuvw"; // decorations of one letter
 
 /** The parts of a line that have a colour, in order: begin, end, name.
@@ -39,6 +41,8 @@ export class Colours {
     this.sheet = sheet;
     this.seen = seen;
     this.layer = new Layer(sheet, "colours");
+    /** @type {WeakMap<import("./seen.js").Token[], { line: string, parts: Part[] }>} */
+    this.known = new WeakMap(); // by the tokens of a line
     sheet.layers.push(this);
     seen.hearers.push(() => this.show(...sheet.drawn));
   }
@@ -52,9 +56,15 @@ export class Colours {
 
   /** @type {(first: number, last: number) => void} */
   show(first, last) {
-    const lines = this.sheet.text.lines.slice(first, last);
-    const parts = lines.map((line, n) => partsOf(line, this.seen.tokensOf(first + n) ?? []));
-    const keys = lines.map((line, n) => `${parts[n].join(" ")} ${line}`);
-    this.layer.draw(first, keys, (n) => rowOf(lines[n], parts[n]));
+    const rows = this.sheet.text.lines.slice(first, last).map((line, n) => this.coloured(line, this.seen.tokensOf(first + n) ?? NONE));
+    this.layer.draw(first, rows, (n) => rowOf(rows[n].line, rows[n].parts));
+  }
+
+  /** A line with its parts: the same object as long as both are the same.
+   * @type {(line: string, tokens: import("./seen.js").Token[]) => { line: string, parts: Part[] }} */
+  coloured(line, tokens) {
+    let known = this.known.get(tokens);
+    if (known?.line !== line) this.known.set(tokens, (known = { line, parts: partsOf(line, tokens) }));
+    return known;
   }
 }

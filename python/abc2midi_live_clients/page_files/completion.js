@@ -1,6 +1,7 @@
 // What may be written at a place: fields, their values, decorations. The words are in completion.json, which the language server reads too.
 
 import { nextNumber } from "./numbers.js";
+import { placeOf } from "./rows.js";
 
 /** The words by what they are, each with its meaning.
  * @typedef {{ header: Record<string, string>, body: Record<string, string>, values: Record<string, Record<string, string>>, decorations: Record<string, string> }} Words
@@ -47,9 +48,7 @@ export function narrowed(items, before) {
 /** Where a place of a book is, of which these are the rows of the tunes.
  * @type {(lines: string[], rows: import("./rows.js").TuneRow[], place: import("./selection.js").Place) => Situation} */
 export function situationOf(lines, rows, { line, column }) {
-  let start = line;
-  for (const [first] of rows) if (first <= line) start = first;
-  const above = lines.slice(start, line), begins = rows.some(([first]) => first === line);
+  const start = rows[placeOf(rows, line + 1) - 1]?.[0] ?? line, above = lines.slice(start, line), begins = rows[placeOf(rows, line)]?.[0] === line;
   const isInTune = (start < line || begins) && !above.some((text) => BLANK.test(text));
   const isInHeader = !isInTune || above.every((text) => HEADER_LINE.test(text));
   const names = above.flatMap((text) => /^V:[ \t]*([^ \t%]+)/.exec(text)?.[1] ?? []);

@@ -19,6 +19,8 @@ export class Findings {
     this.hints = [];
     /** @type {TuneRow[]} */
     this.tunes = [];
+    /** @type {{ tunes: TuneRow[], number: number | null, at: number }} */
+    this.owner = { tunes: this.tunes, number: null, at: -1 }; // that was looked for last
   }
 
   /** Renews all places: the text or the book became another one. */
@@ -59,6 +61,14 @@ export class Findings {
    * @type {(line: number) => number} */
   tuneAt(line) {
     return placeOf(this.tunes, line + 1) - 1;
+  }
+
+  /** The place among the tunes of the one that has the file of a number, -1 if none has.
+   * @type {(number: number | null) => number} */
+  ownerOf(number) {
+    const { tunes, owner } = this;
+    if (owner.tunes !== tunes || owner.number !== number) this.owner = { tunes, number, at: tunes.findIndex((row) => row[1] === number && row[3]) };
+    return this.owner.at;
   }
 
   /** The line after a tune.

@@ -8,13 +8,13 @@ export class Layer {
   constructor(sheet, className) {
     this.sheet = sheet;
     this.element = Object.assign(document.createElement("div"), { className, ariaHidden: "true" });
-    /** @type {string[]} */
+    /** @type {unknown[]} */
     this.keys = []; // of the rows that are drawn
     sheet.area.before(this.element);
   }
 
   /** Draws the rows of some lines. Each line has a key; `make` makes the row of the n-th. Rows with the same key stay.
-   * @type {(first: number, keys: string[], make: (n: number) => Node) => void} */
+   * @type {(first: number, keys: unknown[], make: (n: number) => Node) => void} */
   draw(first, keys, make) {
     this.element.style.top = `${(first - this.sheet.first) * this.sheet.height}px`;
     const edit = difference(this.keys, keys);

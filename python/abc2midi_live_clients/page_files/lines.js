@@ -3,8 +3,8 @@
 /** @typedef {{ start: number, taken: string[], put: string[] }} Replacement lines from `start` on became others */
 
 /** How much two lists of lines, or two texts, share at their begins, and of the rest at their ends.
- * @param {ArrayLike<string>} old
- * @param {ArrayLike<string>} now */
+ * @param {ArrayLike<unknown>} old
+ * @param {ArrayLike<unknown>} now */
 export function commonEnds(old, now) {
   const least = Math.min(old.length, now.length);
   let front = 0, back = 0;
@@ -14,8 +14,9 @@ export function commonEnds(old, now) {
 }
 
 /** Where two lists of lines differ: lines start..stop of the old one became `put`; null where they are the same.
- * @param {string[]} old
- * @param {string[]} now */
+ * @template T
+ * @param {T[]} old
+ * @param {T[]} now */
 export function difference(old, now) {
   const { front, back } = commonEnds(old, now);
   const edit = { start: front, stop: old.length - back, put: now.slice(front, now.length - back) };

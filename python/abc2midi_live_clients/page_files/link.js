@@ -88,8 +88,7 @@ export class Link {
     this.released = Promise.resolve(); // when the text is not held
     /** @type {(() => void) | null} */
     this.release = null; // ends a hold
-    /** @type {ReturnType<typeof setTimeout> | null} */
-    this.timer = null; // of the next edit
+    this.isDue = false; // what was typed is to be sent
     /** @type {() => void} */
     this.hurry = () => {}; // asks for news now, if the window has to ask
     /** @type {(book: Book | null, isWhole: boolean) => void} */
@@ -359,10 +358,12 @@ export class Link {
     if (isTwice) this.twice();
   }
 
-  /** Something was typed: it is sent when the page has shown it, and the edit before it arrived. */
+  /** Something was typed: it is sent after the present act of the page, once the edit before it arrived. */
   soon() {
-    this.timer ??= setTimeout(() => {
-      this.timer = null;
+    if (this.isDue) return;
+    this.isDue = true;
+    queueMicrotask(() => {
+      this.isDue = false;
       this.send();
     });
   }

@@ -14,6 +14,7 @@ import { Starter } from "./empty.js";
 import { FaultBar } from "./fault_bar.js";
 import { Files, SaveAs } from "./files.js";
 import { Findings } from "./findings.js";
+import { onceAFrame } from "./frames.js";
 import { HintReader } from "./hint_reader.js";
 import { KeptText } from "./kept_text.js";
 import { keysOf, nameKeys } from "./keys.js";
@@ -83,6 +84,7 @@ export class Application {
     new Signs(sheet, /** @type {HTMLDialogElement} */ (find("signs")));
     this.brackets = new Brackets(sheet, seen);
     this.completing = new Completing(sheet, find("completion"), () => findings.tunes);
+    this.showTune = onceAFrame(() => this.show());
   }
 
   /** Connects the parts, and opens the book. */
@@ -102,6 +104,7 @@ export class Application {
     text.edited = (...edit) => this.edited(...edit);
     sheet.faultsOf = (first, last) => findings.remarksIn(first, last);
     sheet.composed = (isComposing) => link.hold(isComposing);
+    sheet.written = () => void link.send();
     sheet.placed = (place) => {
       this.status.place(place);
       this.brackets.show(place);
@@ -200,18 +203,17 @@ export class Application {
 
   /** Renews what is around the text. */
   follow() {
-    const { sheet, findings } = this;
-    findings.renew();
-    this.faultBar.show();
-    sheet.drawFaults(findings.remarksIn(sheet.first, sheet.last));
+    this.findings.renew();
     this.showTune();
     this.music.practice.refresh();
   }
 
-  /** Shows what belongs to the caret's line and its tune. */
-  showTune() {
+  /** Shows what was found, and what belongs to the caret's line and its tune. */
+  show() {
     const { text, link, book, findings, caretTune, staves, music } = this;
     if (!link.state) return;
+    this.faultBar.show();
+    this.sheet.drawFaults();
     this.tunes.show(findings.tunes, caretTune.at);
     this.filter.tally();
     this.allMidi.show();

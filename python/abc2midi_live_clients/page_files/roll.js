@@ -1,6 +1,7 @@
 // A tune as a piano roll: pitch by time, a colour for each voice, bars and beats. This part has the measures, the mouse and the keys;
 // what is seen is drawn by roll_picture.js.
 
+import { onceAFrame } from "./frames.js";
 import { Grid } from "./grid.js";
 import { lanesOf } from "./lanes.js";
 import { onResize } from "./resizing.js";
@@ -44,8 +45,7 @@ export class Roll {
     this.row = LEAST_ROW; // pixels of a key
     /** @type {{ from: number, range: [from: number, to: number] | null } | null} */
     this.dragged = null;
-    /** @type {number | null} */
-    this.frame = null;
+    this.soon = onceAFrame(() => drawRoll(this)); // draws
     /** @type {Map<Note, import("./lanes.js").Lane>} */
     this.lanes = new Map();
     /** @type {Set<Note>} */
@@ -253,13 +253,5 @@ export class Roll {
     else if (steps !== undefined) this.zoom(steps);
     else return;
     event.preventDefault();
-  }
-
-  /** Draws at the next frame. */
-  soon() {
-    this.frame ??= requestAnimationFrame(() => {
-      this.frame = null;
-      drawRoll(this);
-    });
   }
 }

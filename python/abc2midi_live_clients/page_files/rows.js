@@ -55,5 +55,5 @@ export function without(rows, start, stop, more) {
  * @returns {R[]} */
 export function changed(old, { start, stop, lines }, { at, out, put }) {
   const found = without(old, start, stop, lines.length - (stop - start));
-  return found.slice(0, at).concat(put, found.slice(at + out));
+  return !out && !put.length ? found : found.slice(0, at).concat(put, found.slice(at + out));
 }

@@ -21,6 +21,7 @@
 // The element that is given has the attribute `aria-busy` while a drawing is asked for, and `document.body.dataset.score` is
 // "missing" if there is no `abcm2ps`.
 
+import { onceAFrame } from "./frames.js";
 import { onResize } from "./resizing.js";
 import { laidOut } from "./score_tree.js";
 
@@ -62,8 +63,7 @@ export class Score {
     this.lit = new Set();
     /** @type {Note | undefined} */
     this.here = undefined; // the note of the caret
-    /** @type {number | null} */
-    this.frame = null;
+    this.markSoon = onceAFrame(() => this.markCaret());
     /** @type {ReturnType<typeof setTimeout> | undefined} */
     this.timer = undefined;
     this.width = 0; // that was asked for last
@@ -97,10 +97,7 @@ export class Score {
   /** @type {(place: Place) => void} */
   caret(place) {
     this.at = place;
-    this.frame ??= requestAnimationFrame(() => {
-      this.frame = null;
-      this.markCaret();
-    });
+    this.markSoon();
   }
 
   /** @type {(places: Place[], scroll?: boolean) => void} */

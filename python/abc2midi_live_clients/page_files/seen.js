@@ -51,7 +51,7 @@ const TOKEN_SIZE = 4, ENTRY_SIZE = 9; // numbers
 const LINE = 2; // the place of the line among those of an entry
 const NO_KEY = 128;
 const MOST = 20_000; // lines of which the tokens are remembered
-const NEAR = 60; // lines after an edit: as many as a window shows
+const NEAR = 30; // lines after an edit: as many as most windows show there
 const REST = 300; // milliseconds without an edit
 
 export class Seen {
@@ -206,8 +206,8 @@ export class Seen {
 
   /** @type {(text: string, numbers: number[]) => Row} */
   rowOf(text, numbers) {
-    const tokens = tokensOf(numbers);
-    this.remembered.set(text, tokens);
+    const known = this.remembered.get(text), tokens = known && areTokens(known, numbers) ? known : tokensOf(numbers);
+    if (tokens !== known) this.remembered.set(text, tokens);
     return { text, tokens };
   }
 }
@@ -259,6 +259,15 @@ function tokensOf(numbers) {
     tokens.push({ from: numbers[at], to: numbers[at + 1], kind: KINDS[numbers[at + 2]] ?? KINDS[0], depth: numbers[at + 3] });
   }
   return tokens;
+}
+
+/** Whether tokens are those of a row of the host's answer.
+ * @type {(tokens: Token[], numbers: number[]) => boolean} */
+function areTokens(tokens, numbers) {
+  return TOKEN_SIZE * tokens.length === numbers.length && tokens.every(({ from, to, kind, depth }, n) => {
+    const [start, end, number, inside] = numbers.slice(TOKEN_SIZE * n, TOKEN_SIZE * (n + 1));
+    return from === start && to === end && kind === (KINDS[number] ?? KINDS[0]) && depth === inside;
+  });
 }
 
 /** The tokens of a line that became another text: those of its begin and of its end.

@@ -1,6 +1,7 @@
 // The text box. A text area has the lines about those that are seen, and no others, so that a long book is as quick as
 // a short one. Line numbers are beside it; marks of faults and the layers of other modules are below it.
 
+import { onceAFrame } from "./frames.js";
 import { difference } from "./lines.js";
 import { onResize } from "./resizing.js";
 import { movedSelection } from "./selection.js";
@@ -12,7 +13,7 @@ import { movedSelection } from "./selection.js";
  * A mark in the text, with its fault.
  * @typedef {HTMLElement & { fault: FaultRow }} Mark */
 
-const MARGIN = 100; // lines above and below those that are seen
+const MARGIN = 50; // lines above and below those that are seen
 const EDGE = 6; // lines that the caret keeps from the edge of the area
 const ROOM = 8; // pixels above the first line and below the last
 
@@ -33,6 +34,7 @@ export class Sheet {
     /** @type {{ draw: (first: number, last: number) => void }[]} */
     this.layers = []; // each draws the lines about those that are seen: draw(first, last)
     this.first = this.last = 0;
+    this.areaLines = [""]; // the lines in the area
     /** @type {[first: number, last: number]} */
     this.drawn = [0, 0]; // the lines that the layers have drawn
     /** @type {Selection | null} */
@@ -43,6 +45,7 @@ export class Sheet {
     this.moved = () => {}; // the caret is in another line, or lines became others
     /** @type {(place: Place) => void} */
     this.placed = () => {}; // the place of the caret
+    this.written = () => {}; // what was typed is in the text, and not drawn yet
     /** @type {(faults: FaultRow[], event?: PointerEvent) => void} */
     this.pointed = () => {};
     /** @type {Selection | null} */
@@ -52,7 +55,10 @@ export class Sheet {
     this.composed = () => {}; // a letter is composed, or no more
     this.changed = false; // since the caret was watched last
     this.line = -1;
-    this.high = 0; // of the view
+    this.top = 0; // what is scrolled away above the view, as the browser said last: each question makes it lay out the page
+    this.high = this.scroller.clientHeight; // of the view, likewise
+    this.numbered = ""; // what the numbers show
+    this.coverSoon = onceAFrame(() => this.cover());
     this.height = parseFloat(getComputedStyle(this.area).lineHeight);
     this.listen();
   }
@@ -61,7 +67,7 @@ export class Sheet {
     const area = this.area;
     this.text.followed = (edit) => this.follow(edit);
     this.text.selected = () => this.selection();
-    this.scroller.addEventListener("scroll", () => this.look());
+    this.scroller.addEventListener("scroll", () => this.scrolled());
     onResize(this.scroller, () => this.resize());
     area.addEventListener("input", () => this.read());
     area.addEventListener("compositionstart", () => this.compose(true));
@@ -85,15 +91,29 @@ export class Sheet {
   /** The lines that are seen: from, to.
    * @type {() => [first: number, last: number]} */
   seen() {
-    const first = Math.max(0, Math.floor((this.scroller.scrollTop - ROOM) / this.height));
-    return [first, first + Math.ceil(this.scroller.clientHeight / this.height) + 1];
+    const first = Math.max(0, Math.floor((this.top - ROOM) / this.height));
+    return [first, first + Math.ceil(this.high / this.height) + 1];
+  }
+
+  /** Scrolls.
+   * @type {(top: number) => void} */
+  scroll(top) {
+    this.scroller.scrollTop = top;
+    this.top = this.scroller.scrollTop;
+  }
+
+  /** Someone scrolled, or the browser did. */
+  scrolled() {
+    this.top = this.scroller.scrollTop;
+    this.look();
   }
 
   /** The place of an offset in the area.
    * @type {(offset: number) => Place} */
   place(offset) {
-    const before = this.area.value.slice(0, offset);
-    return { line: this.first + before.split("\n").length - 1, column: offset - before.lastIndexOf("\n") - 1 };
+    let at = 0, column = offset;
+    for (; at < this.areaLines.length - 1 && column > this.areaLines[at].length; at += 1) column -= this.areaLines[at].length + 1;
+    return { line: this.first + at, column };
   }
 
   /** The offset of a place in the area.
@@ -128,7 +148,8 @@ export class Sheet {
       this.last = Math.max(this.last, end.line + 1);
     }
     const inside = this.first <= start.line && end.line < this.last;
-    this.area.value = lines.slice(this.first, this.last).join("\n");
+    this.areaLines = lines.slice(this.first, this.last);
+    this.area.value = this.areaLines.join("\n");
     this.before_input = null;
     this.away = inside ? null : { start, end, direction };
     this.area.classList.toggle("away", !inside);
@@ -151,6 +172,7 @@ export class Sheet {
   /** The view has another height. The line of the caret stays in it, as when faults appear below the text. */
   resize() {
     const { scrollTop, clientHeight } = this.scroller, before = this.high;
+    this.top = scrollTop;
     this.high = clientHeight;
     const end = (this.caret().line + 1) * this.height + ROOM;
     const isLost = end <= scrollTop + before && end > scrollTop + clientHeight;
@@ -184,7 +206,7 @@ export class Sheet {
     const selection = this.selection(), [top, bottom] = this.seen(), { line } = this.caret();
     const more = edit.put.length - edit.taken.length;
     this.stretch();
-    if (edit.start + edit.taken.length <= top) this.scroller.scrollTop += more * this.height;
+    if (edit.start + edit.taken.length <= top) this.scroll(this.scroller.scrollTop + more * this.height);
     const [first, last] = this.seen();
     this.load(first - MARGIN, last + MARGIN, movedSelection(selection, edit));
     if (top <= line && line < bottom) this.reveal(this.caret().line);
@@ -211,12 +233,14 @@ export class Sheet {
 
   /** What was typed becomes an edit of the text. */
   read() {
-    const edit = difference(this.text.lines.slice(this.first, this.last), this.area.value.split("\n"));
+    this.areaLines = this.area.value.split("\n");
+    const edit = difference(this.text.lines.slice(this.first, this.last), this.areaLines);
     if (!edit) return;
     const before = this.before_input ?? this.selection();
     this.last += edit.put.length - (edit.stop - edit.start);
     const from = this.first + edit.start;
     this.text.edit(from, this.first + edit.stop, edit.put, before, this.typed());
+    this.written();
     this.draw();
     this.watch();
   }
@@ -224,8 +248,8 @@ export class Sheet {
   /** The selection in the area, after something was typed there.
    * @returns {Selection} */
   typed() {
-    const { selectionStart, selectionEnd, selectionDirection } = this.area;
-    return { start: this.place(selectionStart), end: this.place(selectionEnd), direction: selectionDirection };
+    const { selectionStart, selectionEnd, selectionDirection } = this.area, start = this.place(selectionStart);
+    return { start, end: selectionEnd === selectionStart ? start : this.place(selectionEnd), direction: selectionDirection };
   }
 
   /** Before the browser changes the area.
@@ -314,8 +338,8 @@ export class Sheet {
   reveal(line) {
     const top = line * this.height + ROOM, { scrollTop, clientHeight } = this.scroller;
     this.stretch();
-    if (top < scrollTop) this.scroller.scrollTop = top - this.height;
-    else if (top + 2 * this.height > scrollTop + clientHeight) this.scroller.scrollTop = this.aligned(top + 2 * this.height - clientHeight);
+    if (top < scrollTop) this.scroll(top - this.height);
+    else if (top + 2 * this.height > scrollTop + clientHeight) this.scroll(this.aligned(top + 2 * this.height - clientHeight));
   }
 
   /** The top at or after a place at which a line begins.
@@ -330,14 +354,14 @@ export class Sheet {
     const { scrollTop, clientHeight } = this.scroller, top = line * this.height + ROOM;
     if (top >= scrollTop && top + 2 * this.height <= scrollTop + clientHeight) return;
     this.stretch();
-    this.scroller.scrollTop = this.aligned(top - clientHeight / 3);
+    this.scroll(this.aligned(top - clientHeight / 3));
   }
 
   /** Goes to a place, some lines below the top. A fault that begins there is visible, even if its line is longer than the view.
    * @type {(line: number, column?: number, focus?: boolean) => void} */
   go(line, column = 0, focus = false) {
     this.stretch();
-    this.scroller.scrollTop = line < 3 ? 0 : (line - 2) * this.height + ROOM;
+    this.scroll(line < 3 ? 0 : (line - 2) * this.height + ROOM);
     this.select({ line, column }, { line, column });
     this.scroller.scrollLeft = 0;
     const marks = /** @type {Mark[]} */ ([...this.marks.querySelectorAll("mark")]);
@@ -373,9 +397,9 @@ export class Sheet {
     this.area.style.minWidth = `${widest + 4}ch`;
     this.here.style.top = `${(this.caret().line - first) * height}px`;
     this.changed = true;
-    this.drawFaults(this.faultsOf(first, last));
+    this.drawFaults();
     this.drawLayers();
-    requestAnimationFrame(() => this.cover());
+    this.coverSoon();
   }
 
   /** Lets the layers draw the lines about those that are seen. A long selection may have many more lines in the area. */
@@ -385,11 +409,22 @@ export class Sheet {
     for (const layer of this.layers) layer.draw(...this.drawn);
   }
 
+  /** Draws the marks of faults, and the numbers of the lines. */
+  drawFaults() {
+    const faults = this.faultsOf(this.first, this.last);
+    this.drawNumbers(faults);
+    if (faults.length || this.marks.childElementCount) this.marks.replaceChildren(...faults.map((fault) => this.mark(fault)));
+  }
+
   /** @type {(faults: FaultRow[]) => void} */
-  drawFaults(faults) {
-    const numbers = document.createDocumentFragment(), marks = document.createDocumentFragment();
+  drawNumbers(faults) {
+    /** @type {Map<number, boolean>} */
     const faulty = new Map(); // by line: whether all that is there are hints
     for (const [line, , , , hint] of faults) faulty.set(line, Boolean(hint) && (faulty.get(line) ?? true));
+    const numbered = [this.first, this.last, ...[...faulty].flat()].join();
+    if (numbered === this.numbered) return;
+    this.numbered = numbered;
+    const numbers = document.createDocumentFragment();
     let plain = "";
     for (let line = this.first; line < this.last; line += 1) {
       if (faulty.has(line)) {
@@ -401,9 +436,7 @@ export class Sheet {
       }
     }
     numbers.append(plain);
-    for (const fault of faults) marks.append(this.mark(fault));
     this.numbers.replaceChildren(numbers);
-    this.marks.replaceChildren(marks);
   }
 
   /** A mark below the place of a fault: the text before it, not to be seen, gives its place.

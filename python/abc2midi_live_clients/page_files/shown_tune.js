@@ -57,14 +57,13 @@ export class ShownTune {
 
   /** The place among the tunes of the one that is shown, -1 if the text has it no more. */
   get at() {
-    return this.findings.tunes.findIndex((row) => row[1] === this.number && row[3]);
+    return this.findings.ownerOf(this.number ?? null);
   }
 
   /** The score with its number and its lines in the book; null without.
    * @returns {import("./follower.js").TuneInBook | null} */
   get inBook() {
-    const { score, owner, findings } = this, { tunes } = findings;
-    const at = score ? tunes.findIndex((row) => row[1] === owner && row[3]) : -1;
-    return score && owner !== null && at >= 0 ? { score, number: owner, first: tunes[at][0], last: findings.endOf(at) } : null;
+    const { score, owner, findings } = this, at = score ? findings.ownerOf(owner) : -1;
+    return score && owner !== null && at >= 0 ? { score, number: owner, first: findings.tunes[at][0], last: findings.endOf(at) } : null;
   }
 }

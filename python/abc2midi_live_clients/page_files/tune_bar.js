@@ -48,7 +48,7 @@ export class TuneBar {
   /** Links to the file, while the server is there. */
   link() {
     const { score, owner, findings, server, link } = this.shown, midi = find("midi");
-    const title = findings.tunes.find(([, number, , hasFile]) => number === owner && hasFile)?.[2] ?? "";
+    const title = findings.tunes[findings.ownerOf(owner)]?.[2] ?? "";
     if (score && owner !== null && !link.away) Object.assign(midi, { href: server.address(`midi/${owner}`), download: midiName(owner, title) });
     else midi.removeAttribute("href");
   }

@@ -2,12 +2,13 @@
 // the press and the release of a click meet the same one.
 
 import { Filter, folded } from "./filter.js";
+import { onceAFrame } from "./frames.js";
 import { onResize } from "./resizing.js";
 
 /** @typedef {import("./rows.js").TuneRow} TuneRow */
 
 const BEYOND = 2; // rows drawn above and below those that are seen
-const LIGHT = 1600; // milliseconds
+const LIGHT = 480, FADE = 1120; // milliseconds
 
 export class Tunes {
   /** @param {HTMLElement} list */
@@ -25,15 +26,22 @@ export class Tunes {
     this.faultsOf = () => 0; // of a tune: how many faults it has
     /** @type {Map<number, HTMLElement>} */
     this.drawn = new Map(); // by place: the element of its row
+    /** @type {Map<number, string>} */
+    this.texts = new Map(); // by place: what the row shows
+    this.height = this.top = this.room = 0; // of a row, above the view, of the view: each question makes the browser lay out the page
+    this.drawSoon = onceAFrame(() => this.draw());
     this.here = -1; // the tune that is shown
     this.at = -1; // the one with the frame of the keyboard
     /** @type {Map<number, string>} */
-    this.lit = new Map(); // by number: "written" or "removed"
+    this.lit = new Map(); // by number: "written" or "removed", with "fading" at the end
     /** @type {(row: TuneRow) => void} */
     this.chosen = () => {};
     /** @type {ReturnType<typeof setTimeout> | undefined} */
     this.timer = undefined;
-    list.addEventListener("scroll", () => this.draw());
+    list.addEventListener("scroll", () => {
+      this.top = list.scrollTop;
+      this.draw();
+    });
     list.addEventListener("keydown", (event) => this.key(event));
     list.addEventListener("focus", () => list.matches(":focus-visible") && this.frame(Math.max(0, this.here)));
     list.addEventListener("click", (event) => {
@@ -41,12 +49,21 @@ export class Tunes {
       const row = /** @type {Element} */ (event.target).closest("[role=option]");
       if (row) this.chosen(this.rows[Number(row.dataset.at)]);
     });
-    onResize(list, () => this.draw());
+    onResize(list, () => this.measure());
+    this.measure();
   }
 
-  /** The height of a row, which goes by the width of the window. */
-  get height() {
-    return parseFloat(getComputedStyle(this.list).getPropertyValue("--row-height"));
+  /** The height of a row goes by the width of the window. */
+  measure() {
+    this.height = parseFloat(getComputedStyle(this.list).getPropertyValue("--row-height"));
+    this.room = this.list.clientHeight;
+    this.draw();
+  }
+
+  /** @type {(top: number) => void} */
+  scroll(top) {
+    this.list.scrollTop = top;
+    this.top = this.list.scrollTop;
   }
 
   /** Other tunes, of which one is shown.
@@ -66,23 +83,29 @@ export class Tunes {
   sift(words) {
     this.filter.words = folded(words).split(/\s+/).filter(Boolean);
     this.here = -1;
-    this.list.scrollTop = 0;
+    this.scroll(0);
     this.at = 0;
     this.show(this.all, this.shown ? this.all.indexOf(this.shown) : -1);
   }
 
-  /** Lights up numbers for a moment. Those that are alight already go out first, which lets them begin anew.
+  /** Lights up numbers for a moment. Those that are alight stay so: an animation for each key would cost more than the key.
    * @type {(written: number[], removed: number[]) => void} */
   light(written, removed) {
-    this.putOut();
+    this.lit.clear();
     for (const number of written) this.lit.set(number, "written");
     for (const number of removed) this.lit.set(number, "removed");
-    this.timer = setTimeout(() => this.putOut(), LIGHT);
+    clearTimeout(this.timer);
+    this.timer = setTimeout(() => this.fade(), LIGHT);
+    this.drawSoon();
+  }
+
+  fade() {
+    for (const [number, name] of this.lit) this.lit.set(number, `${name} fading`);
+    this.timer = setTimeout(() => this.putOut(), FADE);
     this.draw();
   }
 
   putOut() {
-    clearTimeout(this.timer);
     this.lit.clear();
     this.draw();
   }
@@ -92,15 +115,15 @@ export class Tunes {
   frame(at) {
     this.at = Math.max(0, Math.min(this.rows.length - 1, at));
     this.stretch();
-    const { height, list } = this, top = this.at * height;
-    if (top < list.scrollTop) list.scrollTop = top;
-    else if (top + height > list.scrollTop + list.clientHeight) list.scrollTop = top + height - list.clientHeight;
+    const { height, room } = this, top = this.at * height;
+    if (top < this.top) this.scroll(top);
+    else if (top + height > this.top + room) this.scroll(top + height - room);
     this.draw();
   }
 
   /** @type {(event: KeyboardEvent) => void} */
   key(event) {
-    const page = Math.floor(this.list.clientHeight / this.height) - 1;
+    const page = Math.floor(this.room / this.height) - 1;
     /** @type {Record<string, number>} */
     const places = {
       ArrowUp: this.at - 1,
@@ -124,8 +147,8 @@ export class Tunes {
 
   /** The rows to be drawn: from, to. */
   seen() {
-    const { height, list } = this;
-    const first = Math.floor(list.scrollTop / height), last = Math.ceil((list.scrollTop + list.clientHeight) / height);
+    const { height, top, room } = this;
+    const first = Math.floor(top / height), last = Math.ceil((top + room) / height);
     return [Math.max(0, first - BEYOND), Math.min(this.rows.length, last + BEYOND)];
   }
 
@@ -148,6 +171,7 @@ export class Tunes {
   /** @type {(at: number, row: HTMLElement) => void} */
   takeOut(at, row) {
     this.drawn.delete(at);
+    this.texts.delete(at);
     row.remove();
   }
 
@@ -165,13 +189,15 @@ export class Tunes {
     return this.space.insertBefore(row, next);
   }
 
-  /** Writes into a row what its tune is now.
+  /** Writes into a row what its tune is now, if it is another one than before.
    * @type {(row: HTMLElement, at: number) => void} */
   write(row, at) {
-    const [, number, title, hasFile] = this.rows[at];
+    const [, number, title, hasFile] = this.rows[at], faults = this.faultsOf(this.rows[at]), counted = faults ? `${faults} fault${faults === 1 ? "" : "s"}` : "";
+    const text = [number, title, hasFile, faults, this.lit.get(number), at === this.at, at === this.here, this.rows.length].join();
+    if (text === this.texts.get(at)) return;
+    this.texts.set(at, text);
     row.ariaSelected = String(at === this.here);
     row.ariaSetSize = String(this.rows.length);
-    const faults = this.faultsOf(this.rows[at]), counted = faults ? `${faults} fault${faults === 1 ? "" : "s"}` : "";
     row.className = `${this.lit.get(number) ?? ""} ${at === this.at ? "at" : ""} ${hasFile ? "" : "silent"} ${faults ? "faulty" : ""}`;
     row.title = hasFile ? [title, counted].filter(Boolean).join(": ") : "This tune has no file: it is too long, or another one has its number.";
     row.setAttribute("aria-description", counted);
