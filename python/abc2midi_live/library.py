@@ -9,25 +9,25 @@ import weakref
 from ctypes import byref, c_size_t, c_uint32
 from itertools import islice
 from operator import index
-from struct import Struct
 from typing import Any, Optional
 
-from .bindings import BAD_LINE, BAD_RANGE, NO_KEY, NOT_FOUND, OK, OUT_OF_MEMORY, SHORT_BUFFER, TOO_LARGE, TOO_LONG
+from .bindings import BAD_LINE, BAD_RANGE, NOT_FOUND, OK, OUT_OF_MEMORY, SHORT_BUFFER, TOO_LARGE, TOO_LONG
 from .bindings import CEntry, CFault, CSession, CToken, CWork, load
 from .edits import Edit
 from .errors import BadLine, BadRange, OutOfMemory, PlayTooLong, TooLarge, refusal
 from .finding import PathName, find_library
-from .plays import Entry, Track, entry_kind_of
+from .plays import Track
+from .records import PlayColumns, Room, TokenColumns, entries_in, token_columns, tokens_in
 from .session import Fault, Report, Session, Title, Work
-from .tokens import Token, kind_of
+from .tokens import Token
 
 REFUSALS = {BAD_RANGE: BadRange, BAD_LINE: BadLine, TOO_LARGE: TooLarge, OUT_OF_MEMORY: OutOfMemory}
 MOST_NUMBER = 2**32 - 1
 ROOM = 4096  # bytes at first, for what the library copies
 ROOM_FOR_NUMBERS = 64  # at first
 ROOM_FOR_TOKENS = 256  # at first: more than most lines have
-ROOM_FOR_TRACKS = 16  # at first: as many as a file has
-TOKEN, ENTRY = Struct("@4I"), Struct("@2Q3I4B")  # CToken and CEntry
+ROOM_FOR_TRACKS = 16  # as many as a file has
+ROOM_FOR_ENTRIES = 4096  # more than most tunes play; a longer play gets room of its own
 _HERE = threading.local()
 
 
@@ -46,7 +46,9 @@ class LibrarySession(Session):
         self._names: dict[int, str] = {}
         self._bytes: Any = ctypes.create_string_buffer(ROOM)  # its slices are bytes
         self._numbers = (c_uint32 * ROOM_FOR_NUMBERS)()
-        self._tokens = (CToken * ROOM_FOR_TOKENS)()
+        self._tokens = Room(CToken, ROOM_FOR_TOKENS)
+        self._tracks = (c_size_t * ROOM_FOR_TRACKS)()
+        self._entries = Room(CEntry, ROOM_FOR_ENTRIES)
         self._count = c_size_t()
         self._count_here = byref(self._count)
         check(self._calls.abc_live_open(self._here))
@@ -117,44 +119,60 @@ class LibrarySession(Session):
         return [Fault(fault.line, fault.column, self._name(fault.code)) for fault in faults]
 
     def tokens(self, number: int) -> tuple[Token, ...]:
+        return tuple(tokens_in(self._copied_tokens(number)))
+
+    def token_columns(self, number: int) -> TokenColumns:
+        """The tokens of a line by columns. Raises IndexError, as `tokens` does."""
+        return token_columns(self._copied_tokens(number))
+
+    def _copied_tokens(self, number: int) -> memoryview:
+        """The structs of the tokens of a line, until the next call."""
         self._check_line(number)
         code = self._copy_tokens(index(number))
         if code == SHORT_BUFFER:
-            self._tokens = (CToken * self._count.value)()
+            self._tokens = Room(CToken, self._count.value)
             code = self._copy_tokens(index(number))
         check(code)
-        copied = ctypes.string_at(self._tokens, self._count.value * ctypes.sizeof(CToken))
-        return tuple(Token(start, end, kind_of(kind), depth) for start, end, kind, depth in TOKEN.iter_unpack(copied))
+        return self._tokens.first(self._count.value)
 
     def _copy_tokens(self, number: int) -> int:
         """Copies the tokens of a line, and returns the code of the call."""
-        room = len(self._tokens)
-        code: int = self._calls.abc_live_tokens(self._here, number, self._tokens, room, self._count_here, byref(self._counters))
+        room = self._tokens
+        code: int = self._calls.abc_live_tokens(self._here, number, room.here, room.count, self._count_here, byref(self._counters))
         return code
 
     def play(self, number: int) -> Optional[tuple[Track, ...]]:
+        copied = self._copied_play(number)
+        if copied is None:
+            return None
+        entries = entries_in(copied)
+        check(self._calls.abc_live_tracks(self._here, number, self._tracks, len(self._tracks), self._count_here))
+        return tuple(tuple(islice(entries, size)) for size in self._tracks[: self._count.value])
+
+    def play_columns(self, number: int) -> Optional[PlayColumns]:
+        """What is played of a number by columns. It is None, or raises, as `play` does."""
+        copied = self._copied_play(number)
+        return None if copied is None else PlayColumns(copied)
+
+    def _copied_play(self, number: int) -> Optional[memoryview]:
+        """The structs of all entries of a number, until the next call. None if no tune owns the number."""
         self._check_open()
         if not 0 <= index(number) <= MOST_NUMBER:
             return None
-        tracks = self._copied_play(self._calls.abc_live_tracks, number, (c_size_t * ROOM_FOR_TRACKS)())
-        if tracks is None:
-            return None
-        sizes = tracks[: self._count.value]
-        entries = self._copied_play(self._calls.abc_live_play, number, (CEntry * sum(sizes))())
-        assert entries is not None, "the session has not changed since the sizes were copied"
-        played = map(entry_of, ENTRY.iter_unpack(ctypes.string_at(entries, ctypes.sizeof(entries))))
-        return tuple(tuple(islice(played, size)) for size in sizes)
-
-    def _copied_play(self, call: Any, number: int, room: Any) -> Optional[Any]:
-        """What a call copies of the play of a number, in a room that it fills; None if no tune owns the number."""
-        code = call(self._here, number, room, len(room), self._count_here)
+        room = self._entries
+        code = self._copy_play(number, room)
         if code == SHORT_BUFFER:
-            room = (room._type_ * self._count.value)()
-            code = call(self._here, number, room, len(room), self._count_here)
+            room = Room(CEntry, self._count.value)
+            code = self._copy_play(number, room)
         if code == NOT_FOUND:
             return None
         check(code)
-        return room
+        return room.first(self._count.value)
+
+    def _copy_play(self, number: int, room: Room) -> int:
+        """Copies the entries of a number, and returns the code of the call."""
+        code: int = self._calls.abc_live_play(self._here, number, room.here, room.count, self._count_here)
+        return code
 
     @property
     def work(self) -> Optional[Work]:
@@ -220,14 +238,6 @@ def check(code: int) -> None:
         raise PlayTooLong("more than 1,000,000 items and bar lines are played")
     if code != OK:
         raise RuntimeError(f"the library answered {code}: this is a mistake in the package abc2midi_live")
-
-
-def entry_of(copied: tuple[int, ...]) -> Entry:
-    """An entry of the library, by the values of its struct."""
-    on, off, line, start, end, kind, key, velocity, joined = copied
-    if key == NO_KEY:
-        return Entry(on, off, entry_kind_of(kind), None, None, joined == 1, line, start, end)
-    return Entry(on, off, entry_kind_of(kind), key, velocity, joined == 1, line, start, end)
 
 
 def text_of(lines: list[bytes]) -> bytes:

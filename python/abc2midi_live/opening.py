@@ -1,8 +1,10 @@
 """How a session begins."""
 
+from __future__ import annotations
+
 import os
 from pathlib import Path
-from typing import Optional
+from typing import TYPE_CHECKING, Optional
 
 from .errors import BookTooLarge, LibraryMissing, ProgramMissing
 from .finding import PathName
@@ -10,6 +12,9 @@ from .lines import MARK
 from .process import ProcessSession
 from .reading import bytes_of_book
 from .session import Session
+
+if TYPE_CHECKING:
+    from .library import LibrarySession
 
 
 def open(path: Optional[PathName] = None, *, library: Optional[PathName] = None, program: Optional[PathName] = None) -> Session:
@@ -56,7 +61,7 @@ def new_session(library: Optional[PathName], program: Optional[PathName]) -> Ses
             raise ProgramMissing(f"{missing}; {also}") from also
 
 
-def library_session(library: Optional[PathName]) -> Session:
+def library_session(library: Optional[PathName]) -> LibrarySession:
     """A session over the C library. Some installations of Python have no `ctypes`."""
     try:
         from .library import LibrarySession

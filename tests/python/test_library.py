@@ -126,6 +126,31 @@ class OverTheLibrary(sessions.Sessions):
                         kinds = {token.kind for token in session.tokens(entry.line) if token[:2] == place}
                         self.assertTrue(kinds & TOKENS[entry.kind], entry)
 
+    def test_columns(self) -> None:
+        """Columns have the tokens of `tokens` and the entries of `play`, also of a line and of a play with more than usual."""
+        session = self.session([*(HERE / "plays.abc").read_bytes().split(b"\n")[:-1], b"X:99999", b"K:C", b"[CE]-" * 13_000])
+        for number in range(1, session.line_count + 1):
+            tokens = [(token.from_column, token.to_column, token.kind.value, token.depth) for token in session.tokens(number)]
+            self.assertEqual(list(zip(*session.token_columns(number))), tokens)
+        for number in session.numbers:
+            try:
+                play = session.play(number)
+            except PlayTooLong:
+                with self.assertRaises(PlayTooLong):
+                    session.play_columns(number)
+                continue
+            columns = session.play_columns(number)
+            assert play and columns
+            entries = [entry for track in play for entry in track]
+            self.assertEqual([columns.entry(index) for index in range(len(columns.places))], entries)
+            self.assertEqual(columns.places, [columns.place(entry.line, entry.from_column) for entry in entries])
+            self.assertEqual([(columns.on(n), columns.off(n)) for n in range(len(entries))], [entry[:2] for entry in entries])
+            self.assertEqual(len(set(columns.places)), len({(entry.line, entry.from_column) for entry in entries}))
+        self.assertGreater(len(columns.places), 4096)
+        self.assertIsNone(session.play_columns(2**32 + 1))
+        with self.assertRaises(IndexError):
+            session.token_columns(0)
+
     def test_plays_of_no_number(self) -> None:
         session = self.session(sessions.TUNE)
         self.assertEqual([session.play(number) for number in (0, -1, 2, 2**32 + 1)], [None] * 4)

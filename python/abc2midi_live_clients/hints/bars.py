@@ -7,8 +7,9 @@ from dataclasses import dataclass
 from fractions import Fraction
 from typing import Optional
 
-from .hint import TuneHint, counted
-from .tune import BAR, BREAK, ENDING, METER, ODD, PLAYED, WHOLE, Item, Meter, TuneText, Voice, bar_line
+from .hint import Place, TuneHint, counted
+from .line import PLAIN
+from .tune import BAR, BREAK, ENDING, METER, ODD, WHOLE, Item, Meter, Music, TuneText, Voice
 
 MOST_BARS = 8  # that are named one by one in a tune
 
@@ -19,24 +20,28 @@ class Piece:
     repeat or an ending, may be inside a bar."""
 
     meter: Meter
-    first: Item
+    music: list[Music]
+    after_soft: bool
     length: int = 0
-    rests_alone: bool = True
     is_compared: bool = True
-    after_soft: bool = False
     before_soft: bool = False
     is_ended: bool = False
 
-    def add(self, item: Item) -> None:
+    def add(self, music: Music) -> None:
         """Adds music."""
-        self.length += item.length or 0
-        self.rests_alone &= item.is_rest
-        self.is_compared &= item.length is not None
+        self.music.append(music)
+        self.length += music.length or 0
+        self.is_compared &= music.length is not None
 
     def fills(self) -> bool:
         """Returns whether it is a whole bar, or rests of whole bars."""
         bar = self.meter.ticks
-        return self.length == bar or self.rests_alone and bar > 0 and self.length % bar == 0
+        return self.length == bar or bar > 0 and self.length % bar == 0 and all(music.is_rest() for music in self.music)
+
+    @property
+    def place(self) -> Place:
+        """The place of its first note or rest."""
+        return self.music[0].place
 
 
 def pieces_of(items: list[Item], meter: Meter) -> list[Piece]:
@@ -46,9 +51,9 @@ def pieces_of(items: list[Item], meter: Meter) -> list[Piece]:
     soft = True  # the bound before the next piece
     is_compared = True  # the piece has no fault
     for item in items:
-        if item.kind == PLAYED:
+        if isinstance(item, Music):
             if piece is None:
-                piece = Piece(meter, item, after_soft=soft)
+                piece = Piece(meter, [], soft)
                 found.append(piece)
                 soft = False
             piece.add(item)
@@ -57,7 +62,7 @@ def pieces_of(items: list[Item], meter: Meter) -> list[Piece]:
         elif item.kind in (BREAK, ODD):
             is_compared = False
         elif item.kind in (BAR, ENDING):
-            is_soft = item.kind == ENDING or item.hidden or bar_line(item.text) != (0, 0, False)
+            is_soft = item.kind == ENDING or item.bar != PLAIN
             soft |= is_soft
             if piece:
                 piece.is_compared &= is_compared
@@ -76,7 +81,7 @@ def odd_pieces(voice: Voice, meter: Meter) -> Iterator[Piece]:
     """Yields the pieces of a voice that do not fill their meter. A first bar after a soft bound may be short. So may a last
     one that comes up to a bar with a first one, and one without a bar line after it, which is still being written."""
     pieces: list[Piece] = []
-    for _, items in sorted(voice.sections.items()):
+    for _, items in voice.in_order():
         pieces += pieces_of(items, meter)
         meter = next((item.meter for item in reversed(items) if item.kind == METER), meter)
     starts = {piece.length for piece in pieces if piece.after_soft}
@@ -92,11 +97,11 @@ def odd_pieces(voice: Voice, meter: Meter) -> Iterator[Piece]:
 def bars(tune: TuneText) -> Iterator[TuneHint]:
     """Yields the bars that do not fill the meter; of many only the first, with their count."""
     odd = [piece for voice in tune.voices.values() for piece in odd_pieces(voice, tune.meter)]
-    odd.sort(key=lambda piece: piece.first.place)
+    odd.sort(key=lambda piece: piece.place)
     several = f"; so are {counted(len(odd) - 1, 'more bar')} of this tune" if len(odd) > MOST_BARS else ""
     for piece in odd[:1] if several else odd:
         text = f"this bar lasts {fraction(piece.length, piece.meter)}, and the meter is {name_of(piece.meter)}{several}"
-        yield TuneHint(piece.first.place, "BarLength", text)
+        yield TuneHint(piece.place, "BarLength", text)
 
 
 def name_of(meter: Meter) -> str:

@@ -9,14 +9,14 @@ from abc2midi_live import Fault, TokenKind
 
 from ..program import Tune
 from .hint import Hint, Place, TuneHint, counted
-from .reader import FIELDS, Line, is_blank, is_music, kind_of
+from .line import BAD_BYTE, BAR_LINE, FIELDS, KEY_FIELD, MUSIC, NO_EFFECT, NOTE, PART, REST, UNCLOSED, Line, is_blank
 
 LOOKED_AT = 400  # bytes by which a text in UTF-16 is known
 NOT_UTF8 = "NotUtf8"  # one for a book
 LEAST_NOTES = 3  # in what looks like a line of music
 
 _IN_TWO_BYTES = (b"\xff\xfe", b"\xfe\xff")
-_MUSIC = frozenset(TokenKind) - {TokenKind.OTHER, TokenKind.BAD_BYTE, TokenKind.UNCLOSED, TokenKind.NO_EFFECT}
+_MUSIC = {kind.value for kind in TokenKind} - {TokenKind.OTHER.value, BAD_BYTE, UNCLOSED, NO_EFFECT}
 _USUAL = frozenset(b"xzHLMOPSTuv0123456789/,'^_=[]:<>()~.\\&-")  # in music, also if it has no effect there
 
 
@@ -60,7 +60,7 @@ def lone_returns(lines: tuple[bytes, ...]) -> Iterator[TuneHint]:
         count = line[:-1].count(b"\r")
         if count:
             what = f"this line has {counted(count, 'carriage return')} inside, which end no line"
-            yield TuneHint(Place(n, line.index(b"\r")), "LoneReturns", f"{what}; save the book with line feeds")
+            yield TuneHint(Place(n, line.index(b"\r") + 1), "LoneReturns", f"{what}; save the book with line feeds")
 
 
 def not_utf8(lines: tuple[bytes, ...]) -> Iterator[TuneHint]:
@@ -69,7 +69,7 @@ def not_utf8(lines: tuple[bytes, ...]) -> Iterator[TuneHint]:
         place = None if line.isascii() else first_odd_byte(line)
         if place is not None:
             text = "this line is not UTF-8, and is shown as Latin-1; save the book in UTF-8"
-            yield TuneHint(Place(n, place), NOT_UTF8, text)
+            yield TuneHint(Place(n, place + 1), NOT_UTF8, text)
             return
 
 
@@ -89,22 +89,22 @@ def free_music(lines: list[Line], blank: Sequence[bool], start: int, after_tune:
     for n, line in enumerate(lines):
         if blank[n]:
             is_open, has_key, has_fields = True, False, False
-        elif kind_of(line) in FIELDS:
-            has_key |= kind_of(line) == TokenKind.KEY_FIELD
+        elif line.kind in FIELDS:
+            has_key |= line.kind == KEY_FIELD
             has_fields = True
-        elif is_music(line) and is_open and (has_key or looks_like_music(line)):
+        elif line.kind == MUSIC and is_open and (has_key or looks_like_music(line)):
             is_open = False
             if after_tune and not has_key:
                 text = "this music is in no tune: the blank line before it ends the tune; write a `%` on that line"
             else:
                 where = "the first field above it" if has_fields else "it"
                 text = f"this music is in no tune; write a line `X:` with a new number before {where}"
-            yield TuneHint(Place(start + n, 0), "FreeMusic", text)
+            yield TuneHint(Place(start + n, 1), "FreeMusic", text)
 
 
 def looks_like_music(line: Line) -> bool:
     """Returns whether a line has a bar line and notes, and no other letters but those of common decorations."""
-    kinds = [part.kind for part in line]
-    is_usual = all(part.kind in _MUSIC or part.text[0] in _USUAL for part in line)
-    notes = sum(kind in (TokenKind.NOTE, TokenKind.REST) for kind in kinds)
-    return is_usual and TokenKind.BAR_LINE in kinds and notes >= LEAST_NOTES
+    kinds = [kind % PART for kind in line.kinds]
+    others = (line.text[start - 1] for start, kind in zip(line.starts, kinds) if kind not in _MUSIC)
+    has_notes = kinds.count(NOTE) + kinds.count(REST) >= LEAST_NOTES
+    return has_notes and BAR_LINE in kinds and all(byte in _USUAL for byte in others)

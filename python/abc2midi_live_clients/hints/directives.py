@@ -5,10 +5,8 @@ from __future__ import annotations
 from collections.abc import Iterator
 from typing import Optional
 
-from abc2midi_live import TokenKind
-
 from .hint import Place, TuneHint
-from .reader import FIELDS, Line, kind_of, words_of
+from .line import COMMENT, DIRECTIVE, FIELDS, INLINE_FIELD, Line, words_of
 from .tune import UNNAMED, TuneText
 
 IN_TUNE = "in a tune or in the first block of the book"
@@ -37,18 +35,18 @@ def midi_lines(lines: list[Line], kept: range) -> Iterator[TuneHint]:
 def settings_of(line: Line, is_kept: bool) -> Iterator[tuple[int, list[bytes], str]]:
     """Yields the settings of a line for players that have no effect: their columns, the words after `MIDI`, and where a
     program is to be written instead."""
-    kind = kind_of(line)
-    if kind in (TokenKind.COMMENT, TokenKind.DIRECTIVE) and not (kind == TokenKind.DIRECTIVE and is_kept):
-        text = line[0].text.lstrip(b" \t")
+    if line.kind == COMMENT or line.kind == DIRECTIVE and not is_kept:
+        text = line.token(0).lstrip(b" \t")
         words = words_of(text[2:].partition(b"%")[0]) if text.startswith(b"%%") else []
         if is_midi(words):
-            yield 0, words[1:], IN_TUNE if kind == TokenKind.DIRECTIVE else FROM_COLUMN_1
-    fields = [line[0]] if kind in FIELDS else [part for part in line if part.kind is TokenKind.INLINE_FIELD]
-    for part in fields:
-        text = part.text.strip(b"[]")
+            yield 1, words[1:], IN_TUNE if line.kind == DIRECTIVE else FROM_COLUMN_1
+    if b"I:" not in line.text:
+        return
+    for at in [0] if line.kind in FIELDS else [at for at, kind in enumerate(line.kinds) if kind == INLINE_FIELD]:
+        text = line.token(at).strip(b"[]")
         words = words_of(text[2:].replace(b"=", b" ", 1)) if text.startswith(b"I:") else []
         if is_midi(words):
-            yield part.start, words[1:], ELSEWHERE
+            yield line.starts[at], words[1:], ELSEWHERE
 
 
 def is_midi(words: list[bytes]) -> bool:
@@ -73,9 +71,9 @@ def directive_of(digits: bytes) -> str:
 def programs_without_voice(tune: TuneText) -> Iterator[TuneHint]:
     """Yields the programs in the body before the first `V:` of a tune that plays nothing there and declares no voice."""
     unnamed = tune.voices.get(UNNAMED)
-    if unnamed and unnamed.plays or len(tune.voices) < 2:
+    if unnamed and unnamed.first_music() or len(tune.voices) < 2:
         return
-    for place, voice in tune.programs:
-        if voice == UNNAMED and tune.lines[place.line][0].text.startswith(b"%%MIDI"):
+    for n, voice in tune.programs:
+        if voice == UNNAMED and tune.lines[n].text.startswith(b"%%MIDI"):
             text = "this program belongs to no voice; write it after the `V:`, or before the `K:` for all voices"
-            yield TuneHint(place, "LostProgram", text)
+            yield TuneHint(Place(n, 1), "LostProgram", text)

@@ -2,9 +2,11 @@
 
 from __future__ import annotations
 
+import time
 from bisect import bisect_left
 from collections.abc import Callable, Iterator, Sequence
 from functools import lru_cache
+from math import inf
 from typing import NamedTuple, Optional
 
 from abc2midi_live import Fault, LibraryMissing
@@ -15,7 +17,8 @@ from .bars import bars, short_tuplets
 from .book import NOT_UTF8, free_music, lone_returns, no_tune, not_utf8, same_numbers
 from .directives import midi_lines, programs_without_voice
 from .hint import Hint, TuneHint
-from .reader import Reader, is_blank, reader_here
+from .line import is_blank
+from .reader import Reader, reader_here
 from .repeats import repeats
 from .ties import ties
 from .tune import TuneText
@@ -42,12 +45,13 @@ MOST_TUNES = 10_000  # of a book that are looked at
 
 
 class Known(NamedTuple):
-    """A text whose hints are known: its lines, its file header, and for each tune its first line, from 0, and the hints on it."""
+    """What is known of a text: its lines, its file header, and for each tune its first line, from 0, and the hints on it, None before
+    it is looked at."""
 
     lines: list[bytes]
     header: tuple[bytes, ...]
     starts: list[int]
-    of_tunes: list[list[Hint]]
+    of_tunes: list[Optional[list[Hint]]]
 
 
 NOTHING = Known([], (), [], [])
@@ -55,30 +59,57 @@ NOTHING = Known([], (), [], [])
 
 class Finder:
     """Finds the hints of a text, by the library at a path or the one that is found. Those on tunes that did not change since the
-    last time stay."""
+    last time stay. A long book can be looked at little by little."""
 
     def __init__(self, library: Optional[str] = None) -> None:
-        self.known = NOTHING
         self.library = library
+        self.known = NOTHING
+        self.unread: list[int] = []  # the tunes that are not looked at yet, the next one last
+        self.opening: Sequence[TuneHint] = ()  # the hints on the lines before the tunes
+        self.others: list[Hint] = []  # those on the numbers of tunes
+        self.uneven: set[int] = set()  # the lines, from 1, of tunes with uneven voices
 
     def hints(self, lines: Sequence[bytes], tunes: Sequence[Tune], faults: Sequence[Fault]) -> list[Hint]:
         """Returns the hints on a text in the order of their places; `tunes` and `faults` are the program's for that text. Without a
         library these are only the hints for which no ABC is read."""
-        others = same_numbers(tunes, faults) if tunes else list(no_tune(lines))
+        self.take(lines, tunes, faults)
+        self.look()
+        return self.found()
+
+    def take(self, lines: Sequence[bytes], tunes: Sequence[Tune], faults: Sequence[Fault]) -> None:
+        """Takes a text, without looking at its tunes."""
+        self.others = same_numbers(tunes, faults) if tunes else list(no_tune(lines))
+        self.uneven = {fault.line for fault in faults if fault.name == "UnevenVoices"}
         if len(tunes) > MOST_TUNES:
             end = tunes[MOST_TUNES].line
             text = f"from this tune on the clients compare only numbers: {MOST_TUNES} tunes precede it"
-            others.append(Hint(end, 1, "ManyTunes", text))
+            self.others.append(Hint(end, 1, "ManyTunes", text))
             lines, tunes = lines[: end - 1], tunes[:MOST_TUNES]
         lines = list(lines)
         starts = [tune.line - 1 for tune in tunes]
-        header, found = read_opening(tuple(lines[: starts[0] if starts else len(lines)]), bool(tunes), self.library)
+        header, self.opening = read_opening(tuple(lines[: starts[0] if starts else len(lines)]), bool(tunes), self.library)
         known = self.known if self.known.header == header else NOTHING
-        of_tunes = hints_of_tunes(known, lines, starts, lambda tune: read_tune(tune, header, self.library))
-        self.known = known = Known(lines, header, starts, of_tunes)
-        uneven = {fault.line for fault in faults if fault.name == "UnevenVoices"}
-        everything = list(kept([placed(found, 1), *known.of_tunes], [0, *starts], uneven))
-        return sorted([*everything, *others]) if others else everything
+        of_tunes, changed = reused(known, lines, starts)
+        self.known = Known(lines, header, starts, of_tunes)
+        others = [n for n in reversed(range(len(starts))) if of_tunes[n] is None and n not in changed]
+        self.unread = [*others, *reversed(changed)]
+
+    def look(self, seconds: float = inf) -> bool:
+        """Looks at tunes, those that changed last first, until there are no more or the time is over. Returns whether all are known."""
+        lines, header, starts, of_tunes = self.known
+        ends = [*starts[1:], len(lines)]
+        stop = time.monotonic() + seconds
+        while self.unread and time.monotonic() < stop:
+            n = self.unread.pop()
+            found = read_tune(tuple(lines[starts[n] : ends[n]]), header, self.library)
+            of_tunes[n] = placed(found, starts[n] + 1)
+        return not self.unread
+
+    def found(self) -> list[Hint]:
+        """Returns the hints that are known, in the order of their places."""
+        of_tunes = [found or [] for found in self.known.of_tunes]
+        everything = list(kept([placed(self.opening, 1), *of_tunes], [0, *self.known.starts], self.uneven))
+        return sorted([*everything, *self.others]) if self.others else everything
 
 
 def kept(found: list[list[Hint]], starts: list[int], uneven: set[int]) -> Iterator[Hint]:
@@ -94,28 +125,22 @@ def kept(found: list[list[Hint]], starts: list[int], uneven: set[int]) -> Iterat
             yield hint
 
 
-def hints_of_tunes(
-    known: Known, lines: list[bytes], starts: list[int], read: Callable[[tuple[bytes, ...]], Sequence[TuneHint]]
-) -> list[list[Hint]]:
-    """Returns the hints on each tune: of those in the lines at the front and at the back that stayed the known ones."""
+def reused(known: Known, lines: list[bytes], starts: list[int]) -> tuple[list[Optional[list[Hint]]], range]:
+    """Returns for each tune the hints on it, as far as they are known: those in the lines at the front and at the back that stayed
+    the known ones. And the tunes between, which changed."""
     front, back = common_ends(known.lines, lines)
     first = max(0, bisect_left(starts, front) - 1)  # the first tune that may differ
     first = first if starts[:first] == known.starts[:first] else 0
     stop = max(first, bisect_left(starts, len(lines) - back), first + len(starts) - len(known.starts))
-    ends = [*starts[1:], len(lines)]
-    middle = [
-        placed(read(tuple(lines[start:end])), start + 1)
-        for start, end in zip(starts[first:stop], ends[first:stop])
-    ]
     tail = known.of_tunes[len(known.starts) - len(starts) + stop :]
-    return known.of_tunes[:first] + middle + move_hints(tail, len(lines) - len(known.lines))
+    return [*known.of_tunes[:first], *[None] * (stop - first), *move_hints(tail, len(lines) - len(known.lines))], range(first, stop)
 
 
-def move_hints(found: list[list[Hint]], by: int) -> list[list[Hint]]:
+def move_hints(found: list[Optional[list[Hint]]], by: int) -> list[Optional[list[Hint]]]:
     """Returns hints as they are some lines further on."""
     if not by:
         return found
-    return [[Hint(line + by, column, name, text) for line, column, name, text in of_tune] for of_tune in found]
+    return [of_tune and [hint._replace(line=hint.line + by) for hint in of_tune] for of_tune in found]
 
 
 def common_ends(old: list[bytes], new: list[bytes]) -> tuple[int, int]:
@@ -141,7 +166,7 @@ def longest(most: int, is_same: Callable[[int, int], bool]) -> int:
 
 def placed(found: Sequence[TuneHint], line: int) -> list[Hint]:
     """Returns hints inside some lines as hints on the text; the first of the lines is `line`, from 1."""
-    return [Hint(line + place[0], 1 + place[1], name, text) for place, name, text in found]
+    return [Hint(line + place.line, place.column, name, text) for place, name, text in found]
 
 
 def reader_of(library: Optional[str]) -> Optional[Reader]:
@@ -167,7 +192,7 @@ def read_opening(
     reader = reader_of(library)
     header = 0
     if reader and lines:
-        header, read = reader.opening(lines)
+        header, read = reader.file_header(lines), reader.free(lines)
         found += midi_lines(read, range(header))
         if has_tunes:
             found += free_music(read, [is_blank(line) for line in lines], 0, after_tune=False)
@@ -182,9 +207,8 @@ def read_tune(lines: tuple[bytes, ...], header: tuple[bytes, ...], library: Opti
     reader = reader_of(library)
     if reader:
         read = reader.read(header, lines)
-        tune = TuneText(read)
-        end = len(read.tune)
+        tune, end = TuneText(read), len(read.lines)
         found += [hint for family in OF_A_TUNE for hint in family(tune)]
-        found += midi_lines([*read.tune, *read.free], range(end))
+        found += midi_lines([*read.lines, *read.free], range(end))
         found += free_music(read.free, [is_blank(line) for line in lines[end:]], end, after_tune=True)
     return tuple(sorted(found))

@@ -6,7 +6,7 @@ from typing import NamedTuple
 
 
 class Place(NamedTuple):
-    """A place in a tune: a line and a byte of it, both from 0."""
+    """A place in a tune: a line, counted from 0, and a column, from 1."""
 
     line: int
     column: int
@@ -22,7 +22,7 @@ class Hint(NamedTuple):
 
 
 class TuneHint(NamedTuple):
-    """A hint in some lines: its place, counted from 0 there, its name and its sentence."""
+    """A hint in some lines: its place there, its name and its sentence."""
 
     place: Place
     name: str

@@ -3,138 +3,135 @@
 from __future__ import annotations
 
 import threading
-from collections import Counter
-from collections.abc import Sequence
-from operator import attrgetter
-from typing import NamedTuple, Optional
+from collections.abc import Callable, Sequence
+from functools import partial
+from typing import TYPE_CHECKING, NamedTuple, Optional
 
-from abc2midi_live import Entry, PlayTooLong, Session, TokenKind
+from abc2midi_live import PlayTooLong
 from abc2midi_live.opening import library_session
 
-FIELDS = frozenset((TokenKind.NUMBER_FIELD, TokenKind.TITLE_FIELD, TokenKind.KEY_FIELD, TokenKind.OTHER_FIELD))
-NO_MUSIC = FIELDS | {TokenKind.DIRECTIVE, TokenKind.COMMENT, TokenKind.FREE_TEXT}
+from .line import DIRECTIVE, FIELDS, KEY_FIELD, MUSIC, Line, is_blank, line_of
+
+if TYPE_CHECKING:
+    from abc2midi_live.library import LibrarySession
+    from abc2midi_live.records import PlayColumns
+
+NUMBER = 1
+FIRST_LINE = b"X:%d" % NUMBER
 FREE_HEADER = (b"X:0", b"K:C")  # makes a tune of lines that are in none
-_PLACE = attrgetter("line", "from_column")
+MOST_KEPT = 4096  # lines whose tokens are kept
 _HERE = threading.local()
 
 
-class Part(NamedTuple):
-    """A token of a line: its first byte, counted from 0, its kind, its depth in a chord, and its bytes."""
-
-    start: int
-    kind: TokenKind
-    depth: int
-    text: bytes
-
-
-Line = list[Part]
-Faults = dict[int, dict[int, list[str]]]
+Faults = dict[int, list[tuple[int, str]]]
 
 
 class Reading(NamedTuple):
-    """Some lines as the library reads them. Lines and columns count from 0."""
+    """Some lines as the library reads them. Lines count from 0, and columns from 1."""
 
+    lines: list[Line]  # of the tune
+    free: list[Line]  # after the tune, as they would be in a tune
+    faults: Faults  # columns and names by line; the file header and a blank line precede line 0
     header: list[Line]  # the file header
-    tune: list[Line]
-    free: list[Line]  # the lines after the tune, as they would be in a tune
-    faults: Faults  # names by line and column; the file header and a blank line precede line 0
-    first: int  # the line of the session, from 1, that is line 0
-    played: dict[tuple[int, int], Entry]  # what is played first of a line of the session and its column, from 1
-    times: Counter[tuple[int, int]]  # how often a place is played
-
-
-def is_blank(line: bytes) -> bool:
-    """Returns whether a line ends a tune."""
-    return not line.removesuffix(b"\r").strip(b" \t")
-
-
-def kind_of(line: Line) -> Optional[TokenKind]:
-    """Returns the kind of a line that is a field, a directive, a comment or free text, and None for music and blanks."""
-    kind = line[0].kind if line else TokenKind.BLANK
-    return kind if kind in NO_MUSIC else None
-
-
-def is_music(line: Line) -> bool:
-    """Returns whether a line is music."""
-    return kind_of(line) is None and any(part.kind != TokenKind.BLANK for part in line)
-
-
-def value(field: bytes) -> bytes:
-    """Returns what follows the colon of a field, blanks cut at both ends."""
-    return field[2:].strip(b" \t")
-
-
-def words_of(text: bytes) -> list[bytes]:
-    """Returns the words of a value: its parts between blanks. No other white space cuts it."""
-    return [word for word in text.replace(b"\t", b" ").split(b" ") if word]
+    first: int  # the line of the session that is line 0
+    play: Optional[PlayColumns]  # the parts in the order of the text; None if the tune is too long
+    replay: Callable[[int], Optional[PlayColumns]]  # the same some semitones higher, until the next tune is read
 
 
 class Reader:
     """Reads tunes by a session, whose text is one tune at a time."""
 
-    def __init__(self, session: Session):
+    def __init__(self, session: LibrarySession):
         self.session = session
+        self.header: tuple[bytes, ...] = ()  # with which the text begins
+        self.header_lines: list[Line] = []
+        self.known: dict[bytes, Line] = {}  # lines in tunes: their tokens depend on their bytes alone
 
-    def read(self, header: Sequence[bytes], lines: Sequence[bytes]) -> Reading:
+    def read(self, header: tuple[bytes, ...], lines: Sequence[bytes]) -> Reading:
         """Reads the lines from an `X:` line to the next one, after a file header. The parts of the tune are played in the order
         of the text, so that each has its time."""
         end = next((n for n, line in enumerate(lines) if is_blank(line)), len(lines))
-        free = [b"%" if is_blank(line) else line for line in lines[end:]]
-        first = len(header) + 1
-        last = first + end + len(FREE_HEADER)
-        self._put([*header, b"", *lines[:end], *FREE_HEADER, *free])
-        read = [self._line(n + 1) for n in range(last + len(free))]
-        tune = read[first : first + end]
+        free = self.free(lines[end:])
+        lines = [FIRST_LINE, *lines[1:end]]
+        first = len(header) + 2
+        self._put(header, [b"", *lines])
+        tune = [self._line_in_tune(first + n, line) for n, line in enumerate(lines)]
         for n in orders_of_parts(tune):
+            self.session.replace(first + n, first + n, [b"%"])
+        faults, replay = self._faults(first), partial(self._transposed, first, tune)
+        return Reading(tune, free, faults, self.header_lines, first, self._play(), replay)
+
+    def _play(self) -> Optional[PlayColumns]:
+        """Returns what the tune plays, None if it is too long."""
+        try:
+            return self.session.play_columns(NUMBER)
+        except PlayTooLong:
+            return None
+
+    def _transposed(self, first: int, tune: list[Line], semitones: int) -> Optional[PlayColumns]:
+        """Returns what the tune plays some semitones higher, by a key at the end of its header."""
+        n = next((n for n, line in enumerate(tune) if line.kind in (MUSIC, KEY_FIELD)), len(tune))
+        key = tune[n].field() if n < len(tune) and tune[n].kind == KEY_FIELD else b""
+        self.session.insert(first + n, [b"%b transpose=%d" % (key or b"K:", semitones)])
+        if key:
             self.session.replace(first + n + 1, first + n + 1, [b"%"])
-        entries = self._entries()
-        played, times = dict(zip(map(_PLACE, entries), entries)), Counter(map(_PLACE, entries))
-        return Reading(read[: len(header)], tune, read[last:], self._faults(first), first + 1, played, times)
+        play = self._play()
+        self.session.replace(first + n, first + n + bool(key), [tune[n].text] if key else [])
+        return play
 
-    def opening(self, lines: Sequence[bytes]) -> tuple[int, list[Line]]:
-        """Returns how many of the lines before the first tune are the file header, and the lines as they would be in a tune."""
-        self._put(lines)
-        read = [self._line(n + 1) for n in range(len(lines))]
-        fields = [n for n, line in enumerate(read) if kind_of(line) in FIELDS or kind_of(line) == TokenKind.DIRECTIVE]
-        self._put([*FREE_HEADER, *(b"%" if is_blank(line) else line for line in lines)])
-        return fields[-1] + 1 if fields else 0, [self._line(len(FREE_HEADER) + n + 1) for n in range(len(lines))]
+    def free(self, lines: Sequence[bytes]) -> list[Line]:
+        """Returns lines that are in no tune as they would be in one."""
+        lines = [b"%" if is_blank(line) else line for line in lines]
+        if any(line not in self.known for line in lines):
+            self._put((), [*FREE_HEADER, *lines])
+        return [self._line_in_tune(len(FREE_HEADER) + n + 1, line) for n, line in enumerate(lines)]
 
-    def _put(self, lines: Sequence[bytes]) -> None:
-        """Makes lines the text."""
-        if self.session.line_count:
-            self.session.replace(1, self.session.line_count, lines)
+    def file_header(self, lines: Sequence[bytes]) -> int:
+        """Returns how many of the lines before the first tune are the file header."""
+        self._put((), lines)
+        kinds = [self._line(n + 1).kind for n in range(len(lines))]
+        return max((n + 1 for n, kind in enumerate(kinds) if kind in FIELDS or kind == DIRECTIVE), default=0)
+
+    def _put(self, header: tuple[bytes, ...], lines: Sequence[bytes]) -> None:
+        """Makes lines after a file header the text."""
+        count, kept = self.session.line_count, len(header) if header == self.header else 0
+        put = [*header[kept:], *lines]
+        if count > kept:
+            self.session.replace(kept + 1, count, put)
         else:
-            self.session.insert(1, lines)
+            self.session.insert(kept + 1, put)
+        if header != self.header:
+            self.header = header
+            self.header_lines = [self._line(n + 1) for n in range(len(header))]
+
+    def _line_in_tune(self, number: int, text: bytes) -> Line:
+        """Returns a line of the tune that is the text."""
+        line = self.known.get(text)
+        if line is None:
+            if len(self.known) >= MOST_KEPT:
+                self.known.clear()
+            line = self.known[text] = self._line(number)
+        return line
 
     def _line(self, number: int) -> Line:
         """Returns a line, counted from 1."""
-        text = self.session.line(number)
-        return [Part(start - 1, kind, depth, text[start - 1 : end - 1]) for start, end, kind, depth in self.session.tokens(number)]
+        return line_of(self.session.line(number), self.session.token_columns(number))
 
     def _faults(self, first: int) -> Faults:
-        """Returns the faults by line and column, from 0; line 0 is the line `first` of the session."""
+        """Returns the faults by line; line 0 is the line `first` of the session."""
         found: Faults = {}
         for fault in self.session.faults:
-            found.setdefault(fault.line - 1 - first, {}).setdefault(fault.column - 1, []).append(fault.name)
+            found.setdefault(fault.line - first, []).append((fault.column, fault.name))
         return found
-
-    def _entries(self) -> list[Entry]:
-        """Returns what the tune plays, the last of each track first."""
-        titles = self.session.titles
-        try:
-            tracks = self.session.play(titles[0].number) if titles else None
-        except PlayTooLong:
-            tracks = None
-        return [entry for track in tracks or () for entry in reversed(track)]
 
 
 def orders_of_parts(tune: list[Line]) -> list[int]:
     """Returns the lines of a header that are orders of parts."""
     found = []
     for n, line in enumerate(tune):
-        if is_music(line) or kind_of(line) == TokenKind.KEY_FIELD:
+        if line.kind in (MUSIC, KEY_FIELD):
             break
-        if line and line[0].text.startswith(b"P:") and kind_of(line) == TokenKind.OTHER_FIELD:
+        if line.field().startswith(b"P:"):
             found.append(n)
     return found
 

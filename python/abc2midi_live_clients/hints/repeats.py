@@ -6,7 +6,7 @@ from collections.abc import Iterator
 from typing import Optional
 
 from .hint import TuneHint
-from .tune import BAR, ENDING, PLAYED, Item, TuneText, Voice, bar_line
+from .tune import ENDING, Item, Music, TuneText, Voice
 
 PART_IN_REPEAT = "this part begins inside a repeat, which does not reach over it; each part is played on its own"
 OPEN_REPEAT = "nothing closes this repeat, so it is played once; write `:|` at its end"
@@ -15,48 +15,57 @@ LOST_ENDING = "no pass reaches this ending: an earlier one has its number; a dou
 
 def repeats(tune: TuneText) -> Iterator[TuneHint]:
     """Yields the hints about repeats of a tune."""
-    for voice in tune.voices.values() if tune.played else ():
+    for voice in tune.voices.values() if tune.play else ():
         yield from repeats_of(tune, voice)
 
 
 def repeats_of(tune: TuneText, voice: Voice) -> Iterator[TuneHint]:
     """Yields the hints about repeats of a voice."""
-    sections = sorted(voice.sections.items())
+    sections = voice.in_order()
     end: tuple[int, list[Item]] = (0, [])
     for (_, items), (after, following) in zip(sections, [*sections[1:], end]):
         yield from lost_endings(items)
-        last = next((item for item in reversed(items) if is_opening(item)), None)
+        last = next((item for item in reversed(items) if item.bar.opens), None)
         for opening in open_repeats(tune, items):
-            if opening is last and is_closed_first(following):
+            if opening is last and is_closed(following):
                 yield TuneHint(tune.parts[after - 1], "PartInRepeat", PART_IN_REPEAT)
             else:
                 yield TuneHint(opening.place, "OpenRepeat", OPEN_REPEAT)
 
 
-def is_opening(item: Item) -> bool:
-    """Returns whether an item is a bar line that opens a repeat."""
-    return item.kind == BAR and bar_line(item.text).opens > 0
-
-
-def is_closed_first(items: list[Item]) -> bool:
+def is_closed(items: list[Item]) -> bool:
     """Returns whether the first of the bar lines with colons or more lines than one closes a repeat."""
-    bars = (bar_line(item.text) for item in items if item.kind == BAR)
-    return next((bar.closes > 0 for bar in bars if bar != (0, 0, False)), False)
+    return next((item.bar.closes > 0 for item in items if not item.bar.is_single), False)
 
 
 def open_repeats(tune: TuneText, items: list[Item]) -> Iterator[Item]:
-    """Yields the bar lines that open a repeat whose first note is played once. An ending may follow directly: then its first
-    note is, and nothing is known."""
+    """Yields the bar lines that open a repeat whose first note is played once. The music of an ending always is: if one follows
+    directly, a bar line that closes the repeat or a second ending shows that it is repeated."""
     opening: Optional[Item] = None
-    for item in items:
-        if is_opening(item):
+    for n, item in enumerate(items):
+        if item.bar.opens:
             opening = item
-        elif item.kind == ENDING or item.kind == BAR and bar_line(item.text).closes:
+        elif item.bar.closes:
             opening = None
-        elif item.kind == PLAYED:
-            if opening and tune.times_of(item) == 1:
+        elif item.kind == ENDING:
+            if opening and not is_repeated(items, n):
                 yield opening
             opening = None
+        elif isinstance(item, Music):
+            if opening and item.entry is not None and tune.is_played_once(item.entry):
+                yield opening
+            opening = None
+
+
+def is_repeated(items: list[Item], ending: int) -> bool:
+    """Returns whether a repeat that begins with an ending has a second one, or is closed."""
+    for n in range(ending, len(items)):
+        item = items[n]
+        if item.kind == ENDING and item.text.strip(b"[") != b"1":
+            return True
+        if item.bar.closes or item.bar.opens:
+            return item.bar.closes > 0
+    return False
 
 
 def lost_endings(items: list[Item]) -> Iterator[TuneHint]:
@@ -65,9 +74,9 @@ def lost_endings(items: list[Item]) -> Iterator[TuneHint]:
     for item in items:
         if item.kind == ENDING:
             ending = item
-        elif item.kind == BAR and bar_line(item.text) != (0, 0, False):
+        elif not item.bar.is_single:
             ending = None
-        elif item.kind == PLAYED:
+        elif isinstance(item, Music):
             if ending and item.length is None:
                 yield TuneHint(ending.place, "LostEnding", LOST_ENDING)
             ending = None

@@ -1,64 +1,93 @@
-"""A tune as the hints see it: its fields, and for each voice its notes, bar lines and endings in the order of the text."""
+"""A tune as the hints see it: its fields, and for each voice its music, bar lines and endings in the order of the text."""
 
 from __future__ import annotations
 
-from collections.abc import Sequence
-from dataclasses import dataclass, field
-from functools import lru_cache
-from typing import NamedTuple, Optional
-
-from abc2midi_live import Entry, TokenKind
+from bisect import bisect_right
+from collections import Counter
+from functools import cached_property
+from typing import TYPE_CHECKING, NamedTuple, Optional
 
 from .hint import Place
-from .reader import FIELDS, Line, Part, Reading, is_music, kind_of, value, words_of
+from .line import (
+    BAD_BYTE,
+    BAR_LINE,
+    COMMENT,
+    DIRECTIVE,
+    ENDING_MARK,
+    FIELDS,
+    INLINE_FIELD,
+    KEY_FIELD,
+    MUSIC,
+    PLAIN,
+    TUPLET,
+    UNCLOSED,
+    BarLine,
+    Line,
+    Segment,
+    value,
+    words_of,
+)
+from .reader import Reading
+
+if TYPE_CHECKING:
+    from abc2midi_live.records import PlayColumns
+
+READ_SIGNS = frozenset((ENDING_MARK, TUPLET, BAD_BYTE, UNCLOSED, INLINE_FIELD))  # beside bar lines
+ODD_LENGTHS = frozenset(("BadLength", "BadTuplet", "NestedTuplet", "BadBroken"))
 
 # Kinds of items. A break is a fault after which the next note is unknown; an odd length is a fault in the length of a note.
 PLAYED, BAR, ENDING, METER, BREAK, ODD = "played", "bar", "ending", "meter", "break", "odd"
 WHOLE = 1920  # ticks
+NEAR = 1000  # entries
+OCTAVES = 108  # semitones by which silent notes come into the range of MIDI
 UNNAMED = b""  # the voice without a name
-NOTE, REST, BAR_REST, CHORD, BLANK, TIE = TokenKind.NOTE, TokenKind.REST, TokenKind.BAR_REST, TokenKind.CHORD, TokenKind.BLANK, TokenKind.TIE
-UNPLAYED = frozenset((TokenKind.QUOTED, TokenKind.GRACE, TokenKind.DECORATION, TokenKind.NO_EFFECT))
-ODD_LENGTHS = frozenset(("BadLength", "BadTuplet", "NestedTuplet", "BadBroken"))
 
 
 class Meter(NamedTuple):
-    """A meter; a free one has nothing over its line."""
+    """A meter, and the length of its bar in ticks; a free one has none."""
 
     over: int
     under: int
-
-    @property
-    def ticks(self) -> int:
-        """The length of its bar."""
-        return WHOLE * self.over // self.under
+    ticks: int
 
 
-FREE = Meter(0, 1)
+FREE = Meter(0, 1, 0)
 
 
 class Item:
-    """A part of a voice: a note, chord or rest, a bar line, an ending, a meter, or a fault. Below is what most have."""
+    """A part of a voice: some music, a bar line, an ending, a meter, or a fault. Below is what most have."""
 
-    entry: Optional[Entry] = None  # of a note, the first one of a chord, or a rest that is played
-    length: Optional[int] = None  # of a note, chord or rest that is played, in ticks
-    is_rest = False
-    is_bar_rest = False  # a rest of whole bars, over which a tie goes
-    tones: tuple[Entry, ...] = ()
-    own_ties: tuple[Entry, ...] = ()  # those notes of a chord that have a tie of their own
-    tie: Optional[Place] = None  # after the note or chord
-    hidden = False  # of a bar line: it is dotted or not drawn, as inside a bar
+    bar = PLAIN  # what a bar line means
     meter = FREE
+    text = b""  # of an ending
 
-    def __init__(self, kind: str, line: int, column: int, text: bytes = b""):
+    def __init__(self, kind: str, line: int, column: int):
         self.kind = kind
         self.line = line
         self.column = column
-        self.text = text
 
     @property
     def place(self) -> Place:
         """Its place."""
         return Place(self.line, self.column)
+
+
+class Music(Item):
+    """The music of a segment of a line."""
+
+    entry: Optional[int] = None  # with which it is played first
+    length: Optional[int] = None  # in ticks, if it is played
+
+    def __init__(self, n: int, line: Line, segment: Segment):
+        self.kind = PLAYED
+        self.line = n
+        self.column = line.starts[segment.first]
+        self.tokens = line
+        self.segment = segment
+
+    def is_rest(self) -> bool:
+        """Returns whether it has no note."""
+        return not any(self.tokens.notes(at) for at in range(self.segment.first, self.segment.last + 1))
 
 
 class Tuplet(NamedTuple):
@@ -70,108 +99,172 @@ class Tuplet(NamedTuple):
     passed_bar: bool = False
 
 
-@dataclass
+class Tone(NamedTuple):
+    """A tone that is played: its key, also one out of the range of MIDI, and whether a tie may join it with one before it."""
+
+    key: Optional[int]  # None if it is unknown
+    is_joined: bool
+
+
 class Voice:
-    """A voice: its items by section, and what holds at the place that is read."""
+    """A voice: its items by section, and the tuplet at the place that is read."""
 
-    sections: dict[int, list[Item]] = field(default_factory=dict)
-    tuplet: Optional[Tuplet] = None
-    plays: bool = False  # it has a note, chord or rest
+    def __init__(self) -> None:
+        self.sections: dict[int, list[Item]] = {}
+        self.tuplet: Optional[Tuplet] = None
+        self.entry = 0  # of the last note or rest
 
-    def section(self, number: int) -> list[Item]:
-        """Returns the items of a section."""
-        return self.sections.setdefault(number, [])
+    def in_order(self) -> list[tuple[int, list[Item]]]:
+        """Returns its sections in the order of the text, each with its items."""
+        return sorted(self.sections.items())
 
-    def items(self) -> list[Item]:
-        """Returns its items in order."""
-        return [item for _, items in sorted(self.sections.items()) for item in items]
+    def first_music(self) -> Optional[Music]:
+        """Returns the first of its music, if it has any."""
+        return next((item for _, items in self.in_order() for item in items if isinstance(item, Music)), None)
 
 
 class TuneText:
     """A tune, read line by line."""
 
     def __init__(self, read: Reading):
-        self.lines, self.faults = read.tune, read.faults
-        self.first, self.played, self.times = read.first, read.played, read.times
+        self.lines, self.faults, self.first = read.lines, read.faults, read.first
+        self.play, self.replay = read.play, read.replay
+        self.places = self.play.places if self.play else []
         self.in_block = lines_in_blocks(self.lines)
         self.fields: list[tuple[Place, bytes]] = []  # all fields in order, those in brackets too
-        self.others: list[tuple[Place, Part, Optional[Part]]] = []  # what is not played, with the token after it
+        self.others: list[tuple[int, int]] = []  # what is not played, by its line and token
         self.overlays: list[Place] = []
         self.short_tuplets: list[Tuplet] = []
         self.parts: list[Place] = []  # of the body; part n begins section n + 1
-        self.programs: list[tuple[Place, bytes]] = []  # of the body, each with its voice
+        self.programs: list[tuple[int, bytes]] = []  # the directives of the body, each with its voice
         self.meter = FREE
         self.declared: list[bytes] = []
-        self._read_file_header(read.header)
-        first = self._read_header()
+        for n, line in enumerate(read.header):
+            self._read_meter(n - len(read.header) - 1, line)
+        body = self._read_header()
         self.voices = {name: Voice() for name in self.declared}
-        self.current = self.declared[0] if self.declared else UNNAMED
-        self.voice = self.voices.setdefault(self.current, Voice())
-        self.items: list[Item] = self.voice.section(0)
-        for n in range(first, len(self.lines)):
+        self._begin_voice(self.declared[0] if self.declared else UNNAMED)
+        for n in range(body, len(self.lines)):
             self._read_line(n, self.lines[n])
         tuplets = [voice.tuplet for voice in self.voices.values()]
         self.short_tuplets += [tuplet for tuplet in tuplets if tuplet and not tuplet.passed_bar]
 
-    def times_of(self, item: Item) -> int:
-        """Returns how often a note, chord or rest is played."""
-        return self.times[item.entry.line, item.entry.from_column] if item.entry else 0
+    # ---- the play
 
-    def _names_of_faults(self, place: Place, text: bytes) -> set[str]:
-        """Returns the names of the faults in a token."""
-        faults = self.faults.get(place.line)
-        if not faults:
-            return set()
-        return {name for column in range(place.column, place.column + len(text)) for name in faults.get(column, ())}
+    @cached_property
+    def played(self) -> dict[int, int]:
+        """By each place the entry with which it is played first."""
+        return dict(zip(reversed(self.places), reversed(range(len(self.places)))))
 
-    def _read_file_header(self, lines: list[Line]) -> None:
-        """Reads the meter of the file header. Its lines, and a blank one after them, precede line 0."""
-        for n, line in enumerate(lines):
-            if kind_of(line) in FIELDS and line[0].text.startswith(b"M:"):
-                self.meter = self._meter_of(Place(n - len(lines) - 1, 0), line[0].text)
+    @cached_property
+    def times(self) -> Counter[int]:
+        """How often each place is played."""
+        return Counter(self.places)
+
+    def near(self, place: int, start: int) -> Optional[int]:
+        """Returns the entry that plays a place, if it is one of the next after another."""
+        try:
+            return self.places.index(place, start, start + NEAR)
+        except ValueError:
+            return None
+
+    def next_entry(self, place: int) -> Optional[int]:
+        """Returns the entry that plays a place of the present voice first: mostly one soon after that of the place before."""
+        found = self.near(place, self.voice.entry)
+        if found is None:
+            found = self.played.get(place)
+        if found is not None:
+            self.voice.entry = found
+        return found
+
+    def is_played_once(self, entry: int) -> bool:
+        """Returns whether the place of an entry is played once."""
+        place = self.places[entry]
+        return self.near(place, entry + 1) is None and self.times[place] == 1
+
+    def tones(self, n: int, tokens: list[int]) -> list[Tone]:
+        """Returns the tones of notes of a line that are played."""
+        if not self.play:
+            return []
+        entries = [self.played.get(self.play.place(n + self.first, self.lines[n].starts[at])) for at in tokens]
+        return [self.tone(self.play, entry) for entry in entries if entry is not None]
+
+    def tone(self, play: PlayColumns, entry: int) -> Tone:
+        """Returns the tone of an entry. The key of one that is silent is that of the tune some octaves lower or higher."""
+        key, is_joined = play.entry(entry).key, play.entry(entry).joined
+        if key is not None:
+            return Tone(key, is_joined)
+        keys = [(shift, other.entry(entry).key) for shift, other in self.transposed]
+        return Tone(next((key - shift for shift, key in keys if key is not None), None), True)
+
+    @cached_property
+    def transposed(self) -> list[tuple[int, PlayColumns]]:
+        """The plays of the tune that many octaves lower and higher, each with its shift in semitones."""
+        plays = [(shift, self.replay(shift)) for shift in (-OCTAVES, OCTAVES)]
+        return [(shift, play) for shift, play in plays if play and len(play.places) == len(self.places)]
+
+    # ---- fields
+
+    def _is_refused(self, place: Place, text: bytes, *names: str) -> bool:
+        """Returns whether a token has a fault of some names."""
+        end = place.column + len(text)
+        return any(place.column <= column < end and name in names for column, name in self.faults.get(place.line, ()))
+
+    def _read_meter(self, n: int, line: Line) -> None:
+        """Reads the meter of a header."""
+        if line.field().startswith(b"M:"):
+            self.meter = self._meter_of(Place(n, 1), line.field())
 
     def _read_header(self) -> int:
         """Reads the header; returns the first line of the body."""
         for n, line in enumerate(self.lines):
-            if is_music(line):
+            text = line.field()
+            if line.kind == MUSIC:
                 return n
-            kind = kind_of(line)
-            if kind not in FIELDS:
+            if not text:
                 continue
-            place, text = Place(n, 0), line[0].text
-            self.fields.append((place, text))
-            if text.startswith(b"M:"):
-                self.meter = self._meter_of(place, text)
-            elif text.startswith(b"V:"):
-                name = self._voice_of(place, text)
-                if name and name not in self.declared:
-                    self.declared.append(name)
-            elif kind == TokenKind.KEY_FIELD:
+            self.fields.append((Place(n, 1), text))
+            self._read_meter(n, line)
+            name = self._voice_of(Place(n, 1), text)
+            if name and name not in self.declared:
+                self.declared.append(name)
+            if line.kind == KEY_FIELD:
                 return n + 1
         return len(self.lines)
 
     def _meter_of(self, place: Place, text: bytes) -> Meter:
         """Returns the meter of a field, and the free one if it is refused: then bars are not compared."""
-        return FREE if "BadMeter" in self._names_of_faults(place, text) else meter_of(value(text))
+        return FREE if self._is_refused(place, text, "BadMeter") else meter_of(value(text))
 
     def _voice_of(self, place: Place, text: bytes) -> bytes:
-        """Returns the voice of a field, empty if it is refused."""
-        is_refused = self._names_of_faults(place, text) & {"BadVoice", "TooManyVoices"}
-        words = words_of(value(text))
-        return b"" if is_refused or not words else words[0]
+        """Returns the voice of a field, empty if it is refused, or another field."""
+        words = words_of(value(text)) if text.startswith(b"V:") else []
+        return words[0] if words and not self._is_refused(place, text, "BadVoice", "TooManyVoices") else b""
+
+    def _begin_voice(self, name: bytes) -> None:
+        """Makes a voice the current one."""
+        self.current = name
+        self.voice = self.voices.setdefault(name, Voice())
+        self._begin_section()
+
+    def _begin_section(self) -> None:
+        """Makes the last part the current section."""
+        self.items = self.voice.sections.setdefault(len(self.parts), [])
+
+    # ---- the body
 
     def _read_line(self, n: int, line: Line) -> None:
         """Reads a line of the body."""
-        kind = kind_of(line)
-        if kind in FIELDS:
-            self._read_field(Place(n, 0), line[0].text)
-        elif kind == TokenKind.DIRECTIVE:
-            self.programs.append((Place(n, 0), self.current))
-        elif kind is None and n not in self.in_block:
+        if line.kind == MUSIC and n not in self.in_block:
             self._read_music(n, line)
+        elif line.kind in FIELDS:
+            self._read_field(Place(n, 1), line.field())
+        elif line.kind == DIRECTIVE:
+            self.programs.append((n, self.current))
 
-    def _put(self, item: Item) -> Item:
+    def _put(self, kind: str, n: int, column: int) -> Item:
         """Puts an item at the end of the current voice."""
+        item = Item(kind, n, column)
         self.items.append(item)
         return item
 
@@ -179,116 +272,72 @@ class TuneText:
         """Reads a field of the body, as `M:3/4`."""
         self.fields.append((place, text))
         if text.startswith(b"M:"):
-            self._put(Item(METER, *place)).meter = self._meter_of(place, text)
-        elif text.startswith(b"P:") and "BadPart" not in self._names_of_faults(place, text):
+            self._put(METER, *place).meter = self._meter_of(place, text)
+        elif text.startswith(b"P:") and not self._is_refused(place, text, "BadPart"):
             self.parts.append(place)
+            self._begin_section()
         elif text.startswith(b"V:"):
-            name = self._voice_of(place, text)
-            if name:
-                self.current, self.voice = name, self.voices.setdefault(name, Voice())
-        self.items = self.voice.section(len(self.parts))
+            self._begin_voice(self._voice_of(place, text) or self.current)
 
     def _read_music(self, n: int, line: Line) -> None:
         """Reads a line of music."""
-        has_faults = n in self.faults
-        item: Optional[Item] = None  # the note or chord right before
-        for at, part in enumerate(line):
-            start, kind, depth, text = part
-            if depth:
-                continue
-            if has_faults and self._names_of_faults(Place(n, start), text) & ODD_LENGTHS:
-                self._put(Item(ODD, n, start))
-            if kind is NOTE:
-                item = self._play(n, start, [part])
-            elif kind is BLANK:
-                item = None
-            elif kind is CHORD:
-                item = self._read_chord(n, start, line, at + 1)
-            elif kind is REST or kind is BAR_REST:
-                self._rest(n, start, kind)
-                item = None
-            elif kind is TIE and item:
-                item.tie, item = Place(n, start), None
-            elif kind is not TokenKind.COMMENT:
-                item = None
-                self._read_other(n, part, line[at - 1] if at else None, line[at + 1] if at + 1 < len(line) else None)
+        self.others += [(n, at) for at in line.others]
+        odd = self._odd_tokens(n, line)
+        for segment in line.segments:
+            while odd and odd[-1] < segment.sign:
+                self._put(ODD, n, line.starts[odd.pop()])
+            if segment.has_music:
+                self._read_segment(n, line, segment)
+            if segment.kind == BAR_LINE:
+                self._read_bar(n, line.starts[segment.sign], segment.bar)
+            elif segment.kind in READ_SIGNS:
+                self._read_sign(n, line, segment.sign, segment.kind)
+        if odd:
+            self._put(ODD, n, line.starts[odd.pop()])
 
-    def _read_other(self, n: int, part: Part, before: Optional[Part], after: Optional[Part]) -> None:
-        """Reads a token that takes no time."""
-        start, kind, _, text = part
-        place = Place(n, start)
-        if kind is TokenKind.BAR_LINE:
-            self._read_bar(place, text, before is not None and before.text == b"." and not before.depth)
-        elif kind in UNPLAYED:
-            self.others.append((place, part, after))
-        elif kind is TokenKind.ENDING and "BadEnding" not in self._names_of_faults(place, text):
-            self._put(Item(ENDING, n, start, text))
-        elif kind is TokenKind.INLINE_FIELD:
+    def _odd_tokens(self, n: int, line: Line) -> list[int]:
+        """Returns the tokens with a fault in the length of a note, the last one first."""
+        columns = [column for column, name in self.faults.get(n, ()) if name in ODD_LENGTHS]
+        return sorted((bisect_right(line.starts, column) - 1 for column in columns), reverse=True)
+
+    def _read_segment(self, n: int, line: Line, segment: Segment) -> None:
+        """Reads the music of a segment, and counts its notes in the tuplet of its voice."""
+        music = Music(n, line, segment)
+        self.items.append(music)
+        if self.play:
+            row = n + self.first
+            music.entry, last = self.next_entry(self.play.place(row, segment.start)), self.next_entry(self.play.place(row, segment.end))
+            if music.entry is not None and last is not None:
+                music.length = self.play.off(last) - self.play.on(music.entry)
+        tuplet = self.voice.tuplet
+        if tuplet:
+            left = tuplet.missing - segment.timed
+            self.voice.tuplet = tuplet._replace(missing=left) if left > 0 else None
+
+    def _read_sign(self, n: int, line: Line, at: int, kind: int) -> None:
+        """Reads a token that is no music and no bar line."""
+        text, place = line.token(at), Place(n, line.starts[at])
+        if kind == ENDING_MARK and not self._is_refused(place, text, "BadEnding"):
+            self._put(ENDING, *place).text = text
+        elif kind == INLINE_FIELD:
             self._read_field(place, text[1:-1])
-        elif kind is TokenKind.TUPLET and "BadTuplet" not in self._names_of_faults(place, text):
+        elif kind == TUPLET and not self._is_refused(place, text, "BadTuplet"):
             notes = int((text + b"::").split(b":")[2] or text[1:].split(b":")[0])
             self.voice.tuplet = Tuplet(place, notes, notes)
-        elif kind in (TokenKind.BAD_BYTE, TokenKind.UNCLOSED):
-            self._put(Item(BREAK, n, start))
+        elif kind in (BAD_BYTE, UNCLOSED):
+            self._put(BREAK, *place)
             if text == b"&":
                 self.overlays.append(place)
 
-    def _read_chord(self, n: int, start: int, line: Line, first: int) -> Optional[Item]:
-        """Reads a chord; its parts are those of the line from the first one on. One without notes takes no time."""
-        end = next((at for at in range(first, len(line)) if not line[at].depth), len(line))
-        inside = line[first:end]
-        notes = [part for part in inside if part.kind is NOTE]
-        item = self._play(n, start, notes) if notes else None
-        if item:
-            item.own_ties = self._tones(n, [note for note, tie in zip(inside, inside[1:]) if note.kind is NOTE and tie.kind is TIE])
-        return item
-
-    def _play(self, n: int, start: int, notes: Sequence[Part]) -> Item:
-        """Reads a note, or the notes of a chord."""
-        item = self._put(Item(PLAYED, n, start))
-        entry = self.played.get((n + self.first, notes[0].start + 1))
-        if entry:
-            item.entry, item.length = entry, entry.off - entry.on
-            item.tones = (entry,) if len(notes) == 1 else self._tones(n, notes)
-        self._count()
-        return item
-
-    def _tones(self, line: int, notes: Sequence[Part]) -> tuple[Entry, ...]:
-        """Returns the tones of notes, but for those that are not played."""
-        entries = [self.played.get((line + self.first, note.start + 1)) for note in notes]
-        return tuple(entry for entry in entries if entry)
-
-    def _rest(self, n: int, start: int, kind: TokenKind) -> None:
-        """Reads a rest."""
-        item = self._put(Item(PLAYED, n, start))
-        item.is_rest, item.is_bar_rest = True, kind is BAR_REST
-        entry = self.played.get((n + self.first, start + 1))
-        if entry:
-            item.entry, item.length = entry, entry.off - entry.on
-        if item.is_bar_rest:
-            self.voice.plays = True
-        else:
-            self._count()
-
-    def _count(self) -> None:
-        """Counts a note, chord or rest in the tuplet of its voice."""
-        self.voice.plays = True
-        tuplet = self.voice.tuplet
-        if tuplet:
-            left = tuplet.missing - 1
-            self.voice.tuplet = tuplet._replace(missing=left) if left else None
-
-    def _read_bar(self, place: Place, text: bytes, dotted: bool) -> None:
+    def _read_bar(self, n: int, column: int, bar: BarLine) -> None:
         """Reads a bar line; a tuplet that it finds unfinished is noted once."""
-        bar = Item(BAR, *place, text)
-        bar.hidden = dotted or text == b"[|]"
         tuplet = self.voice.tuplet
-        if not tuplet:
-            self.items.append(bar)
-            return
-        fault = Item(BREAK, *place)  # the lengths of the bars on both sides are odd
-        self.items += [fault, bar, fault]
-        if not tuplet.passed_bar:
+        if tuplet:  # the lengths of the bars on both sides are odd
+            self._put(BREAK, n, column)
+        self._put(BAR, n, column).bar = bar
+        if tuplet:
+            self._put(BREAK, n, column)
+        if tuplet and not tuplet.passed_bar:
             self.voice.tuplet = tuplet._replace(passed_bar=True)
             self.short_tuplets.append(self.voice.tuplet)
 
@@ -297,10 +346,10 @@ def meter_of(text: bytes) -> Meter:
     """Returns the meter that an accepted value spells."""
     if text in (b"", b"none"):
         return FREE
-    if text.startswith(b"C"):
-        return Meter(2, 2) if text == b"C|" else Meter(4, 4)
-    over, _, under = text.replace(b"(", b"").replace(b")", b"").partition(b"/")
-    return Meter(sum(map(int, over.split(b"+"))), int(under))
+    text = {b"C": b"4/4", b"C|": b"2/2"}.get(text, text)
+    beats, _, unit = text.replace(b"(", b"").replace(b")", b"").partition(b"/")
+    over, under = sum(map(int, beats.split(b"+"))), int(unit)
+    return Meter(over, under, WHOLE * over // under)
 
 
 def lines_in_blocks(lines: list[Line]) -> dict[int, int]:
@@ -308,13 +357,13 @@ def lines_in_blocks(lines: list[Line]) -> dict[int, int]:
     found: dict[int, int] = {}
     start, end = 0, b""
     for n, line in enumerate(lines):
-        if kind_of(line) != TokenKind.COMMENT:
+        if line.kind != COMMENT:
             if end:
                 found[n] = start
         elif end:
-            end = b"" if line[0].text.lstrip(b" \t%").startswith(end) else end
+            end = b"" if line.token(0).lstrip(b" \t%").startswith(end) else end
         else:
-            start, end = n, end_of_block(line[0].text.lstrip(b" \t"))
+            start, end = n, end_of_block(line.token(0).lstrip(b" \t"))
     return found
 
 
@@ -323,20 +372,3 @@ def end_of_block(comment: bytes) -> bytes:
     words = words_of(comment[2:]) if comment.startswith(b"%%") else []
     name = words[0].removeprefix(b"begin") if words and words[0].startswith(b"begin") else b""
     return b"end" + name if name else b""
-
-
-class BarLine(NamedTuple):
-    """What a bar line means: colons before it and after it, and whether it is more than one thin line."""
-
-    closes: int
-    opens: int
-    double: bool
-
-
-@lru_cache(maxsize=1024)
-def bar_line(text: bytes) -> BarLine:
-    """Returns the meaning of a bar line."""
-    middle = text.strip(b":")
-    if not middle:
-        return BarLine(len(text) - 1, len(text) - 1, True)
-    return BarLine(len(text) - len(text.lstrip(b":")), len(text) - len(text.rstrip(b":")), middle != b"|")

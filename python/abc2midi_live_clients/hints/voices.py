@@ -9,7 +9,7 @@ from typing import Optional
 from ..places import text_of
 from .bars import Piece, fraction, pieces_of
 from .hint import TuneHint
-from .tune import PLAYED, UNNAMED, Meter, TuneText
+from .tune import UNNAMED, Meter, TuneText
 
 OF_UNEVEN_VOICES = "VoiceLengths"  # kept at tunes whose voices the program finds uneven
 
@@ -17,12 +17,10 @@ OF_UNEVEN_VOICES = "VoiceLengths"  # kept at tunes whose voices the program find
 def music_before_voice(tune: TuneText) -> Iterator[TuneHint]:
     """Yields a hint if music precedes the first `V:` of a tune with voices, and none is declared."""
     unnamed = tune.voices.get(UNNAMED)
-    if not unnamed or not any(voice.plays for name, voice in tune.voices.items() if name != UNNAMED):
-        return
-    first = next((item.place for item in unnamed.items() if item.kind == PLAYED), None)
-    if first:
+    first = unnamed.first_music() if unnamed else None
+    if first and any(voice.first_music() for name, voice in tune.voices.items() if name != UNNAMED):
         text = "this music is a voice of its own, played together with those that a `V:` begins; write a `V:` before it"
-        yield TuneHint(first, "MusicBeforeVoice", text)
+        yield TuneHint(first.place, "MusicBeforeVoice", text)
 
 
 def voice_lengths(tune: TuneText) -> Iterator[TuneHint]:
@@ -38,7 +36,7 @@ def voice_lengths(tune: TuneText) -> Iterator[TuneHint]:
             here = f"{name_of(first)} lasts {written_length(pair[0], tune.meter)} in it, {name_of(other)} {written_length(pair[1], tune.meter)}"
             whole = ", ".join(f"{name_of(name)} {fraction(total, tune.meter)}" for name, total in totals.items())
             text = f"from this bar on the voices differ: {here}; the whole lengths are {whole}"
-            yield TuneHint(odd_one(pair).first.place, OF_UNEVEN_VOICES, text)
+            yield TuneHint(odd_one(pair).place, OF_UNEVEN_VOICES, text)
             return
 
 
