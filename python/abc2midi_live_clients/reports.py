@@ -21,14 +21,18 @@ class File(NamedTuple):
     title: str
 
 
+MarkedHints = list[tuple[Hint, bool]]  # each with whether it is new
+
+
 class Change(NamedTuple):
-    """What one save changed: files, and each fault and hint with whether it is new."""
+    """What one save changed: files, and each fault and hint with whether it is new. Hints on many tunes follow later: then there are
+    none here."""
 
     written: list[File]
     removed: list[File]
     failed: Optional[int]
     faults: list[tuple[Fault, bool]]
-    hints: list[tuple[Hint, bool]]
+    hints: Optional[MarkedHints]
     is_opening: bool
     milliseconds: float
 
@@ -38,6 +42,9 @@ class Report(Protocol):
 
     def change(self, change: Change) -> None:
         """Reports what a save changed."""
+
+    def hints(self, hints: MarkedHints, is_opening: bool) -> None:
+        """Reports the hints that follow a change."""
 
     def message(self, text: str) -> None:
         """Reports anything else, in a sentence."""
@@ -57,20 +64,38 @@ class TextReport:
 
     def change(self, change: Change) -> None:
         """Prints a line on files and numbers, and a line for each fault and hint that is shown."""
-        too_many = change.is_opening and len(change.hints) > MOST_HINTS and not self.in_full
         parts = [list_files("written", change.written), list_files("removed", change.removed)]
         if change.failed is not None:
             parts.append(f"failed {change.failed}.mid; the next build retries it and the later ones")
         parts = [part for part in parts if part] or ["no file changed"]
         parts += [new_count_of("fault", [is_new for _, is_new in change.faults])]
-        parts += [new_count_of("hint", [is_new for _, is_new in change.hints]) + (" (--all prints them)" if too_many else "")]
+        parts += [self.count_of_hints(change.hints or [], change.is_opening)]
         self.write("; ".join([*filter(None, parts), f"{change.milliseconds:.0f} ms"]))
         shown = (fault for fault, is_new in change.faults if is_new or self.in_full)
         for group in groups_of(shown, line_and_name):
             line, column, name = group.first
             self.remark(line, column, name, group.sentence(self.sentences.get(name, "")))
-        for hint, is_new in change.hints:
-            if (is_new or self.in_full) and not too_many:
+        self.print_hints(change.hints or [], change.is_opening)
+
+    def hints(self, hints: MarkedHints, is_opening: bool) -> None:
+        """Prints a line with their number, and a line for each one that is shown."""
+        if hints:
+            self.write(self.count_of_hints(hints, is_opening))
+        self.print_hints(hints, is_opening)
+
+    def are_too_many(self, hints: MarkedHints, is_opening: bool) -> bool:
+        """Whether only the number of hints is printed."""
+        return is_opening and len(hints) > MOST_HINTS and not self.in_full
+
+    def count_of_hints(self, hints: MarkedHints, is_opening: bool) -> str:
+        """How many hints there are."""
+        count = new_count_of("hint", [is_new for _, is_new in hints])
+        return f"{count} (--all prints them)" if self.are_too_many(hints, is_opening) else count
+
+    def print_hints(self, hints: MarkedHints, is_opening: bool) -> None:
+        """Prints a line for each hint that is shown."""
+        for hint, is_new in hints:
+            if (is_new or self.in_full) and not self.are_too_many(hints, is_opening):
                 self.remark(hint.line, hint.column, f"hint: {hint.name}", hint.text)
 
     def remark(self, line: int, column: int, name: str, text: str) -> None:
@@ -106,9 +131,14 @@ class JsonReport:
             removed=[file._asdict() for file in change.removed],
             failed=change.failed,
             faults=faults,
-            hints=[{**hint._asdict(), "new": is_new} for hint, is_new in change.hints],
+            hints=rows_of(change.hints or []),
+            **({"hints_follow": True} if change.hints is None else {}),
             milliseconds=round(change.milliseconds, 1),
         )
+
+    def hints(self, hints: MarkedHints, is_opening: bool) -> None:
+        """Writes the event `hints`."""
+        self.send("hints", hints=rows_of(hints))
 
     def message(self, text: str) -> None:
         """Writes the event `message`."""
@@ -121,6 +151,11 @@ class JsonReport:
     def send(self, event: str, **more: object) -> None:
         """Writes an object in a line."""
         self.write(json.dumps({"event": event, "book": self.path, **more}))
+
+
+def rows_of(hints: MarkedHints) -> list[dict[str, object]]:
+    """Hints as JSON has them."""
+    return [{**hint._asdict(), "new": is_new} for hint, is_new in hints]
 
 
 def list_files(what: str, files: list[File]) -> str:

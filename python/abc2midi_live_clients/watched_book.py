@@ -10,7 +10,7 @@ from abc2midi_live import Built, Fault, ProgramEnded, ProgramMissing
 from abc2midi_live.lines import lines_of_book
 
 from .book_file import BookFile
-from .hints import Finder, Hint
+from .hints import MOST_AT_ONCE, Finder, Hint
 from .known_remarks import KnownRemarks
 from .midi_folder import MidiFolder
 from .players import Player
@@ -51,6 +51,9 @@ class WatchedBook:
         self.files: dict[int, Tune] = {}
         self.known_faults: KnownRemarks[Fault] = KnownRemarks()
         self.known_hints: KnownRemarks[Hint] = KnownRemarks()
+        self.looked_at: list[bytes] = []  # for hints
+        self.owes_hints = False  # they are not all known yet
+        self.is_first = False  # the book was opened with this text
         self.trouble: Optional[str] = None  # why the last look did nothing
         self.status: Optional[int] = None  # the exit status of a watcher that builds once
 
@@ -75,6 +78,8 @@ class WatchedBook:
             self.pending = data
         if self.pending is None:
             self.trouble = None
+            if self.owes_hints:
+                self.look_on()
         elif self.follow(self.pending, since):
             self.pending = None
 
@@ -132,8 +137,9 @@ class WatchedBook:
             milliseconds = 1000 * (time.perf_counter() - since)
             written = [File(number, files[number].title) for number in sorted({*built.written, *restored})]
             removed = [File(number, before[number].title if number in before else "") for number in built.removed]
-            remarks = self.remarks(tunes, faults)
-            self.report.change(Change(written, removed, built.failed, *remarks, is_opening, milliseconds))
+            marked = self.known_faults.marked(faults, self.book.lines)
+            hints = self.look_for_hints(tunes, faults, is_opening)
+            self.report.change(Change(written, removed, built.failed, marked, hints, is_opening, milliseconds))
         elif self.is_away:
             self.report.message(f"{self.file.path}: there again, unchanged")
         self.is_away = False
@@ -142,11 +148,25 @@ class WatchedBook:
         elif self.player and built.written:
             self.play(self.player, self.book.path(built.written[-1]))
 
-    def remarks(self, tunes: list[Tune], faults: list[Fault]) -> tuple[list[tuple[Fault, bool]], list[tuple[Hint, bool]]]:
-        """The faults and the hints of the book, each with whether it is new."""
-        lines = self.book.lines
-        hints = self.finder.hints(lines, tunes, faults) if self.finder else []
-        return self.known_faults.marked(faults, lines), self.known_hints.marked(hints, lines)
+    def look_for_hints(self, tunes: list[Tune], faults: list[Fault], is_opening: bool) -> Optional[list[tuple[Hint, bool]]]:
+        """The hints on the book, each with whether it is new. If many tunes changed, they are looked for later: None."""
+        if not self.finder:
+            return []
+        self.looked_at = list(self.book.lines)
+        self.finder.take(self.looked_at, tunes, faults)
+        is_done = self.finder.look(MOST_AT_ONCE) if self.goes_on else self.finder.look()
+        self.owes_hints, self.is_first = not is_done, is_opening
+        return self.marked_hints(self.finder) if is_done else None
+
+    def look_on(self) -> None:
+        """Looks for hints for a moment, and reports them when all are known."""
+        if self.finder and self.finder.look(MOST_AT_ONCE):
+            self.owes_hints = False
+            self.report.hints(self.marked_hints(self.finder), self.is_first)
+
+    def marked_hints(self, finder: Finder) -> list[tuple[Hint, bool]]:
+        """The hints that were found, each with whether it is new."""
+        return self.known_hints.marked(finder.found(), self.looked_at)
 
     def restore(self, files: dict[int, Tune]) -> list[int]:
         """Writes files that somebody deleted, and returns their numbers. The program does not see that they are gone."""

@@ -103,7 +103,7 @@ def watch(words: argparse.Namespace, folder: MidiFolder, report: Report) -> int:
             book.update()
             if words.once and book.status is not None:
                 return book.status
-            events.wait(SECONDS_BETWEEN_LOOKS)
+            events.wait(0 if book.owes_hints else SECONDS_BETWEEN_LOOKS)
         raise KeyboardInterrupt
     finally:
         book.close()

@@ -160,3 +160,35 @@ class Lenses(Editor):
         self.assertIsNone(self.ask("workspace/executeCommand", {"command": stop[1]}))
         (arguments,) = [each["command"]["arguments"] for each in self.of_book("codeLens")[:1]]
         self.assertTrue(self.ask("workspace/executeCommand", {"command": play[1], "arguments": arguments}).endswith("/1.mid"))
+
+
+class LateHints(Editor):
+    """In a long book the faults and the hints on the first tunes are sent at once. Those on the others follow if no message comes."""
+
+    tunes = [f"X:{number}\nK:C\n|:C|\n" for number in range(1, 251)]
+
+    def places(self, published: Json) -> list[int]:
+        """The lines of the hints that are published."""
+        return [each["range"]["start"]["line"] for each in published["diagnostics"]]
+
+    def test_a_long_book(self) -> None:
+        found = self.open("".join(self.tunes))
+        self.assertEqual([each["range"]["start"]["line"] for each in found], [3 * n + 2 for n in range(100)])
+        self.assertFalse(self.server.workspace.has_all_hints())
+        self.server.workspace.look_on()
+        self.assertEqual(len(self.sent), 2)
+        self.server.workspace.look_on()
+        self.assertTrue(self.server.workspace.has_all_hints())
+        self.assertEqual(self.places(self.sent[-1]["params"]), [3 * n + 2 for n in range(200)])
+
+    def test_a_change_between(self) -> None:
+        """The tune that is changed is looked at first."""
+        self.open("".join(self.tunes))
+        change = {"range": span(740, 0, 740, 4), "text": "|:D|E:|[1F|"}
+        self.notify("textDocument/didChange", {"textDocument": {"uri": URI, "version": 2}, "contentChanges": [change]})
+        self.assertTrue(self.server.workspace.has_all_hints(), "the present text was not asked about")
+        self.server.publish_what_is_due()
+        self.assertEqual(self.places(self.sent[-1]["params"]), [3 * n + 2 for n in range(199)])
+        while not self.server.workspace.has_all_hints():
+            self.server.workspace.look_on()
+        self.assertEqual(self.places(self.sent[-1]["params"]), [3 * n + 2 for n in range(49, 250) if n != 246])

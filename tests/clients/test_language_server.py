@@ -377,8 +377,10 @@ class Session(Editor):
         self.finish()
 
     def test_hints_of_many_tunes(self) -> None:
-        """Those near to the last change are published; of the faults all are."""
+        """Those near to the last change are published; of the faults all are. In a long book the later hints follow."""
         self.assertEqual(len(self.open("".join(f"X:{n}\nK:C\n|:C|\n-\n" for n in range(1, 301)))), 300)
+        self.assertEqual(starts(self.hints), [(4 * n + 2, 0, "OpenRepeat") for n in range(100)])
+        self.assertEqual(len(self.diagnostics(0)), 300)
         self.assertEqual(starts(self.hints), [(4 * n + 2, 0, "OpenRepeat") for n in range(200)])
         self.assertEqual(len(self.change(1, (span(602, 3, 602, 3), "D"))), 300)
         self.assertEqual(starts(self.hints), [(4 * n + 2, 0, "OpenRepeat") for n in range(50, 250)])
@@ -633,7 +635,7 @@ class Documents(trial.Folder):
         book = document.Document("X:1\nK:C\n|:C&D|\n", open_library(trial.library), {}, Finder(trial.library))
         self.addCleanup(book.close)
         faults = mock.patch.object(program.SessionBook, "faults", autospec=True, side_effect=program.SessionBook.faults)
-        hints = mock.patch.object(Finder, "hints", autospec=True, side_effect=Finder.hints)
+        hints = mock.patch.object(Finder, "take", autospec=True, side_effect=Finder.take)
         with faults as asked, hints as sought:
             for _ in range(3):
                 self.assertIn("BadByte", [remark.name for remark in remarks.remarks_in(book, 2, 2)])

@@ -1,5 +1,6 @@
 """The watcher of a tune book."""
 
+import json
 import os
 import random
 import signal
@@ -12,7 +13,9 @@ from abc2midi_live import Built, ProgramMissing
 from abc2midi_live_clients import book_file
 from abc2midi_live_clients.faults import sentences
 from abc2midi_live_clients.hints import Finder
+from abc2midi_live_clients.hints.repeats import OPEN_REPEAT
 from abc2midi_live_clients.program import LiveBook
+from abc2midi_live_clients.reports import JsonReport
 from watching import OTHER, TUNE, Looks, Process
 
 
@@ -314,6 +317,43 @@ class Hints(Looks):
         self.assertFalse([line for line in told if ": hint: " in line])
         told = self.save(book + OTHER + OTHER)
         self.assertEqual([line.split(": ")[0] for line in told if ": hint: " in line], ["/book.abc:72:1"])
+
+
+class LateHints(Looks):
+    """If a save changes many tunes, its files are reported first. Looks without a save find the hints."""
+
+    finder = Finder
+    tunes = [b"X:%d\nK:C\n|:C|\n" % number for number in range(1, 251)]
+
+    def test_opening(self) -> None:
+        told = self.save(b"".join(self.tunes))
+        self.assertEqual((len(told), "hint" in told[0], "and 242 more" in told[0]), (1, False, True))
+        self.assertEqual([self.look(), self.look()], [[], ["250 hints, 250 new (--all prints them)"]])
+        self.assertEqual(self.look(), [])
+
+    def test_a_save_between(self) -> None:
+        """The tunes that it changes are looked at first. Only hints on the last text are printed."""
+        self.save(b"".join(self.tunes))
+        book = b"".join(self.tunes[1:])
+        self.assertEqual(self.save(book), ["removed 1.mid"])
+        self.assertEqual(self.look(), ["249 hints, 249 new"] + [f"/book.abc:{3 * n}:1: hint: OpenRepeat: {OPEN_REPEAT}" for n in range(1, 250)])
+        self.assertEqual(self.save(b"%\n" + book), ["no file changed; 249 hints, 0 new"])
+
+    def test_json(self) -> None:
+        rows: list[str] = []
+        self.watch.report = JsonReport("book.abc", {}, rows.append)
+        self.save(b"".join(self.tunes))
+        self.look()
+        self.look()
+        change, hints = map(json.loads, rows)
+        self.assertEqual((change["event"], change["hints"], change["hints_follow"]), ("change", [], True))
+        self.assertEqual((hints["event"], len(hints["hints"]), list(hints)), ("hints", 250, ["event", "book", "hints"]))
+        self.assertEqual(hints["hints"][0], {"line": 3, "column": 1, "name": "OpenRepeat", "text": OPEN_REPEAT, "new": True})
+
+    def test_once(self) -> None:
+        """A watcher that builds once looks for all hints before it reports."""
+        self.start_watch(goes_on=False)
+        self.assertIn("250 hints, 250 new", self.save(b"".join(self.tunes))[0])
 
 
 class AllHints(Looks):

@@ -5,10 +5,10 @@ Each module has the hints of its names; `finder` puts those of a text together, 
 from __future__ import annotations
 
 from .book import number_is_used
-from .finder import Finder
+from .finder import MOST_AT_ONCE, Finder
 from .hint import Hint
 
-__all__ = ["NAMES", "Finder", "Hint", "number_is_used"]
+__all__ = ["MOST_AT_ONCE", "NAMES", "Finder", "Hint", "number_is_used"]
 
 # Each hint, with the module that finds it.
 NAMES = (

@@ -2,11 +2,9 @@
 
 from __future__ import annotations
 
-import time
 from bisect import bisect_left
 from collections.abc import Callable, Iterator, Sequence
 from functools import lru_cache
-from math import inf
 from typing import NamedTuple, Optional
 
 from abc2midi_live import Fault, LibraryMissing
@@ -42,6 +40,7 @@ OF_A_TUNE: tuple[Callable[[TuneText], Iterator[TuneHint]], ...] = (
 )
 MOST_KEPT = 20_000  # tunes whose hints are kept
 MOST_TUNES = 10_000  # of a book that are looked at
+MOST_AT_ONCE = 100  # tunes that a client looks at before it listens again: some tenth of a second
 
 
 class Known(NamedTuple):
@@ -94,12 +93,11 @@ class Finder:
         others = [n for n in reversed(range(len(starts))) if of_tunes[n] is None and n not in changed]
         self.unread = [*others, *reversed(changed)]
 
-    def look(self, seconds: float = inf) -> bool:
-        """Looks at tunes, those that changed last first, until there are no more or the time is over. Returns whether all are known."""
+    def look(self, most: int = MOST_TUNES) -> bool:
+        """Looks at some tunes, those that changed last first. Returns whether all are known."""
         lines, header, starts, of_tunes = self.known
         ends = [*starts[1:], len(lines)]
-        stop = time.monotonic() + seconds
-        while self.unread and time.monotonic() < stop:
+        for _ in range(min(most, len(self.unread))):
             n = self.unread.pop()
             found = read_tune(tuple(lines[starts[n] : ends[n]]), header, self.library)
             of_tunes[n] = placed(found, starts[n] + 1)

@@ -7,7 +7,7 @@ from typing import NamedTuple, Optional
 from abc2midi_live import Fault, PlayTooLong, Session, Track
 from abc2midi_live.lines import without_empty_end
 
-from ..hints import Finder, Hint, number_is_used
+from ..hints import MOST_AT_ONCE, Finder, Hint, number_is_used
 from ..places import utf8
 from ..program import SessionBook, Tune, files_of
 from .changes import Change, Position
@@ -73,11 +73,21 @@ class Document:
         return self.known_faults
 
     def hints(self) -> list[Hint]:
-        """The hints on the text in order."""
-        if self.known_hints is None:
-            found = self.finder.hints(self.book.lines, self.book.tunes(), self.faults()) if self.finder else []
-            self.known_hints = found
-        return self.known_hints
+        """The hints on the text in order, as far as they are known: in a long book `look_on` finds more."""
+        if self.known_hints is None and self.finder:
+            self.finder.take(self.book.lines, self.book.tunes(), self.faults())
+            self.look_on()
+        return self.known_hints or []
+
+    def look_on(self) -> bool:
+        """Looks for hints for a moment. Returns whether all are known."""
+        is_done = self.finder is None or self.finder.look(MOST_AT_ONCE)
+        self.known_hints = self.finder.found() if self.finder else []
+        return is_done
+
+    def has_all_hints(self) -> bool:
+        """Returns whether all hints on the text are known, or none was asked for."""
+        return self.known_hints is None or not (self.finder and self.finder.unread)
 
     def tokens(self, line: int) -> list[TokenText]:
         """The tokens of a line, counted from 0."""

@@ -48,6 +48,8 @@ class Server:
         while self.status is None:
             if self.workspace.publisher.due and not inbox.has_more(self.workspace.publisher.seconds_of_rest):
                 self.publish_what_is_due()
+            while not self.workspace.has_all_hints() and not inbox.has_more(0):
+                self.workspace.look_on()
             try:
                 message, is_cancelled = inbox.next()
             except EOFError:

@@ -116,6 +116,18 @@ class Workspace:
         self.notify("textDocument/publishDiagnostics", report)
         self.publisher.has_sent()
 
+    def has_all_hints(self) -> bool:
+        """Returns whether all hints on the open books are known."""
+        return all(document.has_all_hints() for document in self.documents.values())
+
+    def look_on(self) -> None:
+        """Looks for hints in a long book for a moment, and sends its diagnostics when all are known."""
+        for uri, document in self.documents.items():
+            if not document.has_all_hints():
+                if document.look_on() and not document.is_lost:
+                    self.publish(uri)
+                return
+
     def clear(self, uri: str) -> None:
         """Removes the diagnostics of a tune book."""
         self.publisher.forget(uri)
