@@ -1,6 +1,9 @@
 """Quick fixes: what the sentences of faults and hints name."""
 
 import trial
+from abc2midi_live_clients.faults import sentences
+from abc2midi_live_clients.hints import NAMES
+from abc2midi_live_clients.language_server.actions import FIXES
 from abc2midi_live_clients.language_server.messages import Json
 from language_editor import URI, Editor, edited, span
 
@@ -28,7 +31,36 @@ MENDED = [
     ("EmptyChord", "X:1\nK:C\n[]2C\n", "X:1\nK:C\nz2C\n", False),
     ("LoneReturns", "X:1\nK:C\nC|\rD|\n", "X:1\nK:C\nC|\nD|\n", True),
     ("NoTune", "K:C\nCDE|\n", "X:1\nK:C\nCDE|\n", False),
+    ("BadOrder", "X:1\nP:(a,b0 % x\nK:C\nP:A\nC|\nP:B\nD|\n", "X:1\nP:(AB) % x\nK:C\nP:A\nC|\nP:B\nD|\n", False),
+    ("UnknownPart", "X:1\nP:A(BC3)2(C)4 % x\nK:C\nP:A\nC|\nP:B\nD|\n", "X:1\nP:A(B)2 % x\nK:C\nP:A\nC|\nP:B\nD|\n", False),
+    ("BadVoice", "X:1\nK:C\nV:1 octave=low transpose=-2\nC|\n", "X:1\nK:C\nV:1 octave=0 transpose=-2\nC|\n", False),
+    ("BadVoice", "X:1\nK:C\nV:1\nC|[V: ]D|\n", "X:1\nK:C\nV:1\nC|[V:2]D|\n", False),
+    ("TempoRange", 'X:1\nQ:"Slow" 1/4=1 % x\nK:C\nC|\n', 'X:1\nQ:"Slow" 1/4=120 % x\nK:C\nC|\n', False),
+    ("TempoRange", "X:1\nK:C\nC|[Q:1/4=1]D|\n", "X:1\nK:C\nC|[Q:1/4=120]D|\n", False),
+    ("BadLength", "X:1\nK:C\nC D0 E|\n", "X:1\nK:C\nC D E|\n", False),
+    ("BadLength", "X:1\nK:C\n[C0E]2 [CE]0|\n", "X:1\nK:C\n[CE]2 [CE]0|\n", False),
+    ("BadLength", "X:1\nK:C\n[CE]0|\n", "X:1\nK:C\n[CE]|\n", False),
+    ("BadTuplet", "X:1\nK:C\n(0CDE F|\n", "X:1\nK:C\n(3CDE F|\n", False),
+    ("NestedTuplet", "X:1\nK:C\n(3CD(3EFG|\n", "X:1\nK:C\n(3::2CD(3EFG|\n", False),
+    ("NestedTuplet", "X:1\nK:C\n(5:4:5CDE(3EFG|\n", "X:1\nK:C\n(5:4:3CDE(3EFG|\n", False),
+    ("BadBroken", "X:1\nK:C\nA2>|B|\n", "X:1\nK:C\nA3|B/2|\n", False),
+    ("BadBroken", "X:1\nK:C\nA/<<|[CE]//|\n", "X:1\nK:C\nA/8|[CE]7/16|\n", False),
+    ("BigChord", "X:1\nK:C\n[C,D,E,F,G,A,B,CDEFGABcde-f]2|\n", "X:1\nK:C\n[C,D,E,F,G,A,B,CDEFGABcd]2|\n", False),
+    ("BadEnding", "X:1\nK:C\nC|3-1,0,5 D:|\n", "X:1\nK:C\nC|1-3,5 D:|\n", False),
+    ("BadEnding", "X:1\nK:C\nC [2,33 D:|\n", "X:1\nK:C\nC [2 D:|\n", False),
+    ("FreeBarRest", "X:1\nK:C\nZ2|C\n", "X:1\nK:C\nz16|C\n", False),
+    ("KeyRange", "X:1\nK:C\n^C''''''2 C|\n", "X:1\nK:C\n^C''''2 C|\n", False),
+    ("KeyRange", "X:1\nK:C\nc,,,,,,,,\n", "X:1\nK:C\nc,,,,,\n", False),
+    ("ShortTuplet", "X:1\nK:C\n(3C|DEF|\n", "X:1\nK:C\n(3Czz|DEF|\n", False),
+    ("ShortTuplet", "X:1\nK:C\n(5:4:2C\n", "X:1\nK:C\n(5:4:2Cz\n", False),
+    ("TieToOtherKey", "X:1\nK:C\nC2-z2|\n", "X:1\nK:C\nC2z2|\n", True),
+    ("TieToOtherKey", "X:1\nK:C\nC2-|D2|\n", "X:1\nK:C\n(C2|D2)|\n", False),
+    ("MusicBeforeVoice", "X:1\nK:C\nC|\nV:1\nC|\n", "X:1\nK:C\nV:1\nC|\nV:1\nC|\n", False),
+    ("MusicBeforeVoice", "X:1\nK:C\n %\n C|[V:a]C|\n", "X:1\nK:C\n %\n [V:a]C|[V:a]C|\n", False),
 ]
+# Faults and hints whose sentences name no remedy that is one change of the text.
+WITHOUT = {"TooManyVoices", "UnevenVoices", "TuneTooLong", "BadLine", "TooLarge"}
+WITHOUT |= {"NotUtf8", "NotPlayed", "Overlay", "MidiLine", "LostEnding", "PartInRepeat", "VoiceLengths", "BarLength", "ManyTunes"}
 
 
 class Fixes(Editor):
@@ -47,6 +79,15 @@ class Fixes(Editor):
             (change,) = found[0]["edit"]["documentChanges"]
             self.assertEqual(edited_lines(before, change["edits"]), after, name)
             self.assertEqual((found[0]["isPreferred"], change["textDocument"]), (is_preferred, {"uri": URI, "version": 3}), name)
+            mended = [cause["code"] for cause in found[0]["diagnostics"]].count(name)
+            left = [[each["code"] for each in self.open(text)].count(name) for text in (before, after)]
+            self.assertEqual(left[1], left[0] - mended, (name, after))
+
+    def test_each_has_one(self) -> None:
+        """Each fault and each hint has a fix, but for those whose sentences name no single change."""
+        self.assertEqual(set(FIXES) | WITHOUT, set(sentences()) | set(NAMES))
+        self.assertFalse(set(FIXES) & WITHOUT)
+        self.assertLessEqual(set(FIXES), {name for name, *_ in MENDED} | {"BadKey", "BadUnit"})
 
     def test_all_at_once(self) -> None:
         """All preferred fixes are one edit. Two tunes get two numbers."""
