@@ -207,6 +207,7 @@ def read_tune(lines: tuple[bytes, ...], header: tuple[bytes, ...], library: Opti
         read = reader.read(header, lines)
         tune, end = TuneText(read), len(read.lines)
         found += [hint for family in OF_A_TUNE for hint in family(tune)]
-        found += midi_lines([*read.lines, *read.free], range(end))
+        if b"midi" in b"".join(lines).lower():
+            found += midi_lines([*read.lines, *read.free], range(end))
         found += free_music(read.free, [is_blank(line) for line in lines[end:]], end, after_tune=True)
     return tuple(sorted(found))

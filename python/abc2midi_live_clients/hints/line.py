@@ -26,7 +26,7 @@ FIELDS = frozenset((TokenKind.NUMBER_FIELD.value, TokenKind.TITLE_FIELD.value, K
 NO_MUSIC = FIELDS | {DIRECTIVE, COMMENT, TokenKind.FREE_TEXT.value}
 TIMED = frozenset((NOTE, REST, CHORD))
 UNPLAYED = frozenset((QUOTED, GRACE, DECORATION, NO_EFFECT))
-SIGNS = frozenset((BAR_REST, BAR_LINE, ENDING_MARK, TUPLET, TIE, BAD_BYTE, UNCLOSED, INLINE_FIELD))
+SIGNS = frozenset((BAR_LINE, ENDING_MARK, TUPLET, TIE, BAD_BYTE, UNCLOSED, INLINE_FIELD))
 
 
 class BarLine(NamedTuple):
@@ -50,17 +50,12 @@ class Segment(NamedTuple):
     first: int  # of its notes, chords and rests
     last: int
     timed: int  # how many they are; none in a rest of whole bars
-    start: int  # the column of the first one in a play: that of a chord is at its first note
+    start: int  # the column of the first one in a play: that of a chord is at its first note. 0 if there is no music
     end: int  # the column of the last one
     has_own_ties: bool  # in the last one, a chord
     sign: int  # its token
     kind: int  # of the sign
     bar: BarLine  # PLAIN for other signs
-
-    @property
-    def has_music(self) -> bool:
-        """Whether anything takes time."""
-        return self.timed > 0 or self.kind == BAR_REST
 
 
 class Line(NamedTuple):
@@ -126,10 +121,12 @@ def segments_of(line: Line) -> Iterator[Segment]:
             timed.append(at)
         elif kind == TIE_PART:
             has_own_ties |= line.kinds[at - 1] == NOTE_PART
-        elif kind in SIGNS:
-            if kind == BAR_REST and timed:
+        elif kind == BAR_REST:
+            if timed:
                 yield segment_of(line, timed, has_own_ties, at, END)
-                timed = []
+            yield segment_of(line, [at], False, at, BAR_REST)
+            timed, has_own_ties = [], False
+        elif kind in SIGNS:
             yield segment_of(line, timed, has_own_ties, at, END if kind == TIE and not follows(line, at, timed) else kind)
             timed, has_own_ties = [], False
     if timed:
@@ -138,10 +135,12 @@ def segments_of(line: Line) -> Iterator[Segment]:
 
 def segment_of(line: Line, timed: list[int], has_own_ties: bool, sign: int, kind: int) -> Segment:
     """Returns the segment of some notes, chords and rests and a sign after them."""
-    first, last = (timed[0], timed[-1]) if timed else (min(sign, len(line.kinds) - 1),) * 2
-    start, end = line.starts[line.timed(first)], line.starts[line.timed(last)]
     bar = bar_at(line, sign) if kind == BAR_LINE else PLAIN
-    return Segment(first, last, len(timed), start, end, has_own_ties, sign, kind, bar)
+    if not timed:
+        return Segment(0, 0, 0, 0, 0, False, sign, kind, bar)
+    start, end = (line.starts[line.timed(at)] for at in (timed[0], timed[-1]))
+    count = 0 if kind == BAR_REST else len(timed)
+    return Segment(timed[0], timed[-1], count, start, end, has_own_ties, sign, kind, bar)
 
 
 def follows(line: Line, at: int, timed: list[int]) -> bool:

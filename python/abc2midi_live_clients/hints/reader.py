@@ -19,11 +19,10 @@ if TYPE_CHECKING:
 NUMBER = 1
 FIRST_LINE = b"X:%d" % NUMBER
 FREE_HEADER = (b"X:0", b"K:C")  # makes a tune of lines that are in none
-MOST_KEPT = 4096  # lines whose tokens are kept
+MOST_KEPT = 200_000  # bytes of the lines whose tokens are kept
 _HERE = threading.local()
 
-
-Faults = dict[int, list[tuple[int, str]]]
+Faults = dict[int, dict[int, list[str]]]
 
 
 class Reading(NamedTuple):
@@ -31,7 +30,7 @@ class Reading(NamedTuple):
 
     lines: list[Line]  # of the tune
     free: list[Line]  # after the tune, as they would be in a tune
-    faults: Faults  # columns and names by line; the file header and a blank line precede line 0
+    faults: Faults  # names by line and column; the file header and a blank line precede line 0
     header: list[Line]  # the file header
     first: int  # the line of the session that is line 0
     play: Optional[PlayColumns]  # the parts in the order of the text; None if the tune is too long
@@ -46,6 +45,7 @@ class Reader:
         self.header: tuple[bytes, ...] = ()  # with which the text begins
         self.header_lines: list[Line] = []
         self.known: dict[bytes, Line] = {}  # lines in tunes: their tokens depend on their bytes alone
+        self.known_bytes = 0
 
     def read(self, header: tuple[bytes, ...], lines: Sequence[bytes]) -> Reading:
         """Reads the lines from an `X:` line to the next one, after a file header. The parts of the tune are played in the order
@@ -108,7 +108,9 @@ class Reader:
         """Returns a line of the tune that is the text."""
         line = self.known.get(text)
         if line is None:
-            if len(self.known) >= MOST_KEPT:
+            self.known_bytes += len(text)
+            if self.known_bytes > MOST_KEPT:
+                self.known_bytes = len(text)
                 self.known.clear()
             line = self.known[text] = self._line(number)
         return line
@@ -118,10 +120,10 @@ class Reader:
         return line_of(self.session.line(number), self.session.token_columns(number))
 
     def _faults(self, first: int) -> Faults:
-        """Returns the faults by line; line 0 is the line `first` of the session."""
+        """Returns the faults by line and column; line 0 is the line `first` of the session."""
         found: Faults = {}
         for fault in self.session.faults:
-            found.setdefault(fault.line - first, []).append((fault.column, fault.name))
+            found.setdefault(fault.line - first, {}).setdefault(fault.column, []).append(fault.name)
         return found
 
 

@@ -13,9 +13,10 @@ from .tune import BREAK, ENDING, Item, Music, TuneText
 def ties(tune: TuneText) -> Iterator[TuneHint]:
     """Yields the ties that join nothing: the next note of the voice has another pitch, or is a rest. After a repeat, an ending
     or a part several notes may be next, so these ties have no hint, and neither has one at the end of the voice."""
-    for voice in tune.voices.values():
-        for _, items in voice.in_order():
-            yield from ties_in(tune, items)
+    if any(b"-" in line.text for line in tune.lines):
+        for voice in tune.voices.values():
+            for _, items in voice.in_order():
+                yield from ties_in(tune, items)
 
 
 def ties_in(tune: TuneText, items: list[Item]) -> Iterator[TuneHint]:

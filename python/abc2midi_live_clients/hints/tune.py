@@ -8,25 +8,8 @@ from functools import cached_property
 from typing import TYPE_CHECKING, NamedTuple, Optional
 
 from .hint import Place
-from .line import (
-    BAD_BYTE,
-    BAR_LINE,
-    COMMENT,
-    DIRECTIVE,
-    ENDING_MARK,
-    FIELDS,
-    INLINE_FIELD,
-    KEY_FIELD,
-    MUSIC,
-    PLAIN,
-    TUPLET,
-    UNCLOSED,
-    BarLine,
-    Line,
-    Segment,
-    value,
-    words_of,
-)
+from .line import BAD_BYTE, BAR_LINE, COMMENT, DIRECTIVE, ENDING_MARK, FIELDS, INLINE_FIELD, KEY_FIELD, MUSIC, PLAIN, TUPLET, UNCLOSED
+from .line import BarLine, Line, Segment, value, words_of
 from .reader import Reading
 
 if TYPE_CHECKING:
@@ -207,8 +190,11 @@ class TuneText:
 
     def _is_refused(self, place: Place, text: bytes, *names: str) -> bool:
         """Returns whether a token has a fault of some names."""
-        end = place.column + len(text)
-        return any(place.column <= column < end and name in names for column, name in self.faults.get(place.line, ()))
+        faults = self.faults.get(place.line)
+        if not faults:
+            return False
+        columns = range(place.column, place.column + len(text))
+        return any(name in names for column in columns for name in faults.get(column, ()))
 
     def _read_meter(self, n: int, line: Line) -> None:
         """Reads the meter of a header."""
@@ -286,7 +272,7 @@ class TuneText:
         for segment in line.segments:
             while odd and odd[-1] < segment.sign:
                 self._put(ODD, n, line.starts[odd.pop()])
-            if segment.has_music:
+            if segment.start:
                 self._read_segment(n, line, segment)
             if segment.kind == BAR_LINE:
                 self._read_bar(n, line.starts[segment.sign], segment.bar)
@@ -297,7 +283,7 @@ class TuneText:
 
     def _odd_tokens(self, n: int, line: Line) -> list[int]:
         """Returns the tokens with a fault in the length of a note, the last one first."""
-        columns = [column for column, name in self.faults.get(n, ()) if name in ODD_LENGTHS]
+        columns = [column for column, names in self.faults.get(n, {}).items() if not ODD_LENGTHS.isdisjoint(names)]
         return sorted((bisect_right(line.starts, column) - 1 for column in columns), reverse=True)
 
     def _read_segment(self, n: int, line: Line, segment: Segment) -> None:
