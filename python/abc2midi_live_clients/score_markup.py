@@ -112,7 +112,7 @@ class Drawing:
         counts = {name: attributes.get(name, "") for name in ("row", "col")}
         if kind and all(map(NUMBER.fullmatch, found.values())) and all(map(COUNT.fullmatch, counts.values())):
             inside = next(node for node in reversed(self.open) if node is not None and node[0] not in TEXTS)
-            found |= breadth(inside)
+            found |= upright(found) | breadth(inside)
             inside.append(["place", {"kind": kind, **found, **{name: int(count) for name, count in counts.items()}}])
 
     def known(self, tag: str, attributes: Attributes) -> Attributes:
@@ -128,6 +128,12 @@ class Drawing:
         if tag == "use" and reference[:1] == "#" and reference[1:] in self.defined:
             found["href"] = f"#{PREFIX}{reference[1:]}"
         return {**found, **font_of(attributes.get("style", ""))}
+
+
+def upright(found: Attributes) -> Attributes:
+    """A place whose height is less than 0, as `abcm2ps` says it of a note far off the staff, reaches that far up."""
+    top, height = float(found["y"]), float(found["height"])
+    return {"y": f"{top + height:.2f}", "height": f"{-height:.2f}"} if height < 0 else {}
 
 
 def breadth(node: Node) -> Attributes:

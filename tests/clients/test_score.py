@@ -220,6 +220,11 @@ class Markup(unittest.TestCase):
             ],
         )  # fmt: skip
 
+    def test_a_height_below_0(self) -> None:
+        """It reaches upwards, since an element of a browser has none."""
+        (place,) = self.shown('<abc type="N" row="3" col="0" x="1" y="140" width="3" height="-125"/>')
+        self.assertEqual((place[1]["y"], place[1]["height"]), ("15.00", "125.00"))
+
     def test_the_breadth_of_notes(self) -> None:
         """It is that of the heads, which are drawn before a note's place, and not that of the words below it."""
         place = '<abc type="{}" row="3" col="0" x="1" y="2" width="99" height="4"/>'
