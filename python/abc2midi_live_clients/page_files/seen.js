@@ -253,7 +253,7 @@ function originsOf(tracks, lines) {
 
 /** The tokens of a row of the host's answer.
  * @type {(numbers: number[]) => Token[]} */
-function tokensOf(numbers) {
+export function tokensOf(numbers) {
   const tokens = [];
   for (let at = 0; at < numbers.length; at += TOKEN_SIZE) {
     tokens.push({ from: numbers[at], to: numbers[at + 1], kind: KINDS[numbers[at + 2]] ?? KINDS[0], depth: numbers[at + 3] });
@@ -289,6 +289,13 @@ function entriesOf(numbers, places, lines) {
     entries.push({ on, off, line: places.get(was)?.line ?? -1, ...place, kind: ENTRY_KINDS[kind] ?? ENTRY_KINDS[0], ...sound, joined: joined === 1 });
   }
   return entries;
+}
+
+/** The entries of the tracks of the host's answer, at lines of its text.
+ * @type {(tracks: number[][], lines: string[]) => Entry[][]} */
+export function entriesIn(tracks, lines) {
+  const origins = originsOf(tracks, lines);
+  return tracks.map((numbers) => entriesOf(numbers, origins, lines));
 }
 
 /** How columns move if a text becomes another one: those of its begin stay, those of its end stay at the end.
