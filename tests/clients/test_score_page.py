@@ -28,6 +28,13 @@ const area = document.querySelector("textarea");
 const before = area.value.slice(0, area.selectionStart).split("\\n");
 return document.activeElement === area && [before.length - 1, before.at(-1).length];
 """
+LINE = """
+const line = document.querySelector("#score .score-line")?.getBoundingClientRect(), view = document.getElementById("score").getBoundingClientRect();
+const x = line && (line.left + line.right) / 2;
+const crossed = ({ left, right, top, bottom }) => left <= x && x <= right && top >= line.top && bottom <= line.bottom;
+const found = [...document.querySelectorAll("#score .score-place")].find((one) => crossed(one.getBoundingClientRect()))?.note;
+return line ? [found?.line, found?.column, view.top <= line.bottom && line.top <= view.bottom] : null;
+"""
 STRANGE = """
 const known = new Set(["svg", "g", "defs", "path", "ellipse", "circle", "line", "rect", "text", "tspan", "use"]);
 const all = [...document.querySelectorAll("#score *")];
@@ -172,6 +179,20 @@ class Staves(test_page_in_browser.Browser):
         self.here([5, 1])
         self.press("\ue013")
         self.here()
+
+    def test_a_line_of_playback(self) -> None:
+        """It goes through the notes that sound, stays in view, and goes with the sound."""
+        self.edit(0, 1, "X:1", "M:4/4", "L:1/4", "K:C", *(["CDEF|GABc|"] * 12))
+        self.load()
+        self.roll("1")
+        self.wait(lambda: len(self.run_script(NOTES)) == 96)
+        self.assertIsNone(self.run_script(LINE))
+        self.run_script("document.getElementById('play').click()")
+        for seconds, place in ((0.2, [4, 0]), (0.7, [4, 1]), (40.2, [14, 0])):
+            self.run_script("clock = arguments[0]", seconds)
+            self.wait(lambda place=place: self.run_script(LINE) == [*place, True])
+        self.run_script("document.getElementById('play').click()")
+        self.wait(lambda: self.run_script(LINE) is None)
 
     def test_an_answer_that_comes_late(self) -> None:
         """What was asked for an older text is not drawn over a newer one."""

@@ -6,7 +6,7 @@
 //                  text), `kind` ("note", "rest", "grace") and `element`, which covers it as soon as its part of the score is
 //                  in the page. A chord is one note, and begins at `[`
 //   mark(places)   lights up the notes at these places, { line, column } each, and no others: a chord also by a place in it;
-//                  with `true` after them it also scrolls to the first one
+//                  with `true` after them they sound: it also scrolls to the first one, and has a line at them
 //   clear()        lights up none
 //   drawn          is called when another drawing is there, or none: then no note is lit up
 //   picked         is called with the line and the column of a note that was clicked
@@ -23,6 +23,7 @@
 
 import { onceAFrame } from "./frames.js";
 import { onResize } from "./resizing.js";
+import { ScoreLine } from "./score_line.js";
 import { laidOut } from "./score_tree.js";
 
 /** The tune that is to be drawn.
@@ -49,6 +50,7 @@ export class Score {
   constructor(view, ask) {
     this.view = view;
     this.ask = ask;
+    this.line = new ScoreLine(view);
     /** @type {DrawnTune | null} */
     this.seen = null; // the tune that is to be drawn
     /** @type {DrawnTune | null} */
@@ -107,6 +109,7 @@ export class Score {
     for (const note of lit) note.element.classList.add("score-lit");
     this.lit = lit;
     if (scroll && lit.size) this.reveal([...lit][0]);
+    this.line.show(scroll ? [...lit] : []);
   }
 
   clear() {
