@@ -171,9 +171,10 @@ class FolderServer(GuardedServer):
         self.open_books.close()
 
 
-def link(name: str, words: str) -> str:
-    """A link that opens a book in a window of its own."""
-    return f'<a href="open/{urllib.parse.quote(name, safe="", errors="surrogateescape")}" target="_blank" rel="noopener">{escape(words)}</a>'
+def link(name: str, words: str, line: Optional[int] = None) -> str:
+    """A link that opens a book in a window of its own, at a line if one is named."""
+    place = "" if line is None else f"#line={line}"
+    return f'<a href="open/{urllib.parse.quote(name, safe="", errors="surrogateescape")}{place}" target="_blank" rel="noopener">{escape(words)}</a>'
 
 
 def list_html(books: list[Book]) -> str:
@@ -191,7 +192,7 @@ def list_html(books: list[Book]) -> str:
 def found_html(found: list[Found], unread: list[str]) -> str:
     """What a search found, as a table, and which books it did not read."""
     rows = [
-        f"<tr><td>{link(each.book, each.book)}</td><td>{escape(each.title)}</td><td>{each.line}</td><td><code>{escape(each.text)}</code></td></tr>"
+        f"<tr><td>{link(each.book, each.book, each.line)}</td><td>{escape(each.title)}</td><td>{each.line}</td><td><code>{link(each.book, each.text, each.line)}</code></td></tr>"
         for each in found
     ]
     head = "<tr><th>Book</th><th>Tune</th><th>Line</th><th>Text</th></tr>"

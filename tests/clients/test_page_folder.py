@@ -171,8 +171,16 @@ class Clicked(test_page_in_browser.Browser):
 
     def test_a_search_and_a_click(self) -> None:
         self.driver.get(self.address)
-        self.driver.find_element("name", "q").send_keys("kesh\n")
-        self.wait(lambda: "T:Kesh" in self.driver.find_element("tag name", "body").text)
-        self.driver.get(self.driver.find_element("link text", "reels.abc").get_attribute("href"))
+        self.driver.find_element("name", "q").send_keys("other\n")
+        self.wait(lambda: "T:Other" in self.driver.find_element("tag name", "body").text)
+        self.driver.get(self.driver.find_element("link text", "T:Other <b>").get_attribute("href"))
         self.wait(lambda: self.run_script("return document.querySelectorAll('#list [role=option]').length") == 2)
         self.assertEqual(self.run_script("return document.getElementById('name').textContent"), "reels.abc")
+        self.wait(lambda: self.text("place") == "Line 7, column 1")
+        self.assertEqual(self.text("tune"), "2 Other <b>")
+
+    def test_a_line_that_is_not_there(self) -> None:
+        """The book opens at its last line."""
+        self.driver.get(self.address)
+        self.driver.get(self.driver.find_element("link text", "reels.abc").get_attribute("href") + "#line=99")
+        self.wait(lambda: self.run_script("return document.getElementById('place')?.textContent") == "Line 10, column 1")

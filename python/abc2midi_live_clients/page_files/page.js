@@ -22,6 +22,7 @@ import { Link } from "./link.js";
 import { mendOf } from "./mends.js";
 import { Music } from "./music.js";
 import { beginTune } from "./new_tune.js";
+import { openingLine } from "./opening_place.js";
 import { Questions } from "./questions.js";
 import { Remarks } from "./remarks.js";
 import { Score, tuneOf } from "./score.js";
@@ -247,7 +248,7 @@ export class Application {
       find("loading").hidden = true;
       music.learn();
       sheet.area.readOnly = false;
-      const place = { line: book.tunes[0]?.[0] ?? 0, column: 0 }; // the begin of the first tune
+      const place = { line: openingLine(location.hash, this.text.lines.length, book.tunes), column: 0 };
       sheet.refresh({ start: place, end: place, direction: "forward" });
     }
     this.follow();
