@@ -1,3 +1,4 @@
+pub mod AllTones
 pub mod Begun
 pub mod Cuts
 pub mod Entering

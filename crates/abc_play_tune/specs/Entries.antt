@@ -76,6 +76,20 @@ entries_back previous (timed ∷ others) =
     entries_back (previous_after previous (tones_of (as_item timed.step))) others
     ++ step_entries previous timed.at.0 timed.step
 
+-- The entries of each timed step, after a time token with the tones `previous`.
+abbrev pub entry_groups : List Tone → List TimedStep → List (List PlayEntry)
+entry_groups previous [] = []
+entry_groups previous (timed ∷ others) =
+    step_entries previous timed.at.0 timed.step ∷ entry_groups (previous_after previous (tones_of (as_item timed.step))) others
+
+-- The moment, the own end, the key and the velocity of an entry that is a tone.
+abbrev pub tone_played : Grains → Grains → EntryKind → Option (ℕ × Grains × Option ℕ × ℕ)
+tone_played on off (kinds.Note tone key velocity joined) = Some (on.0, off, key, velocity)
+tone_played on off _ = None
+
+abbrev pub played_by : PlayEntry → Option (ℕ × Grains × Option ℕ × ℕ)
+played_by entry = tone_played entry.on entry.off entry.kind
+
 -- The note that begins with an entry: its moment, key and velocity. None for a tone that is silent or joined, a rest or a bar line.
 abbrev pub begun_by : ℕ → EntryKind → Option (ℕ × ℕ × ℕ)
 begun_by at (kinds.Note tone (Some key) velocity false) = Some (at, key, velocity)

@@ -1,16 +1,20 @@
 -- The play of a tune is its score.
 use Rattle.std.specs.Borrow.{Bor}
-use Rattle.std.specs.Prelude.{◌≡◌, ℕ, List, [], map, filter_map}
+use Rattle.std.specs.List.{flat_map}
+use Rattle.std.specs.Prelude.{◌≡◌, ℕ, List, [], map, filter_map, reverse, Option}
 use Rattle.abc_bars_items.specs.declared.item.Item.{Item}
+use Rattle.abc_bars_items.specs.declared.item.Tone.{Tone}
+use Rattle.abc_time.specs.declared.grains.Grains.{Grains}
 use Rattle.abc_voices.specs.Layout as layout
 use Rattle.abc_voices.specs.Layout.{score_of}
-use Rattle.abc_voices.specs.Ties.{heard_notes, tokens_in}
+use Rattle.abc_voices.specs.Ties.{TimeToken, heard_notes, tokens_in}
 use Rattle.abc_voices.specs.Track.{tracks, voice_names}
 use Rattle.abc_voices_score.specs.declared.score.Sounding.{Sounding}
 use Rattle.abc_voices_sections.specs.Items.{items_of}
-use Rattle.abc_play_tune.specs.Entries.{entries_back, note_begun}
+use Rattle.abc_play_tune.specs.Entries.{end_by, entries_back, entries_from, entry_groups, note_begun, played_by}
 use Rattle.abc_play_tune.specs.Play.{played_sections, play_of_voice, tokens_among}
 use Rattle.abc_play_tune.specs.Steps.{without_places}
+use Rattle.abc_play_tune.specs.declared.timed.TimedStep.{TimedStep}
 
 -- The sections that are played are those of the tune.
 abbrev pub PlaysSections : Type 0
@@ -35,3 +39,22 @@ head_of note = (note.on.0, note.key, note.velocity)
 abbrev pub BeginsNotes : Type 0
 BeginsNotes = (tune : List (Bor Item)) → map (map head_of) (score_of (items_of tune)).voices
     ≡ map (λ voice. filter_map note_begun (entries_back [] (play_of_voice tune voice))) (tracks (items_of tune))
+
+-- The entries of timed steps, in order and those of later steps first, are the same groups: one for each step.
+abbrev pub GroupsEntries : Type 0
+GroupsEntries =
+    (timed : List TimedStep) → (entries_from [] timed ≡ flat_map (λ group. group) (entry_groups [] timed))
+    × (entries_back [] timed ≡ flat_map (λ group. group) (reverse (entry_groups [] timed)))
+
+-- The moment, the own end, the key and the velocity of each tone of a time token.
+abbrev pub tone_of_token : ℕ → Tone → ℕ × Grains × Option ℕ × ℕ
+tone_of_token at tone = (at, end_by at tone.length, tone.key, tone.velocity)
+
+abbrev pub tones_of_token : TimeToken → List (ℕ × Grains × Option ℕ × ℕ)
+tones_of_token token = map (tone_of_token token.at) token.tones
+
+-- The entries of a track that are tones are the tones of its time tokens, each one once and in order: the same moments, keys and
+-- velocities, and each with its own end.
+abbrev pub PlaysTones : Type 0
+PlaysTones = (tune : List (Bor Item)) (voice : List ℕ)
+    → filter_map played_by (entries_from [] (play_of_voice tune voice)) ≡ flat_map tones_of_token (tokens_among (play_of_voice tune voice))

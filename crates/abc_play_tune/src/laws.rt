@@ -1,6 +1,6 @@
 //! Laws of the play of a tune. Each function has no body: its contract is the law.
 
-ghost use Rattle.abc_play_tune.specs.Laws.{BeginsNotes, PlaysSections, PlaysTokens, PlaysScore};
+ghost use Rattle.abc_play_tune.specs.Laws.{BeginsNotes, GroupsEntries, PlaysSections, PlaysTokens, PlaysTones, PlaysScore};
 
 /// Without places and bar lines that are passed, the sections that are played are those of the tune's score.
 pub fn sections_of_plays()
@@ -14,7 +14,15 @@ pub fn plays_are_scores()
     ensures score { PlaysScore }
 {}
 
-/// The entries that are tones with a key and not joined begin the notes of the score: the same moments, keys and velocities.
+/// The entries that are tones with a key and not joined begin the notes of the score: the same moments, keys and velocities. A
+/// score has the notes of later time tokens first; the entries are the same in both orders, step by step.
 pub fn entries_begin_notes()
-    ensures { BeginsNotes }
+    ensures notes { BeginsNotes }
+    ensures order { GroupsEntries }
+{}
+
+/// The entries that are tones are all tones of the time tokens of `plays_are_scores`, in order, each with its own end. A note of the
+/// score ends with the last tone of its chain.
+pub fn entries_are_tones()
+    ensures { PlaysTones }
 {}
