@@ -24,7 +24,7 @@ use Rattle.abc_play_sections.specs.Order.{in_order, in_order_from, put_with_wait
 use Rattle.abc_play_sections.specs.Play.{expanded, part_from, steps_in}
 use Rattle.abc_play_sections.specs.Step.{as_item, mark}
 use Rattle.abc_play_tune.specs.Entries.{entries_from, previous_after, step_entries}
-use Rattle.abc_play_tune.specs.Play.{play_of_voice, played_sections, step_sections, steps_played}
+use Rattle.abc_play_tune.specs.Play.{counted_voices, play_of_voice, played_sections, step_sections, steps_played}
 use Rattle.abc_play_tune.specs.Stage.{section_time, size_in, time_of}
 use Rattle.abc_play_tune.specs.Steps.{is_bar, sections_from, steps_from}
 use Rattle.abc_play_tune.specs.Timed.{timed_from, timed_in}
@@ -265,6 +265,6 @@ module _ (tune : List (Bor Item)) where
   -- and its size
   pub steps_played-alike : steps_played so ≡ steps_played tune
   steps_played-alike =
-      ap (λ items. sum_by (λ section. sum_by (size_in section) (voice_names items)) (played_sections so)) (same_items tune)
-      ∙ ap (sum_by (λ section. sum_by (size_in section) (voice_names (items_of tune)))) played_sections-alike
-      ∙ all_sizes_alike (voice_names (items_of tune)) (played_sections tune)
+      ap (λ items. sum_by (λ section. sum_by (size_in section) (counted_voices items)) (played_sections so)) (same_items tune)
+      ∙ ap (sum_by (λ section. sum_by (size_in section) (counted_voices (items_of tune)))) played_sections-alike
+      ∙ all_sizes_alike (counted_voices (items_of tune)) (played_sections tune)

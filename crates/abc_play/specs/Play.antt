@@ -70,7 +70,7 @@ abbrev pub block_play : Text → Block → List (List PlayedEntry)
 block_play text block =
     tune_play (block_tune text block) (tune_places (cells_in rules_of_abc text block) (block_items text block))
 
--- How many items and bar lines its voices play.
+-- How many items and bar lines its voices with a track play.
 abbrev pub block_size : Text → Block → ℕ
 block_size text block = steps_played (block_tune text block)
 

@@ -1,5 +1,5 @@
 -- The entries of a play are those of its steps, and its tones are all tones of its time tokens.
-use Rattle.std.proofs.Common.{◌≡◌, ℕ, Bool, true, false, List, [], ◌∷◌, ◌++◌, length, map, Option, refl, sym, ap, ◌∙◌, append-nil}
+use Rattle.std.proofs.Common.{◌≡◌, ℕ, true, false, List, [], ◌∷◌, ◌++◌, length, map, refl, sym, ap, ◌∙◌, append-nil}
 use Rattle.std.specs.List.{flat_map}
 use Rattle.std.specs.Prelude.{filter_map, reverse}
 use Rattle.std.proofs.lemmas.Grind.{flat_map-append}
@@ -8,13 +8,12 @@ use Rattle.std.proofs.lemmas.List.Elements.{filter_map-append}
 use Rattle.abc_bars_items.specs.declared.item.Item.{Item}
 use Rattle.abc_bars_items.specs.declared.item.Item.TheVariants as items
 use Rattle.abc_bars_items.specs.declared.item.Tone.{Tone}
-use Rattle.abc_time.specs.declared.grains.Grains.{Grains}
 use Rattle.abc_voices.specs.Ties.{TimeToken, with_token}
 use Rattle.abc_voices_sections.specs.Step.{tones_of}
 use Rattle.abc_play_sections.specs.declared.step.PlayStep.{PlayStep}
 use Rattle.abc_play_sections.specs.declared.step.PlayStep.TheVariants as steps
 use Rattle.abc_play_sections.specs.Step.{as_item}
-use Rattle.abc_play_tune.specs.Entries.{entries_back, entries_from, entry_groups, item_entries, played_by, previous_after, step_entries, tone_entries, tone_entry}
+use Rattle.abc_play_tune.specs.Entries.{entries_back, entries_from, entry_groups, item_entries, played_by, previous_after, step_entries, tone_entries}
 use Rattle.abc_play_tune.specs.Laws.{GroupsEntries, PlaysTones, tone_of_token, tones_of_token}
 use Rattle.abc_play_tune.specs.Play.{play_of_voice, tokens_among}
 use Rattle.abc_play_tune.specs.declared.entry.PlayEntry.{PlayEntry}

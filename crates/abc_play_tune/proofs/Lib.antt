@@ -1,5 +1,6 @@
 pub mod AllTones
 pub mod Begun
+pub mod Counted
 pub mod Cuts
 pub mod Entering
 pub mod Lengths

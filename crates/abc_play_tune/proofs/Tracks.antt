@@ -1,14 +1,16 @@
 -- What the voices with a track play in stages is what they play in the sections of these.
-use Rattle.std.proofs.Common.{◌≡◌, ℕ, ◌+◌, ◌-◌, ◌<◌, ◌≤◌, Bool, true, false, cond, List, [], ◌∷◌, ◌++◌, length, map, drop, get_or, All, Some, None, refl, sym, ap, subst, ◌∙◌, arith, length-drop}
+use Rattle.std.proofs.Common.{◌≡◌, ℕ, ◌+◌, ◌-◌, ◌<◌, ◌≤◌, Bool, true, false, cond, List, [], ◌∷◌, ◌++◌, length, map, drop, take, get_or, All, Some, None, refl, sym, ap, subst, ◌∙◌, arith, length-drop}
 use Rattle.std.specs.Borrow.{Bor}
 use Rattle.std.specs.Prelude.{slice_get, filter_map, sum_by, option_map}
-use Rattle.std.proofs.lemmas.List.{drop_more}
-use Rattle.std.proofs.lemmas.List.Elements.{All-nil, All-cons}
+use Rattle.std.specs.List.{list_any}
+use Rattle.std.proofs.lemmas.List.{drop-map, drop_more, take_all}
+use Rattle.std.proofs.lemmas.List.Elements.{All-nil, All-cons, All-head, All-tail}
 use Rattle.std.proofs.lemmas.List.Sums.{sum_by-cons}
 use Rattle.std.proofs.lemmas.Option.{slice_get-map, slice_get-get_or}
 use Rattle.abc_bars_items.specs.declared.item.Item.{Item}
 use Rattle.abc_repeat.specs.Order.{sections_of}
 use Rattle.abc_time.specs.declared.grains.Grains.{Grains}
+use Rattle.abc_voices.proofs.Layouts.{first_within}
 use Rattle.abc_voices.specs.Layout.{total}
 use Rattle.abc_voices.specs.Opening.{order_after, after_all}
 use Rattle.abc_voices.specs.Track.{has_unnamed_track, voice_names, tracks}
@@ -18,12 +20,13 @@ use Rattle.abc_voices_sections.specs.PlayedSection.{section_length}
 use Rattle.abc_voices_sections.specs.Section.{letters}
 use Rattle.abc_play_sections.specs.declared.step.PlayStep.{PlayStep}
 use Rattle.abc_play_sections.specs.Play.{steps_in}
-use Rattle.abc_play_tune.specs.Play.{step_sections, played_sections, play_of_voice}
+use Rattle.abc_play_tune.specs.Play.{counted_voices, counted_place, is_nameless, step_sections, played_sections, play_of_voice}
 use Rattle.abc_play_tune.specs.Stage.{section_time, length_in, part_of, stage_of}
 use Rattle.abc_play_tune.specs.Steps.{without_places}
 use Rattle.abc_play_tune.specs.Timed.{timed_from, timed_in, steps_of, timed_along}
 use Rattle.abc_play_tune.specs.Turns.{IsPart, IsStage, length_along}
 use Rattle.abc_play_tune.specs.declared.stage.StepStage.{StepStage}
+use Rattle.abc_play_tune.proofs.Counted.{LastsAsLong, all_last_as_long}
 use Rattle.abc_play_tune.proofs.Times.{section_time-alike}
 use Rattle.abc_play_tune.proofs.WithoutPlaces.{plays_sections}
 
@@ -51,20 +54,12 @@ pub stages_hold : (voices : List (List ℕ)) (played : List Stepped) (stages : L
 stages_hold voices played stages is = subst (All IsStage) (sym is) (stages_are voices played)
 
 -- how long the stages of sections are
-total_of : (voices : List (List ℕ)) (played : List Stepped) → length_along (map (stage_of voices) played) ≡ sum_by (section_length voices) (map without_places played)
+total_of : (voices : List (List ℕ)) (played : List Stepped) → length_along (map (stage_of voices) played) ≡ sum_by (section_time voices) played
 total_of voices [] = refl
 total_of voices (section ∷ played) =
     sum_by-cons (λ (stage : StepStage). stage.longest.0) (stage_of voices section) (map (stage_of voices) played)
-    ∙ (λ i. section_time-alike voices section i + total_of voices played i)
-    ∙ sym (sum_by-cons (section_length voices) (without_places section) (map without_places played))
-
-pub length_along-total : (tune : List (Bor Item)) (stages : List StepStage) → stages ≡ map (stage_of (voice_names (items_of tune))) (played_sections tune)
-    → length_along stages ≡ total (items_of tune)
-length_along-total tune stages is =
-    let voices = voice_names (items_of tune) in
-    ap length_along is
-    ∙ total_of voices (played_sections tune)
-    ∙ ap (sum_by (section_length voices)) (plays_sections tune)
+    ∙ ap (λ n. section_time voices section + n) (total_of voices played)
+    ∙ sym (sum_by-cons (section_time voices) section played)
 
 times_of : (voices : List (List ℕ)) (played : List Stepped) → sum_by (section_time voices) played ≡ sum_by (section_length voices) (map without_places played)
 times_of voices [] = refl
@@ -73,10 +68,32 @@ times_of voices (section ∷ played) =
     ∙ (λ i. section_time-alike voices section i + times_of voices played i)
     ∙ sym (sum_by-cons (section_length voices) (without_places section) (map without_places played))
 
-pub sum_by-section_time : (tune : List (Bor Item)) → sum_by (section_time (voice_names (items_of tune))) (played_sections tune) ≡ total (items_of tune)
+-- the voices that count take as long as all
+times_counted : (tune : List Item) (played : List Stepped) → All (LastsAsLong tune) played → sum_by (section_time (counted_voices tune)) played ≡ sum_by (section_time (voice_names tune)) played
+times_counted tune [] all = refl
+times_counted tune (section ∷ played) all =
+    sum_by-cons (section_time (counted_voices tune)) section played
+    ∙ (λ i. All-head (LastsAsLong tune) section played all i + times_counted tune played (All-tail (LastsAsLong tune) section played all) i)
+    ∙ sym (sum_by-cons (section_time (voice_names tune)) section played)
+
+pub sum_by-section_time : (tune : List (Bor Item)) → sum_by (section_time (counted_voices (items_of tune))) (played_sections tune) ≡ total (items_of tune)
 sum_by-section_time tune =
     let voices = voice_names (items_of tune) in
-    times_of voices (played_sections tune) ∙ ap (sum_by (section_length voices)) (plays_sections tune)
+    times_counted (items_of tune) (played_sections tune) (all_last_as_long tune)
+    ∙ times_of voices (played_sections tune) ∙ ap (sum_by (section_length voices)) (plays_sections tune)
+
+pub length_along-total : (tune : List (Bor Item)) (stages : List StepStage) → stages ≡ map (stage_of (counted_voices (items_of tune))) (played_sections tune)
+    → length_along stages ≡ total (items_of tune)
+length_along-total tune stages is =
+    ap length_along is ∙ total_of (counted_voices (items_of tune)) (played_sections tune) ∙ sum_by-section_time tune
+
+timed_counted : (tune : List Item) (voice : List ℕ) (at : ℕ) (played : List Stepped) → All (LastsAsLong tune) played
+    → timed_in (counted_voices tune) voice at played ≡ timed_in (voice_names tune) voice at played
+timed_counted tune voice at [] all = refl
+timed_counted tune voice at (section ∷ played) all =
+    ap (λ time. timed_from at (steps_in section voice) ++ timed_in (counted_voices tune) voice (at + time) played) (All-head (LastsAsLong tune) section played all)
+    ∙ ap (λ l. timed_from at (steps_in section voice) ++ l)
+    (timed_counted tune voice (at + section_time (voice_names tune) section) played (All-tail (LastsAsLong tune) section played all))
 
 -- the sections that are played
 pub filter_map-played : (tune : List (Bor Item)) (found : List Stepped) (order : List ℕ) → found ≡ step_sections tune
@@ -118,15 +135,52 @@ tracks_here : (b : Bool) (voices : List (List ℕ)) → drop (cond b 0 1) voices
 tracks_here true voices = refl
 tracks_here false voices = refl
 
+-- the voices that count, and the tracks among them
+pub drop-counted_voices : (tune : List Item) → drop (counted_place tune) (voice_names tune) ≡ counted_voices tune
+drop-counted_voices tune = by_test (list_any is_nameless tune)
+  where
+    by_test : (b : Bool) → drop (cond b 0 (first_place tune)) (voice_names tune) ≡ cond b (voice_names tune) (tracks tune)
+    by_test true = refl
+    by_test false = tracks_here (has_unnamed_track tune) (voice_names tune)
+
+-- their names, by a part of those of all
+pub names_counted : (tune : List Item) (voices : List (Bor (List ℕ))) (from : ℕ) → map (λ (voice : Bor (List ℕ)). voice.now) voices ≡ voice_names tune
+    → from ≡ counted_place tune → map (λ (voice : Bor (List ℕ)). voice.now) (take (length voices - from) (drop from voices)) ≡ counted_voices tune
+names_counted tune voices from names at =
+    let now : Bor (List ℕ) → List ℕ = λ voice. voice.now in
+    let all : take (length voices - from) (drop from voices) ≡ drop from voices =
+    take_all (length voices - from) (drop from voices) (omega (arith, length-drop from voices)) in
+    ap (map now) all ∙ sym (drop-map now from voices) ∙ (λ i. drop (at i) (names i)) ∙ drop-counted_voices tune
+
+drop-tracks : (tune : List Item) → drop (first_place tune - counted_place tune) (counted_voices tune) ≡ tracks tune
+drop-tracks tune = by_test (list_any is_nameless tune)
+  where
+    by_test : (b : Bool) → drop (first_place tune - cond b 0 (first_place tune)) (cond b (voice_names tune) (tracks tune)) ≡ tracks tune
+    by_test true = let same : first_place tune - 0 ≡ first_place tune = omega arith in ap (λ k. drop k (voice_names tune)) same ∙ tracks_here (has_unnamed_track tune) (voice_names tune)
+    by_test false = let none : first_place tune - first_place tune ≡ 0 = omega arith in ap (λ k. drop k (tracks tune)) none
+
+pub counted_within : (tune : List Item) → counted_place tune ≤ first_place tune
+counted_within tune = by_test (list_any is_nameless tune)
+  where
+    by_test : (b : Bool) → cond b 0 (first_place tune) ≤ first_place tune
+    by_test true = omega arith
+    by_test false = omega arith
+
+-- the first track is one of the voices that count, or is after them
+pub first_counted : (tune : List Item) → first_place tune - counted_place tune ≤ length (counted_voices tune)
+first_counted tune = omega (arith, first_within tune, ap length (drop-counted_voices tune), length-drop (counted_place tune) (voice_names tune))
+
 -- what the voices with a track play
-pub for_voices-timed : (tune : List (Bor Item)) (stages : List StepStage) (first count : ℕ) → first ≡ first_place (items_of tune) → count ≡ length (voice_names (items_of tune))
-    → stages ≡ map (stage_of (voice_names (items_of tune))) (played_sections tune)
+pub for_voices-timed : (tune : List (Bor Item)) (stages : List StepStage) (first count : ℕ)
+    → first ≡ first_place (items_of tune) - counted_place (items_of tune) → count ≡ length (counted_voices (items_of tune))
+    → stages ≡ map (stage_of (counted_voices (items_of tune))) (played_sections tune)
     → for_voices (λ one. timed_along one 0 stages) first (count - first) ≡ map (play_of_voice tune) (tracks (items_of tune))
 for_voices-timed tune stages first count p q is =
-    let voices = voice_names (items_of tune) in
-    let place = first_place (items_of tune) in
+    let voices = counted_voices (items_of tune) in
+    let place = first_place (items_of tune) - counted_place (items_of tune) in
     (λ i. for_voices (λ one. timed_along one 0 (is i)) (p i) (q i - p i))
     ∙ ap (for_voices (λ one. timed_along one 0 (map (stage_of voices) (played_sections tune))) place) (sym (length-drop place voices))
     ∙ voices_here (λ one. timed_along one 0 (map (stage_of voices) (played_sections tune))) (play_of_voice tune) voices
-    (λ k voice rest e. timed_here voices k voice 0 (played_sections tune) (front voices k voice rest e).found) place (drop place voices) refl
-    ∙ ap (map (play_of_voice tune)) (tracks_here (has_unnamed_track (items_of tune)) voices)
+    (λ k voice rest e. timed_here voices k voice 0 (played_sections tune) (front voices k voice rest e).found
+    ∙ timed_counted (items_of tune) voice 0 (played_sections tune) (all_last_as_long tune)) place (drop place voices) refl
+    ∙ ap (map (play_of_voice tune)) (drop-tracks (items_of tune))
