@@ -151,7 +151,7 @@ enum {
     ABC_LIVE_OUT_OF_MEMORY = 5, /* An allocation failed. The session is as it was before the call. */
     ABC_LIVE_NOT_FOUND = 6,     /* There is no such number, line, title or fault code. */
     ABC_LIVE_SHORT_BUFFER = 7,  /* The items do not fit into the buffer. */
-    ABC_LIVE_TOO_LONG = 8       /* More than 1,000,000 items and bar lines would be played. */
+    ABC_LIVE_TOO_LONG = 8       /* More than 1,000,000 notes, chords, rests, fields, programs and bar lines would be played. */
 };
 
 /* Returns the version of the library: millions are its major number, thousands its minor one. It is ABC_LIVE_VERSION_NUMBER of the
@@ -261,8 +261,8 @@ abc_live_code abc_live_tracks(abc_live_session *session, uint32_t number, size_t
 /*
  * Copies the entries of a tune number, one track of its MIDI file after another: of each as many as `abc_live_tracks` copies. Those of
  * a track are in the order of play, with repeats, endings and parts as played. They depend on the present text alone, and each call
- * works them out anew. Returns ABC_LIVE_NOT_FOUND if the number has no file, ABC_LIVE_TOO_LONG if its voices play more than 1,000,000
- * items and bar lines together, or ABC_LIVE_OUT_OF_MEMORY.
+ * works them out anew. Returns ABC_LIVE_NOT_FOUND if the number has no file, or ABC_LIVE_OUT_OF_MEMORY. Returns ABC_LIVE_TOO_LONG if
+ * the voices with a track play more than 1,000,000 notes, chords, rests, fields, programs and bar lines together.
  *
  * An entry begins where the one before it ends, and the tones of a chord begin together. After a voice that is shorter than its part the
  * next entry begins with the next part. An entry with `on` equal to `off` is not in the file. The sound of a tied tone ends with

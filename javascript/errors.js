@@ -30,7 +30,7 @@ export class OutOfMemory extends EditError {
   name = "OutOfMemory";
 }
 
-/** The voices of a tune play more than 1,000,000 items and bar lines together. */
+/** The voices of a tune play more than 1,000,000 notes, chords, rests, fields, programs and bar lines together. */
 export class PlayTooLong extends AbcError {
   name = "PlayTooLong";
 }
@@ -60,7 +60,7 @@ const SENTENCES = new Map([
   [BadLine, "a line has more than 65,535 bytes"],
   [TooLarge, "the text would have more than 1,048,576 lines"],
   [OutOfMemory, "an allocation failed; nothing is changed"],
-  [PlayTooLong, "more than 1,000,000 items and bar lines are played"],
+  [PlayTooLong, "more than 1,000,000 notes, chords, rests, fields, programs and bar lines are played"],
   [
     NotSupportedError,
     "there are no 64-bit WebAssembly memories here: use Chromium 133, Firefox 134, Node 24 or a later one of them",

@@ -201,7 +201,7 @@ export class BadLine extends EditError {}
 export class TooLarge extends EditError {}
 /** An allocation failed. The call changed nothing. */
 export class OutOfMemory extends EditError {}
-/** The voices of a tune play more than 1,000,000 items and bar lines together. */
+/** The voices of a tune play more than 1,000,000 notes, chords, rests, fields, programs and bar lines together. */
 export class PlayTooLong extends AbcError {}
 /** The session is closed. */
 export class ClosedError extends AbcError {}

@@ -46,7 +46,7 @@ class LibraryMissing(Error):
 
 
 class PlayTooLong(Error, ValueError):
-    """The voices of a tune play more than 1,000,000 items and bar lines together."""
+    """The voices of a tune play more than 1,000,000 notes, chords, rests, fields, programs and bar lines together."""
 
 
 class LibraryNeeded(Error, NotImplementedError):

@@ -235,7 +235,7 @@ def check(code: int) -> None:
     if code in REFUSALS:
         raise refusal(REFUSALS[code])
     if code == TOO_LONG:
-        raise PlayTooLong("more than 1,000,000 items and bar lines are played")
+        raise PlayTooLong("more than 1,000,000 notes, chords, rests, fields, programs and bar lines are played")
     if code != OK:
         raise RuntimeError(f"the library answered {code}: this is a mistake in the package abc2midi_live")
 

@@ -179,7 +179,7 @@ class Session(ABC):
     def play(self, number: int) -> Optional[tuple[Track, ...]]:
         """What is played of a number, when, and where it is in the text: the entries of each track of its MIDI file, in order of
         play. The first track is the conductor's and has none. None if no tune of that number has a file. Raises `PlayTooLong` if
-        more than 1,000,000 items and bar lines are played, and `LibraryNeeded` over a process."""
+        more than 1,000,000 notes, chords, rests, fields, programs and bar lines are played, and `LibraryNeeded` over a process."""
 
     @property
     @abstractmethod

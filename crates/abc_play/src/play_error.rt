@@ -12,8 +12,8 @@ pub enum PlayError {
     /// No tune of this number has a file.
     #[error("no tune of this number has a file")]
     NoSuchNumber,
-    /// More than 1,000,000 entries would be played.
-    #[error("more than 1,000,000 entries would be played")]
+    /// The voices with a track would play more than 1,000,000 notes, chords, rests, fields, programs and bar lines together.
+    #[error("more than 1,000,000 notes, chords, rests, fields, programs and bar lines would be played")]
     TooLong,
     /// An allocation failed.
     #[error("out of memory")]
