@@ -87,7 +87,9 @@ class Line(NamedTuple):
 
     def timed(self, at: int) -> int:
         """Returns the token that has the place of a note, chord or rest in a play: of a chord its first note, -1 if it has none."""
-        return next((part for part in self.parts(at) if self.kinds[part] == NOTE_PART), -1) if self.kinds[at] == CHORD else at
+        if self.kinds[at] != CHORD:
+            return at
+        return next((part for part in self.parts(at) if self.kinds[part] == NOTE_PART), -1)
 
     def notes(self, at: int) -> list[int]:
         """Returns a token that is a note, the notes of a chord, or nothing of a rest."""
@@ -114,7 +116,9 @@ def segments_of(line: Line) -> Iterator[Segment]:
     timed: list[int] = []
     has_own_ties = False
     for at, kind in enumerate(line.kinds):
-        if kind in TIMED and line.timed(at) >= 0:
+        if kind in TIMED:
+            if kind == CHORD and line.timed(at) < 0:  # it takes no time
+                continue
             if has_own_ties:
                 yield segment_of(line, timed, True, at, END)
                 timed, has_own_ties = [], False
@@ -138,14 +142,14 @@ def segment_of(line: Line, timed: list[int], has_own_ties: bool, sign: int, kind
     bar = bar_at(line, sign) if kind == BAR_LINE else PLAIN
     if not timed:
         return Segment(0, 0, 0, 0, 0, False, sign, kind, bar)
-    start, end = (line.starts[line.timed(at)] for at in (timed[0], timed[-1]))
-    count = 0 if kind == BAR_REST else len(timed)
-    return Segment(timed[0], timed[-1], count, start, end, has_own_ties, sign, kind, bar)
+    first, last = timed[0], timed[-1]
+    start, end = line.starts[line.timed(first)], line.starts[line.timed(last)]
+    return Segment(first, last, 0 if kind == BAR_REST else len(timed), start, end, has_own_ties, sign, kind, bar)
 
 
 def follows(line: Line, at: int, timed: list[int]) -> bool:
     """Returns whether a tie comes directly after the last of some notes, chords and rests, and that is no rest."""
-    while line.kinds[at - 1] >= PART:
+    while timed and line.kinds[at - 1] >= PART:
         at -= 1
     return timed[-1:] == [at - 1] and line.kinds[at - 1] != REST
 
