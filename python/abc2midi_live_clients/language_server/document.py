@@ -82,7 +82,8 @@ class Document:
     def look_on(self) -> bool:
         """Looks for hints for a moment. Returns whether all are known."""
         is_done = self.finder is None or self.finder.look(MOST_AT_ONCE)
-        self.known_hints = self.finder.found() if self.finder else []
+        if is_done or self.known_hints is None:
+            self.known_hints = self.finder.found() if self.finder else []
         return is_done
 
     def has_all_hints(self) -> bool:
