@@ -53,8 +53,9 @@ export class Starter {
   /** The text became another one, or the book is there, or it was saved.
    * @type {(name: string, saved: string | null) => void} */
   look(name, saved) {
-    this.root.hidden = !isBlank(this.sheet.text.lines);
-    this.root.querySelector("p")?.replaceChildren(whyBlank(name, saved));
+    const isShown = isBlank(this.sheet.text.lines);
+    this.root.hidden = !isShown;
+    if (isShown) this.root.querySelector("p")?.replaceChildren(whyBlank(name, saved));
   }
 
   /** Inserts the tune as an edit that can be undone, with its title selected. */

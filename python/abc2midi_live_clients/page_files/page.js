@@ -252,6 +252,7 @@ export class Application {
       sheet.refresh({ start: place, end: place, direction: "forward" });
     }
     this.follow();
+    music.follow(); // asks for the tune together with the lines
     if (fresh && isWhole) kept.offer();
   }
 

@@ -237,6 +237,7 @@ export class Sheet {
     const edit = difference(this.text.lines.slice(this.first, this.last), this.areaLines);
     if (!edit) return;
     const before = this.before_input ?? this.selection();
+    this.coverSoon(); // before what others draw in that frame, so that the page is laid out once
     this.last += edit.put.length - (edit.stop - edit.start);
     const from = this.first + edit.start;
     this.text.edit(from, this.first + edit.stop, edit.put, before, this.typed());
