@@ -3,7 +3,7 @@
 import test_page_in_browser
 from browser_keys import CONTROL, ESCAPE, SHIFT
 
-NEED_NAMES = {"button", "link", "textbox", "searchbox", "checkbox", "slider", "spinbutton", "listbox", "option", "dialog", "navigation", "region", "group", "search"}
+NEED_NAMES = {"button", "link", "textbox", "searchbox", "checkbox", "radio", "radiogroup", "combobox", "slider", "spinbutton", "listbox", "option", "dialog", "navigation", "region", "group", "search"}
 
 
 class Access(test_page_in_browser.Browser):
@@ -43,6 +43,17 @@ class Access(test_page_in_browser.Browser):
         self.run_script("document.getElementById('unsaved').click()")
         self.wait(lambda: self.run_script("return document.getElementById('differences').open"))
         self.assert_named(("dialog", self.text("differences-words")), ("group", "Differences"))
+
+    def test_dialogs_of_a_tune(self) -> None:
+        self.wait(lambda: self.run_script("return document.querySelectorAll('#list [role=option]').length") == 1)
+        for name, wanted in (
+            ("transpose", [("dialog", "Transpose"), ("radiogroup", "What to transpose"), ("radio", "By semitones"), ("spinbutton", "Semitones, less than 0 for down"), ("radio", "To the key"), ("combobox", "Key"), ("combobox", "Direction")]),
+            ("tidy", [("dialog", "Tidy"), ("radiogroup", "What to tidy"), ("radio", "The tune"), ("checkbox", "Bar lines below each other"), ("button", "Cancel")]),
+        ):  # fmt: skip
+            self.run_script("document.getElementById(arguments[0]).click()", f"{name}-open")
+            self.wait(lambda: self.text(f"{name}-words"))
+            self.assert_named(*wanted)
+            self.press(ESCAPE)
 
     def test_what_is_said(self) -> None:
         """Faults are said when they come, questions at once."""

@@ -35,10 +35,10 @@ const contrast = (one, other) => {
 const style = getComputedStyle(document.documentElement), value = (name) => style.getPropertyValue(name).trim();
 const backs = ["--paper", "--here", "--fault-back", "--hint-back", "--find", "--sounding", "--sounding-line"].map(value);
 const fronts = [...document.querySelectorAll(".colours, .colours span")].map((part) => [part.className, getComputedStyle(part).color]);
-const edges = [...document.querySelectorAll("main > *, header button, input:not([type=checkbox], [type=range]), .choices span, #search button, #music button, .bar button:not(#count)")]
+const edges = [...document.querySelectorAll("main > *, header button, input:not([type=checkbox], [type=range]), .choices span, #search button, #music button, .bar button:not(#count), dialog form :is(button, select)")]
   .map((one) => [one.id || one.className || one.textContent, getComputedStyle(one).borderTopColor])
   .concat([["slider", value("--accent")]]);
-const quiet = [...document.querySelectorAll("#status, #place, #keys, #tally, .numbers, #count")].map((one) => [one.id || one.className, getComputedStyle(one).color]);
+const quiet = [...document.querySelectorAll("#status, #place, #keys, #tally, .numbers, #count, dialog :is(label, p, ul, button, select, input)")].map((one) => [one.id || one.className, getComputedStyle(one).color]);
 return {
   text: fronts.map(([name, colour]) => [name, Math.min(...backs.map((back) => contrast(colour, back)))]),
   edges: edges.map(([name, colour]) => [name, Math.min(contrast(colour, value("--paper")), contrast(colour, value("--desk")))]),
