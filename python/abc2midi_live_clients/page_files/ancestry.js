@@ -13,6 +13,7 @@ import { withMoves } from "./moves.js";
 const MOST_STEPS = 1000, MOST_TOPS = 4;
 const NONE = -1; // the count of an author without edits
 const MOST_CHARACTERS = 1 << 24; // of the lines of all steps together
+const MOST_COPIES = 20_000_000; // of lines, on the ways back to texts that a common text is made of
 
 /** Whether a text has an edit of an author.
  * @type {(has: Edits, author: string, count: number) => boolean} */
@@ -116,23 +117,25 @@ export class Ancestry {
   }
 
   /** The text of these edits: the known text with most of them, in which those that it lacks are made one after another. It lacks
-   * some if the known texts do not say what they changed. Null if each known text has other edits. Texts from `end` on do not count.
-   * @type {(wanted: Edits, end?: number) => Version | null} */
-  textOf(wanted, end = this.steps.length + 1) {
+   * some if the known texts do not say what they changed, or if that takes too long. Null if each known text has other edits. Texts
+   * from `end` on do not count.
+   * @type {(wanted: Edits, end?: number, left?: { copies: number }) => Version | null} */
+  textOf(wanted, end = this.steps.length + 1, left = { copies: MOST_COPIES }) {
     const all = [...this.steps.map((step) => step.has), this.has].slice(0, end);
     let best = -1;
     for (const [at, has] of all.entries()) if (hasAll(wanted, has) && (best < 0 || hasAll(has, all[best]))) best = at;
     if (best < 0) return null;
-    return all.reduce((text, has, at) => this.withEdits(text, lackedBy(within(has, wanted), text.has), at), this.versionAt(best));
+    return all.reduce((text, has, at) => this.withEdits(text, lackedBy(within(has, wanted), text.has), at, left), this.versionAt(best));
   }
 
   /** A text with more edits, which a known text has: what this one changed by them is changed there too.
-   * @type {(text: Version, more: Edits, at: number) => Version} */
-  withEdits(text, more, at) {
-    if (!Object.keys(more).length) return text;
+   * @type {(text: Version, more: Edits, at: number, left: { copies: number }) => Version} */
+  withEdits(text, more, at, left) {
+    if (!Object.keys(more).length || left.copies < 0) return text;
+    left.copies -= 2 * (this.steps.length - at) * this.lines.length;
     const { lines, has } = this.versionAt(at), rest = { ...has };
     for (const author of Object.keys(more)) rest[author] = text.has[author] ?? NONE;
-    const base = this.textOf(rest, at);
+    const base = this.textOf(rest, at, left);
     return base && hasAll(base.has, rest) ? { lines: mergedLines(base.lines, lines, text.lines), has: joined(text.has, more) } : text;
   }
 
