@@ -6,6 +6,8 @@ const MODULE = new URL("./abc2midi_live.wasm", import.meta.url);
 const WITH_MEMORY_64 = new Uint8Array([0, 0x61, 0x73, 0x6d, 1, 0, 0, 0, 5, 3, 1, 4, 0]); // a module of one 64-bit memory, and nothing else
 const FILES = "node:fs/promises"; // a name that bundlers for browsers do not look for
 const MOST_ROOM = 65536, ROOM_STEP = 4096; // bytes of the block that an engine has for the texts and reports of edits
+const MOST_OF_UNIT = 3; // bytes of UTF-8 for a unit of UTF-16
+const encoder = new TextEncoder();
 
 /** Whether this browser or program has the 64-bit memories that the module needs. */
 export function isSupported() {
@@ -29,7 +31,7 @@ export class Engine {
   #exports;
   #trap = null;
   #view = new DataView(new ArrayBuffer(0)); // of the memory; its buffer has no bytes as soon as the memory grows
-  #room = { at: 0n, size: 0 }; // a block for the texts and reports of edits
+  #room = { at: 0n, size: 0, bytes: new Uint8Array() }; // a block for the texts and reports of edits; its bytes are made when they are used
 
   constructor(exports) {
     this.#exports = exports;
@@ -52,11 +54,14 @@ export class Engine {
     return this.#exports.memory.buffer.byteLength;
   }
 
-  /** Calls an export. Whatever it throws, its state may be half of one: so no other call follows. */
-  call(name, ...words) {
+  /**
+   * What `use` returns, which calls one of the exports. It names the export, so that JavaScript's compiler sees which one it is. Whatever
+   * it throws, its state may be half of one: so no other call follows.
+   */
+  call(use) {
     if (this.#trap) throw this.#stopped();
     try {
-      return this.#exports[name](...words);
+      return use(this.#exports);
     } catch (error) {
       this.#trap = error;
       throw this.#stopped();
@@ -81,13 +86,26 @@ export class Engine {
 
   /** Allocates bytes: at least one, so that each block has a place of its own. */
   allocate(count) {
-    const at = this.call("malloc", BigInt(Math.max(count, 1)));
+    const bytes = BigInt(Math.max(count, 1));
+    const at = this.call((it) => it.malloc(bytes));
     if (at === 0n) throw refusal(OutOfMemory);
     return at;
   }
 
   free(at) {
-    this.call("free", at);
+    this.call((it) => it.free(at));
+  }
+
+  /** Whether a text is a string that is short enough to be written into the block for edits as it is. */
+  fits(text) {
+    return typeof text === "string" && text.length * MOST_OF_UNIT <= this.#room.size;
+  }
+
+  /** Writes a text to a block, bytes or a string that fits. Returns how many bytes it wrote. */
+  write(text, at) {
+    if (typeof text === "string") return encoder.encodeInto(text, this.#bytesOfBlock(at)).written;
+    this.bytes(at, text.length).set(text);
+    return text.length;
   }
 
   /** What `use` returns for the place of a block of some bytes, which is another's afterwards. Small blocks are all at one place. */
@@ -105,10 +123,18 @@ export class Engine {
   #roomFor(count) {
     if (count > this.#room.size) {
       const size = Math.ceil(count / ROOM_STEP) * ROOM_STEP, at = this.allocate(size), { size: had, at: old } = this.#room;
-      this.#room = { at, size };
+      this.#room = { at, size, bytes: new Uint8Array() };
       if (had > 0) this.free(old);
     }
     return this.#room.at;
+  }
+
+  /** The bytes of the block for edits, or as many of a larger block, valid up to the next call. */
+  #bytesOfBlock(at) {
+    const room = this.#room;
+    if (at !== room.at) return this.bytes(at, room.size);
+    if (room.bytes.buffer !== this.view.buffer) room.bytes = this.bytes(at, room.size); // a growth of the memory makes another buffer
+    return room.bytes;
   }
 }
 

@@ -21,7 +21,7 @@ const SHORTEST_TUNE = 3; // bytes: `X:` and a line feed
 /** Closes a session that was dropped without `close`. */
 const dropped = new FinalizationRegistry(({ engine, block }) => {
   if (engine.isStopped) return;
-  engine.call("abc_live_close", block);
+  engine.call((it) => it.abc_live_close(block));
   engine.free(block);
 });
 
@@ -44,7 +44,7 @@ export class Session {
     this.#block = engine.allocate(BLOCK);
     this.#places = placesIn(this.#block);
     engine.bytes(this.#block, ANSWER).fill(0);
-    const code = engine.call("abc_live_open", this.#block);
+    const code = engine.call((it) => it.abc_live_open(this.#block));
     if (code !== OK) engine.free(this.#block);
     check(code);
     dropped.register(this, { engine, block: this.#block }, this);
@@ -61,15 +61,18 @@ export class Session {
   // ---- edits
 
   insert(at, lines) {
-    return this.#edit("abc_live_insert", [at], bytesOfLines(lines));
+    const insert = (it, text, size) => it.abc_live_insert(this.#block, at, text, size, this.#places.work);
+    return this.#edit(lines, at, at, insert);
   }
 
   replace(from, to, lines) {
-    return this.#edit("abc_live_replace", [from, to], bytesOfLines(lines));
+    const replace = (it, text, size) => it.abc_live_replace(this.#block, from, to, text, size, this.#places.work);
+    return this.#edit(lines, from, to, replace);
   }
 
   delete(from, to) {
-    return this.#edit("abc_live_delete", [from, to], null);
+    const remove = (it) => it.abc_live_delete(this.#block, from, to, this.#places.work);
+    return this.#edit("", from, to, remove);
   }
 
   setText(text) {
@@ -102,19 +105,25 @@ export class Session {
     return this.report;
   }
 
-  /** Makes an edit. The block of its text is large enough for the report too, so nothing can fail after the edit. */
-  #edit(call, lines, bytes) {
+  /**
+   * Makes an edit of lines from a first one to a last one: `call` makes it, with the place and the size of its text. The block of the text
+   * is large enough for the report too, so nothing can fail after the edit.
+   */
+  #edit(lines, from, to, call) {
+    const text = this.#engine.fits(lines) ? lines : bytesOfLines(lines);
     this.#checkOpen();
-    const places = lines.map(numberFor);
-    if (places.includes(null)) throw refusal(BadRange);
-    const size = bytes?.length ?? 0, engine = this.#engine;
-    const tunes = this.#titleCount() + Math.floor(size / SHORTEST_TUNE) + 1; // the text has no more after the edit
-    engine.inBlock(Math.max(size, tunes * NUMBER_SIZE), (block) => {
-      if (bytes) engine.bytes(block, size).set(bytes);
-      const text = bytes ? [block, BigInt(size)] : [];
-      check(engine.call(call, this.#block, ...places, ...text, this.#places.work));
+    const [first, last] = [numberFor(from), numberFor(to)];
+    if (first === null || last === null) throw refusal(BadRange);
+    const engine = this.#engine;
+    const tunes = this.#titleCount() + Math.floor(text.length / SHORTEST_TUNE) + 1; // the text has no more after the edit
+    engine.inBlock(Math.max(text.length, tunes * NUMBER_SIZE), (block) => {
+      const size = engine.write(text, block);
+      check(engine.call((it) => call(it, block, BigInt(size))));
       this.#text = null;
-      this.#report = { written: this.#numbersAt("abc_live_written", block, tunes), removed: this.#numbersAt("abc_live_removed", block, tunes) };
+      this.#report = {
+        written: this.#numbersAt(block, tunes, (it, ...words) => it.abc_live_written(this.#block, ...words)),
+        removed: this.#numbersAt(block, tunes, (it, ...words) => it.abc_live_removed(this.#block, ...words)),
+      };
     });
     return this.report;
   }
@@ -129,31 +138,31 @@ export class Session {
   output(number) {
     this.#checkOpen();
     const wanted = numberFor(number);
-    return wanted === null ? null : this.#copied("abc_live_output", 1, [this.#block, wanted]);
+    return wanted === null ? null : this.#copied(1, (it, ...buffer) => it.abc_live_output(this.#block, wanted, ...buffer));
   }
 
   get numbers() {
     this.#checkOpen();
-    return numbersIn(this.#copied("abc_live_numbers", NUMBER_SIZE, [this.#block]));
+    return numbersIn(this.#copied(NUMBER_SIZE, (it, ...buffer) => it.abc_live_numbers(this.#block, ...buffer)));
   }
 
   get titles() {
     this.#checkOpen();
     return Array.from({ length: this.#titleCount() }, (_, index) => {
-      const bytes = this.#copied("abc_live_title", 1, [this.#block, BigInt(index), this.#places.number]);
+      const bytes = this.#copied(1, (it, ...buffer) => it.abc_live_title(this.#block, BigInt(index), this.#places.number, ...buffer));
       return { number: this.#number(), text: textOf(bytes), bytes };
     });
   }
 
   get faults() {
     this.#checkOpen();
-    const numbers = numbersIn(this.#copied("abc_live_faults", FAULT_SIZE, [this.#block]));
+    const numbers = numbersIn(this.#copied(FAULT_SIZE, (it, ...buffer) => it.abc_live_faults(this.#block, ...buffer)));
     const names = new Map();
     let last = { number: 0, bytes: null };
     return Array.from({ length: numbers.length / 3 }, (_, n) => {
       const [line, column, code] = numbers.slice(3 * n, 3 * n + 3);
       if (line !== last.number) last = { number: line, bytes: this.lineBytes(line) };
-      if (!names.has(code)) names.set(code, textOf(this.#copied("abc_live_fault_name", 1, [code])));
+      if (!names.has(code)) names.set(code, textOf(this.#copied(1, (it, ...buffer) => it.abc_live_fault_name(code, ...buffer))));
       const name = names.get(code);
       return { line, column, utf16Column: utf16ColumnOf(last.bytes, column), name, ...SENTENCES[name] };
     });
@@ -161,7 +170,7 @@ export class Session {
 
   tokens(number) {
     const columns = utf16ColumnsOf(this.lineBytes(number));
-    const numbers = numbersIn(this.#copied("abc_live_tokens", TOKEN_SIZE, [this.#block, number], [this.#places.work]));
+    const numbers = numbersIn(this.#copied(TOKEN_SIZE, (it, ...buffer) => it.abc_live_tokens(this.#block, number, ...buffer, this.#places.work)));
     return Array.from({ length: numbers.length / 4 }, (_, n) => {
       const [from, to, kind, depth] = numbers.slice(4 * n, 4 * n + 4);
       return { from, to, utf16From: columns[from - 1], utf16To: columns[to - 1], kind: kindOf(kind), depth };
@@ -171,13 +180,13 @@ export class Session {
   play(number) {
     this.#checkOpen();
     const wanted = numberFor(number);
-    const sizes = wanted === null ? null : this.#copied("abc_live_tracks", SIZE_SIZE, [this.#block, wanted]);
+    const sizes = wanted === null ? null : this.#copied(SIZE_SIZE, (it, ...buffer) => it.abc_live_tracks(this.#block, wanted, ...buffer));
     return sizes === null ? null : this.#tracks(wanted, sizesIn(sizes));
   }
 
   /** The entries of each track of a number, whose sizes are known. */
   #tracks(number, sizes) {
-    const bytes = this.#copied("abc_live_play", ENTRY_SIZE, [this.#block, number]);
+    const bytes = this.#copied(ENTRY_SIZE, (it, ...buffer) => it.abc_live_play(this.#block, number, ...buffer));
     const view = viewOf(bytes), columns = new Map();
     const columnsOf = (line) => {
       if (!columns.has(line)) columns.set(line, utf16ColumnsOf(this.lineBytes(line)));
@@ -189,7 +198,7 @@ export class Session {
 
   get lineCount() {
     this.#checkOpen();
-    check(this.#engine.call("abc_live_line_count", this.#block, this.#places.number));
+    check(this.#engine.call((it) => it.abc_live_line_count(this.#block, this.#places.number)));
     return this.#number();
   }
 
@@ -204,7 +213,7 @@ export class Session {
   lineBytes(number) {
     this.#checkOpen();
     const wanted = numberFor(number);
-    const bytes = wanted === null ? null : this.#copied("abc_live_line", 1, [this.#block, wanted]);
+    const bytes = wanted === null ? null : this.#copied(1, (it, ...buffer) => it.abc_live_line(this.#block, wanted, ...buffer));
     if (bytes === null) throw new RangeError(`there is no line ${number} in a text of ${this.lineCount} lines`);
     return bytes;
   }
@@ -232,7 +241,7 @@ export class Session {
     this.#text = null;
     dropped.unregister(this);
     if (this.#engine.isStopped) return;
-    this.#engine.call("abc_live_close", block);
+    this.#engine.call((it) => it.abc_live_close(block));
     this.#engine.free(block);
   }
 
@@ -260,7 +269,7 @@ export class Session {
   }
 
   #titleCount() {
-    check(this.#engine.call("abc_live_title_count", this.#block, this.#places.count));
+    check(this.#engine.call((it) => it.abc_live_title_count(this.#block, this.#places.count)));
     return this.#count();
   }
 
@@ -270,12 +279,12 @@ export class Session {
   }
 
   /**
-   * A copy of the bytes that a call copies, whose items have `size` bytes; null if the call finds nothing. The call takes words, the place
-   * and the room of a buffer, a count, and the last words.
+   * A copy of the bytes that `call` copies, whose items have `size` bytes; null if the call finds nothing. The call gets the place and the
+   * room of a buffer, and the place of a count.
    */
-  #copied(call, size, words, last = []) {
+  #copied(size, call) {
     const engine = this.#engine, { answer, count: countAt } = this.#places;
-    const code = engine.call(call, ...words, answer, BigInt(Math.floor(ROOM / size)), countAt, ...last);
+    const code = engine.call((it) => call(it, answer, BigInt(Math.floor(ROOM / size)), countAt));
     if (code === NOT_FOUND) return null;
     if (code !== SHORT_BUFFER) {
       check(code);
@@ -283,14 +292,14 @@ export class Session {
     }
     const count = this.#count();
     return engine.inBlock(count * size, (block) => {
-      check(engine.call(call, ...words, block, BigInt(count), countAt, ...last));
+      check(engine.call((it) => call(it, block, BigInt(count), countAt)));
       return engine.bytes(block, count * size).slice();
     });
   }
 
-  /** The numbers that a call copies to a block with room for `most`. */
-  #numbersAt(call, block, most) {
-    check(this.#engine.call(call, this.#block, block, BigInt(most), this.#places.count));
+  /** The numbers that `call` copies to a block with room for `most`. */
+  #numbersAt(block, most, call) {
+    check(this.#engine.call((it) => call(it, block, BigInt(most), this.#places.count)));
     return numbersOf(this.#engine.view, Number(block), this.#count());
   }
 }

@@ -211,6 +211,16 @@ await run({
     same([session.line(2), session.lineBytes(2)], ["T:caf\u00e9", title]);
     session.close();
   },
+  "a string of an edit becomes the same bytes, short or long, and after the memory grew": async () => {
+    const engine = await Engine.load(readFileSync(`${folder}/abc2midi_live.wasm`)), session = await Session.open({ engine });
+    const before = engine.memoryBytes, euro = "\u20ac";
+    for (const text of ["%", "% \u00e9\u20ac\u{1d11e}\ud800.", euro.repeat(1365), euro.repeat(1366), "%\n".repeat(50000), "% \udc00\u00e9"]) {
+      session.insert(1, text);
+      same(session.lineBytes(1), bytes(text.split("\n")[0]));
+    }
+    same([engine.memoryBytes > before, session.lineCount], [true, 50005]);
+    session.close();
+  },
   "setText makes few edits and one report": async () => {
     const session = await Session.open();
     const book = (...bodies) => bodies.map((body, n) => `X:${n + 1}\nK:C\n${body}|\n`).join("\n");
