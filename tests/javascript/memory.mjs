@@ -120,6 +120,13 @@ await run({
       for (const it of [session, twin]) it.close();
     }
   },
+  "small free blocks become a large one if there is no other memory": async () => {
+    const { malloc, free } = (await WebAssembly.instantiate(limited(1))).instance.exports;
+    const blocks = [];
+    for (let at = malloc(500n); at !== 0n; at = malloc(500n)) blocks.push(at);
+    for (const at of blocks) free(at);
+    same(malloc(BigInt(500 * blocks.length)) !== 0n, true);
+  },
   "a session that gets no memory is not opened": async () => {
     const engine = await Engine.load(limited(1));
     const sessions = [];

@@ -33,7 +33,7 @@ class InNode(common.Room):
 
     def test_memory(self) -> None:
         words = [*common.node(), "--expose-gc", str(common.TESTS / "memory.mjs"), str(common.package)]
-        self.assert_ok(words, 5)
+        self.assert_ok(words, 6)
 
 
 class WithoutMemories(common.Room):
