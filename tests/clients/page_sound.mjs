@@ -106,6 +106,11 @@ function assertFades(player, way, now) {
 }
 
 const tests = {
+  async "the first note sounds at most 30 milliseconds after the start"() {
+    const begin = clock, { first } = await playing();
+    same([first > begin, first <= begin + 0.03], [true, true]);
+  },
+
   async "what sounds fades away when the player stops"() {
     const { player, first } = await playing();
     at(player, first + 0.2);
@@ -169,8 +174,8 @@ const tests = {
     player.rose = (speed) => speeds.push(speed);
     player.setLoop([0, 480]);
     for (let time = 0; time < 2; time += 0.05) at(player, first + time);
-    const starts = started.map(([, time]) => Math.round(1000 * (time - first)));
-    same([speeds, starts.slice(0, 5)], [[1.6, 2], [0, 500, 813, 1063, 1313]]);
+    const starts = started.map(([, time]) => Math.round(2000 * (time - first)) / 2);
+    same([speeds, starts.slice(0, 5)], [[1.6, 2], [0, 500, 812.5, 1062.5, 1312.5]]);
     player.stop();
   },
 

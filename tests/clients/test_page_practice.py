@@ -121,11 +121,11 @@ class Practising(music_page.MusicPage):
         self.assertEqual((self.text("full-tempo"), self.text("beats")), ("200 %", "120 beats a minute"))
         self.hear(0.5, 60, 62)
         self.hear(1, 60, 62, 64)
-        self.assertEqual(self.beginnings(), [0, 0.575, 1.075])
+        self.assertEqual(self.beginnings(), [0, 0.615, 1.115])
         self.press(HOME)
         self.assertEqual(self.text("full-tempo"), "25 %")
-        self.hear(4.5, 60, 62, 64, 65)
-        self.assertEqual(self.beginnings()[3], round(1.25 - 0.1 + (0.5 - (1.25 - 1.175)) * 8, 3))
+        self.hear(4.2, 60, 62, 64, 65)
+        self.assertEqual(self.beginnings()[3], round(1.25 - 0.02 + (0.5 - (1.25 - 1.135)) * 8, 3))
 
     def test_a_slow_tempo_from_the_begin(self) -> None:
         self.open(SCALE, "4 bars")

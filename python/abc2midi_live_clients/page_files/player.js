@@ -17,7 +17,7 @@ import { soundClick, soundNote } from "./sounds.js";
 
 const AHEAD = 0.25, AHEAD_HIDDEN = 2.5, EVERY = 60; // seconds, seconds in a tab that is not seen, milliseconds
 const LONGEST = 4096; // notes scheduled at once
-const SOON = 0.1; // seconds from a press of the button to the first note
+const SOON = 0.02; // seconds from a press of the button to the first note
 const MOST_LEGS = 64; // rounds of a loop scheduled at once
 const MOST_SPEED = 2; // to which rounds of a loop rise
 const TOUCHED = 1.5; // seconds for which a note sounds at most that someone points at
