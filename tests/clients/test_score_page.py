@@ -7,6 +7,7 @@ import shutil
 import unittest
 from collections.abc import Iterable, Iterator
 from contextlib import contextmanager
+from functools import partial
 from typing import Any, Optional
 from unittest import mock
 
@@ -190,9 +191,13 @@ class Staves(test_page_in_browser.Browser):
         self.run_script("document.getElementById('play').click()")
         for seconds, place in ((0.2, [4, 0]), (0.7, [4, 1]), (40.2, [14, 0])):
             self.run_script("clock = arguments[0]", seconds)
-            self.wait(lambda place=place: self.run_script(LINE) == [*place, True])
+            self.wait(partial(self.is_line_at, place))
         self.run_script("document.getElementById('play').click()")
         self.wait(lambda: self.run_script(LINE) is None)
+
+    def is_line_at(self, place: list[int]) -> bool:
+        """Whether the line of playback is at a place, and in view."""
+        return bool(self.run_script(LINE) == [*place, True])
 
     def test_an_answer_that_comes_late(self) -> None:
         """What was asked for an older text is not drawn over a newer one."""
