@@ -1,6 +1,6 @@
 """Finding hints in a process of its own, so that whoever types does not wait for them."""
 
-from typing import NamedTuple
+from typing import NamedTuple, Optional
 
 from abc2midi_live import Fault
 from abc2midi_live.lines import without_empty_end
@@ -23,10 +23,10 @@ class Question(NamedTuple):
 
 
 class HintProcess(OwnProcess):
-    """The process that finds hints."""
+    """The process that finds hints, by the library at a path or the one that is found."""
 
-    def __init__(self) -> None:
-        super().__init__("hint_process")
+    def __init__(self, library: Optional[str] = None) -> None:
+        super().__init__("hint_process", library)
 
     def rows(self, question: Question) -> list[HintRow]:
         """The hints on a text as windows see them, in order. Raises one of `ENDED` if the process ended."""
@@ -35,9 +35,9 @@ class HintProcess(OwnProcess):
         return found
 
 
-def serve() -> None:
+def serve(library: Optional[str]) -> None:
     """Answers questions till there are no more."""
-    finder = Finder()
+    finder = Finder(library)
 
     def rows(asked: tuple[bytes, bool, list[Tune], list[Fault]]) -> list[HintRow]:
         data, returns, tunes, faults = asked

@@ -7,7 +7,7 @@ import sys
 from collections.abc import Callable
 from contextlib import suppress
 from pathlib import Path
-from typing import Any
+from typing import Any, Optional
 
 import abc2midi_live
 
@@ -15,12 +15,12 @@ ENDED = (EOFError, OSError, ValueError, pickle.UnpicklingError)  # one of these 
 
 
 class OwnProcess:
-    """A process that answers questions by the function `serve` of a module of this package. It ends with the client. It runs no
-    module of the present folder, and reads no variable `PYTHON..` of the environment."""
+    """A process that answers questions by the function `serve` of a module of this package, called with these words. It ends with the
+    client. It runs no module of the present folder, and reads no variable `PYTHON..` of the environment."""
 
-    def __init__(self, module: str, **environment: str) -> None:
+    def __init__(self, module: str, *words: Optional[str], **environment: str) -> None:
         folders = [str(Path(file).resolve().parent.parent) for file in (abc2midi_live.__file__, __file__)]
-        start = f"import sys; sys.path[:0] = {folders!r}; from abc2midi_live_clients.{module} import serve; serve()"
+        start = f"import sys; sys.path[:0] = {folders!r}; from abc2midi_live_clients.{module} import serve; serve(*{words!r})"
         self.process = subprocess.Popen(
             [sys.executable, "-I", "-B", "-c", start], stdin=subprocess.PIPE, stdout=subprocess.PIPE, start_new_session=True,
             env={**os.environ, **environment},

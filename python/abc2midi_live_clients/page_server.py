@@ -199,7 +199,7 @@ class HintKeeper:
 
     def __init__(self, book: SharedBook):
         self.book = book
-        self.process = HintProcess()
+        self.process = HintProcess(self.book.library)
         self.is_closed = False
 
     def keep(self) -> None:
@@ -224,7 +224,7 @@ class HintKeeper:
         time.sleep(SECONDS_OF_REST)
         if not self.is_closed:
             with suppress(OSError):
-                self.process = HintProcess()
+                self.process = HintProcess(self.book.library)
 
     def close(self) -> None:
         """Ends the process."""

@@ -2,7 +2,7 @@
 
 import errno
 import unittest
-from typing import cast
+from typing import Optional, cast
 from unittest import mock
 
 import trial  # noqa: F401
@@ -22,6 +22,8 @@ class Ended(Exception):
 class Book:
     """A book that has its next version when it knows the hints on the present one. After the last version the test ends."""
 
+    library = "libbook.so"
+
     def __init__(self, last: int) -> None:
         self.version, self.last = 0, last
         self.asked: list[int] = []  # the version of each question
@@ -40,9 +42,13 @@ class Book:
 
 
 class Process:
-    """A process that ends on some questions: on each as often as `ends` says."""
+    """A process over the library of the book, which ends on some questions: on each as often as `ends` says."""
 
     ends: dict[int, int] = {}
+
+    def __init__(self, library: Optional[str]) -> None:
+        if library != Book.library:
+            raise ValueError(library)
 
     def rows(self, question: int) -> list[HintRow]:
         if self.ends.get(question):
@@ -71,6 +77,6 @@ class Keeping(unittest.TestCase):
         """The version has no hints, and a later one has them when it can be started again."""
         full = OSError(errno.EAGAIN, "Resource temporarily unavailable")
         book = Book(4)
-        with mock.patch.object(page_server, "HintProcess", side_effect=[Process(), full, Process()]), self.assertRaises(Ended):
+        with mock.patch.object(page_server, "HintProcess", side_effect=[Process(Book.library), full, Process(Book.library)]), self.assertRaises(Ended):
             HintKeeper(cast(SharedBook, book)).keep()
         self.assertEqual((book.asked, book.hints), ([0, 1, 1, 2, 3, 4], [[HINT], [], [HINT], [HINT]]))

@@ -7,6 +7,8 @@ from abc2midi_live_clients.hint_process import HintProcess, Question
 from abc2midi_live_clients.program import Tune
 from abc2midi_live_clients.texts import Text
 
+QUESTION = Question(Text.of(b"X:1\nK:C\nC&C\n"), [Tune(1, "", 1)], [])
+
 
 class Processes(trial.Folder):
     def test_modules_of_the_present_folder(self) -> None:
@@ -16,8 +18,16 @@ class Processes(trial.Folder):
         before = os.getcwd()
         os.chdir(self.folder)
         self.addCleanup(os.chdir, before)
-        process = HintProcess()
-        self.addCleanup(process.close)
-        found = process.rows(Question(Text.of(b"X:1\nK:C\nC&C\n"), [Tune(1, "", 1)], []))
-        self.assertEqual([row[:4] for row in found], [(2, 1, 2, "Overlay")])
+        self.assertEqual(self.places(trial.library), [(2, 1, 2, "Overlay")])
         self.assertFalse((self.folder / "ran").exists())
+
+    def test_the_library_of_the_page(self) -> None:
+        """It is the one that is named, and no other."""
+        self.assertEqual(self.places(trial.library), [(2, 1, 2, "Overlay")])
+        self.assertEqual(self.places(str(self.folder / "libmissing.so")), [])
+
+    def places(self, library: str) -> list[tuple[int, int, int, str]]:
+        """The hints on a tune that a process finds over a library."""
+        process = HintProcess(library)
+        self.addCleanup(process.close)
+        return [row[:4] for row in process.rows(QUESTION)]
