@@ -128,7 +128,9 @@ class OverTheLibrary(sessions.Sessions):
 
     def test_columns(self) -> None:
         """Columns have the tokens of `tokens` and the entries of `play`, also of a line and of a play with more than usual."""
-        session = self.session([*(HERE / "plays.abc").read_bytes().split(b"\n")[:-1], b"X:99999", b"K:C", b"[CE]-" * 13_000])
+        session = self.begin()
+        self.addCleanup(session.close)
+        session.insert(1, [*(HERE / "plays.abc").read_bytes().split(b"\n")[:-1], b"X:99999", b"K:C", b"[CE]-" * 13_000])
         for number in range(1, session.line_count + 1):
             tokens = [(token.from_column, token.to_column, token.kind.value, token.depth) for token in session.tokens(number)]
             self.assertEqual(list(zip(*session.token_columns(number))), tokens)
@@ -146,7 +148,9 @@ class OverTheLibrary(sessions.Sessions):
             self.assertEqual(columns.places, [columns.place(entry.line, entry.from_column) for entry in entries])
             self.assertEqual([(columns.on(n), columns.off(n)) for n in range(len(entries))], [entry[:2] for entry in entries])
             self.assertEqual(len(set(columns.places)), len({(entry.line, entry.from_column) for entry in entries}))
-        self.assertGreater(len(columns.places), 4096)
+        last = session.play_columns(99_999)
+        assert last
+        self.assertGreater(len(last.places), 4096)
         self.assertIsNone(session.play_columns(2**32 + 1))
         with self.assertRaises(IndexError):
             session.token_columns(0)
