@@ -423,7 +423,8 @@ class Session(Editor):
         self.assertEqual((item["textEdit"], item["detail"]), ({"range": span(3, 3, 3, 4), "newText": "Am"}, "minor, no sharps or flats"))
         keys = [label for label in self.labels(2, 2) if "=" not in label]
         self.assertEqual((len(keys), len(set(keys))), (105, 105))
-        self.assertEqual(self.change(1, ("\n".join(f"X:{n}\nK:{key}" for n, key in enumerate(keys)),))[1:], [])
+        for version, some in enumerate((keys[:50], keys[50:]), 1):  # the hints of a hundred tunes would come later
+            self.assertEqual(self.change(version, ("\n".join(f"X:{n}\nK:{key}" for n, key in enumerate(some)),))[1:], [])
         self.finish()
 
     def test_completion_of_voices(self) -> None:
