@@ -386,4 +386,4 @@ class TwoTabs(StaticBrowser):
         self.caret(8, 0)
         self.type("c4|")
         self.is_elsewhere()
-        self.assertEqual(self.kept_texts(), sorted([TUNE[:-4], TUNE + "c4|"]))
+        self.wait(lambda: self.kept_texts() == sorted([TUNE[:-4], TUNE + "c4|"]))
