@@ -14,9 +14,18 @@ class Element {
     this.dataset = {};
     this.heard = {};
     const names = (this.names = new Set());
-    this.classList = { add: (name) => names.add(name), remove: (name) => names.delete(name) };
+    this.classList = {
+      add: (name) => names.add(name),
+      remove: (name) => names.delete(name),
+      toggle: (name, isOn) => (isOn ? names.add(name) : names.delete(name)),
+    };
+    this.style = {};
     this.clientWidth = 608;
     this.scrollTop = 0;
+  }
+
+  get parentElement() {
+    return this.parent ?? null;
   }
 
   setAttribute(name, value) {
@@ -41,11 +50,12 @@ class Element {
   }
 
   getBoundingClientRect() {
-    return { top: 0, bottom: 10 };
+    return { top: 0, bottom: 10, left: 0, right: 10 };
   }
 }
 
 const made = (tag) => new Element(tag);
+const isLine = ({ className }) => className === "score-line";
 globalThis.document = { createElementNS: (_, tag) => made(tag), createElement: made, body: made("body"), addEventListener() {}, hidden: false };
 globalThis.ResizeObserver = class {
   observe() {}
@@ -86,7 +96,7 @@ const tests = {
     const { score, asked } = scored();
     score.see({ first: 0, lines: ["X:1", "K:C", "CDE"], header: [] });
     await rest();
-    const beyond = () => score.view.children.map(({ children }) => children.length);
+    const beyond = () => score.view.children.filter((child) => !isLine(child)).map(({ children }) => children.length);
     const far = { top: 900, bottom: 999 };
     const make = document.createElementNS;
     let pages = 0;
@@ -121,9 +131,9 @@ const tests = {
     same([told()[0][0], asked.length], [11, 1]);
     score.mark([{ line: 11, column: 6 }, { line: 7, column: 0 }, { line: 11, column: 10 }, { line: 11, column: 13 }], true);
     const lit = () => score.notes.map(({ element }) => element.names.has("score-lit"));
-    same(lit(), [false, true, false, true]);
+    same([lit(), score.view.children.some(isLine)], [[false, true, false, true], true]);
     score.mark([{ line: 11, column: 0 }]);
-    same(lit(), [true, false, false, false]);
+    same([lit(), score.view.children.some(isLine)], [[true, false, false, false], false]);
     score.clear();
     same(lit(), [false, false, false, false]);
     score.caret({ line: 11, column: 3 });
