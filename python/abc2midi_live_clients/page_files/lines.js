@@ -30,7 +30,19 @@ export function difference(old, now) {
  * @param {number} stop
  * @param {T[]} put */
 export function replaced(lines, start, stop, put) {
+  if (put.length === stop - start) return copyWith(lines, start, put);
   return lines.slice(0, start).concat(put, lines.slice(stop));
+}
+
+/** A copy of lines with others from a place on. It copies a long book once, and not twice.
+ * @template T
+ * @param {T[]} lines
+ * @param {number} start
+ * @param {T[]} put */
+function copyWith(lines, start, put) {
+  const now = lines.slice();
+  for (const [n, line] of put.entries()) now[start + n] = line;
+  return now;
 }
 
 /** Lines after edits, which are in order and at places of these lines.

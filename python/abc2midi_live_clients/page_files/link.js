@@ -333,17 +333,16 @@ export class Link {
   /** Makes a change of the server's text in this window's text.
    * @type {(change: Change) => void} */
   apply(change) {
-    const { situation, texts } = this, { window, edit, has } = change, isSent = this.isSent(change);
-    const next = { lines: replaced(texts.lines, edit.start, edit.stop, edit.lines), has: joined(texts.has, has) };
-    const isKnown = Object.entries(lackedBy(has, texts.has)).some(([author, number]) => hasEdit(this.has, author, number)), had = this.has;
-    this.has = joined(had, has);
+    const { situation, texts } = this, { window, edit } = change, isSent = this.isSent(change), had = this.has, has = joined(texts.has, change.has);
+    const isKnown = Object.entries(lackedBy(change.has, texts.has)).some(([author, number]) => hasEdit(had, author, number));
+    this.has = joined(had, change.has);
     if (isSent && situation.name === "following") {
       situation.sent = null;
-      return texts.edit(edit, next.has);
+      return texts.edit(edit, has);
     }
     this.giveBack(situation);
-    if (isKnown || texts.tops.length) return this.rejoin(next, had);
-    texts.edit(edit, next.has);
+    if (isKnown || texts.tops.length) return this.rejoin({ lines: replaced(texts.lines, edit.start, edit.stop, edit.lines), has }, had);
+    texts.edit(edit, has);
     if (this.text.others(edit.start, edit.stop, edit.lines, window === null ? change.writing : null)) this.twice();
   }
 
