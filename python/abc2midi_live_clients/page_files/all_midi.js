@@ -1,6 +1,6 @@
 // The link to the MIDI files of the whole book, in a .zip.
 
-import { find } from "./elements.js";
+import { find, show } from "./elements.js";
 
 export class AllMidi {
   /** @param {import("./book_host.js").BookHost} server
@@ -21,7 +21,7 @@ export class AllMidi {
   /** Links to the files, while there are some and the server is there. */
   show() {
     const { server, link, book, findings } = this, anchor = find("all-midi"), name = book.name.replace(/\.[^.]*$/, "") || "book";
-    anchor.hidden = !server.offers.zip;
+    show(anchor, server.offers.zip);
     if (server.offers.zip && !link.away && findings.tunes.some(([, , , hasFile]) => hasFile)) Object.assign(anchor, { href: server.address("midi.zip"), download: `${name} MIDI.zip` });
     else anchor.removeAttribute("href");
   }

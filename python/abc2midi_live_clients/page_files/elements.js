@@ -9,13 +9,27 @@ export function find(id) {
   return found;
 }
 
+/** Writes words into an element if it has others. The browser lays out all words that are written, also the same ones.
+ * @param {HTMLElement} element
+ * @param {string} words */
+export function write(element, words) {
+  if (element.textContent !== words) element.textContent = words;
+}
+
+/** Shows an element or hides it. An attribute that is set again costs as much as one that changes.
+ * @param {HTMLElement} element
+ * @param {boolean} isShown */
+export function show(element, isShown) {
+  if (element.hidden === isShown) element.hidden = !isShown;
+}
+
 /** Hides an element or shows it. If it has the focus and is hidden, another one gets that.
  * @param {HTMLElement} element
  * @param {boolean} isHidden
  * @param {HTMLElement} other */
 export function hide(element, isHidden, other) {
   const isLeft = isHidden && element === document.activeElement;
-  element.hidden = isHidden;
+  show(element, !isHidden);
   if (isLeft) other.focus({ preventScroll: true });
 }
 

@@ -1,5 +1,7 @@
 // What the page says when there is nothing to show: no tune, no notes, no file.
 
+import { show } from "./elements.js";
+
 /** @typedef {import("./rows.js").TuneRow} TuneRow
  * @typedef {import("./rows.js").FaultRow} FaultRow */
 
@@ -54,7 +56,7 @@ export class Starter {
    * @type {(name: string, saved: string | null) => void} */
   look(name, saved) {
     const isShown = isBlank(this.sheet.text.lines);
-    this.root.hidden = !isShown;
+    show(this.root, isShown);
     if (isShown) this.root.querySelector("p")?.replaceChildren(whyBlank(name, saved));
   }
 

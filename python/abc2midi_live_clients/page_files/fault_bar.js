@@ -1,6 +1,6 @@
 // How many faults and hints there are, and the ways from one to another.
 
-import { button, find } from "./elements.js";
+import { button, find, write } from "./elements.js";
 
 /** @typedef {import("./rows.js").FaultRow} FaultRow */
 
@@ -17,8 +17,8 @@ export class FaultBar {
 
   show() {
     const { faults, hints } = this.findings, count = button("count");
-    count.textContent = faults.length ? counted(faults.length, "fault") : "No faults";
-    find("hinted").textContent = hints.length ? counted(hints.length, "hint") : "";
+    write(count, faults.length ? counted(faults.length, "fault") : "No faults");
+    write(find("hinted"), hints.length ? counted(hints.length, "hint") : "");
     count.disabled = !faults.length;
     button("before").disabled = button("after").disabled = !faults.length && !hints.length;
   }

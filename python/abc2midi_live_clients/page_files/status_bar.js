@@ -1,6 +1,6 @@
 // The line at the bottom: the latest sentence of the page, and the place of the caret.
 
-import { find } from "./elements.js";
+import { find, write } from "./elements.js";
 
 export class StatusBar {
   constructor() {
@@ -23,6 +23,6 @@ export class StatusBar {
   /** Shows the place of the caret.
    * @type {(place: import("./selection.js").Place) => void} */
   place({ line, column }) {
-    find("place").textContent = `Line ${line + 1}, column ${column + 1}`;
+    write(find("place"), `Line ${line + 1}, column ${column + 1}`);
   }
 }

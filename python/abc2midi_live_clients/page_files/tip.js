@@ -1,5 +1,7 @@
 // Words beside the mouse, about what it points at.
 
+import { show } from "./elements.js";
+
 export class Tip {
   /** @param {HTMLElement} root */
   constructor(root) {
@@ -11,7 +13,7 @@ export class Tip {
    * @param {MouseEvent | null} [event] */
   show(words, event) {
     const { root } = this;
-    root.hidden = !words.length;
+    show(root, words.length > 0);
     if (!words.length || !event) return;
     root.replaceChildren(...words);
     root.style.left = `${Math.max(8, Math.min(event.clientX + 12, innerWidth - root.offsetWidth - 8))}px`;

@@ -1,6 +1,6 @@
 // The bar at the top: the name of the book, whether it is saved, and who else has it.
 
-import { find, hide } from "./elements.js";
+import { find, hide, show, write } from "./elements.js";
 
 export class TitleBar {
   /** `back` takes the focus of a button that goes.
@@ -18,11 +18,11 @@ export class TitleBar {
   show() {
     const { state } = this.link, { name } = this.book, { writes } = this.files, windows = state?.windows ?? 0;
     this.showUnsaved();
-    find("name").textContent = name || "Tune book";
-    find("save").textContent = writes || !state ? "Save" : "Download";
-    find("windows").hidden = windows < 2;
+    write(find("name"), name || "Tune book");
+    write(find("save"), writes || !state ? "Save" : "Download");
+    show(find("windows"), windows >= 2);
     hide(find("utf-8"), !writes || !name || !state || state.letters === "utf-8", this.back);
-    find("windows").textContent = `${windows} windows have this book`;
+    write(find("windows"), `${windows} windows have this book`);
   }
 
   /** Shows whether the text has what the file does not have. */

@@ -1,7 +1,7 @@
 // Plays and stops the tune that is shown; where in it the cursor is, and what time that is.
 
 import { clock } from "./clock.js";
-import { button, find } from "./elements.js";
+import { button, find, write } from "./elements.js";
 import { secondOf } from "./midi.js";
 
 export class Transport {
@@ -105,6 +105,6 @@ export class Transport {
    * @type {(tick: number) => void} */
   showTime(tick) {
     const score = this.player.score ?? this.shown.score;
-    find("time").textContent = score ? `${clock(secondOf(score, tick))} / ${clock(secondOf(score, score.end))}` : "";
+    write(find("time"), score ? `${clock(secondOf(score, tick))} / ${clock(secondOf(score, score.end))}` : "");
   }
 }

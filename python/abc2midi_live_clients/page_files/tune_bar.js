@@ -1,7 +1,7 @@
 // What the page says of the tune that is shown: its title, its voices, its file, and why there is nothing to see.
 
 import { clock } from "./clock.js";
-import { find } from "./elements.js";
+import { find, show, write } from "./elements.js";
 import { whyNothing } from "./empty.js";
 import { secondOf } from "./midi.js";
 import { midiName } from "./midi_names.js";
@@ -23,7 +23,7 @@ export class TuneBar {
   /** Shows the number and the title of a tune.
    * @type {(row: TuneRow | null) => void} */
   title(row) {
-    find("tune").textContent = row ? `${row[1]} ${row[2]}` : "";
+    write(find("tune"), row ? `${row[1]} ${row[2]}` : "");
   }
 
   /** Says why the roll is empty while the caret is in this tune, or before all tunes.
@@ -32,8 +32,8 @@ export class TuneBar {
     const { score, owner, findings } = this.shown;
     const notes = row?.[3] && row[1] === owner && score ? score.notes.length : null;
     const why = whyNothing({ lines: findings.text.lines, rows: findings.tunes, faults: findings.faults, row, notes });
-    find("empty").textContent = why;
-    find("empty").hidden = !why;
+    write(find("empty"), why);
+    show(find("empty"), Boolean(why));
   }
 
   /** Says what is in the roll. */

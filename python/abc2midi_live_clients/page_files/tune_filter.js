@@ -1,6 +1,6 @@
 // The field that filters the list of the tunes, and how many there are.
 
-import { field, find } from "./elements.js";
+import { field, find, write } from "./elements.js";
 
 export class TuneFilter {
   /** @param {import("./tunes.js").Tunes} tunes
@@ -23,7 +23,7 @@ export class TuneFilter {
   tally() {
     const { rows } = this.tunes, all = this.findings.tunes, isSifted = rows !== all;
     find("list").classList.toggle("none", isSifted && !rows.length);
-    find("tally").textContent = isSifted ? `${rows.length} of ${all.length}` : all.length ? String(all.length) : "";
+    write(find("tally"), isSifted ? `${rows.length} of ${all.length}` : all.length ? String(all.length) : "");
   }
 
   /** @type {(event: KeyboardEvent) => void} */

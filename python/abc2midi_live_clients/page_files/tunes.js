@@ -1,6 +1,7 @@
 // The list of the tunes: rows are made for those that are seen. A row stays one element for as long as it is drawn, so that
 // the press and the release of a click meet the same one.
 
+import { write } from "./elements.js";
 import { Filter, folded } from "./filter.js";
 import { onceAFrame } from "./frames.js";
 import { onResize } from "./resizing.js";
@@ -201,7 +202,8 @@ export class Tunes {
     row.className = `${this.lit.get(number) ?? ""} ${at === this.at ? "at" : ""} ${hasFile ? "" : "silent"} ${faults ? "faulty" : ""}`;
     row.title = hasFile ? [title, counted].filter(Boolean).join(": ") : "This tune has no file: it is too long, or another one has its number.";
     row.setAttribute("aria-description", counted);
-    row.children[0].textContent = String(number);
-    row.children[1].textContent = title || "(no title)";
+    const [name, words] = /** @type {HTMLElement[]} */ ([...row.children]);
+    write(name, String(number));
+    write(words, title || "(no title)");
   }
 }
