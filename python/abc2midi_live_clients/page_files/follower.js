@@ -139,8 +139,7 @@ export class Follower {
     const isSelected = JSON.stringify(this.sheet.selection().start) !== JSON.stringify(this.sheet.selection().end);
     const tokens = this.seen.tokensOf(line), moments = places && !isSelected ? places.under(line, column, tokens) : [];
     this.picked = moments.slice(0, 1).map((moment) => this.tokenAt(moment));
-    roll.pointedAt = places && moments.length ? places.notesUnder(line, column, tokens) : new Set();
-    roll.soon();
+    roll.point(places && moments.length ? places.notesUnder(line, column, tokens) : new Set());
     this.draw();
   }
 

@@ -1,6 +1,6 @@
 // What one practises with: tempo, loop, count-in, voices, and playing from the caret.
 
-import { field, find } from "./elements.js";
+import { field, find, show, write } from "./elements.js";
 import { momentName } from "./follower.js";
 
 const REST = 100; // milliseconds after the last key
@@ -150,7 +150,7 @@ export class Practice {
   /** @type {(tick: number) => void} */
   showBeats(tick) {
     const { score, grid } = this.roll, beats = score && grid ? Math.round(grid.tempoAt(tick, score) * this.player.speed) : 0;
-    find("beats").textContent = beats ? `${beats} beats a minute` : "";
+    write(find("beats"), beats ? `${beats} beats a minute` : "");
   }
 
   /** Lets a click be heard at each beat, or none. */
@@ -178,8 +178,7 @@ export class Practice {
   setLoop() {
     const isOn = field("looping").checked;
     if (isOn && !this.range) this.range = this.rangeOfBars();
-    this.roll.loop = isOn ? this.range : null;
-    this.roll.soon();
+    this.roll.enclose(isOn ? this.range : null);
     this.player.setLoop(this.roll.loop);
   }
 
@@ -219,7 +218,7 @@ export class Practice {
   showVoices(count, isOther) {
     const names = Array.from({ length: count > 1 ? count : 0 }, (_, voice) => this.follower.voiceName(voice));
     const parts = find("parts"), wanted = names.join("\n");
-    parts.hidden = count < 2;
+    show(parts, count >= 2);
     if (parts.dataset.names === wanted && !isOther) return;
     parts.dataset.names = wanted;
     parts.replaceChildren(...names.map((name, voice) => this.voiceRow(name, voice)));
@@ -272,8 +271,7 @@ export class Practice {
       if (swatch) swatch.style.background = this.roll.colour(voice);
       row.classList.toggle("silent-voice", silent.has(voice));
     });
-    this.roll.silent = silent;
-    this.roll.soon();
+    this.roll.hush(silent);
     this.player.setSilent(silent);
   }
 

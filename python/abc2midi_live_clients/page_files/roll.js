@@ -112,6 +112,30 @@ export class Roll {
     this.measure();
   }
 
+  /** Frames the notes of the caret.
+   * @type {(notes: Set<Note>) => void} */
+  point(notes) {
+    if (areSame(notes, this.pointedAt)) return;
+    this.pointedAt = notes;
+    this.soon();
+  }
+
+  /** Draws the notes of silent voices as outlines.
+   * @type {(voices: Set<number>) => void} */
+  hush(voices) {
+    if (areSame(voices, this.silent)) return;
+    this.silent = voices;
+    this.soon();
+  }
+
+  /** Draws the ground of a loop, or none.
+   * @type {(range: [from: number, to: number] | null) => void} */
+  enclose(range) {
+    if (String(range) === String(this.loop)) return;
+    this.loop = range;
+    this.soon();
+  }
+
   /** How high the row of a key is, and how far the roll scrolls. */
   measure() {
     const keys = this.high - this.low + 1, room = this.scroller.clientHeight - HEAD - FOOT;
@@ -159,6 +183,7 @@ export class Roll {
   /** Puts the cursor at a tick, or takes it away; it is kept in view.
    * @type {(tick: number | null) => void} */
   cursor(tick) {
+    if (tick === null && this.tick === null) return;
     this.tick = tick;
     if (tick !== null && this.score) {
       const x = this.along(tick), left = this.scroller.scrollLeft, wide = this.scroller.clientWidth;
@@ -254,4 +279,9 @@ export class Roll {
     else return;
     event.preventDefault();
   }
+}
+
+/** @type {(some: Set<unknown>, others: Set<unknown>) => boolean} */
+function areSame(some, others) {
+  return some.size === others.size && [...some].every((one) => others.has(one));
 }

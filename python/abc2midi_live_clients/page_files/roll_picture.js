@@ -39,13 +39,13 @@ export function drawRoll(roll) {
   const wide = scroller.clientWidth, high = scroller.clientHeight;
   const pen = clear(roll.canvas, wide, high);
   if (!score || !grid || !pen) return;
-  const style = getComputedStyle(scroller);
+  const { scrollTop, scrollLeft } = scroller; // each question to the browser costs as much as a note
   /** @type {View} */
   const view = {
     roll, score, grid, pen, wide, high, row: roll.row,
-    colour: (name) => style.getPropertyValue(`--${name}`),
-    top: (key) => roll.down(key) - scroller.scrollTop,
-    x: (tick) => roll.along(tick) - scroller.scrollLeft,
+    colour: coloursOf(getComputedStyle(scroller)),
+    top: (key) => roll.down(key) - scrollTop,
+    x: (tick) => roll.along(tick) - scrollLeft,
   };
   drawRows(view);
   drawLoop(view);
@@ -54,6 +54,18 @@ export function drawRoll(roll) {
   drawHead(view);
   drawCursor(view);
   drawNames(view);
+}
+
+/** Returns what gives a colour by its name. It asks the browser for each colour once.
+ * @type {(style: CSSStyleDeclaration) => (name: string) => string} */
+function coloursOf(style) {
+  /** @type {Map<string, string>} */
+  const known = new Map();
+  return (name) => {
+    const colour = known.get(name) ?? style.getPropertyValue(`--${name}`);
+    known.set(name, colour);
+    return colour;
+  };
 }
 
 /** Returns the drawing context of an empty canvas of this size in pixels.
