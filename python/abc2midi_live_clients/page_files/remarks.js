@@ -50,16 +50,24 @@ export class Remarks {
     this.mended = () => {}; // a mend is wanted
     /** @type {Record<string, string[]>} */
     this.sentences = {}; // by the name of a fault: the problem, and the remedy
+    this.shown = "[]"; // what the list shows
   }
 
   /** Shows those of a tune, those of the caret's line first.
    * @type {(faults: FaultRow[], lines: string[], here: number) => void} */
   show(faults, lines, here) {
     const nearest = [...faults].sort((a, b) => Number(a[0] !== here) - Number(b[0] !== here) || Number(Boolean(a[4])) - Number(Boolean(b[4])));
-    const items = grouped(nearest, lines).slice(0, MOST).map((group) => this.item(group));
-    const same = items.length === this.list.children.length && items.every((item, n) => item.isEqualNode(this.list.children[n]));
-    if (!same) this.list.replaceChildren(...items);
-    else items.forEach((item, n) => (/** @type {Item} */ (this.list.children[n]).fault = item.fault));
+    const groups = grouped(nearest, lines).slice(0, MOST), shown = JSON.stringify(groups.map((group) => this.partsOf(group)));
+    if (shown !== this.shown) this.list.replaceChildren(...groups.map((group) => this.item(group)));
+    else groups.forEach(({ fault }, n) => (/** @type {Item} */ (this.list.children[n]).fault = fault));
+    this.shown = shown;
+  }
+
+  /** What an entry of the list shows.
+   * @type {(group: Group) => unknown[]} */
+  partsOf({ fault, sign, count }) {
+    const [line, , , name, hint] = fault;
+    return [line, hint || (this.sentences[name] ?? name), Boolean(hint), sign, count, this.mendOf(fault)?.words];
   }
 
   /** The place, the sign, the problem, the remedy, and a button that mends it.

@@ -58,6 +58,7 @@ export class Sheet {
     this.top = 0; // what is scrolled away above the view, as the browser said last: each question makes it lay out the page
     this.high = this.scroller.clientHeight; // of the view, likewise
     this.numbered = ""; // what the numbers show
+    this.marked = "[]"; // what the marks show
     this.coverSoon = onceAFrame(() => this.cover());
     this.height = parseFloat(getComputedStyle(this.area).lineHeight);
     this.listen();
@@ -414,7 +415,17 @@ export class Sheet {
   drawFaults() {
     const faults = this.faultsOf(this.first, this.last);
     this.drawNumbers(faults);
-    if (faults.length || this.marks.childElementCount) this.marks.replaceChildren(...faults.map((fault) => this.mark(fault)));
+    this.drawMarks(faults);
+  }
+
+  /** @type {(faults: FaultRow[]) => void} */
+  drawMarks(faults) {
+    const marked = JSON.stringify(faults.map(([line, start, end, , hint]) => [line - this.first, start, end, Boolean(hint), this.text.lines[line]]));
+    if (marked === this.marked) {
+      const marks = /** @type {NodeListOf<Mark>} */ (this.marks.querySelectorAll("mark"));
+      for (const [n, mark] of [...marks].entries()) mark.fault = faults[n];
+    } else this.marks.replaceChildren(...faults.map((fault) => this.mark(fault)));
+    this.marked = marked;
   }
 
   /** @type {(faults: FaultRow[]) => void} */
