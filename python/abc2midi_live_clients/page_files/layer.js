@@ -17,13 +17,22 @@ export class Layer {
    * @type {(first: number, keys: unknown[], make: (n: number) => Node) => void} */
   draw(first, keys, make) {
     this.element.style.top = `${(first - this.sheet.first) * this.sheet.height}px`;
-    const edit = difference(this.keys, keys);
+    const edit = difference(this.keys, keys), old = this.keys;
     this.keys = keys;
-    if (!edit) return;
-    const old = [...this.element.children], made = document.createDocumentFragment();
-    made.append(...edit.put.map((_, n) => make(edit.start + n)));
-    for (const row of old.slice(edit.start, edit.stop)) row.remove();
-    this.element.insertBefore(made, old[edit.stop] ?? null);
+    if (edit) this.change(edit, old, make);
+  }
+
+  /** Puts in the rows of other keys, and takes out those of keys that are no more. Between them rows stay, as those after a new line.
+   * @type {(edit: { start: number, stop: number, put: unknown[] }, old: unknown[], make: (n: number) => Node) => void} */
+  change({ start, stop, put }, old, make) {
+    const rows = [...this.element.children], wanted = new Set(put);
+    let at = start; // of the next row that is there
+    for (const [n, key] of put.entries()) {
+      while (at < stop && !wanted.has(old[at])) rows[at++].remove();
+      if (at < stop && old[at] === key) at += 1;
+      else this.element.insertBefore(make(start + n), rows[at] ?? null);
+    }
+    for (; at < stop; at += 1) rows[at].remove();
   }
 
   clear() {
