@@ -8,8 +8,14 @@ import { run, same } from "./testing.mjs";
 
 const from = (name) => import(pathToFileURL(`${process.argv[2]}/${name}.js`));
 const { Colours } = await from("colours");
+const { show, write } = await from("elements");
 const { Findings } = await from("findings");
 const { onceAFrame } = await from("frames");
+const { Layer } = await from("layer");
+const { replaced } = await from("lines");
+const { Remarks } = await from("remarks");
+const { Roll } = await from("roll");
+const { drawRoll } = await from("roll_picture");
 const { KINDS, Seen } = await from("seen");
 const { Sheet } = await from("sheet");
 const { Text } = await from("text");
@@ -66,6 +72,45 @@ function listOf() {
   return { list, count };
 }
 
+/** Counts the calls of a function of an object. */
+function calls(object, name) {
+  const count = { calls: 0 }, act = object[name];
+  object[name] = function (...words) {
+    count.calls += 1;
+    return act.apply(this, words);
+  };
+  return count;
+}
+
+/** A layer over an element that counts the rows that come and go. */
+function layerOf() {
+  const count = { made: 0, removed: 0 }, children = [], layer = new Layer({ area: { before() {} }, first: 0, height: 20 }, "rows");
+  const insertBefore = (row, next) => children.splice(next ? children.indexOf(next) : children.length, 0, row);
+  layer.element = { style: {}, children, insertBefore };
+  const rowOf = (key) => {
+    count.made += 1;
+    const remove = () => {
+      count.removed += 1;
+      children.splice(children.indexOf(row), 1);
+    };
+    const row = { key, remove };
+    return row;
+  };
+  const draw = (keys) => {
+    layer.draw(0, keys, (n) => rowOf(keys[n]));
+    same(children.map(({ key }) => key).join(" "), keys.join(" "));
+  };
+  return { draw, count };
+}
+
+/** A roll of four octaves over an element that counts what it is asked. */
+function rollOf() {
+  const pen = new Proxy({}, { get: () => () => {}, set: () => true }), scroller = { scrollTop: 0, scrollLeft: 0, clientWidth: 600, clientHeight: 400 };
+  const grid = { bars: [{ tick: 0, number: 1, offset: 0 }], placeAt: () => 0, beatsOf: () => [0] };
+  const roll = { scroller, grid, score: { notes: [], end: 1920 }, canvas: { style: {}, getContext: () => pen }, low: 36, high: 84, lowest: 36, highest: 84 };
+  return Object.assign(roll, { row: 8, tick: null, loop: null, quarter: 44, down: (key) => 8 * (84 - key), along: (tick) => tick, tickAt: (x) => x });
+}
+
 const tests = {
   "a key in the text asks the browser for no measures, before the next frame"() {
     const { text, sheet, area } = sheetOf(), asked = counted(sheet.scroller);
@@ -93,6 +138,107 @@ const tests = {
     draw();
     same([count.writes - writes, count.rows - rows], [1, 0]);
     clearTimeout(tunes.timer);
+  },
+
+  "a line that becomes another one copies a book once"() {
+    const book = [...BOOK], copies = calls(book, "slice"), now = replaced(book, 10002, 10003, ["CDEF"]);
+    same([copies.calls, now.length, now[10001], now[10002], now[10003], book[10002]], [1, 20000, "K:C", "CDEF", "", "CDE"]);
+    same([replaced(book, 10002, 10003, ["CD", "E"]).length, replaced(book, 0, 20000, []).length], [20001, 0]);
+  },
+
+  "a new line makes no other rows of a layer again"() {
+    const { draw, count } = layerOf(), keys = Array.from({ length: 130 }, (_, n) => (n % 5 ? n : "blank"));
+    draw(keys);
+    same(count, { made: 130, removed: 0 });
+    draw([...keys.slice(0, 61), "new", "line", ...keys.slice(62, 129)]);
+    same(count, { made: 132, removed: 2 });
+    draw(keys);
+    same(count, { made: 134, removed: 4 });
+  },
+
+  "a layer has a row for each of its keys, in their order"() {
+    const { draw } = layerOf();
+    let seed = 1;
+    const drawn = (below) => ((seed = (seed * 48271) % 2147483647) >> 8) % below;
+    for (let n = 0; n < 500; n += 1) draw(Array.from({ length: drawn(9) }, () => drawn(5)));
+  },
+
+  "marks of faults are drawn again only if they are others"() {
+    const { text, sheet, area } = sheetOf(), fault = [10002, 0, 1, "BadByte"], made = calls(sheet.marks, "replaceChildren");
+    sheet.faultsOf = () => [[...fault]];
+    sheet.drawFaults();
+    sheet.drawFaults();
+    same(made.calls, 1);
+    area.type("F");
+    same([text.lines[10002], made.calls], ["CDEF", 2]);
+    fault[1] = 1;
+    sheet.drawFaults();
+    sheet.faultsOf = () => [];
+    sheet.drawFaults();
+    sheet.drawFaults();
+    same(made.calls, 4);
+  },
+
+  "a mark that stays has the fault as it is now"() {
+    const { sheet } = sheetOf(), mark = { fault: null }, faults = [[10002, 0, 1, "BadByte"], [10002, 0, 1, "LostSharp"]];
+    sheet.faultsOf = () => [faults[0]];
+    sheet.drawFaults();
+    sheet.marks.querySelectorAll = () => [mark];
+    sheet.faultsOf = () => [faults[1]];
+    sheet.drawFaults();
+    same(mark.fault, faults[1]);
+  },
+
+  "entries of the list of faults are drawn again only if they are others"() {
+    const list = { children: [], replaceChildren: (...items) => (list.children = items) }, made = calls(list, "replaceChildren");
+    const remarks = new Remarks(list, null, () => {}), lines = ["X:1", "K:C", "C#D#"];
+    document.createElement = () => ({ append() {}, addEventListener() {}, classList: { toggle() {} } });
+    remarks.show([], lines, 2);
+    same(made.calls, 0);
+    const faults = () => [[2, 1, 2, "BadByte"], [2, 3, 4, "LostSharp"]];
+    remarks.show(faults(), lines, 2);
+    const again = faults();
+    remarks.show(again, lines, 2);
+    same([made.calls, list.children.length, list.children[1].fault === again[1]], [1, 2, true]);
+    remarks.sentences = { BadByte: ["This sign has no meaning."] };
+    remarks.show(again, lines, 2);
+    remarks.mendOf = () => ({ words: "Delete it" });
+    remarks.show(again, lines, 2);
+    remarks.show(again, ["X:1", "K:C", "C&D#"], 2);
+    same(made.calls, 4);
+  },
+
+  "words are written into an element if they are others"() {
+    const count = { writes: 0 }, element = { get textContent() { return this.words; }, set textContent(words) { count.writes += 1; this.words = words; } };
+    for (const words of ["1 fault", "1 fault", "2 faults", ""]) write(element, words);
+    same([count.writes, element.words], [3, ""]);
+  },
+
+  "an element is shown or hidden if it is not"() {
+    const count = { sets: 0 }, element = { get hidden() { return this.isHidden; }, set hidden(isHidden) { count.sets += 1; this.isHidden = isHidden; }, isHidden: false };
+    for (const isShown of [true, false, false, true]) show(element, isShown);
+    same([count.sets, element.hidden], [2, false]);
+  },
+
+  "a roll draws again if something in it is another"() {
+    const note = { key: 60 }, count = { draws: 0 }, roll = Object.create(Roll.prototype);
+    Object.assign(roll, { pointedAt: new Set(), silent: new Set(), loop: null, soon: () => (count.draws += 1) });
+    for (const notes of [[], [note], [note], [{ ...note }], []]) roll.point(new Set(notes));
+    same([count.draws, roll.pointedAt.size], [3, 0]);
+    for (const voices of [[], [1], [1], [0], [0, 1]]) roll.hush(new Set(voices));
+    same([count.draws, [...roll.silent]], [6, [0, 1]]);
+    for (const range of [null, [0, 480], [0, 480], [0, 960], null]) roll.enclose(range);
+    same([count.draws, roll.loop], [9, null]);
+  },
+
+  "a drawing of the roll asks once for each colour and for its place"() {
+    const roll = rollOf(), asked = { colours: 0, places: 0 };
+    globalThis.devicePixelRatio = 1;
+    globalThis.getComputedStyle = () => ({ getPropertyValue: () => ((asked.colours += 1), "#123456") });
+    roll.colours = { of: () => "#123456" };
+    Object.defineProperty(roll.scroller, "scrollTop", { get: () => ((asked.places += 1), 0) });
+    drawRoll(roll);
+    same([asked.colours <= 8, asked.places], [true, 1]);
   },
 
   "the tune of a number is looked for once while the tunes are the same"() {
