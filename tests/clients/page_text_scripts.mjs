@@ -281,6 +281,47 @@ const tests = {
     same(texts.map((lines) => one.of(lines)), names);
   },
 
+  "the names of long texts are found a slice at a time, also between edits"() {
+    const lines = Array.from({ length: 5000 }, (_, n) => `line ${n}`), some = new Prints(), { charCodeAt } = String.prototype;
+    let count = 0, isKnown = false;
+    String.prototype.charCodeAt = function (at) {
+      count += 1;
+      return charCodeAt.call(this, at);
+    };
+    try {
+      while (!isKnown) {
+        const before = count;
+        isKnown = some.learn(lines, -1);
+        if (count - before > 256 * "line 1234".length) throw new Error(`${count - before} characters in a slice`);
+      }
+    } finally {
+      String.prototype.charCodeAt = charCodeAt;
+    }
+    same(some.of(lines), new Prints().of(lines));
+    const other = new Prints();
+    for (const now of [lines, lines.slice(1), ["a", ...lines], lines.slice(0, 2000), [], ["b", ...lines.slice(9)]]) {
+      other.learn(now, -1);
+      other.learn(now, -1);
+      same(some.of(now), new Prints().of(now));
+    }
+    same(other.of(lines), new Prints().of(lines));
+  },
+
+  async "after a rest all is kept, a slice at a time"() {
+    const lines = Array.from({ length: 5000 }, (_, n) => `line ${n}`), text = opened(...lines), store = storeOf(), kept = undoStoreOf(text, store);
+    await kept.open("book");
+    typed(text, 2500, 2501, "CDE");
+    let slices = 0;
+    const learn = kept.prints.learn.bind(kept.prints);
+    kept.prints.learn = (those, milliseconds) => ((slices += 1), learn(those, milliseconds < Infinity ? -1 : milliseconds));
+    kept.prepare();
+    while (!store.getItem(kept.key)) await new Promise((then) => setTimeout(then, 1));
+    same(slices > 10, true);
+    const next = opened(...text.lines);
+    await undoStoreOf(next, store).open("book");
+    same(undone(next), lines.join(""));
+  },
+
   async "of a text that is kept again only the lines are read that became others"() {
     const text = opened(...Array.from({ length: 5000 }, (_, n) => `line ${n}`)), { charCodeAt } = String.prototype;
     const kept = undoStoreOf(text, storeOf());

@@ -4,6 +4,8 @@ import { difference, replaced } from "./lines.js";
 
 const MOST = 1_000_000; // characters
 const REST = 400; // milliseconds without an edit, after which it is kept
+const SLICE = 3; // milliseconds of work, after which a key has its turn
+const OFTEN = 255; // lines between two looks at the clock
 
 /** @typedef {import("./link.js").Change} Change */
 
@@ -59,7 +61,13 @@ export class UndoStore {
   /** The text changed: it is kept when nobody edits for a moment. */
   soon() {
     clearTimeout(this.timer);
-    this.timer = setTimeout(() => this.keep(), REST);
+    this.timer = setTimeout(() => this.prepare(), REST);
+  }
+
+  /** Keeps it when the lines have prints, which are found a slice at a time: all those of a long book would let a key wait. */
+  prepare() {
+    if (this.prints.learn(this.text.lines, SLICE)) this.keep();
+    else this.timer = setTimeout(() => this.prepare(), 0);
   }
 
   /** Keeps what can be undone, if the server has all that was typed. */
@@ -82,17 +90,33 @@ export class Prints {
   constructor() {
     /** @type {string[]} */
     this.lines = []; // of the text before
-    /** @type {number[]} */
-    this.prints = []; // of its lines
+    /** @type {(number | null)[]} */
+    this.prints = []; // of its lines, null if it is not known
+    this.at = 0; // the lines before this one have prints
+  }
+
+  /** Finds the prints of lines, for some milliseconds; whether all are known then.
+   * @type {(lines: string[], milliseconds: number) => boolean} */
+  learn(lines, milliseconds) {
+    const edit = lines === this.lines ? null : difference(this.lines, lines), until = performance.now() + milliseconds;
+    this.lines = lines;
+    if (edit) {
+      this.prints = replaced(this.prints, edit.start, edit.stop, edit.put.map(() => null));
+      this.at = Math.min(this.at, edit.start);
+    }
+    while (this.at < lines.length) {
+      this.prints[this.at] ??= printOf(lines[this.at]);
+      this.at += 1;
+      if ((this.at & OFTEN) === OFTEN && performance.now() > until) break;
+    }
+    return this.at === lines.length;
   }
 
   /** @type {(lines: string[]) => string} */
   of(lines) {
-    const edit = difference(this.lines, lines);
-    if (edit) this.prints = replaced(this.prints, edit.start, edit.stop, edit.put.map(printOf));
-    this.lines = lines;
+    this.learn(lines, Infinity);
     let one = 0xdeadbeef, other = 0x41c6ce57;
-    for (const print of this.prints) {
+    for (const print of /** @type {number[]} */ (this.prints)) {
       one = Math.imul(one ^ print, 2654435761);
       other = Math.imul(other ^ print, 1597334677);
       one ^= one >>> 15;
