@@ -26,6 +26,24 @@ const first = (line) => [...document.querySelectorAll(".score-place")].find(({ n
 return [first(5), first(6)].every((note) => note && view.top <= note.top && note.bottom <= view.bottom);
 """
 FRAMES = "const done = arguments[0]; requestAnimationFrame(() => requestAnimationFrame(() => setTimeout(done)))"  # waits till two are shown
+BAR = """
+const ids = ["unsaved", "windows", "later", "utf-8"], parts = ids.map((id) => document.getElementById(id));
+const before = parts.map(({ hidden, textContent }) => ({ hidden, textContent })), wrong = [];
+document.getElementById("windows").textContent = "2 windows have this book";
+document.getElementById("later").textContent = "1 question";
+for (let shown = 0; shown < 2 ** parts.length; shown += 1) {
+  const rows = new Map(), which = ids.filter((_, n) => shown & 2 ** n).join(" ");
+  parts.forEach((part, n) => (part.hidden = !(shown & 2 ** n)));
+  for (const one of document.querySelectorAll("header :is(h1, span, button):not([hidden])")) {
+    const { left, right, top, bottom } = one.getBoundingClientRect(), row = Math.round((top + bottom) / 2);
+    rows.set(row, [...(rows.get(row) ?? []), one]);
+    if (left < 0 || right > innerWidth || (one.matches("button") && one.scrollWidth > one.clientWidth)) wrong.push([which, one.id, "cut off"]);
+  }
+  for (const row of rows.values()) if (row.length === 1 && row[0].matches("button")) wrong.push([which, row[0].id, "alone"]);
+}
+parts.forEach((part, n) => Object.assign(part, before[n]));
+return wrong;
+"""  # which buttons of the bar are alone in a row or cut off, whatever else is shown there
 MARK = """
 const mark = document.querySelector("mark"), { left, right, top, bottom } = mark.getBoundingClientRect();
 return document.elementsFromPoint((left + right) / 2, (top + bottom) / 2).includes(mark);
@@ -82,6 +100,12 @@ class Narrow(test_page_in_browser.Browser):
             self.size(wide, high)
             self.driver.execute_async_script(FRAMES)
         self.assertEqual(self.run_script("return window.wrong"), [])
+
+    def test_the_bar(self) -> None:
+        """No button is alone in a row, and none is cut off, whatever the bar shows."""
+        for wide, high in ((360, 740), (390, 844), (620, 900), (640, 900), (820, 1180), (1280, 900)):
+            self.size(wide, high)
+            self.assertEqual(self.run_script(BAR), [], wide)
 
     def test_while_practising(self) -> None:
         self.driver.find_element("id", "practise").click()
