@@ -159,6 +159,31 @@ const tests = {
     same([score.notes.length, asked.length], [0, 2]);
   },
 
+  async "a drawing is busy from an edit to the drawing of the new text"() {
+    const { score, asked } = scored(), text = (body) => ({ first: 0, lines: ["X:1", "K:C", body], header: [] });
+    const isBusy = () => score.view.attributes["aria-busy"];
+    score.see(text("C"));
+    await rest();
+    asked[0].done({ images: [image(place(2, 0))] });
+    await rest();
+    same(isBusy(), "false");
+    score.see(text("D"));
+    same(isBusy(), "true");
+    await rest();
+    asked[1].fail(new Error("away"));
+    await rest();
+    same([isBusy(), score.notes.length], ["true", 1]);
+    score.see(text("D"));
+    await rest();
+    asked[2].done({ images: [image(place(2, 0))] });
+    await rest();
+    same(isBusy(), "false");
+    score.see(text("E"));
+    score.see(null);
+    await rest();
+    same([isBusy(), asked.length], ["false", 3]);
+  },
+
   async "a drawn tune with faults is doubted, and no other one"() {
     const { score, asked } = scored();
     const told = () => score.view.children.map(({ className }) => className).filter(Boolean);
@@ -226,9 +251,12 @@ const tests = {
     await rest();
     score.see(tune());
     await rest();
+    score.see(tune()); // as each change of the state does
+    await rest();
     same(asked.length, 2);
     asked[1].done({ why: "none" });
     await rest();
+    same([asked.length, score.view.children[0].textContent], [2, "none"]);
     score.see(tune());
     await rest();
     same([asked.length, score.view.children[0].textContent], [2, "none"]);

@@ -50,6 +50,19 @@ window.fetch = (path, options) => {
   return path.endsWith("/score") ? answer.then((one) => new Promise((done) => held.push(() => done(one)))) : answer;
 };
 """
+ASKED = """
+const plain = window.fetch;
+window.asked = 0;
+window.fetch = (path, options) => {
+  if (path.endsWith("/score")) window.asked += 1;
+  return plain(path, options);
+};
+"""  # counts the questions for a drawing
+BUSY = """
+const score = document.getElementById("score"), svg = score.querySelector("svg");
+return [score.getAttribute("aria-busy"), Number(getComputedStyle(svg).opacity)];
+"""
+WHY_SIZE = "return [document.querySelector('#score .why'), document.body].map((one) => getComputedStyle(one).fontSize)"
 PIXELS = """
 const [shot, done] = arguments;
 const { left, top, width, height } = document.querySelector("#score svg").getBoundingClientRect();
@@ -225,6 +238,8 @@ class Staves(test_page_in_browser.Browser):
         self.wait(lambda: self.run_script(WHY) == "abcm2ps draws no tune that has no K: line.")
         self.type("K:C\n")
         self.wait(lambda: self.run_script(WHY) == "This tune has no notes to draw.")
+        size, usual = self.run_script(WHY_SIZE)
+        self.assertEqual(size, usual)
         self.type("C")
         self.notes((2, 0, 1, "note"))
         self.assertIsNone(self.run_script(WHY))
@@ -282,15 +297,21 @@ class Staves(test_page_in_browser.Browser):
         self.driver.execute_cdp_cmd("Emulation.setEmulatedMedia", {"media": "", "features": []})
 
     def test_while_the_server_is_away(self) -> None:
-        """Nothing is asked, and the score is drawn when the server is there again."""
+        """Nothing is asked, the older score is pale, and the score is drawn once when the server is there again."""
         self.type("X:1\nK:C\nC")
         self.notes((2, 0, 1, "note"))
         self.kill()
         self.wait(lambda: "away" in self.text("status"))
+        self.assertEqual(self.run_script(BUSY), ["false", 1])
+        self.run_script(ASKED)
         self.type("D")
+        self.assertEqual(self.run_script(BUSY)[0], "true")
+        self.wait(lambda: self.run_script(BUSY)[1] < 0.5)
+        self.assertEqual(self.run_script("return asked"), 0)
         self.start(str(self.path), port=str(self.port))
         self.settled("X:1\nK:C\nCD")
         self.notes((2, 0, 1, "note"), (2, 1, 1, "note"))
+        self.assertEqual((self.run_script("return asked"), self.run_script(BUSY)), (1, ["false", 1]))
 
 
 class OtherPrograms(Programs, test_page_in_browser.Browser):
@@ -312,8 +333,9 @@ class OtherPrograms(Programs, test_page_in_browser.Browser):
     def test_typing_goes_on(self) -> None:
         """An `abcm2ps` that hangs holds nothing up."""
         self.draw_by("while :; do :; done")
+        self.run_script(ASKED)
         self.type("X:1\nK:C\nC")
-        self.wait(lambda: self.run_script("return document.querySelector('#score').getAttribute('aria-busy')") == "true")
+        self.wait(lambda: self.run_script("return asked") == 1)
         self.type("D")
         self.settled("X:1\nK:C\nCD")
         self.assertIsNone(self.run_script(WHY))

@@ -18,8 +18,8 @@
 //   print()        prints the tune, page by page
 //   printAll(tunes) prints other tunes
 //
-// The element that is given has the attribute `aria-busy` while a drawing is asked for, and `document.body.dataset.score` is
-// "missing" if there is no `abcm2ps`.
+// The element that is given has the attribute `aria-busy` while a drawing is asked for, or while another tune is to be drawn than
+// the one that it shows. `document.body.dataset.score` is "missing" if there is no `abcm2ps`.
 
 import { onceAFrame } from "./frames.js";
 import { onResize } from "./resizing.js";
@@ -88,11 +88,14 @@ export class Score {
 
   /** @type {(tune: DrawnTune | null) => void} */
   see(tune) {
-    if (isSame(tune, this.seen)) {
+    if (!isSame(tune, this.seen)) {
+      this.seen = tune;
+      this.markBusy();
+    } else {
       if (tune && this.seen) this.seen.first = tune.first;
       if (!this.isFailed) return;
     }
-    this.seen = tune;
+    this.isFailed = false; // it is asked again, once
     this.soon();
   }
 
@@ -181,13 +184,19 @@ export class Score {
    * @type {(asking: boolean) => void} */
   wait(asking) {
     this.asking = asking;
-    this.view.setAttribute("aria-busy", String(asking));
+    this.markBusy();
+  }
+
+  /** Marks what is shown as busy while it is not the drawing of the tune that was seen last, also without a server. */
+  markBusy() {
+    this.view.setAttribute("aria-busy", String(this.asking || this.shown !== this.seen));
   }
 
   /** Shows a drawing with a note below it, or why there is none.
    * @type {(answer: Answer, tune: DrawnTune | null) => void} */
   show({ images = [], why = "", note = "", missing = false }, tune) {
     this.shown = tune;
+    this.markBusy();
     this.lit = new Set();
     const { pages, places } = laidOut(images);
     this.notes = tune ? places.map((place) => new Note(tune, place)) : [];
