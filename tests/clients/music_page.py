@@ -11,7 +11,9 @@ area.setSelectionRange(at, at + (arguments[2] ?? 0));
 
 
 class MusicPage(test_page_in_browser.Browser):
-    """Someone at the music of a tune."""
+    """Someone at the music of a tune, which `open` opens."""
+
+    is_opened = False
 
     def open(self, lines: list[str], *words: str) -> None:
         """Opens the page over a tune, and waits till the roll has it."""

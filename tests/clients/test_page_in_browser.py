@@ -1,5 +1,6 @@
 """The page in a real browser. It is skipped if there is none."""
 
+import multiprocessing.util
 import os
 import random
 import signal
@@ -131,11 +132,12 @@ class Kept(unittest.TestResult):
 
 @unittest.skipIf(LACKING, LACKING)
 class Browser(test_page.Page):
-    """Someone at the page. A test that fails is tried a second time, in a fresh browser."""
+    """Someone at the page. A test that fails is tried a second time, in a fresh browser. All tests of a process share one."""
 
     opening = b""
+    is_opened = True  # by `setUp`
     seconds = 10 * trial.SECONDS
-    driver: Any = None
+    driver: Any = None  # of `Browser` alone, as `starts`
     starts = 0  # how often in a row no browser started
 
     def run(self, result: Optional[unittest.TestResult] = None) -> Optional[unittest.TestResult]:
@@ -155,32 +157,39 @@ class Browser(test_page.Page):
             self.quit()
         return ended
 
-    @classmethod
-    def quit(cls) -> None:
+    @staticmethod
+    def quit() -> None:
         """Ends the browser."""
-        driver, cls.driver = cls.driver, None
+        driver, Browser.driver = Browser.driver, None
         if driver:
             with suppress(Exception):
                 driver.quit()
 
     @classmethod
     def tearDownClass(cls) -> None:
-        cls.quit()
+        """Leaves the page, which would ask for its server again and again."""
+        if Browser.driver:
+            with suppress(Exception):
+                Browser.driver.get("about:blank")
 
-    @classmethod
-    def start_browser(cls) -> None:
-        """Starts a browser where none is there. Where that failed twice it is not tried again."""
-        if cls.starts > 1:
+    @staticmethod
+    def start_browser() -> None:
+        """Starts a browser if none is there, which ends with this process. After two failures it is not tried again."""
+        if Browser.driver:
+            return
+        if Browser.starts > 1:
             raise unittest.SkipTest("no browser starts")
-        cls.starts += 1
-        cls.driver = cls.driver or browser.started()
-        cls.starts = 0
+        Browser.starts += 1
+        Browser.driver = browser.started()
+        Browser.starts = 0
+        multiprocessing.util.Finalize(None, Browser.quit, exitpriority=0)
 
     def setUp(self) -> None:
         super().setUp()
         self.start_browser()
         self.driver.get_log("browser")
-        self.load()
+        if self.is_opened:
+            self.load()
 
     def tearDown(self) -> None:
         """Nothing went wrong in the page, whatever the network did."""

@@ -13,6 +13,8 @@ PARTS = [(1 + 750 * part, 750 + 750 * part) for part in range(4)] if os.environ.
 
 
 class Scripts(page_in_node.PageScripts):
+    is_slow = True
+
     def test_scripts(self) -> None:
         def tried(part: tuple[int, int]) -> None:
             self.assert_ok("page_link.mjs", 7, *map(str, part))

@@ -13,6 +13,8 @@ NEWER = Path(__file__).resolve().parent / "newer.d.ts"
 
 
 class Types(unittest.TestCase):
+    is_slow = True
+
     @unittest.skipIf(not TSC, "tsc is not installed")
     def test_types(self) -> None:
         """No script has an error."""

@@ -8,6 +8,8 @@ PAIRS, PARTS = 1000, 4  # of timed edits; they are tried at the same time
 
 
 class Scripts(page_in_node.PageScripts):
+    is_slow = True
+
     def test_scripts(self) -> None:
         def tried(part: int) -> None:
             first, last = (part * PAIRS // PARTS + more for more in (0, PAIRS // PARTS - 1))

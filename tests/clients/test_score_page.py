@@ -111,6 +111,7 @@ class Programs(test_page.Page):
 class Requests(Programs):
     """What the server answers."""
 
+    is_slow = True  # waits till a drawing takes too long
     drawing = "exec sleep 1000"
 
     def test_who_may_ask(self) -> None:
@@ -317,6 +318,7 @@ class Staves(test_page_in_browser.Browser):
 class OtherPrograms(Programs, test_page_in_browser.Browser):
     """An `abcm2ps` that is missing, or means harm."""
 
+    is_slow = True  # waits till a drawing takes too long
     drawing = ""
 
     def test_none(self) -> None:

@@ -12,6 +12,8 @@ COMMANDS = ["watch", "page", "language_server"]
 
 
 class Types(unittest.TestCase):
+    is_slow = True
+
     @unittest.skipIf(not MYPY, "mypy is not installed")
     def test_types(self) -> None:
         words = ["mypy", "--strict", "--scripts-are-modules", "--python-version", "3.9", "--cache-dir", "/dev/null"]
