@@ -25,6 +25,14 @@ const view = document.getElementById("score").getBoundingClientRect();
 const first = (line) => [...document.querySelectorAll(".score-place")].find(({ note }) => note.line === line)?.getBoundingClientRect();
 return [first(5), first(6)].every((note) => note && view.top <= note.top && note.bottom <= view.bottom);
 """
+ROWS = """
+const bar = document.querySelector("#faults .bar"), right = bar.getBoundingClientRect().right - parseFloat(getComputedStyle(bar).paddingRight);
+return ["count", "hinted", "before", "after", "signs-open", "transpose-open", "tidy-open"].map((id) => {
+  const one = document.getElementById(id), rects = [...one.getClientRects()], lines = document.createRange();
+  lines.selectNodeContents(one);
+  return [rects[0].top + rects[0].height / 2, rects[0].right <= right + 1 && new Set([...lines.getClientRects()].map(({ top }) => top)).size === 1];
+});
+"""
 FRAMES = "const done = arguments[0]; requestAnimationFrame(() => requestAnimationFrame(() => setTimeout(done)))"  # waits till two are shown
 BAR = """
 const ids = ["unsaved", "windows", "later", "utf-8"], parts = ids.map((id) => document.getElementById(id));
@@ -82,6 +90,17 @@ class Narrow(test_page_in_browser.Browser):
     def test_the_parts(self) -> None:
         self.parts_are_reached()
         self.assertTrue(self.has_lines(6))
+
+    def test_the_bar_of_the_faults(self) -> None:
+        """It ends inside its panel, no words in it are broken, and the two arrows stay beside the counts, whatever is in the next row."""
+        for wide in (900, 820, 700, 621, 390, 360):
+            self.size(wide, 844)
+            self.run_script("document.getElementById('count').textContent = '2 faults'; document.getElementById('hinted').textContent = '6 hints'")
+            self.driver.execute_async_script(FRAMES)
+            parts = self.run_script(ROWS)
+            self.assertTrue(all(is_whole for _, is_whole in parts), (wide, parts))
+            rows = [round(middle / 10) for middle, _ in parts]
+            self.assertEqual((len(set(rows[:4])), len(set(rows[4:]))), (1, 1), (wide, rows))
 
     def test_a_tablet(self) -> None:
         """A title has a row of its own with the time, the filter has room for some words, and what finds is one row."""
