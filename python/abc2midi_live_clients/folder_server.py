@@ -34,7 +34,7 @@ PAGE = """<!doctype html>
   </head>
   <body>
     <h1>{name}</h1>
-    <form role="search" action="./">
+    <form role="search" action="./" aria-label="Search in all books">
       <input name="q" type="search" value="{words}" aria-label="Search in all books" placeholder="Search in all books" autocomplete="off">
       <button>Search</button>
     </form>

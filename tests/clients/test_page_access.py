@@ -1,27 +1,14 @@
-"""What a screen reader finds in the page: names, live regions, and dialogs that say what they are, by the accessibility tree of Chromium."""
+"""What a screen reader finds in the page: names, live regions, and dialogs that say what they are, by the accessibility tree of
+Chromium. All that is shown meanwhile has enough contrast."""
 
-import test_page_in_browser
+import heard_page
 from browser_keys import CONTROL, ESCAPE, SHIFT
 
-NEED_NAMES = {"button", "link", "textbox", "searchbox", "checkbox", "radio", "radiogroup", "combobox", "slider", "spinbutton", "listbox", "option", "dialog", "navigation", "region", "group", "search"}
 
-
-class Access(test_page_in_browser.Browser):
-    """Someone who hears the page."""
+class Access(heard_page.HeardPage):
+    """The page of a book."""
 
     opening = b"X:1\nT:Duet\nL:1/4\nV:1\nV:2\nK:C\n[V:1] CDEF|\n[V:2] C4 -|\n"
-
-    def nodes(self) -> list[tuple[str, str]]:
-        """The role and the name of each node that a screen reader finds."""
-        tree = self.driver.execute_cdp_cmd("Accessibility.getFullAXTree", {})["nodes"]
-        seen = [node for node in tree if not node.get("ignored")]
-        return [(node.get("role", {}).get("value", ""), str(node.get("name", {}).get("value", "")).strip()) for node in seen]
-
-    def assert_named(self, *wanted: tuple[str, str]) -> None:
-        """All that needs a name has one, and some nodes are there."""
-        found = self.nodes()
-        self.assertEqual([node for node in found if node[0] in NEED_NAMES and not node[1]], [])
-        self.assertEqual([node for node in wanted if node not in found], [])
 
     def test_names(self) -> None:
         self.wait(lambda: "2 voices" in str(self.run_script("return document.getElementById('roll').getAttribute('aria-label')")))
@@ -54,6 +41,10 @@ class Access(test_page_in_browser.Browser):
             self.wait(lambda: self.text(f"{name}-words"))
             self.assert_named(*wanted)
             self.press(ESCAPE)
+
+    def test_signs(self) -> None:
+        self.run_script("document.getElementById('signs-open').click()")
+        self.assert_named(("dialog", "Signs of ABC"), ("button", "Close"))
 
     def test_what_is_said(self) -> None:
         """Faults are said when they come, questions at once."""

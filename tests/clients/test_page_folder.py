@@ -12,8 +12,8 @@ from pathlib import Path
 from typing import Any
 from unittest import mock
 
+import heard_page
 import test_page
-import test_page_in_browser
 import trial
 from abc2midi_live_clients import book_folder
 from abc2midi_live_clients.book_folder import books_in, content_of, search
@@ -157,7 +157,7 @@ class Served(test_page.Page):
         self.assertEqual((status, b"Permission denied" in data), (503, True))
 
 
-class Clicked(test_page_in_browser.Browser):
+class Clicked(heard_page.HeardPage):
     """Someone who opens a book of a folder."""
 
     def start(self, *words: str, **more: object) -> None:
@@ -184,3 +184,15 @@ class Clicked(test_page_in_browser.Browser):
         self.driver.get(self.address)
         self.driver.get(self.driver.find_element("link text", "reels.abc").get_attribute("href") + "#line=99")
         self.wait(lambda: self.run_script("return document.getElementById('place')?.textContent") == "Line 10, column 1")
+
+    def test_names_and_contrasts(self) -> None:
+        for query in ("", "?q=K:"):
+            self.driver.get(self.address + query)
+            self.assert_named(("search", "Search in all books"), ("searchbox", "Search in all books"), ("button", "Search"), ("link", "reels.abc"))
+
+    def test_columns(self) -> None:
+        """On a phone no heading is broken, and nothing scrolls aside."""
+        self.size(390, 844)
+        self.driver.get(self.address + "?q=K:")
+        self.assertEqual(self.run_script("return [...document.querySelectorAll('th')].filter((one) => one.clientHeight > 40).map((one) => one.textContent)"), [])
+        self.assertEqual(self.run_script("return document.documentElement.scrollWidth"), 390)
