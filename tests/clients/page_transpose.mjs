@@ -135,7 +135,7 @@ const tests = {
   "the way to a key"() {
     const to = (from, tonic, direction) => semitonesTo(keyOf(from), tonic, direction);
     same([to("G", "A", "near"), to("G", "F", "near"), to("C", "F#", "near"), to("Am", "C", "down"), to("A", "G", "up"), to("C", "C", "up"), to("C", "C", "down")], [2, -2, 6, -9, 10, 12, -12]);
-    same(tonicsOf(keyOf("Am")), ["C", "C#", "D", "D#", "Eb", "E", "F", "F#", "G", "G#", "Ab", "A", "A#", "Bb", "B"]);
+    same(tonicsOf(keyOf("Am")), ["C", "C#", "D", "D#", "E", "Eb", "F", "F#", "G", "G#", "A", "A#", "Ab", "B", "Bb"]);
     same(valueOf(firstKey([key("G"), line(["InlineField", "[K:Em]"], ["Note", "E"])], part(1, 0, 1, 7))), "Em");
     same(["Gfoo", "HP", "G#", "c"].map(keyOf), [null, null, null, null]);
     same(["", "none", "D  dor ^g bass", "^f ^c"].map((value) => signatureOf(keyOf(value))), ["none", "none", "D  dor ^g", "^f ^c"]);

@@ -69,6 +69,20 @@ class Changed(test_page_in_browser.Browser):
         self.assertEqual(self.run_script(PRESENT), "transpose-open")
         self.assertEqual(self.book()["lines"], TUNE)
 
+    def test_keys_in_the_lists(self) -> None:
+        """A letter chooses its key without an accidental, and Enter transposes."""
+        self.run_script(SELECT, 4, 3, 4, 3)
+        self.open("transpose")
+        self.run_script("document.getElementById('transpose-key').focus()")
+        self.press("A")
+        self.words("transpose", "2 semitones up, from G to A.")
+        self.press("\ue004")
+        self.press("d")
+        self.words("transpose", "10 semitones down, from G to A.")
+        self.press("\n")
+        self.wait_for_lines(*TUNE[:3], "K:A", '"A"A,B,CD|"D.C. al"^DE2/2F|A4|')
+        self.assertFalse(self.run_script(OPEN, "transpose"))
+
     def test_a_selection(self) -> None:
         """Its bars get a key of their own, and stay selected."""
         self.run_script(SELECT, 4, 20, 4, 24)

@@ -10,7 +10,7 @@ const TONIC = /^([A-G][#b]?)([A-Za-z]*)(.*)$/s;
 const LATER_MODE = /^([ \t]+)([A-Za-z]+)(.*)$/s;
 const LISTED = /^(?:(?:\^\^?|__?|=)[A-Ga-g])+$/;
 const PROPERTY = /=|[+-]8$|^(?:treble|bass|alto|tenor|perc)[1-5]?$/;
-const TONICS = ["C", "C#", "Db", "D", "D#", "Eb", "E", "F", "F#", "Gb", "G", "G#", "Ab", "A", "A#", "Bb", "B", "Cb"];
+const TONICS = ["C", "C#", "Cb", "D", "D#", "Db", "E", "Eb", "F", "F#", "G", "G#", "Gb", "A", "A#", "Ab", "B", "Bb"]; // in a list, the letter D alone chooses D
 const MOST_SHARPS = 7;
 /** @type {Record<string, number>} */
 const MODES = { lyd: 1, maj: 0, ion: 0, mix: -1, dor: -2, min: -3, aeo: -3, phr: -4, loc: -5 };

@@ -1,6 +1,6 @@
 // The dialog that transposes the tune at the caret, or what is selected.
 
-import { field, find } from "./elements.js";
+import { button, field, find } from "./elements.js";
 import { semitonesTo, tonicsOf } from "./key_fields.js";
 import { barsOf, firstKey, transposed } from "./transpose.js";
 import { TuneDialog } from "./tune_dialog.js";
@@ -20,7 +20,10 @@ export class TransposeDialog extends TuneDialog {
     this.keys = /** @type {HTMLSelectElement} */ (find("transpose-key"));
     this.directions = /** @type {HTMLSelectElement} */ (find("transpose-direction"));
     find("transpose-first").addEventListener("input", () => (field("transpose-by-semitones").checked = true));
-    for (const one of [this.keys, this.directions]) one.addEventListener("input", () => (field("transpose-by-key").checked = true));
+    for (const one of [this.keys, this.directions]) {
+      one.addEventListener("input", () => (field("transpose-by-key").checked = true));
+      one.addEventListener("keydown", (event) => transposeByEnter(event));
+    }
     this.form.addEventListener("input", ({ target }) => target instanceof HTMLInputElement && target.name === "transpose-what" && this.offer());
     this.opened = () => this.offer();
   }
@@ -41,6 +44,14 @@ export class TransposeDialog extends TuneDialog {
     if (!key || !field("transpose-by-key").checked) return { semitones: Math.max(-MOST_SEMITONES, Math.min(MOST_SEMITONES, number)) };
     return { semitones: semitonesTo(key, keys.value, /** @type {"near" | "up" | "down"} */ (directions.value)), tonic: keys.value };
   }
+}
+
+/** Enter transposes from a list too, in which it would open the choices. Space and Alt-↓ open them.
+ * @type {(event: KeyboardEvent) => void} */
+function transposeByEnter(event) {
+  if (event.key !== "Enter") return;
+  event.preventDefault();
+  button("transpose-do").click();
 }
 
 /** What becomes of the lines of tunes, or of a part of them.
