@@ -43,6 +43,12 @@ class Empty(test_page_in_browser.Browser):
         self.type("X")
         self.wait(lambda: not self.run_script(STARTS))
 
+    def test_an_empty_book_takes_letters_at_once(self) -> None:
+        """Whoever opens it needs no click and no Tab before the first letter."""
+        self.wait(lambda: self.run_script(STARTS))
+        self.press("X:1")
+        self.settled("X:1")
+
     def test_a_new_book_says_that_there_is_no_file_yet(self) -> None:
         """Until the first save makes it."""
         says = "return document.querySelector('#starter p').textContent"

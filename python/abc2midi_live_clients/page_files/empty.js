@@ -60,6 +60,11 @@ export class Starter {
     if (isShown) this.root.querySelector("p")?.replaceChildren(whyBlank(name, saved));
   }
 
+  /** Whoever opens an empty book can type at once. */
+  begin() {
+    if (isBlank(this.sheet.text.lines)) this.sheet.area.focus({ preventScroll: true });
+  }
+
   /** Inserts the tune as an edit that can be undone, with its title selected. */
   insert() {
     const { text } = this.sheet, at = { line: 1, column: 2 };

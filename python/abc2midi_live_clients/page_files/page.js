@@ -250,6 +250,7 @@ export class Application {
       sheet.area.readOnly = false;
       const place = { line: openingLine(location.hash, this.text.lines.length, book.tunes), column: 0 };
       sheet.refresh({ start: place, end: place, direction: "forward" });
+      this.starter.begin();
     }
     this.follow();
     music.follow(); // asks for the tune together with the lines
