@@ -172,6 +172,10 @@ class Colours(test_page_in_browser.Browser):
         return here.top >= view.getBoundingClientRect().top && here.bottom <= view.getBoundingClientRect().top + view.clientHeight - cover + 0.5;
         """
         self.wait(lambda: self.run_script(seen))
+        self.run_script("document.getElementById('practise').focus()")
+        self.press("\n")
+        self.wait(lambda: self.run_script("return document.querySelector('.scroller').clientHeight") < high - 40)
+        self.wait(lambda: self.run_script(seen))
 
     def test_a_fault_in_the_last_line_is_underlined(self) -> None:
         """Below the line, where other lines have their underline too, also if the text is longer than its view."""

@@ -170,14 +170,14 @@ export class Sheet {
     this.cover();
   }
 
-  /** The view has another height. The line of the caret stays in it, as when faults appear below the text. */
+  /** The view has another height. The line of the caret stays in it, as when faults appear below the text, or a panel opens. */
   resize() {
     const { scrollTop, clientHeight } = this.scroller, before = this.high;
     this.top = scrollTop;
     this.high = clientHeight;
     const end = (this.caret().line + 1) * this.height + ROOM;
     const isLost = end <= scrollTop + before && end > scrollTop + clientHeight;
-    if (isLost && !this.away && document.activeElement === this.area) this.reveal(this.caret().line);
+    if (isLost && !this.away) this.reveal(this.caret().line);
     this.look();
   }
 
