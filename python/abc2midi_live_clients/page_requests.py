@@ -19,6 +19,7 @@ if TYPE_CHECKING:
 
 MOST_BYTES = 1 << 25  # of an edit
 SECONDS_OF_SILENCE = 3  # after which a window hears that the server is there; server.js waits longer
+STORED = {"Content-Disposition": "attachment"}  # a name here would go before that of the link in the page
 SAFE = {
     "Cache-Control": "no-store",
     "Content-Security-Policy": "default-src 'none'; script-src 'self'; style-src 'self'; img-src data:; "
@@ -124,13 +125,11 @@ class Request(BaseHTTPRequestHandler):
         elif name == "book":
             self.send_json({**book.snapshot(), "sentences": self.server.sentences})
         elif name == "text":
-            self.send(book.data(), "application/octet-stream", {"Content-Disposition": "attachment"})
+            self.send(book.data(), "application/octet-stream", STORED)
         elif midi:
-            number = int(midi[1])
-            data = book.midi(number)
-            self.send(data, "audio/midi", {"Content-Disposition": f'attachment; filename="{number}.mid"'})
+            self.send(book.midi(int(midi[1])), "audio/midi", STORED)
         elif name == "midi.zip":
-            self.send(book.all_midi(), "application/zip", {"Content-Disposition": 'attachment; filename="midi.zip"'})
+            self.send(book.all_midi(), "application/zip", STORED)
         elif changes:
             self.send_json(book.changes_after(int(changes[1])))
         elif news and news[1] == "events":

@@ -210,7 +210,7 @@ class Requests(Page):
         for number in (1, 2):
             status, headers, data = self.request(f"midi/{number}")
             self.assertEqual((status, headers["Content-Type"], data), (200, "audio/midi", files[f"{number}.mid"]))
-            self.assertEqual(headers["Content-Disposition"], f'attachment; filename="{number}.mid"')
+            self.assertEqual(headers["Content-Disposition"], "attachment")
         for name in ("midi/3", "midi/0000000001", "midi/-1", "midi/", "midi/1/", "midi/../page.js", "../shared_book.py", "%2e%2e/watch", "index.html"):
             self.assertEqual(self.request(name)[0], 404, name)
         self.assertEqual(self.request("midi/000000001")[2], files["1.mid"])

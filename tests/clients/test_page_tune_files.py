@@ -1,5 +1,6 @@
 """The sound and the score of a tune as files: in node, and in a browser."""
 
+import os
 import shutil
 import struct
 import unittest
@@ -8,6 +9,7 @@ from typing import Any
 
 import page_in_node
 import test_page_in_browser
+import trial
 from test_page_copies_in_browser import DOWNLOADS
 
 SVG = "{http://www.w3.org/2000/svg}"
@@ -31,6 +33,20 @@ class Stored(test_page_in_browser.Browser):
         self.driver.find_element("id", identifier).click()
         found: list[Any] = self.wait(lambda: self.run_script("return downloads"))
         return str(found[0][0]), bytes(found[0][1])
+
+    def test_midi_files(self) -> None:
+        """The browser stores them by the names of the tune and the book, which their links have."""
+        folder = self.folder / "downloads"
+        folder.mkdir()
+        self.driver.execute_cdp_cmd("Browser.setDownloadBehavior", {"behavior": "allow", "downloadPath": str(folder)})
+        self.roll("Piano roll of tune 7")
+        for count, name in enumerate(("7 The Kesh.mid", "book MIDI.zip"), 1):
+            if name.endswith(".zip"):
+                self.run_script("document.getElementById('save-as').click()")
+            self.driver.find_element("id", "all-midi" if name.endswith(".zip") else "midi").click()
+            self.wait(lambda: len([path for path in folder.iterdir() if path.suffix in (".mid", ".zip")]) == count)
+            self.assertIn(name, os.listdir(folder))
+        self.assertEqual((folder / "7 The Kesh.mid").read_bytes(), trial.fresh(self.opening).files["7.mid"])
 
     def test_the_sound(self) -> None:
         """It lasts as long as the tune and a moment, and is loud while a note sounds."""
