@@ -140,6 +140,17 @@ class Narrow(test_page_in_browser.Browser):
         self.driver.find_element("id", "practise").click()
         self.parts_are_reached()
 
+    def test_a_question_on_a_tablet(self) -> None:
+        """Its answers are one row, below its words."""
+        self.size(820, 1100)
+        self.edit(0, 1, "X:2")
+        self.path.write_bytes(b"X:3\n")
+        self.wait(self.question)
+        words, *answers = self.run_script("return [...document.querySelectorAll('#notice > :is(span, button)')].map((one) => [one.getBoundingClientRect().top, one.getBoundingClientRect().bottom])")
+        self.assertEqual(len(answers), 4)
+        self.assertEqual([top for top, _ in answers], 4 * [answers[0][0]])
+        self.assertLess(words[1], answers[0][0])
+
     def test_the_text_comes_into_view(self) -> None:
         """A key that goes to a fault shows it, however far down the page is."""
         self.driver.find_element("id", "practise").click()
