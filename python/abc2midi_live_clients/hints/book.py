@@ -8,8 +8,8 @@ from typing import Optional
 from abc2midi_live import Fault, TokenKind
 
 from ..program import Tune
-from .hint import Hint, Place, TuneHint, counted
-from .line import BAD_BYTE, BAR_LINE, FIELDS, KEY_FIELD, MUSIC, NO_EFFECT, NOTE, PART, REST, UNCLOSED, Line, is_blank
+from .hint import Hint, counted
+from .line import BAD_BYTE, BAR_LINE, BLANK, FIELDS, KEY_FIELD, MUSIC, NO_EFFECT, NOTE, PART, REST, UNCLOSED, Line, is_blank
 
 LOOKED_AT = 400  # bytes by which a text in UTF-16 is known
 NOT_UTF8 = "NotUtf8"  # one for a book
@@ -54,22 +54,22 @@ def no_tune(lines: Sequence[bytes]) -> Iterator[Hint]:
     yield Hint(first + 1, 1, "NoTune", text)
 
 
-def lone_returns(lines: tuple[bytes, ...]) -> Iterator[TuneHint]:
+def lone_returns(lines: tuple[bytes, ...]) -> Iterator[Hint]:
     """Yields the lines in which carriage returns seem to end lines."""
     for n, line in enumerate(lines):
         count = line[:-1].count(b"\r")
         if count:
             what = f"this line has {counted(count, 'carriage return')} inside, which end no line"
-            yield TuneHint(Place(n, line.index(b"\r") + 1), "LoneReturns", f"{what}; save the book with line feeds")
+            yield Hint(n, line.index(b"\r") + 1, "LoneReturns", f"{what}; save the book with line feeds")
 
 
-def not_utf8(lines: tuple[bytes, ...]) -> Iterator[TuneHint]:
+def not_utf8(lines: tuple[bytes, ...]) -> Iterator[Hint]:
     """Yields the first line that is not UTF-8."""
     for n, line in enumerate(lines):
         place = None if line.isascii() else first_odd_byte(line)
         if place is not None:
             text = "this line is not UTF-8, and is shown as Latin-1; save the book in UTF-8"
-            yield TuneHint(Place(n, place + 1), NOT_UTF8, text)
+            yield Hint(n, place + 1, NOT_UTF8, text)
             return
 
 
@@ -82,12 +82,12 @@ def first_odd_byte(line: bytes) -> Optional[int]:
     return None
 
 
-def free_music(lines: list[Line], blank: Sequence[bool], start: int, after_tune: bool) -> Iterator[TuneHint]:
+def free_music(lines: list[Line], start: int, after_tune: bool) -> Iterator[Hint]:
     """Yields a hint at the first line of each block that looks like music and is in no tune; the first line is `start`. After a
     `K:` of its own every line of music does."""
     is_open, has_key, has_fields = True, False, False
-    for n, line in enumerate(lines):
-        if blank[n]:
+    for n, line in enumerate(lines, start):
+        if line.kind == BLANK:
             is_open, has_key, has_fields = True, False, False
         elif line.kind in FIELDS:
             has_key |= line.kind == KEY_FIELD
@@ -99,7 +99,7 @@ def free_music(lines: list[Line], blank: Sequence[bool], start: int, after_tune:
             else:
                 where = "the first field above it" if has_fields else "it"
                 text = f"this music is in no tune; write a line `X:` with a new number before {where}"
-            yield TuneHint(Place(start + n, 1), "FreeMusic", text)
+            yield Hint(n, 1, "FreeMusic", text)
 
 
 def looks_like_music(line: Line) -> bool:

@@ -5,7 +5,7 @@ from __future__ import annotations
 from collections.abc import Iterator
 from typing import Optional
 
-from .hint import Place, TuneHint
+from .hint import Hint
 from .line import COMMENT, DIRECTIVE, FIELDS, INLINE_FIELD, Line, words_of
 from .tune import UNNAMED, TuneText
 
@@ -15,21 +15,20 @@ ELSEWHERE = "on a line of its own"
 MOST_PROGRAM = 127
 
 
-def midi_lines(lines: list[Line], kept: range) -> Iterator[TuneHint]:
+def midi_lines(lines: list[Line], kept: range) -> Iterator[Hint]:
     """Yields the programs that are not read, and one hint for all other `%%MIDI` lines; directives in the lines `kept` have
     an effect, as those of a tune or a file header have."""
     others = []
     for n, line in enumerate(lines):
         for column, setting, where in settings_of(line, n in kept):
-            place = Place(n, column)
             number = program_of(setting)
             if number is None:
-                others.append(place)
+                others.append((n, column))
             else:
-                yield TuneHint(place, "LostProgram", f"this program has no effect; write {directive_of(number)} {where}")
+                yield Hint(n, column, "LostProgram", f"this program has no effect; write {directive_of(number)} {where}")
     if others:
         what = "this line for players has" if len(others) == 1 else f"this line for players and {len(others) - 1} more have"
-        yield TuneHint(others[0], "MidiLine", f"{what} no effect; of `%%MIDI` lines only `%%MIDI program N` is read")
+        yield Hint(*others[0], "MidiLine", f"{what} no effect; of `%%MIDI` lines only `%%MIDI program N` is read")
 
 
 def settings_of(line: Line, is_kept: bool) -> Iterator[tuple[int, list[bytes], str]]:
@@ -68,7 +67,7 @@ def directive_of(digits: bytes) -> str:
     return f"`%%MIDI program N`, N from 0 to {MOST_PROGRAM},"
 
 
-def programs_without_voice(tune: TuneText) -> Iterator[TuneHint]:
+def programs_without_voice(tune: TuneText) -> Iterator[Hint]:
     """Yields the programs in the body before the first `V:` of a tune that plays nothing there and declares no voice."""
     unnamed = tune.voices.get(UNNAMED)
     if unnamed and unnamed.first_music() or len(tune.voices) < 2:
@@ -76,4 +75,4 @@ def programs_without_voice(tune: TuneText) -> Iterator[TuneHint]:
     for n, voice in tune.programs:
         if voice == UNNAMED and tune.lines[n].text.startswith(b"%%MIDI"):
             text = "this program belongs to no voice; write it after the `V:`, or before the `K:` for all voices"
-            yield TuneHint(Place(n, 1), "LostProgram", text)
+            yield Hint(n, 1, "LostProgram", text)

@@ -2,10 +2,9 @@
 
 from __future__ import annotations
 
-from bisect import bisect_left
 from collections.abc import Callable, Iterator, Sequence
 from functools import lru_cache
-from typing import NamedTuple, Optional
+from typing import Optional
 
 from abc2midi_live import Fault, LibraryMissing
 from abc2midi_live.lines import MOST_BYTES
@@ -14,8 +13,7 @@ from ..program import Tune
 from .bars import bars, short_tuplets
 from .book import NOT_UTF8, free_music, lone_returns, no_tune, not_utf8, same_numbers
 from .directives import midi_lines, programs_without_voice
-from .hint import Hint, TuneHint
-from .line import is_blank
+from .hint import Hint
 from .reader import Reader, reader_here
 from .repeats import repeats
 from .ties import ties
@@ -24,7 +22,7 @@ from .voices import OF_UNEVEN_VOICES, music_before_voice, voice_lengths
 from .words import bagpipe_keys, lost_sharps, not_played, overlays, text_blocks
 
 # The families of hints that look at one tune.
-OF_A_TUNE: tuple[Callable[[TuneText], Iterator[TuneHint]], ...] = (
+OF_A_TUNE: tuple[Callable[[TuneText], Iterator[Hint]], ...] = (
     not_played,
     text_blocks,
     overlays,
@@ -38,22 +36,11 @@ OF_A_TUNE: tuple[Callable[[TuneText], Iterator[TuneHint]], ...] = (
     short_tuplets,
     ties,
 )
-MOST_KEPT = 20_000  # tunes whose hints are kept
 MOST_TUNES = 10_000  # of a book that are looked at
 MOST_AT_ONCE = 100  # tunes that a client looks at before it listens again: some tenth of a second
 
-
-class Known(NamedTuple):
-    """What is known of a text: its lines, its file header, and for each tune its first line, from 0, and the hints on it, None before
-    it is looked at."""
-
-    lines: list[bytes]
-    header: tuple[bytes, ...]
-    starts: list[int]
-    of_tunes: list[Optional[list[Hint]]]
-
-
-NOTHING = Known([], (), [], [])
+Lines = tuple[bytes, ...]
+Found = tuple[Hint, ...]  # the hints on some lines, which count from 0
 
 
 class Finder:
@@ -62,9 +49,12 @@ class Finder:
 
     def __init__(self, library: Optional[str] = None) -> None:
         self.library = library
-        self.known = NOTHING
+        self.header: Lines = ()
+        self.starts: list[int] = []  # the first line of each tune, from 0
+        self.tunes: list[Lines] = []  # their lines
+        self.known: list[Optional[Found]] = []  # the hints on each tune, None before it is looked at
         self.unread: list[int] = []  # the tunes that are not looked at yet, the next one last
-        self.opening: Sequence[TuneHint] = ()  # the hints on the lines before the tunes
+        self.opening: Found = ()  # the hints on the lines before the tunes
         self.others: list[Hint] = []  # those on the numbers of tunes
         self.uneven: set[int] = set()  # the lines, from 1, of tunes with uneven voices
 
@@ -79,92 +69,46 @@ class Finder:
         """Takes a text, without looking at its tunes."""
         self.others = same_numbers(tunes, faults) if tunes else list(no_tune(lines))
         self.uneven = {fault.line for fault in faults if fault.name == "UnevenVoices"}
-        if len(tunes) > MOST_TUNES:
-            end = tunes[MOST_TUNES].line
+        starts = [tune.line - 1 for tune in tunes[: MOST_TUNES + 1]] or [len(lines)]
+        if len(starts) > MOST_TUNES:
             text = f"from this tune on the clients compare only numbers: {MOST_TUNES} tunes precede it"
-            self.others.append(Hint(end, 1, "ManyTunes", text))
-            lines, tunes = lines[: end - 1], tunes[:MOST_TUNES]
-        lines = list(lines)
-        starts = [tune.line - 1 for tune in tunes]
-        header, self.opening = read_opening(tuple(lines[: starts[0] if starts else len(lines)]), bool(tunes), self.library)
-        known = self.known if self.known.header == header else NOTHING
-        of_tunes, changed = reused(known, lines, starts)
-        self.known = Known(lines, header, starts, of_tunes)
-        others = [n for n in reversed(range(len(starts))) if of_tunes[n] is None and n not in changed]
-        self.unread = [*others, *reversed(changed)]
+            self.others.append(Hint(starts[-1] + 1, 1, "ManyTunes", text))
+        else:
+            starts.append(len(lines))
+        header, self.opening = read_opening(tuple(lines[: starts[0]]), bool(tunes), self.library)
+        old = self.tunes if self.header == header else []
+        self.header, self.starts = header, starts[:-1] if tunes else []
+        self.tunes = [tuple(lines[start:stop]) for start, stop in zip(self.starts, starts[1:])]
+        front = common(old, self.tunes)
+        back = common(old[front:][::-1], self.tunes[front:][::-1])
+        stop = len(self.tunes) - back
+        self.known = [*self.known[:front], *[None] * (stop - front), *self.known[len(old) - back : len(old)]]
+        unread = [n for n, found in enumerate(self.known) if found is None]
+        self.unread = sorted(reversed(unread), key=range(front, stop).__contains__)
 
     def look(self, most: int = MOST_TUNES) -> bool:
         """Looks at some tunes, those that changed last first. Returns whether all are known."""
-        lines, header, starts, of_tunes = self.known
-        ends = [*starts[1:], len(lines)]
         for _ in range(min(most, len(self.unread))):
             n = self.unread.pop()
-            found = read_tune(tuple(lines[starts[n] : ends[n]]), header, self.library)
-            of_tunes[n] = placed(found, starts[n] + 1)
+            self.known[n] = read_tune(self.tunes[n], self.header, self.library)
         return not self.unread
 
     def found(self) -> list[Hint]:
-        """Returns the hints that are known, in the order of their places."""
-        of_tunes = [found or [] for found in self.known.of_tunes]
-        everything = list(kept([placed(self.opening, 1), *of_tunes], [0, *self.known.starts], self.uneven))
-        return sorted([*everything, *self.others]) if self.others else everything
+        """Returns the hints that are known, in the order of their places. Of `NotUtf8` the first one counts, and `VoiceLengths`
+        in tunes with uneven voices."""
+        found = []
+        has_odd = False
+        for start, hints in zip([0, *self.starts], [self.opening, *self.known]):
+            for line, column, name, text in hints or ():
+                if not (name == NOT_UTF8 and has_odd or name == OF_UNEVEN_VOICES and start + 1 not in self.uneven):
+                    found.append(Hint(start + line + 1, column, name, text))
+                has_odd = has_odd or name == NOT_UTF8
+        return sorted([*found, *self.others]) if self.others else found
 
 
-def kept(found: list[list[Hint]], starts: list[int], uneven: set[int]) -> Iterator[Hint]:
-    """Yields the hints on the lines before the tunes and on the tunes, each of which has its first line in `starts`, from 0. Of
-    `NotUtf8` the first one counts, and of `VoiceLengths` those of tunes whose line is in `uneven`, from 1."""
-    is_odd = False
-    for hint, start in ((hint, start) for of_tune, start in zip(found, starts) for hint in of_tune):
-        if hint.name == NOT_UTF8:
-            if not is_odd:
-                yield hint
-            is_odd = True
-        elif hint.name != OF_UNEVEN_VOICES or start + 1 in uneven:
-            yield hint
-
-
-def reused(known: Known, lines: list[bytes], starts: list[int]) -> tuple[list[Optional[list[Hint]]], range]:
-    """Returns for each tune the hints on it, as far as they are known: those in the lines at the front and at the back that stayed
-    the known ones. And the tunes between, which changed."""
-    front, back = common_ends(known.lines, lines)
-    first = max(0, bisect_left(starts, front) - 1)  # the first tune that may differ
-    first = first if starts[:first] == known.starts[:first] else 0
-    stop = max(first, bisect_left(starts, len(lines) - back), first + len(starts) - len(known.starts))
-    tail = known.of_tunes[len(known.starts) - len(starts) + stop :]
-    return [*known.of_tunes[:first], *[None] * (stop - first), *move_hints(tail, len(lines) - len(known.lines))], range(first, stop)
-
-
-def move_hints(found: list[Optional[list[Hint]]], by: int) -> list[Optional[list[Hint]]]:
-    """Returns hints as they are some lines further on."""
-    if not by:
-        return found
-    return [of_tune and [hint._replace(line=hint.line + by) for hint in of_tune] for of_tune in found]
-
-
-def common_ends(old: list[bytes], new: list[bytes]) -> tuple[int, int]:
-    """Returns how many lines at the front of two texts are the same, and how many others at the back."""
-    most = min(len(old), len(new))
-    front = longest(most, lambda start, stop: old[start:stop] == new[start:stop])
-    n, m = len(old), len(new)
-    return front, longest(most - front, lambda start, stop: old[n - stop : n - start] == new[m - stop : m - start])
-
-
-def longest(most: int, is_same: Callable[[int, int], bool]) -> int:
-    """Returns how many things from the first one on are the same, if a range can be compared at once, as slices of lists are:
-    that is much faster than one thing after another."""
-    same, differs = 0, most + 1
-    while differs - same > 1:
-        middle = (same + differs) // 2
-        if is_same(same, middle):
-            same = middle
-        else:
-            differs = middle
-    return same
-
-
-def placed(found: Sequence[TuneHint], line: int) -> list[Hint]:
-    """Returns hints inside some lines as hints on the text; the first of the lines is `line`, from 1."""
-    return [Hint(line + place.line, place.column, name, text) for place, name, text in found]
+def common(old: list[Lines], new: list[Lines]) -> int:
+    """Returns how many of the first tunes are the same."""
+    return next((n for n, (one, other) in enumerate(zip(old, new)) if one != other), min(len(old), len(new)))
 
 
 def reader_of(library: Optional[str]) -> Optional[Reader]:
@@ -175,15 +119,13 @@ def reader_of(library: Optional[str]) -> Optional[Reader]:
         return None
 
 
-def short_lines(lines: tuple[bytes, ...]) -> tuple[bytes, ...]:
+def short_lines(lines: Lines) -> Lines:
     """Returns lines as the program gets them: those that it would refuse are comments."""
     return tuple(b"%" if len(line) > MOST_BYTES else line for line in lines)
 
 
 @lru_cache(maxsize=64)
-def read_opening(
-    lines: tuple[bytes, ...], has_tunes: bool, library: Optional[str]
-) -> tuple[tuple[bytes, ...], tuple[TuneHint, ...]]:
+def read_opening(lines: Lines, has_tunes: bool, library: Optional[str]) -> tuple[Lines, Found]:
     """Returns the file header of the lines before the first tune, and the hints on them."""
     lines = short_lines(lines)
     found = [*lone_returns(lines), *(not_utf8(lines) if has_tunes else ())]
@@ -193,12 +135,11 @@ def read_opening(
         header, read = reader.file_header(lines), reader.free(lines)
         found += midi_lines(read, range(header))
         if has_tunes:
-            found += free_music(read, [is_blank(line) for line in lines], 0, after_tune=False)
+            found += free_music(read, 0, after_tune=False)
     return lines[:header], tuple(sorted(found))
 
 
-@lru_cache(maxsize=MOST_KEPT)
-def read_tune(lines: tuple[bytes, ...], header: tuple[bytes, ...], library: Optional[str]) -> tuple[TuneHint, ...]:
+def read_tune(lines: Lines, header: Lines, library: Optional[str]) -> Found:
     """Returns the hints on the lines from an `X:` line to the next one, after a file header."""
     lines = short_lines(lines)
     found = [*lone_returns(lines), *not_utf8(lines)]
@@ -209,5 +150,5 @@ def read_tune(lines: tuple[bytes, ...], header: tuple[bytes, ...], library: Opti
         found += [hint for family in OF_A_TUNE for hint in family(tune)]
         if b"midi" in b"".join(lines).lower():
             found += midi_lines([*read.lines, *read.free], range(end))
-        found += free_music(read.free, [is_blank(line) for line in lines[end:]], end, after_tune=True)
+        found += free_music(read.free, end, after_tune=True)
     return tuple(sorted(found))

@@ -13,7 +13,7 @@ if TYPE_CHECKING:
     from abc2midi_live.records import TokenColumns
 
 NOTE, REST, BAR_REST, CHORD = TokenKind.NOTE.value, TokenKind.REST.value, TokenKind.BAR_REST.value, TokenKind.CHORD.value
-BAR_LINE, ENDING_MARK, TUPLET, TIE = TokenKind.BAR_LINE.value, TokenKind.ENDING.value, TokenKind.TUPLET.value, TokenKind.TIE.value
+BAR_LINE, ENDING, TUPLET, TIE = TokenKind.BAR_LINE.value, TokenKind.ENDING.value, TokenKind.TUPLET.value, TokenKind.TIE.value
 QUOTED, DECORATION, GRACE = TokenKind.QUOTED.value, TokenKind.DECORATION.value, TokenKind.GRACE.value
 NO_EFFECT, BAD_BYTE, UNCLOSED = TokenKind.NO_EFFECT.value, TokenKind.BAD_BYTE.value, TokenKind.UNCLOSED.value
 BLANK, INLINE_FIELD, KEY_FIELD = TokenKind.BLANK.value, TokenKind.INLINE_FIELD.value, TokenKind.KEY_FIELD.value
@@ -24,38 +24,36 @@ END = MUSIC = -1  # the kind of the sign after the last music of a line, and of 
 
 FIELDS = frozenset((TokenKind.NUMBER_FIELD.value, TokenKind.TITLE_FIELD.value, KEY_FIELD, TokenKind.OTHER_FIELD.value))
 NO_MUSIC = FIELDS | {DIRECTIVE, COMMENT, TokenKind.FREE_TEXT.value}
-TIMED = frozenset((NOTE, REST, CHORD))
+TIMED = frozenset((NOTE, REST, BAR_REST, CHORD))
 UNPLAYED = frozenset((QUOTED, GRACE, DECORATION, NO_EFFECT))
-SIGNS = frozenset((BAR_LINE, ENDING_MARK, TUPLET, TIE, BAD_BYTE, UNCLOSED, INLINE_FIELD))
+SIGNS = frozenset((BAR_LINE, ENDING, TUPLET, BAD_BYTE, UNCLOSED, INLINE_FIELD))
 
 
-class BarLine(NamedTuple):
-    """What a bar line means: colons before it and after it, whether it is more than one thin line, and whether it is dotted or not
-    drawn, as inside a bar."""
+class Sign(NamedTuple):
+    """What ends a segment: the kind of a token and its bytes, and what it means if it is a bar line or an ending."""
 
-    closes: int
-    opens: int
-    is_double: bool
-    is_hidden: bool
-    is_single: bool  # it has no colons, and is one thin line
+    kind: int
+    text: bytes
+    closes: bool = False  # a repeat
+    opens: bool = False
+    is_thick: bool = False  # a bar line of colons or more lines than one
+    is_soft: bool = False  # it may be inside a bar: an ending, and a bar line that is not one thin line
 
 
-PLAIN = BarLine(0, 0, False, False, True)
+NO_SIGN = Sign(END, b"")
 
 
 class Segment(NamedTuple):
-    """Notes, chords and rests of a line with no sign between them, and the sign that ends them; or a rest of whole bars, which is
-    its own sign. Tokens count from 0."""
+    """Notes, chords and rests of a line with no sign between them, and the sign that ends them, or the end of the line."""
 
-    first: int  # of its notes, chords and rests
-    last: int
-    timed: int  # how many they are; none in a rest of whole bars
-    start: int  # the column of the first one in a play: that of a chord is at its first note. 0 if there is no music
+    timed: list[int]  # the tokens of its notes, chords and rests
+    start: int  # the column of the first one in a play, that of a chord is at its first note; 0 if there is no music
     end: int  # the column of the last one
-    has_own_ties: bool  # in the last one, a chord
-    sign: int  # its token
-    kind: int  # of the sign
-    bar: BarLine  # PLAIN for other signs
+    column: int  # of the sign
+    sign: Sign
+
+
+LINE_END = Segment([], 0, 0, 0, NO_SIGN)
 
 
 class Line(NamedTuple):
@@ -78,22 +76,13 @@ class Line(NamedTuple):
         """Returns a line that is a field, without its comment."""
         return self.token(0) if self.kind in FIELDS else b""
 
-    def parts(self, at: int) -> Iterator[int]:
-        """Yields the parts of a chord."""
-        for part in range(at + 1, len(self.kinds)):
-            if self.kinds[part] < PART:
-                return
-            yield part
-
-    def timed(self, at: int) -> int:
-        """Returns the token that has the place of a note, chord or rest in a play: of a chord its first note, -1 if it has none."""
-        if self.kinds[at] != CHORD:
-            return at
-        return next((part for part in self.parts(at) if self.kinds[part] == NOTE_PART), -1)
+    def after(self, at: int) -> int:
+        """Returns the token after a token and its parts."""
+        return next((part for part in range(at + 1, len(self.kinds)) if self.kinds[part] < PART), len(self.kinds))
 
     def notes(self, at: int) -> list[int]:
         """Returns a token that is a note, the notes of a chord, or nothing of a rest."""
-        return [at] if self.kinds[at] == NOTE else [part for part in self.parts(at) if self.kinds[part] == NOTE_PART]
+        return [at] if self.kinds[at] == NOTE else [part for part in range(at, self.after(at)) if self.kinds[part] == NOTE_PART]
 
 
 def line_of(text: bytes, tokens: TokenColumns) -> Line:
@@ -112,63 +101,34 @@ def line_of(text: bytes, tokens: TokenColumns) -> Line:
 
 
 def segments_of(line: Line) -> Iterator[Segment]:
-    """Yields the segments of a line of music."""
+    """Yields the segments of a line of music. A chord without notes takes no time."""
     timed: list[int] = []
-    has_own_ties = False
     for at, kind in enumerate(line.kinds):
-        if kind in TIMED:
-            if kind == CHORD and line.timed(at) < 0:  # it takes no time
-                continue
-            if has_own_ties:
-                yield segment_of(line, timed, True, at, END)
-                timed, has_own_ties = [], False
+        if kind in SIGNS:
+            is_dotted = kind == BAR_LINE and at > 0 and line.kinds[at - 1] == NO_EFFECT and line.token(at - 1) == b"."
+            yield segment_of(line, timed, line.starts[at], sign_of(kind, line.token(at), is_dotted))
+            timed = []
+        elif kind in TIMED and (kind != CHORD or line.notes(at)):
             timed.append(at)
-        elif kind == TIE_PART:
-            has_own_ties |= line.kinds[at - 1] == NOTE_PART
-        elif kind == BAR_REST:
-            if timed:
-                yield segment_of(line, timed, has_own_ties, at, END)
-            yield segment_of(line, [at], False, at, BAR_REST)
-            timed, has_own_ties = [], False
-        elif kind in SIGNS:
-            yield segment_of(line, timed, has_own_ties, at, END if kind == TIE and not follows(line, at, timed) else kind)
-            timed, has_own_ties = [], False
     if timed:
-        yield segment_of(line, timed, has_own_ties, len(line.kinds), END)
+        yield segment_of(line, timed, len(line.text) + 1, NO_SIGN)
 
 
-def segment_of(line: Line, timed: list[int], has_own_ties: bool, sign: int, kind: int) -> Segment:
+def segment_of(line: Line, timed: list[int], column: int, sign: Sign) -> Segment:
     """Returns the segment of some notes, chords and rests and a sign after them."""
-    bar = bar_at(line, sign) if kind == BAR_LINE else PLAIN
     if not timed:
-        return Segment(0, 0, 0, 0, 0, False, sign, kind, bar)
-    first, last = timed[0], timed[-1]
-    start, end = line.starts[line.timed(first)], line.starts[line.timed(last)]
-    return Segment(first, last, 0 if kind == BAR_REST else len(timed), start, end, has_own_ties, sign, kind, bar)
-
-
-def follows(line: Line, at: int, timed: list[int]) -> bool:
-    """Returns whether a tie comes directly after the last of some notes, chords and rests, and that is no rest."""
-    while timed and line.kinds[at - 1] >= PART:
-        at -= 1
-    return timed[-1:] == [at - 1] and line.kinds[at - 1] != REST
-
-
-def bar_at(line: Line, at: int) -> BarLine:
-    """Returns the meaning of a bar line."""
-    is_dotted = at > 0 and line.kinds[at - 1] == NO_EFFECT and line.token(at - 1) == b"."
-    return bar_line(line.token(at), is_dotted)
+        return Segment(timed, 0, 0, column, sign)
+    start, end = [line.notes(at)[0] if line.kinds[at] == CHORD else at for at in (timed[0], timed[-1])]
+    return Segment(timed, line.starts[start], line.starts[end], column, sign)
 
 
 @lru_cache(maxsize=1024)
-def bar_line(text: bytes, is_dotted: bool) -> BarLine:
-    """Returns the meaning of a bar line, with a dot before it or without."""
-    middle = text.strip(b":")
-    closes, opens = len(text) - len(text.lstrip(b":")), len(text) - len(text.rstrip(b":"))
-    if not middle:
-        closes = opens = len(text) - 1
-    is_single = not closes and not opens and middle == b"|"
-    return BarLine(closes, opens, middle != b"|", is_dotted or text == b"[|]", is_single)
+def sign_of(kind: int, text: bytes, is_dotted: bool) -> Sign:
+    """Returns a sign, a bar line with a dot before it or without."""
+    if kind != BAR_LINE:
+        return Sign(kind, text, is_soft=kind == ENDING)
+    is_thick = text != b"|"
+    return Sign(kind, text, text.startswith(b":"), text.endswith(b":"), is_thick, is_thick or is_dotted)
 
 
 def is_blank(line: bytes) -> bool:

@@ -7,10 +7,10 @@ from collections.abc import Callable, Sequence
 from functools import partial
 from typing import TYPE_CHECKING, NamedTuple, Optional
 
-from abc2midi_live import PlayTooLong
+from abc2midi_live import Edit, Fault, PlayTooLong
 from abc2midi_live.opening import library_session
 
-from .line import DIRECTIVE, FIELDS, KEY_FIELD, MUSIC, Line, is_blank, line_of
+from .line import BLANK, DIRECTIVE, FIELDS, KEY_FIELD, MUSIC, Line, is_blank, line_of
 
 if TYPE_CHECKING:
     from abc2midi_live.library import LibrarySession
@@ -18,21 +18,21 @@ if TYPE_CHECKING:
 
 NUMBER = 1
 FIRST_LINE = b"X:%d" % NUMBER
-FREE_HEADER = (b"X:0", b"K:C")  # makes a tune of lines that are in none
+FREE_HEADER = [b"X:0", b"K:C"]  # makes a tune of lines that are in none
+NO_LINE = Line(b"", BLANK, [], [], [], [], [])
 MOST_KEPT = 200_000  # bytes of the lines whose tokens are kept
 _HERE = threading.local()
-
-Faults = dict[int, dict[int, list[str]]]
 
 
 class Reading(NamedTuple):
     """Some lines as the library reads them. Lines count from 0, and columns from 1."""
 
+    header: list[tuple[int, Line]]  # the meters of the file header, by lines of the session
     lines: list[Line]  # of the tune
+    body: int  # its first line after the header
     free: list[Line]  # after the tune, as they would be in a tune
-    faults: Faults  # names by line and column; the file header and a blank line precede line 0
-    header: list[Line]  # the file header
     first: int  # the line of the session that is line 0
+    faults: list[Fault]  # of the session
     play: Optional[PlayColumns]  # the parts in the order of the text; None if the tune is too long
     replay: Callable[[int], Optional[PlayColumns]]  # the same some semitones higher, until the next tune is read
 
@@ -42,24 +42,24 @@ class Reader:
 
     def __init__(self, session: LibrarySession):
         self.session = session
-        self.header: tuple[bytes, ...] = ()  # with which the text begins
-        self.header_lines: list[Line] = []
         self.known: dict[bytes, Line] = {}  # lines in tunes: their tokens depend on their bytes alone
         self.known_bytes = 0
 
-    def read(self, header: tuple[bytes, ...], lines: Sequence[bytes]) -> Reading:
+    def read(self, header: Sequence[bytes], lines: Sequence[bytes]) -> Reading:
         """Reads the lines from an `X:` line to the next one, after a file header. The parts of the tune are played in the order
         of the text, so that each has its time."""
         end = next((n for n, line in enumerate(lines) if is_blank(line)), len(lines))
-        free = self.free(lines[end:])
-        lines = [FIRST_LINE, *lines[1:end]]
-        first = len(header) + 2
-        self._put(header, [b"", *lines])
-        tune = [self._line_in_tune(first + n, line) for n, line in enumerate(lines)]
-        for n in orders_of_parts(tune):
-            self.session.replace(first + n, first + n, [b"%"])
-        faults, replay = self._faults(first), partial(self._transposed, first, tune)
-        return Reading(tune, free, faults, self.header_lines, first, self._play(), replay)
+        free, first = self.free(lines[end:]), len(header) + 2
+        self._put([*header, b"", FIRST_LINE, *lines[1:end]])
+        tune = self._lines_in_tune(first)
+        key = next((n for n, line in enumerate(tune) if line.kind in (MUSIC, KEY_FIELD)), end)
+        for n in range(key):
+            if tune[n].field().startswith(b"P:"):
+                self.session.replace(first + n, first + n, [b"%"])
+        has_key = tune[key : key + 1] != [] and tune[key].kind == KEY_FIELD
+        meters = [(n, self._line(n, text)) for n, text in enumerate(header, 1) if text.startswith(b"M:")]
+        replay = partial(self._transposed, first + key - 1, tune[key].field() if has_key else b"")
+        return Reading(meters, tune, key + has_key, free, first, self.session.faults, self._play(), replay)
 
     def _play(self) -> Optional[PlayColumns]:
         """Returns what the tune plays, None if it is too long."""
@@ -68,41 +68,36 @@ class Reader:
         except PlayTooLong:
             return None
 
-    def _transposed(self, first: int, tune: list[Line], semitones: int) -> Optional[PlayColumns]:
-        """Returns what the tune plays some semitones higher, by a key at the end of its header."""
-        n = next((n for n, line in enumerate(tune) if line.kind in (MUSIC, KEY_FIELD)), len(tune))
-        key = tune[n].field() if n < len(tune) and tune[n].kind == KEY_FIELD else b""
-        self.session.insert(first + n, [b"%b transpose=%d" % (key or b"K:", semitones)])
-        if key:
-            self.session.replace(first + n + 1, first + n + 1, [b"%"])
+    def _transposed(self, at: int, key: bytes, semitones: int) -> Optional[PlayColumns]:
+        """Returns what the tune plays some semitones higher, by a key at the end of its header, after `at` lines."""
+        self.session.apply([Edit(at, at + bool(key), [b"%b transpose=%d" % (key or b"K:", semitones)])])
         play = self._play()
-        self.session.replace(first + n, first + n + bool(key), [tune[n].text] if key else [])
+        self.session.apply([Edit(at, at + 1, [key] if key else [])])
         return play
 
     def free(self, lines: Sequence[bytes]) -> list[Line]:
-        """Returns lines that are in no tune as they would be in one."""
-        lines = [b"%" if is_blank(line) else line for line in lines]
-        if any(line not in self.known for line in lines):
-            self._put((), [*FREE_HEADER, *lines])
-        return [self._line_in_tune(len(FREE_HEADER) + n + 1, line) for n, line in enumerate(lines)]
+        """Returns lines that are in no tune as they would be in one; the blank ones are empty."""
+        if all(map(is_blank, lines)):
+            return []
+        self._put([*FREE_HEADER, *(b"%" if is_blank(line) else line for line in lines)])
+        return [NO_LINE if is_blank(text) else line for text, line in zip(lines, self._lines_in_tune(len(FREE_HEADER) + 1))]
 
     def file_header(self, lines: Sequence[bytes]) -> int:
         """Returns how many of the lines before the first tune are the file header."""
-        self._put((), lines)
-        kinds = [self._line(n + 1).kind for n in range(len(lines))]
-        return max((n + 1 for n, kind in enumerate(kinds) if kind in FIELDS or kind == DIRECTIVE), default=0)
+        self._put(lines)
+        kinds = [self._line(n, text).kind for n, text in enumerate(lines, 1)]
+        return max((n for n, kind in enumerate(kinds, 1) if kind in FIELDS or kind == DIRECTIVE), default=0)
 
-    def _put(self, header: tuple[bytes, ...], lines: Sequence[bytes]) -> None:
-        """Makes lines after a file header the text."""
-        count, kept = self.session.line_count, len(header) if header == self.header else 0
-        put = [*header[kept:], *lines]
-        if count > kept:
-            self.session.replace(kept + 1, count, put)
+    def _put(self, lines: Sequence[bytes]) -> None:
+        """Makes lines the text."""
+        if self.session.line_count:
+            self.session.replace(1, self.session.line_count, lines)
         else:
-            self.session.insert(kept + 1, put)
-        if header != self.header:
-            self.header = header
-            self.header_lines = [self._line(n + 1) for n in range(len(header))]
+            self.session.insert(1, lines)
+
+    def _lines_in_tune(self, first: int) -> list[Line]:
+        """Returns the lines of the text from the line `first` of its tune on."""
+        return [self._line_in_tune(number, text) for number, text in enumerate(self.session.lines[first - 1 :], first)]
 
     def _line_in_tune(self, number: int, text: bytes) -> Line:
         """Returns a line of the tune that is the text."""
@@ -112,30 +107,12 @@ class Reader:
             if self.known_bytes > MOST_KEPT:
                 self.known_bytes = len(text)
                 self.known.clear()
-            line = self.known[text] = self._line(number)
+            line = self.known[text] = self._line(number, text)
         return line
 
-    def _line(self, number: int) -> Line:
+    def _line(self, number: int, text: bytes) -> Line:
         """Returns a line, counted from 1."""
-        return line_of(self.session.line(number), self.session.token_columns(number))
-
-    def _faults(self, first: int) -> Faults:
-        """Returns the faults by line and column; line 0 is the line `first` of the session."""
-        found: Faults = {}
-        for fault in self.session.faults:
-            found.setdefault(fault.line - first, {}).setdefault(fault.column, []).append(fault.name)
-        return found
-
-
-def orders_of_parts(tune: list[Line]) -> list[int]:
-    """Returns the lines of a header that are orders of parts."""
-    found = []
-    for n, line in enumerate(tune):
-        if line.kind in (MUSIC, KEY_FIELD):
-            break
-        if line.field().startswith(b"P:"):
-            found.append(n)
-    return found
+        return line_of(text, self.session.token_columns(number))
 
 
 def reader_here(library: Optional[str]) -> Reader:

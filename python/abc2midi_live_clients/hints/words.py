@@ -5,9 +5,9 @@ from __future__ import annotations
 import re
 from collections.abc import Iterator
 
-from .hint import Place, TuneHint, counted
+from .hint import Hint, counted
 from .line import DECORATION, GRACE, MUSIC, NO_EFFECT, NOTE, PART, QUOTED, UNCLOSED, Line, value
-from .tune import TuneText
+from .tune import Place, TuneText
 
 CHORD_NAME = re.compile(
     rb'"\(?[A-G](?:#|b|\xe2\x99\xaf|\xe2\x99\xad)?(?:maj|min|dim|aug|sus|add|M|m|[o+0-9#b()-]|\xc2\xb0)*'
@@ -16,16 +16,16 @@ CHORD_NAME = re.compile(
 CONTINUED = b" \t|:(-[]%"  # after a `.`: a blank, a comment, a dotted bar line, slur or tie, and no decoration
 
 
-def not_played(tune: TuneText) -> Iterator[TuneHint]:
+def not_played(tune: TuneText) -> Iterator[Hint]:
     """Yields one hint for all chord names, grace notes, decorations and lyrics of a tune."""
-    places = []
+    places: list[Place] = []
     counts = {"chord name": 0, "group of grace notes": 0, "decoration": 0, "line of lyrics": 0}
     for n, at in tune.others:
         line = tune.lines[n]
         kind = kind_of_other(line, at)
         if kind:
             counts[kind] += 1
-            places.append(Place(n, line.starts[at]))
+            places.append((n, line.starts[at]))
     for place, text in tune.fields:
         if text.startswith(b"w:") and value(text):
             counts["line of lyrics"] += 1
@@ -33,7 +33,7 @@ def not_played(tune: TuneText) -> Iterator[TuneHint]:
     if places:
         plural = {"group of grace notes": "groups of grace notes", "line of lyrics": "lines of lyrics"}
         parts = [counted(number, thing, plural.get(thing, "")) for thing, number in counts.items() if number]
-        yield TuneHint(min(places), "NotPlayed", f"not played in this tune: {', '.join(parts)}")
+        yield Hint(*min(places), "NotPlayed", f"not played in this tune: {', '.join(parts)}")
 
 
 def kind_of_other(line: Line, at: int) -> str:
@@ -48,34 +48,34 @@ def kind_of_other(line: Line, at: int) -> str:
     return "decoration" if kind == DECORATION or is_sign else ""
 
 
-def text_blocks(tune: TuneText) -> Iterator[TuneHint]:
+def text_blocks(tune: TuneText) -> Iterator[Hint]:
     """Yields a hint for each text between `%%begintext` and `%%endtext`, or their like, that is read as music."""
     for start in dict.fromkeys(tune.in_block.values()):
         read = [n for n, begin in tune.in_block.items() if begin == start and tune.lines[n].kind == MUSIC]
         if read:
             lines = "this line is" if len(read) == 1 else f"{len(read)} lines of this text are"
             text = f"{lines} read as music; `%%begin..` has no effect, so write a `%` before each line"
-            yield TuneHint(Place(read[0], 1), "TextBlock", text)
+            yield Hint(read[0], 1, "TextBlock", text)
 
 
-def overlays(tune: TuneText) -> Iterator[TuneHint]:
+def overlays(tune: TuneText) -> Iterator[Hint]:
     """Yields one hint for all overlays of a tune."""
     places = tune.overlays
     if places:
         what = "what follows this `&` is" if len(places) == 1 else f"what follows the {len(places)} signs `&` of this tune is"
         text = f"{what} played after what precedes it, not together with it; write a second voice (`V:`)"
-        yield TuneHint(min(places), "Overlay", text)
+        yield Hint(*min(places), "Overlay", text)
 
 
-def lost_sharps(tune: TuneText) -> Iterator[TuneHint]:
+def lost_sharps(tune: TuneText) -> Iterator[Hint]:
     """Yields one hint for all signs `#` of a tune before or after a note, where they have no effect."""
-    places = []
+    places: list[Place] = []
     for n, line in enumerate(tune.lines):
         if b"#" in line.text and n not in tune.in_block:
-            places += [Place(n, line.starts[at]) for at in sharps_in(line)]
+            places += [(n, line.starts[at]) for at in sharps_in(line)]
     if places:
         what = "this `#` has" if len(places) == 1 else f"this `#` and {len(places) - 1} more have"
-        yield TuneHint(places[0], "LostSharp", f"{what} no effect; write a sharp before its note, as `^F`, and a flat as `_B`")
+        yield Hint(*places[0], "LostSharp", f"{what} no effect; write a sharp before its note, as `^F`, and a flat as `_B`")
 
 
 def sharps_in(line: Line) -> Iterator[int]:
@@ -91,10 +91,10 @@ def sharps_in(line: Line) -> Iterator[int]:
                 yield at
 
 
-def bagpipe_keys(tune: TuneText) -> Iterator[TuneHint]:
+def bagpipe_keys(tune: TuneText) -> Iterator[Hint]:
     """Yields the keys of the bagpipe, which set no sharps."""
     for place, text in tune.fields:
         key = value(text)
         if text.startswith(b"K:") and key[:2] in (b"HP", b"Hp") and not key[2:3].isalpha():
             sharps = "`K:D` has the F and C sharp of the bagpipe"
-            yield TuneHint(place, "BagpipeKey", f"`K:{key[:2].decode()}` sets no sharps; {sharps}")
+            yield Hint(*place, "BagpipeKey", f"`K:{key[:2].decode()}` sets no sharps; {sharps}")
