@@ -2,6 +2,7 @@
 
 from __future__ import annotations
 
+from bisect import bisect_left
 from collections.abc import Callable, Iterator, Sequence
 from functools import lru_cache
 from typing import Optional
@@ -39,6 +40,7 @@ OF_A_TUNE: tuple[Callable[[TuneText], Iterator[Hint]], ...] = (
 MOST_TUNES = 10_000  # of a book that are looked at
 MOST_AT_ONCE = 100  # tunes that a client looks at before it listens again: some tenth of a second
 
+SLICE = 256  # lines that are compared at once
 Lines = tuple[bytes, ...]
 Found = tuple[Hint, ...]  # the hints on some lines, which count from 0
 
@@ -50,11 +52,11 @@ class Finder:
     def __init__(self, library: Optional[str] = None) -> None:
         self.library = library
         self.header: Lines = ()
+        self.lines: list[bytes] = []
         self.starts: list[int] = []  # the first line of each tune, from 0
-        self.tunes: list[Lines] = []  # their lines
-        self.known: list[Optional[Found]] = []  # the hints on each tune, None before it is looked at
+        self.known: list[Optional[list[Hint]]] = []  # the hints on each tune, None before it is looked at
         self.unread: list[int] = []  # the tunes that are not looked at yet, the next one last
-        self.opening: Found = ()  # the hints on the lines before the tunes
+        self.opening: list[Hint] = []  # the hints on the lines before the tunes
         self.others: list[Hint] = []  # those on the numbers of tunes
         self.uneven: set[int] = set()  # the lines, from 1, of tunes with uneven voices
 
@@ -69,46 +71,66 @@ class Finder:
         """Takes a text, without looking at its tunes."""
         self.others = same_numbers(tunes, faults) if tunes else list(no_tune(lines))
         self.uneven = {fault.line for fault in faults if fault.name == "UnevenVoices"}
-        starts = [tune.line - 1 for tune in tunes[: MOST_TUNES + 1]] or [len(lines)]
+        starts = [tune.line - 1 for tune in tunes[: MOST_TUNES + 1]]
         if len(starts) > MOST_TUNES:
+            lines = lines[: starts.pop()]
             text = f"from this tune on the clients compare only numbers: {MOST_TUNES} tunes precede it"
-            self.others.append(Hint(starts[-1] + 1, 1, "ManyTunes", text))
-        else:
-            starts.append(len(lines))
-        header, self.opening = read_opening(tuple(lines[: starts[0]]), bool(tunes), self.library)
-        old = self.tunes if self.header == header else []
-        self.header, self.starts = header, starts[:-1] if tunes else []
-        self.tunes = [tuple(lines[start:stop]) for start, stop in zip(self.starts, starts[1:])]
-        front = common(old, self.tunes)
-        back = common(old[front:][::-1], self.tunes[front:][::-1])
-        stop = len(self.tunes) - back
-        self.known = [*self.known[:front], *[None] * (stop - front), *self.known[len(old) - back : len(old)]]
-        unread = [n for n, found in enumerate(self.known) if found is None]
-        self.unread = sorted(reversed(unread), key=range(front, stop).__contains__)
+            self.others.append(Hint(len(lines) + 1, 1, "ManyTunes", text))
+        header, opening = read_opening(tuple(lines[: starts[0]] if starts else lines), bool(tunes), self.library)
+        self.opening = placed(opening, 1)
+        old, new = self.lines if self.header == header else [], list(lines)
+        self._reuse(old, new, starts)
+        self.header, self.lines, self.starts = header, new, starts
+
+    def _reuse(self, old: list[bytes], lines: list[bytes], starts: list[int]) -> None:
+        """Forgets the hints on all tunes but those in the first and in the last lines that are the same as before."""
+        front = common(old, lines)
+        back = common(old[front:][::-1], lines[front:][::-1])
+        first = max(0, bisect_left(starts, front) - 1)
+        first = first if starts[:first] == self.starts[:first] else 0
+        stop = max(first, bisect_left(starts, len(lines) - back), first + len(starts) - len(self.starts))
+        tail = self.known[len(self.starts) - len(starts) + stop :]
+        by = len(lines) - len(old)
+        tail = [found and placed(found, by) for found in tail] if by else tail
+        self.known = [*self.known[:first], *[None] * (stop - first), *tail]
+        unread = [n for n in reversed(range(len(starts))) if self.known[n] is None]
+        self.unread = sorted(unread, key=range(first, stop).__contains__)
 
     def look(self, most: int = MOST_TUNES) -> bool:
         """Looks at some tunes, those that changed last first. Returns whether all are known."""
+        ends = [*self.starts[1:], len(self.lines)]
         for _ in range(min(most, len(self.unread))):
             n = self.unread.pop()
-            self.known[n] = read_tune(self.tunes[n], self.header, self.library)
+            found = read_tune(tuple(self.lines[self.starts[n] : ends[n]]), self.header, self.library)
+            self.known[n] = placed(found, self.starts[n] + 1)
         return not self.unread
 
     def found(self) -> list[Hint]:
         """Returns the hints that are known, in the order of their places. Of `NotUtf8` the first one counts, and `VoiceLengths`
         in tunes with uneven voices."""
-        found = []
-        has_odd = False
-        for start, hints in zip([0, *self.starts], [self.opening, *self.known]):
-            for line, column, name, text in hints or ():
-                if not (name == NOT_UTF8 and has_odd or name == OF_UNEVEN_VOICES and start + 1 not in self.uneven):
-                    found.append(Hint(start + line + 1, column, name, text))
-                has_odd = has_odd or name == NOT_UTF8
+        found = [hint for hints in [self.opening, *self.known] for hint in hints or ()]
+        odd = [hint for hint in found if hint.name == NOT_UTF8][1:]
+        odd += [hint for hint in found if hint.name == OF_UNEVEN_VOICES and self._start(hint) not in self.uneven]
+        if odd:
+            left_out = set(odd)
+            found = [hint for hint in found if hint not in left_out]
         return sorted([*found, *self.others]) if self.others else found
 
+    def _start(self, hint: Hint) -> int:
+        """Returns the first line, from 1, of the tune of a hint."""
+        return self.starts[bisect_left(self.starts, hint.line) - 1] + 1
 
-def common(old: list[Lines], new: list[Lines]) -> int:
-    """Returns how many of the first tunes are the same."""
-    return next((n for n, (one, other) in enumerate(zip(old, new)) if one != other), min(len(old), len(new)))
+
+def placed(found: Sequence[Hint], by: int) -> list[Hint]:
+    """Returns hints some lines further on."""
+    return [Hint(line + by, column, name, text) for line, column, name, text in found]
+
+
+def common(old: list[bytes], new: list[bytes]) -> int:
+    """Returns how many of the first lines are the same. Slices are compared faster than lines."""
+    most = min(len(old), len(new))
+    start = next((n for n in range(0, most, SLICE) if old[n : n + SLICE] != new[n : n + SLICE]), most)
+    return next((n for n in range(start, most) if old[n] != new[n]), most)
 
 
 def reader_of(library: Optional[str]) -> Optional[Reader]:
