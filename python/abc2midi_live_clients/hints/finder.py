@@ -7,7 +7,7 @@ from collections.abc import Callable, Iterator, Sequence
 from functools import lru_cache
 from typing import Optional
 
-from abc2midi_live import Fault, LibraryMissing
+from abc2midi_live import Fault
 from abc2midi_live.lines import MOST_BYTES
 
 from ..program import Tune
@@ -15,7 +15,7 @@ from .bars import bars, short_tuplets
 from .book import NOT_UTF8, free_music, lone_returns, no_tune, not_utf8, same_numbers
 from .directives import midi_lines, programs_without_voice
 from .hint import Hint
-from .reader import Reader, reader_here
+from .reader import reader_here
 from .repeats import repeats
 from .ties import ties
 from .tune import TuneText
@@ -133,14 +133,6 @@ def common(old: list[bytes], new: list[bytes]) -> int:
     return next((n for n in range(start, most) if old[n] != new[n]), most)
 
 
-def reader_of(library: Optional[str]) -> Optional[Reader]:
-    """Returns a reader over a library, or over the one that is found, if there is one."""
-    try:
-        return reader_here(library)
-    except LibraryMissing:
-        return None
-
-
 def short_lines(lines: Lines) -> Lines:
     """Returns lines as the program gets them: those that it would refuse are comments."""
     return tuple(b"%" if len(line) > MOST_BYTES else line for line in lines)
@@ -151,7 +143,7 @@ def read_opening(lines: Lines, has_tunes: bool, library: Optional[str]) -> tuple
     """Returns the file header of the lines before the first tune, and the hints on them."""
     lines = short_lines(lines)
     found = [*lone_returns(lines), *(not_utf8(lines) if has_tunes else ())]
-    reader = reader_of(library)
+    reader = reader_here(library)
     header = 0
     if reader and lines:
         header, read = reader.file_header(lines), reader.free(lines)
@@ -165,7 +157,7 @@ def read_tune(lines: Lines, header: Lines, library: Optional[str]) -> Found:
     """Returns the hints on the lines from an `X:` line to the next one, after a file header."""
     lines = short_lines(lines)
     found = [*lone_returns(lines), *not_utf8(lines)]
-    reader = reader_of(library)
+    reader = reader_here(library)
     if reader:
         read = reader.read(header, lines)
         tune, end = TuneText(read), len(read.lines)

@@ -7,7 +7,7 @@ from collections.abc import Callable, Sequence
 from functools import partial
 from typing import TYPE_CHECKING, NamedTuple, Optional
 
-from abc2midi_live import Edit, Fault, PlayTooLong
+from abc2midi_live import Edit, Fault, LibraryMissing, PlayTooLong
 from abc2midi_live.opening import library_session
 
 from .line import BLANK, DIRECTIVE, FIELDS, KEY_FIELD, MUSIC, Line, is_blank, line_of
@@ -97,29 +97,28 @@ class Reader:
 
     def _lines_in_tune(self, first: int) -> list[Line]:
         """Returns the lines of the text from the line `first` of its tune on."""
-        return [self._line_in_tune(number, text) for number, text in enumerate(self.session.lines[first - 1 :], first)]
-
-    def _line_in_tune(self, number: int, text: bytes) -> Line:
-        """Returns a line of the tune that is the text."""
-        line = self.known.get(text)
-        if line is None:
-            self.known_bytes += len(text)
-            if self.known_bytes > MOST_KEPT:
-                self.known_bytes = len(text)
-                self.known.clear()
-            line = self.known[text] = self._line(number, text)
-        return line
+        lines = []
+        for number, text in enumerate(self.session.lines[first - 1 :], first):
+            if text not in self.known:
+                self.known_bytes += len(text)
+                if self.known_bytes > MOST_KEPT:
+                    self.known_bytes = len(text)
+                    self.known.clear()
+                self.known[text] = self._line(number, text)
+            lines.append(self.known[text])
+        return lines
 
     def _line(self, number: int, text: bytes) -> Line:
         """Returns a line, counted from 1."""
         return line_of(text, self.session.token_columns(number))
 
 
-def reader_here(library: Optional[str]) -> Reader:
-    """Returns the reader of the present thread over a library, or over the one that is found. Raises LibraryMissing."""
-    if not hasattr(_HERE, "readers"):
-        _HERE.readers = {}
-    readers: dict[Optional[str], Reader] = _HERE.readers
+def reader_here(library: Optional[str]) -> Optional[Reader]:
+    """Returns the reader of the present thread over a library, or over the one that is found, if there is one."""
+    readers: dict[Optional[str], Reader] = _HERE.__dict__.setdefault("readers", {})
     if library not in readers:
-        readers[library] = Reader(library_session(library))
+        try:
+            readers[library] = Reader(library_session(library))
+        except LibraryMissing:
+            return None
     return readers[library]

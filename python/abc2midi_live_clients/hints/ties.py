@@ -63,7 +63,7 @@ def loose(tune: TuneText, tied: Tied, after: Item, at: int) -> Iterator[Hint]:
     """Yields a hint if ties do not join what follows: each of its own must, and of those after a chord one must. What is not
     played has no hint, and neither have silent notes on both sides whose keys are unknown."""
     item, line = tied.item, tied.item.tokens
-    if not tune.is_played(item) or not tune.is_played(after):
+    if not tune.times(item) or not tune.times(after):
         return
     own = tones(tune, item, tied.own)
     common = tones(tune, item, line.notes(tied.at)) if tied.tie >= 0 else []

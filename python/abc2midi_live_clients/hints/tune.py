@@ -120,7 +120,7 @@ class TuneText:
         return dict(zip(reversed(places), reversed(range(len(places)))))
 
     @cached_property
-    def times(self) -> Counter[int]:
+    def _times(self) -> Counter[int]:
         """How often each place is played."""
         return Counter(self.play.places if self.play else ())
 
@@ -128,13 +128,9 @@ class TuneText:
         """Returns a place of the tune as a play has it."""
         return self.play.place(line + self.first, column) if self.play else 0
 
-    def is_played_once(self, item: Item) -> bool:
-        """Returns whether music is played once."""
-        return self.times[self.place(item.line, item.segment.start)] == 1
-
-    def is_played(self, item: Item) -> bool:
-        """Returns whether music is played."""
-        return self.place(item.line, item.segment.start) in self.played
+    def times(self, item: Item) -> int:
+        """Returns how often music is played."""
+        return self._times[self.place(item.line, item.segment.start)]
 
     def length(self, item: Item) -> Optional[int]:
         """Returns the length of music, if it is played."""
