@@ -90,10 +90,7 @@ class Reader:
 
     def _put(self, lines: Sequence[bytes]) -> None:
         """Makes lines the text."""
-        if self.session.line_count:
-            self.session.replace(1, self.session.line_count, lines)
-        else:
-            self.session.insert(1, lines)
+        self.session.apply([Edit(0, self.session.line_count, list(lines))])
 
     def _lines_in_tune(self, first: int) -> list[Line]:
         """Returns the lines of the text from the line `first` of its tune on."""
