@@ -165,6 +165,13 @@ class Clicked(heard_page.HeardPage):
         fill(books)
         super().start(str(books))
 
+        self.addCleanup(self.end)
+
+    def end(self) -> None:
+        """Ends the server as someone would who stops the command, so that it ends those of the books."""
+        self.server.terminate()
+        self.server.wait(trial.SECONDS)
+
     def load(self) -> None:
         """The page is a list, and has no text."""
         self.driver.get(self.address)
