@@ -3,15 +3,19 @@
 import { NotSupportedError, OutOfMemory, TrapError, refusal } from "./errors.js";
 
 const MODULE = new URL("./abc2midi_live.wasm", import.meta.url);
-const WITH_MEMORY_64 = new Uint8Array([0, 0x61, 0x73, 0x6d, 1, 0, 0, 0, 5, 3, 1, 4, 0]); // a module of one 64-bit memory, and nothing else
+// A module of one function, which fills a part of its memory and extends the sign of a byte: the newest instructions of the module.
+const NEWEST = new Uint8Array([
+  0, 97, 115, 109, 1, 0, 0, 0, 1, 6, 1, 96, 1, 126, 1, 126, 3, 2, 1, 0, 5, 3, 1, 0, 1, 10, 16, 1, 14, 0, 65, 0, 65, 0, 65, 0, 252, 11, 0, 32, 0, 194,
+  11,
+]);
 const FILES = "node:fs/promises"; // a name that bundlers for browsers do not look for
 const MOST_ROOM = 65536, ROOM_STEP = 4096; // bytes of the block that an engine has for the texts and reports of edits
 const MOST_OF_UNIT = 3; // bytes of UTF-8 for a unit of UTF-16
 const encoder = new TextEncoder();
 
-/** Whether this browser or program has the 64-bit memories that the module needs. */
+/** Whether this browser or program has the instructions that the module needs. */
 export function isSupported() {
-  return typeof WebAssembly === "object" && WebAssembly.validate(WITH_MEMORY_64);
+  return typeof WebAssembly === "object" && WebAssembly.validate(NEWEST);
 }
 
 /** The bytes of a module, or the module itself: what `WebAssembly.instantiate` takes. */

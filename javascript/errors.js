@@ -45,7 +45,7 @@ export class TrapError extends AbcError {
   name = "TrapError";
 }
 
-/** This browser or program has no 64-bit WebAssembly memories. */
+/** This browser or program has no WebAssembly, or one that is too old for the module. */
 export class NotSupportedError extends AbcError {
   name = "NotSupportedError";
 }
@@ -63,7 +63,7 @@ const SENTENCES = new Map([
   [PlayTooLong, "more than 1,000,000 notes, chords, rests, fields, programs and bar lines are played"],
   [
     NotSupportedError,
-    "there are no 64-bit WebAssembly memories here: use Chromium 133, Firefox 134, Node 24 or a later one of them",
+    "WebAssembly is missing or too old here: use Chromium 94, Firefox 93, Safari 16.4, Node 18 or a later one of them",
   ],
 ]);
 

@@ -32,15 +32,16 @@ typedef __PTRDIFF_TYPE__ ptrdiff_t;
 #define LACKS_UNISTD_H 1
 
 #define PAGE ((size_t)65536) /* of a WebAssembly memory */
+#define MOST_PAGES ((size_t)65536) /* of a memory with addresses of 32 bits */
 #define NO_MEMORY ((void *)-1)
 #define GROWTH 2 /* A memory grows by a half at least: each growth takes the engine time. */
 
 extern unsigned char __heap_base; /* The end of the stack and of all data, by the linker. */
 
-/* Makes the memory grow by a number of pages; returns whether it did. */
+/* Makes the memory grow by a number of pages; returns whether it did. The module's memory takes the low 32 bits, and answers 32. */
 static int grows(size_t pages)
 {
-    return __builtin_wasm_memory_grow(0, pages) != (size_t)-1;
+    return pages <= MOST_PAGES && (unsigned)__builtin_wasm_memory_grow(0, pages) != (unsigned)-1;
 }
 
 /* Gives `more` bytes after those it gave before. dlmalloc asks for 0 to learn the end, and for less never. */

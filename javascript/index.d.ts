@@ -118,7 +118,7 @@ export interface Work {
   built: number;
 }
 
-/** Whether this browser or program can run the module: it needs 64-bit WebAssembly memories. */
+/** Whether this browser or program can run the module: it has WebAssembly, not older than the module needs. */
 export function isSupported(): boolean;
 
 /** An instance of the module with its memory. It may hold many sessions; those that name no engine share one. */
@@ -207,7 +207,7 @@ export class PlayTooLong extends AbcError {}
 export class ClosedError extends AbcError {}
 /** The engine stopped in the middle of a call. Its sessions take no other call. */
 export class TrapError extends AbcError {}
-/** This browser or program has no 64-bit WebAssembly memories. */
+/** This browser or program has no WebAssembly, or one that is too old for the module. */
 export class NotSupportedError extends AbcError {}
 /** The worker of a session does not start, or ended. */
 export class WorkerError extends AbcError {}

@@ -15,7 +15,6 @@ from typing import NamedTuple, Optional
 TOP = Path(__file__).resolve().parent.parent.parent
 TESTS = TOP / "tests/javascript"
 SECONDS = 600  # that a command may take, on a slow machine too
-HAS_MEMORY_64 = "process.exit(WebAssembly.validate(new Uint8Array([0,97,115,109,1,0,0,0,5,3,1,4,0])) ? 0 : 1)"
 
 sys.path[:0] = [str(TOP / "tests/c_library"), str(TOP / "tests/clients")]
 import streams  # noqa: E402
@@ -28,13 +27,9 @@ count = 200  # of the random streams
 
 @lru_cache(maxsize=None)
 def node() -> list[str]:
-    """The command of Node with 64-bit memories, or nothing if this Node has none."""
+    """The command of Node, or nothing if there is none."""
     found = shutil.which("node")
-    choices: list[list[str]] = [[], ["--experimental-wasm-memory64"]]
-    for flags in choices:
-        if found and subprocess.run([found, *flags, "-e", HAS_MEMORY_64], capture_output=True).returncode == 0:
-            return [found, *flags]
-    return []
+    return [found] if found else []
 
 
 def transcripts() -> Iterator[Path]:

@@ -9,7 +9,7 @@ const folder = process.argv[2];
 const { Engine, OutOfMemory, Session } = await import(pathToFileURL(`${folder}/index.js`));
 const MODULE = readFileSync(`${folder}/abc2midi_live.wasm`);
 const BOOK = Array.from({ length: 200 }, (_, n) => `X:${n + 1}\nT:Tune ${n}\nK:D\nDFAd fdAF|GBdg bgdB|A4 B4|^c8|]\n`).join("\n");
-const MEMORY_SECTION = 5, WITHOUT_LIMIT = 4, WITH_LIMIT = 5; // of a module, and of a 64-bit memory
+const MEMORY_SECTION = 5, WITHOUT_LIMIT = 0, WITH_LIMIT = 1; // of a module, and of a memory
 
 /** A number as a module has it, and its bytes. */
 function readNumber(bytes, at) {
@@ -126,6 +126,13 @@ await run({
     for (let at = malloc(500n); at !== 0n; at = malloc(500n)) blocks.push(at);
     for (const at of blocks) free(at);
     same(malloc(BigInt(500 * blocks.length)) !== 0n, true);
+  },
+  "a block beyond 4 GiB is refused, and takes no memory": async () => {
+    const { malloc, memory } = (await WebAssembly.instantiate(MODULE)).instance.exports;
+    const before = memory.buffer.byteLength;
+    const sizes = [2n ** 32n, 2n ** 32n + 100n, 2n ** 48n + 100000n, 2n ** 62n, 2n ** 63n - 1n];
+    same(sizes.filter((bytes) => malloc(bytes) !== 0n).map(String), []);
+    same(memory.buffer.byteLength, before);
   },
   "a session that gets no memory is not opened": async () => {
     const engine = await Engine.load(limited(1));

@@ -7,7 +7,7 @@ import unittest
 import common
 
 
-@unittest.skipUnless(common.node(), "there is no Node with 64-bit memories")
+@unittest.skipUnless(common.node(), "Node is not installed")
 class InNode(common.Room):
     def answer(self, kind: str, conversations: list[common.Conversation]) -> None:
         """Compares the answers of sessions of a kind with the wanted ones."""
@@ -33,16 +33,16 @@ class InNode(common.Room):
 
     def test_memory(self) -> None:
         words = [*common.node(), "--expose-gc", str(common.TESTS / "memory.mjs"), str(common.package)]
-        self.assert_ok(words, 6)
+        self.assert_ok(words, 7)
 
 
-class WithoutMemories(common.Room):
-    """A Node that has no 64-bit memories gets a plain sentence."""
+@unittest.skipUnless(common.node(), "Node is not installed")
+class WithoutWebAssembly(common.Room):
+    """A Node that has no WebAssembly gets a plain sentence."""
 
-    @unittest.skipUnless(len(common.node()) == 2, "each Node here has 64-bit memories")
     def test_the_sentence(self) -> None:
         script = f"const {{ Session }} = await import('file://{common.package}/index.js');"
         script += "console.log(Session.isSupported()); await Session.open().catch(({ name, message }) => console.log(name, message));"
-        lines = self.lines_of([common.node()[0], "--input-type=module", "-e", script])
+        lines = self.lines_of([*common.node(), "--no-expose-wasm", "--input-type=module", "-e", script])
         self.assertEqual(lines[0], "false")
-        self.assertRegex(lines[1], "^NotSupportedError there are no 64-bit WebAssembly memories here: use Chromium 133")
+        self.assertRegex(lines[1], "^NotSupportedError WebAssembly is missing or too old here: use Chromium 94")

@@ -30,7 +30,7 @@ await worker.close();
 
 
 class Module(common.Room):
-    @unittest.skipUnless(common.node(), "there is no Node with 64-bit memories")
+    @unittest.skipUnless(common.node(), "Node is not installed")
     def test_has_the_calls_of_the_header_and_the_heap_alone(self) -> None:
         header = (common.TOP / "c/abc2midi_live.h").read_text("utf-8")
         calls = set(re.findall(r"\b(abc_live_[a-z_]+)\(", header))
@@ -65,7 +65,7 @@ class Archive(common.Room):
         (self.folder / "first.mjs").write_text(FIRST_FILE)
         self.lines_of(["npm", "install", "--offline", "--no-audit", "--no-fund", str(archive)])
         if not common.node():
-            self.skipTest("there is no Node with 64-bit memories")
+            self.skipTest("Node is not installed")
         found = self.lines_of([*common.node(), "first.mjs"])[0].split()
         self.assertEqual(found, [found[0]] * 2)
         self.assertTrue(found[0].startswith("4d546864"), found[0])  # MThd
