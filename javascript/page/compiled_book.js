@@ -19,6 +19,7 @@ const MOST_LINES = 1048576, MOST_BYTES = 65535; // of a text, of a line
 const MOST_BYTES_OF_A_UNIT = 3;
 const LEFT_OUT = "%"; // instead of a longer line: a comment has no effect
 const MOST_SEEN = 1000; // lines of a window
+const MOST_SPANS = 100000; // that are known
 const NO_KEY = 128;
 
 /** Whether a line has too many bytes.
@@ -42,6 +43,8 @@ export class CompiledBook {
     this.session = null;
     /** @type {Line[]} */
     this.lines = []; // that the session has
+    /** @type {Map<string, [start: number, end: number]>} */
+    this.spans = new Map(); // of faults, by their names, places and lines
   }
 
   /** Makes a text that of the session: what it changed. A session that fails is started again, once.
@@ -86,11 +89,20 @@ export class CompiledBook {
     const large = countedLines(text).length > MOST_LINES ? [{ line: MOST_LINES, at: 0, name: "TooLarge" }] : [];
     const found = faults.filter((fault) => !this.isInside(fault)).map(({ line, utf16Column, name }) => ({ line: line - 1, at: utf16Column - 1, name }));
     const all = [...long, ...large, ...found].sort((one, other) => one.line - other.line || one.at - other.at);
-    const rows = all.map(({ line, at, name }) => {
-      const shown = text.shown(text.lines[line]);
-      return /** @type {FaultRow} */ ([line, ...spanOf(shown, Math.min(at, shown.length), name), name]);
-    });
+    const spans = await Promise.all(all.map((fault) => this.span(text.shown(text.lines[fault.line]), fault)));
+    const rows = all.map(({ line, name }, n) => /** @type {FaultRow} */ ([line, ...spans[n], name]));
     return { faults: rows, tunes: this.tunes(titles, faults) };
+  }
+
+  /** The begin and the end of a fault in its line, as it is shown.
+   * @type {(shown: string, fault: { line: number, at: number, name: string }) => Promise<[start: number, end: number]>} */
+  async span(shown, { line, at, name }) {
+    const start = Math.min(at, shown.length), key = `${name} ${start} ${shown}`, known = this.spans.get(key);
+    if (known) return known;
+    const span = spanOf(shown, start, name, await this.tokens(line));
+    if (this.spans.size === MOST_SPANS) this.spans.clear();
+    this.spans.set(key, span);
+    return span;
   }
 
   /** Whether a fault is at a byte of a letter that does not begin it: `BadByte` is at each byte of a letter.
@@ -124,7 +136,7 @@ export class CompiledBook {
   /** The numbers of the tokens of a line. A line that is left out has none.
    * @type {(line: number) => Promise<number[]>} */
   async tokens(line) {
-    if (!this.session || isTooLong(this.lines[line])) return [];
+    if (!this.session || line >= this.lines.length || isTooLong(this.lines[line])) return [];
     const tokens = await this.session.tokens(line + 1);
     return tokens.flatMap(({ utf16From, utf16To, kind, depth }) => [utf16From - 1, utf16To - 1, KINDS.indexOf(kind), depth]);
   }

@@ -6,6 +6,7 @@
  * @typedef {{ showOpenFilePicker?: (options: object) => Promise<Handle[]>, showSaveFilePicker?: (options: object) => Promise<Handle> }} Pickers */
 
 const TYPES = [{ description: "Tune book in ABC notation", accept: { "text/vnd.abc": [".abc", ".txt"] } }];
+const NO_DIALOG = "the browser does not open its dialog for files", FORBIDDEN = 403;
 const pickers = /** @type {Pickers} */ (globalThis);
 
 /** Whether the user can pick files that the page writes. */
@@ -14,14 +15,20 @@ export const canPick = Boolean(pickers.showOpenFilePicker && pickers.showSaveFil
 /** Lets the user pick a file to open.
  * @returns {Promise<PickedFile>} */
 export async function pickToOpen() {
-  const [handle] = (await pickers.showOpenFilePicker?.({ types: TYPES })) ?? [];
+  const [handle] = (await pickers.showOpenFilePicker?.({ types: TYPES }).catch(refuse)) ?? [];
   return new PickedFile(handle);
 }
 
 /** Lets the user pick a file to save into.
  * @type {(name: string) => Promise<PickedFile>} */
 export async function pickToSave(suggestedName) {
-  return new PickedFile(/** @type {Handle} */ (await pickers.showSaveFilePicker?.({ suggestedName, types: TYPES })));
+  return new PickedFile(/** @type {Handle} */ (await pickers.showSaveFilePicker?.({ suggestedName, types: TYPES }).catch(refuse)));
+}
+
+/** Raises the error of a dialog: an `AbortError` if the user closed it, else one in plain words.
+ * @type {(error: Error) => never} */
+function refuse(error) {
+  throw error.name === "AbortError" ? error : Object.assign(new Error(NO_DIALOG), { status: FORBIDDEN });
 }
 
 export class PickedFile {

@@ -162,8 +162,13 @@ class StaticPage {
   /** Lets the user pick a file to open. */
   async pick() {
     if (!canPick) return find("upload").click();
-    const file = await pickToOpen().catch(() => null), data = await file?.read().catch((error) => this.say(`Not opened: ${error.message}.`));
-    if (file && data) await this.take({ name: file.name, data, file });
+    try {
+      const file = await pickToOpen(), data = await file.read();
+      if (data) await this.take({ name: file.name, data, file });
+    } catch (caught) {
+      const { name, message } = /** @type {Error} */ (caught);
+      if (name !== "AbortError") this.say(`Not opened: ${message}.`);
+    }
   }
 
   /** Opens the file that was uploaded. */
@@ -224,7 +229,7 @@ if (Session.isSupported()) {
   new StaticPage().open();
 } else {
   const dialog = /** @type {HTMLDialogElement} */ (find("unable"));
-  find("unable-words").textContent = "This browser cannot run the page: it has no 64-bit WebAssembly memories. Use Chromium 133, Firefox 134 or a later one of them.";
+  find("unable-words").textContent = "This browser cannot run the page: its WebAssembly is missing or too old. Use Chromium 94, Firefox 93, Safari 16.4 or a later one of them.";
   dialog.addEventListener("close", () => dialog.showModal());
   dialog.showModal();
 }

@@ -1,19 +1,10 @@
-"""Places in a text: bytes, characters and UTF-16 units; and the span of a fault."""
+"""Places in a text: bytes, characters and UTF-16 units; and where a fault ends."""
 
-import re
-from bisect import bisect_right
-from collections.abc import Sequence
+from bisect import bisect_left, bisect_right
+from collections.abc import Iterable, Sequence
 from itertools import accumulate
 
-WHOLE_LINE = re.compile(r"(?![A-Ga-gxz]:[|:])[A-Za-z+]:|%%")  # a field or a directive
 WITH_THEIR_LINE = frozenset(("BadLine", "BadProgram", "TextBlock", "FreeMusic", "NoTune", "LoneReturns"))
-TOKEN = re.compile(
-    r"\[[A-Za-z]:[^\]]*\]"  # an inline field
-    r"|\[[^\[\]|]*\]\d*/*\d*"  # a chord
-    r"|[_^=]{0,2}[A-Ga-gxzXZ][',]*\d*/*\d*"  # a note or a rest
-    r"|\(\d+(:\d*){0,2}|\[?\d[\d,-]*|<{1,3}|>{1,3}"  # a tuplet, an ending, broken rhythm
-    r"|."
-)
 
 
 def text_of(line: bytes) -> str:
@@ -66,14 +57,12 @@ def is_character(data: bytes) -> bool:
         return False
 
 
-def span_of(line: str, start: int, name: str) -> tuple[int, int]:
-    """The first character of a fault, and the end of the field or token there. The end is a guess."""
-    if start == 0 and WHOLE_LINE.match(line) or name in WITH_THEIR_LINE:
-        return start, len(line)
-    if name in ("BadByte", "Unclosed"):
-        return start, start + 1
-    token = TOKEN.match(line, start)
-    return start, token.end() if token else start
+def end_of(line: bytes, column: int, name: str, tokens: Iterable[tuple[int, int]]) -> int:
+    """The column after a fault or a hint: that of the innermost token at its byte, or of the line if it is about that. Columns count
+    from 1, and a token has that of its first byte and the one after its last."""
+    if name in WITH_THEIR_LINE:
+        return len(line) + 1
+    return next((end for start, end in reversed([*tokens]) if start <= column < end), column + 1)
 
 
 class LinePlaces:
@@ -88,7 +77,9 @@ class LinePlaces:
             units = (2 if character > "\uffff" else 1 for character in text)
             self.bytes_before, self.units_before = [0, *accumulate(sizes)], [0, *accumulate(units)]
 
-    def span(self, column: int, name: str) -> list[int]:
-        """Where a fault begins and ends, in UTF-16 units. Its column counts bytes from 1."""
+    def span(self, column: int, end: int) -> list[int]:
+        """Where a fault begins and ends, in UTF-16 units, by its column and the one after it, which count bytes from 1. It has one
+        character at least."""
         start = min(bisect_right(self.bytes_before, column - 1) - 1, len(self.text))
-        return [self.units_before[end] for end in span_of(self.text, start, name)]
+        stop = min(max(start + 1, bisect_left(self.bytes_before, end - 1)), len(self.text))
+        return [self.units_before[start], self.units_before[stop]]

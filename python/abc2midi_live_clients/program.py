@@ -3,6 +3,7 @@
 import argparse
 import os
 from bisect import bisect_left
+from collections.abc import Sequence
 from typing import Any, NamedTuple, Optional
 
 import abc2midi_live
@@ -12,9 +13,10 @@ from abc2midi_live.lines import MOST_BYTES, MOST_LINES
 from abc2midi_live.opening import library_session
 from abc2midi_live.plays import Track
 
-from .places import is_inside_character, text_of
+from .places import end_of, is_inside_character, text_of
 
 LEFT_OUT = b"%"  # sent instead of a longer line: a comment has no effect
+MOST_ENDS = 100_000  # of faults that are known
 
 
 class Tune(NamedTuple):
@@ -85,6 +87,7 @@ class SessionBook:
         self.left_out: list[int] = []  # the lines that are too long, counted from 0
         self.renewal: Optional[Renewal] = None  # since the tunes were asked for
         self.known = KnownTunes([], [], [])
+        self.ends: dict[tuple[bytes, int, str], int] = {}  # the column after each fault, by its line, its column and its name
         self.report = Report((), ())  # of the last replacement
         self.session = session
 
@@ -122,6 +125,16 @@ class SessionBook:
             if fault.name != "BadByte" or not is_inside_character(self.lines[fault.line - 1], fault.column):
                 found.append(fault)
         return sorted(found, key=lambda fault: fault[:2])
+
+    def end_of(self, fault: Fault) -> int:
+        """The column after a fault of the text, by the tokens of its line. Raises LibraryNeeded over a process."""
+        key = self.lines[fault.line - 1], fault.column, fault.name
+        if key not in self.ends:
+            if len(self.ends) == MOST_ENDS:
+                self.ends.clear()
+            tokens = ((token.from_column, token.to_column) for token in self.tokens(fault.line - 1))
+            self.ends[key] = end_of(*key, tokens)
+        return self.ends[key]
 
     def tunes(self) -> list[Tune]:
         """The tunes of the text in order: each `X:` line begins one. If no title and no place changed, they are the list of the
@@ -191,12 +204,12 @@ def splice_places(places: list[int], start: int, stop: int, put: list[int], coun
     return places[:before] + [start + n for n in put] + ([n + more for n in places[after:]] if more else places[after:])
 
 
-def lines_too_long(faults: list[Fault]) -> set[int]:
+def lines_too_long(faults: Sequence[Fault]) -> set[int]:
     """The lines of the tunes that are too long, counted from 1."""
     return {fault.line for fault in faults if fault.name == "TuneTooLong"}
 
 
-def files_of(tunes: list[Tune], faults: list[Fault]) -> dict[int, Tune]:
+def files_of(tunes: Sequence[Tune], faults: Sequence[Fault]) -> dict[int, Tune]:
     """The tune that has the file of each number: the first one of that number that is not too long."""
     too_long = lines_too_long(faults)
     found: dict[int, Tune] = {}

@@ -15,7 +15,7 @@ from .texts import Text
 
 NOTHING_FOUND = {"faults": {"at": 0, "out": 0, "put": []}, "tunes": {"at": 0, "out": 0, "put": []}, "written": [], "removed": []}
 
-FaultRow = tuple[int, int, str]  # line from 0, column, name
+FaultRow = tuple[int, int, int, str]  # line from 0, column, the column after it, name
 TuneRow = tuple[int, int, str, bool]  # line from 0, number, title, whether the number's file is this tune's
 Json = dict[str, Any]
 
@@ -45,19 +45,19 @@ class TuneRows:
         return self.rows
 
 
-def moved(rows: Sequence[Any], edit: Json) -> list[Any]:
-    """The rows of a text after an edit, without those of the lines that it replaces."""
+def moved(rows: list[Any], edit: Json) -> list[Any]:
+    """The rows of a text after an edit, without those of the lines that it replaces: the same list if no row moves."""
     start, stop = edit["start"], edit["stop"]
     grown = len(edit["lines"]) - (stop - start)
     first, last = bisect_left(rows, (start,)), bisect_left(rows, (stop,))
     if not grown:
-        return [*rows[:first], *rows[last:]]
+        return rows if first == last else [*rows[:first], *rows[last:]]
     return [*rows[:first], *((row[0] + grown, *row[1:]) for row in rows[last:])]
 
 
 def difference(old: Sequence[Any], new: Sequence[Any]) -> Json:
     """How a window makes new rows of old ones: at a place some rows go and others come."""
-    if old == new:
+    if old is new or old == new:
         return {"at": len(new), "out": 0, "put": []}
     front = common_front(old, new)
     back = common_front(old[front:][::-1], new[front:][::-1])
@@ -69,5 +69,5 @@ def shown_rows(text: Text, faults: list[FaultRow]) -> list[list[Any]]:
     found = []
     for number, those in groupby(faults, lambda fault: fault[0]):
         places = text.places(text.lines[number])
-        found += [[number, *places.span(column, name), name] for _, column, name in those]
+        found += [[number, *places.span(column, end), name] for _, column, end, name in those]
     return found

@@ -10,7 +10,7 @@ from concurrent.futures import TimeoutError as TooLate
 from contextlib import suppress
 from typing import Any, NamedTuple, Optional, TypeVar
 
-from abc2midi_live import Edit, Fault, OutOfMemory, Report
+from abc2midi_live import Edit, OutOfMemory, Report
 from abc2midi_live.lines import without_empty_end
 
 from .book_file import BookFile
@@ -19,7 +19,7 @@ from .hint_process import HintRow, Question
 from .midi_names import zip_of
 from .own_thread import OwnThread
 from .printing import printable
-from .program import SessionBook, Tune, open_library
+from .program import SessionBook, open_library
 from .recent_changes import RecentChanges
 from .rows import NOTHING_FOUND, Json, Rows, TuneRows, difference, moved, shown_rows
 from .saving import BookChanged, NotSaved, digest, digest_of, read_book, save_book
@@ -29,8 +29,10 @@ from .windows import Windows
 
 SECONDS_OF_PATIENCE = 3  # with an edit or a save, before a look at the file
 SECONDS_TO_END = 3  # for the session
+SECONDS_FOR_ANSWERS = 0.5  # in which a window gets the answers to its edits, before it hears of them once more
 GONE = "the book is not on the disk any more"
 Result = TypeVar("Result")
+OF_AN_ANSWER = ("version", "moment", "unsaved")  # what the answer to an edit has of the state
 WINDOW = re.compile(r"[\w.-]{1,64}", re.ASCII)  # the name of a window
 
 
@@ -112,7 +114,8 @@ class SharedBook:
     def found_in(self, book: SessionBook) -> Rows:
         """What a session finds in its text."""
         faults = book.faults()
-        return Rows([(fault.line - 1, fault.column, fault.name) for fault in faults], self.tune_rows.of(book.tunes(), faults))
+        rows = [(fault.line - 1, fault.column, book.end_of(fault), fault.name) for fault in faults]
+        return Rows(rows, self.tune_rows.of(book.tunes(), faults))
 
     def opened(self) -> SessionBook:
         """A session with the present text. Raises LibraryMissing."""
@@ -183,23 +186,35 @@ class SharedBook:
             self.windows.end_stream()
             self.moved.notify_all()
 
-    def news(self, seen: int, last_state: Optional[Json], seconds: float) -> tuple[list[Json], Json]:
-        """The changes after a version and the state, as soon as either is new, or after so long."""
+    def news(self, seen: int, last_state: Optional[Json], seconds: float, window: Optional[str] = None) -> tuple[list[Json], Json]:
+        """The changes after a version and the state, as soon as either is new, or after so long. Those that a window made come to it
+        a moment later, together: the answers to its edits bring them first."""
         with self.moved:
             self.moved.wait_for(lambda: self.version > seen or self.state() != last_state, seconds)
-            return [change for change in self.changes if change["version"] > seen], self.state()
+            self.moved.wait_for(lambda: not self.is_answered(seen, last_state, window), SECONDS_FOR_ANSWERS)
+            return self.later_changes(seen), self.state()
+
+    def is_answered(self, seen: int, last_state: Optional[Json], window: Optional[str]) -> bool:
+        """Whether nothing is new after a version but edits of a window, whose answers say what is new."""
+        made = self.later_changes(seen)
+        if not made or not last_state or any(change["window"] != window for change in made):
+            return False
+        return {**self.state(), **{name: last_state[name] for name in OF_AN_ANSWER}} == last_state
+
+    def later_changes(self, seen: int) -> list[Json]:
+        """The changes after a version, as far as they are kept."""
+        return [change for change in self.changes if change["version"] > seen]
 
     def changes_after(self, seen: int) -> Json:
         """The changes after a version, as far as they are kept."""
         with self.moved:
-            return {"changes": [change for change in self.changes if change["version"] > seen]}
+            return {"changes": self.later_changes(seen)}
 
     def news_for(self, seen: int, name: str) -> Json:
         """The same at once, for a window that asks again and again; and whether it may hold a connection."""
         with self.moved:
             self.windows.ask(name)
-            changes = [change for change in self.changes if change["version"] > seen]
-            return {"changes": changes, "state": self.state(), "room": self.windows.has_room()}
+            return {"changes": self.later_changes(seen), "state": self.state(), "room": self.windows.has_room()}
 
     def question(self, known: int, pause: float) -> tuple[int, Question]:
         """Waits for a text of another version than a known one, till nobody has edited it for so long. Returns its version, and the
@@ -208,9 +223,7 @@ class SharedBook:
             self.moved.wait_for(lambda: self.version != known)
             while (version := self.version) != known and self.moved.wait_for(lambda: self.version != version, pause):
                 pass
-            tunes = [Tune(number, title, line + 1) for line, number, title, _ in self.rows.tunes]
-            faults = [Fault(line + 1, column, name) for line, column, name in self.rows.faults]
-            return self.version, Question(self.text, tunes, faults)
+            return self.version, Question(self.text, *self.rows)
 
     def know_hints(self, version: int, hints: list[HintRow]) -> None:
         """Sends the windows the hints on the text, if it is still the one of a version."""

@@ -39,8 +39,10 @@ const from = (name) => import(pathToFileURL(`${folder}/${name}.js`));
 const { BookLock } = await from("book_lock");
 const { BookText } = await from("book_text");
 const { CompiledBook } = await from("compiled_book");
+const { Files } = await from("files");
 const { Keeper } = await from("keeper");
 const { Link } = await from("link");
+const { pickToOpen, pickToSave } = await from("picked_file");
 const { linkOf, textIn } = await from("share_link");
 const { Text } = await from("text");
 const { WorkerBook } = await from("worker_book");
@@ -97,6 +99,13 @@ class Session {
   get faults() {
     const at = (line) => line.indexOf("&") + 1;
     return Promise.resolve(this.lines.flatMap((line, n) => (at(line) ? [{ line: n + 1, column: at(line), utf16Column: at(line), name: "BadByte" }] : [])));
+  }
+
+  /** Each word is a token, and so is each of its letters. */
+  async tokens(number) {
+    const words = [...this.lines[number - 1].matchAll(/\w+/g)].map(({ index, 0: word }) => [index + 1, index + 1 + word.length]);
+    const tokens = words.flatMap(([from, to]) => [[from, to, 0], ...Array.from({ length: to - from }, (_, n) => [from + n, from + n + 1, 1])]);
+    return tokens.map(([utf16From, utf16To, depth]) => ({ utf16From, utf16To, kind: "Note", depth }));
   }
 
   async output(number) {
@@ -189,6 +198,14 @@ await run({
     same((await book.ask("book")).faults, [[1, 0, 1, "BadByte"]]);
   },
 
+  async "a fault ends with the innermost token at it, and has one letter at least"() {
+    const { session, book } = await opened("X:1\nCDE FG 𝄞\nCDE\n");
+    const faults = [[2, 2, "LooseTie"], [2, 7, "LooseTie"], [2, 8, "BadByte"], [3, 2, "BadProgram"]];
+    const told = faults.map(([line, utf16Column, name]) => ({ line, column: utf16Column, utf16Column, name }));
+    Object.defineProperty(session, "faults", { get: () => Promise.resolve(told) });
+    same((await book.ask("book")).faults, [[1, 1, 2, "LooseTie"], [1, 6, 7, "LooseTie"], [1, 7, 9, "BadByte"], [2, 1, 3, "BadProgram"]]);
+  },
+
   async "an engine that stopped is started again with the whole text"() {
     const sessions = [];
     const book = new WorkerBook("downloads", async () => null, new CompiledBook(async () => sessions[sessions.push(new Session()) - 1]));
@@ -279,6 +296,30 @@ await run({
     const { link: other } = await opened(TUNE);
     const error = await thrown(() => other.file("save"));
     same([error.message, error.status, other.isUnsaved], ["no file was picked", undefined, true]);
+  },
+
+  async "a dialog that the browser refuses says so in plain words, and the text is not lost"() {
+    const refusals = ["NotAllowedError", "SecurityError", "TypeError", "AbortError"].map((name) => Object.assign(new Error("Failed to execute"), { name }));
+    for (const dialog of ["showSaveFilePicker", "showOpenFilePicker"]) {
+      const found = [];
+      for (const error of refusals) {
+        globalThis[dialog] = () => Promise.reject(error);
+        const { name, message, status } = await thrown(dialog === "showSaveFilePicker" ? () => pickToSave("a.abc") : pickToOpen);
+        found.push([name, message, status]);
+      }
+      const plain = ["Error", "the browser does not open its dialog for files", 403];
+      same(found, [plain, plain, plain, ["AbortError", "Failed to execute", undefined]]);
+    }
+    const { link, book } = await opened(TUNE);
+    book.pick = pickToSave;
+    globalThis.showSaveFilePicker = () => Promise.reject(refusals[1]);
+    const said = [], asked = [], questions = { withdraw() {}, find() {}, ask: (question) => asked.push([question.words, Object.keys(question.answers)]) };
+    const files = new Files({ link, book, questions, say: (words) => said.push(words), doubt: () => undefined });
+    await files.save();
+    await files.saveElsewhere();
+    same(said, Array(2).fill("Not saved: the browser does not open its dialog for files."));
+    same(asked, Array(2).fill(["The text is not saved: the browser does not open its dialog for files.", ["Download the text", "Close"]]));
+    same([link.isUnsaved, text(await book.bytes("text"))], [true, TUNE]);
   },
 
   async "a download is a save, if the browser writes no files"() {

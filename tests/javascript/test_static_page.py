@@ -186,10 +186,10 @@ class Writing(StaticBrowser):
         self.wait(lambda: len(self.titles()) == 4)
 
 
-    def test_a_browser_without_64_bit_memories(self) -> None:
+    def test_a_browser_without_the_web_assembly_of_the_module(self) -> None:
         """It gets one sentence, which Escape does not close."""
         self.driver.get(f"{self.origin}/?unable")
-        self.wait(lambda: self.text("unable-words").startswith("This browser cannot run the page: it has no 64-bit WebAssembly memories."))
+        self.wait(lambda: self.text("unable-words").startswith("This browser cannot run the page: its WebAssembly is missing or too old."))
         self.press(ESCAPE)
         self.wait(lambda: self.run_script("return document.getElementById('unable').open"))
 

@@ -14,7 +14,7 @@ from typing import Any
 import common
 
 sys.path.append(str(common.TOP / "python"))
-from abc2midi_live_clients.places import LinePlaces  # noqa: E402
+from abc2midi_live_clients.places import LinePlaces, end_of  # noqa: E402
 from abc2midi_live_clients.texts import Text, is_utf8  # noqa: E402
 
 Units = list[int]  # the UTF-16 units of a line
@@ -28,6 +28,16 @@ def units_of(text: str) -> Units:
     """The UTF-16 units of a text."""
     data = text.encode("utf-16-le", "surrogatepass")
     return [data[at] | data[at + 1] << 8 for at in range(0, len(data), 2)]
+
+
+def unit_of(line: str, character: int) -> int:
+    """The UTF-16 units before a character of a line."""
+    return len(units_of(line[:character]))
+
+
+def column_of(line: str, character: int) -> int:
+    """The column of a character of a line, in bytes from 1."""
+    return len(line[:character].encode()) + 1
 
 
 def random_book(chance: random.Random) -> bytes:
@@ -96,12 +106,12 @@ class StaticScripts(common.Room):
         asked, wanted = [], []
         for _ in range(2000):
             line = "".join(chance.choice(SIGNS) for _ in range(chance.randrange(1, 5)))
-            places, name = LinePlaces(line), chance.choice(NAMES)
-            at = chance.randrange(len(line))
-            column = len(line[:at].encode()) + 1
-            start, end = places.span(column, name)
-            asked.append([line, len(units_of(line[:at])), name])
-            wanted.append([start, end])
+            tokens = [sorted(chance.sample(range(len(line) + 1), 2)) for _ in range(chance.randrange(4))]
+            columns = [(column_of(line, start), column_of(line, end)) for start, end in tokens]
+            at, name = chance.randrange(len(line)), chance.choice(NAMES)
+            column = column_of(line, at)
+            wanted.append(LinePlaces(line).span(column, end_of(line.encode(), column, name, columns)))
+            asked.append([line, unit_of(line, at), name, [n for start, end in tokens for n in (unit_of(line, start), unit_of(line, end), 1, 0)]])
         self.assertEqual(self.answers("page_spans.mjs", asked), [wanted])
 
     def test_the_same_sources_make_the_same_page(self) -> None:

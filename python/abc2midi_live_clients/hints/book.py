@@ -3,11 +3,10 @@
 from __future__ import annotations
 
 from collections.abc import Iterator, Sequence
-from typing import Optional
 
 from abc2midi_live import Fault, TokenKind
 
-from ..program import Tune
+from ..program import Tune, files_of, lines_too_long
 from .hint import Hint, counted
 from .line import BAD_BYTE, BAR_LINE, BLANK, FIELDS, KEY_FIELD, MUSIC, NO_EFFECT, NOTE, PART, REST, UNCLOSED, Line, is_blank
 
@@ -29,16 +28,9 @@ def same_numbers(tunes: Sequence[Tune], faults: Sequence[Fault]) -> list[Hint]:
     """Returns the hints at tunes whose number an earlier tune has that is not too long."""
     if len({tune.number for tune in tunes}) == len(tunes):
         return []
-    too_long = {fault.line for fault in faults if fault.name == "TuneTooLong"}
-    owners: dict[int, int] = {}
-    found = []
-    for tune in tunes:
-        if tune.line in too_long:
-            continue
-        owner = owners.setdefault(tune.number, tune.line)
-        if owner != tune.line:
-            found.append(Hint(tune.line, 1, "SameNumber", number_is_used(tune.number, owner)))
-    return found
+    owners, too_long = files_of(tunes, faults), lines_too_long(faults)
+    others = [tune for tune in tunes if tune.line not in too_long and tune != owners[tune.number]]
+    return [Hint(tune.line, 1, "SameNumber", number_is_used(tune.number, owners[tune.number].line)) for tune in others]
 
 
 def no_tune(lines: Sequence[bytes]) -> Iterator[Hint]:
@@ -66,20 +58,11 @@ def lone_returns(lines: tuple[bytes, ...]) -> Iterator[Hint]:
 def not_utf8(lines: tuple[bytes, ...]) -> Iterator[Hint]:
     """Yields the first line that is not UTF-8."""
     for n, line in enumerate(lines):
-        place = None if line.isascii() else first_odd_byte(line)
-        if place is not None:
-            text = "this line is not UTF-8, and is shown as Latin-1; save the book in UTF-8"
-            yield Hint(n, place + 1, NOT_UTF8, text)
+        try:
+            line.decode()
+        except UnicodeDecodeError as error:
+            yield Hint(n, error.start + 1, NOT_UTF8, "this line is not UTF-8, and is shown as Latin-1; save the book in UTF-8")
             return
-
-
-def first_odd_byte(line: bytes) -> Optional[int]:
-    """Returns the place of the first byte that is not UTF-8, if there is one."""
-    try:
-        line.decode("utf-8")
-    except UnicodeDecodeError as error:
-        return error.start
-    return None
 
 
 def free_music(lines: list[Line], start: int, after_tune: bool) -> Iterator[Hint]:

@@ -8,6 +8,7 @@ from functools import lru_cache
 from typing import Optional
 
 from abc2midi_live import Fault
+from abc2midi_live.edits import common_front
 from abc2midi_live.lines import MOST_BYTES
 
 from ..program import Tune
@@ -40,7 +41,6 @@ OF_A_TUNE: tuple[Callable[[TuneText], Iterator[Hint]], ...] = (
 MOST_TUNES = 10_000  # of a book that are looked at
 MOST_AT_ONCE = 100  # tunes that a client looks at before it listens again: some tenth of a second
 
-SLICE = 256  # lines that are compared at once
 Lines = tuple[bytes, ...]
 Found = tuple[Hint, ...]  # the hints on some lines, which count from 0
 
@@ -84,8 +84,8 @@ class Finder:
 
     def _reuse(self, old: list[bytes], lines: list[bytes], starts: list[int]) -> None:
         """Forgets the hints on all tunes but those in the first and in the last lines that are the same as before."""
-        front = common(old, lines)
-        back = common(old[front:][::-1], lines[front:][::-1])
+        front = common_front(old, lines)
+        back = common_front(old[front:][::-1], lines[front:][::-1])
         first = max(0, bisect_left(starts, front) - 1)
         first = first if starts[:first] == self.starts[:first] else 0
         stop = max(first, bisect_left(starts, len(lines) - back), first + len(starts) - len(self.starts))
@@ -109,11 +109,9 @@ class Finder:
         """Returns the hints that are known, in the order of their places. Of `NotUtf8` the first one counts, and `VoiceLengths`
         in tunes with uneven voices."""
         found = [hint for hints in [self.opening, *self.known] for hint in hints or ()]
-        odd = [hint for hint in found if hint.name == NOT_UTF8][1:]
-        odd += [hint for hint in found if hint.name == OF_UNEVEN_VOICES and self._start(hint) not in self.uneven]
-        if odd:
-            left_out = set(odd)
-            found = [hint for hint in found if hint not in left_out]
+        odd = set([hint for hint in found if hint.name == NOT_UTF8][1:])
+        odd |= {hint for hint in found if hint.name == OF_UNEVEN_VOICES and self._start(hint) not in self.uneven}
+        found = [hint for hint in found if hint not in odd] if odd else found
         return sorted([*found, *self.others]) if self.others else found
 
     def _start(self, hint: Hint) -> int:
@@ -124,13 +122,6 @@ class Finder:
 def placed(found: Sequence[Hint], by: int) -> list[Hint]:
     """Returns hints some lines further on."""
     return [Hint(line + by, column, name, text) for line, column, name, text in found]
-
-
-def common(old: list[bytes], new: list[bytes]) -> int:
-    """Returns how many of the first lines are the same. Slices are compared faster than lines."""
-    most = min(len(old), len(new))
-    start = next((n for n in range(0, most, SLICE) if old[n : n + SLICE] != new[n : n + SLICE]), most)
-    return next((n for n in range(start, most) if old[n] != new[n]), most)
 
 
 def short_lines(lines: Lines) -> Lines:

@@ -8,6 +8,7 @@ from functools import partial
 from typing import TYPE_CHECKING, NamedTuple, Optional
 
 from abc2midi_live import Edit, Fault, LibraryMissing, PlayTooLong
+from abc2midi_live.lines import MOST_BYTES
 from abc2midi_live.opening import library_session
 
 from .line import BLANK, DIRECTIVE, FIELDS, KEY_FIELD, MUSIC, Line, is_blank, line_of
@@ -81,6 +82,12 @@ class Reader:
             return []
         self._put([*FREE_HEADER, *(b"%" if is_blank(line) else line for line in lines)])
         return [NO_LINE if is_blank(text) else line for text, line in zip(lines, self._lines_in_tune(len(FREE_HEADER) + 1))]
+
+    def line_in_tune(self, text: bytes) -> Line:
+        """Returns a line as it would be in a tune, without tokens if it is too long for one."""
+        if text in self.known or len(text) > MOST_BYTES:
+            return self.known.get(text, NO_LINE)
+        return next(iter(self.free([text])), NO_LINE)
 
     def file_header(self, lines: Sequence[bytes]) -> int:
         """Returns how many of the lines before the first tune are the file header."""

@@ -34,7 +34,7 @@ def open_repeats(tune: TuneText, items: list[Item]) -> Iterator[Item]:
     opening: Optional[Item] = None
     for n, item in enumerate(items):
         is_music = bool(item.segment.timed)
-        if opening and (tune.times(item) == 1 if is_music else item.sign.kind == ENDING and not is_repeated(items[n:])):
+        if opening and (tune.is_played_once(item) if is_music else item.sign.kind == ENDING and not is_repeated(items[n:])):
             yield opening
         if item.sign.opens:
             opening = item
@@ -57,7 +57,7 @@ def lost_endings(tune: TuneText, items: list[Item]) -> Iterator[Hint]:
     ending: Optional[Item] = None
     for item in items:
         if ending and item.segment.timed:
-            if not tune.times(item):
+            if not tune.is_played(item):
                 yield Hint(ending.line, ending.segment.column, "LostEnding", LOST_ENDING)
             ending = None
         if item.sign.kind == ENDING or item.sign.is_thick:

@@ -3,21 +3,13 @@
 from __future__ import annotations
 
 from collections.abc import Iterator
-from typing import TYPE_CHECKING, NamedTuple, Optional
+from typing import NamedTuple, Optional
+
+from abc2midi_live import Entry
 
 from .hint import Hint
 from .line import BAR_REST, ENDING, REST, TIE, TIE_PART
 from .tune import Item, TuneText
-
-if TYPE_CHECKING:
-    from abc2midi_live.records import PlayColumns
-
-
-class Tone(NamedTuple):
-    """A tone that is played: its key, also one out of the range of MIDI, and whether a tie may join it with one before it."""
-
-    key: Optional[int]  # None if it is unknown
-    is_joined: bool
 
 
 class Tied(NamedTuple):
@@ -63,14 +55,14 @@ def loose(tune: TuneText, tied: Tied, after: Item, at: int) -> Iterator[Hint]:
     """Yields a hint if ties do not join what follows: each of its own must, and of those after a chord one must. What is not
     played has no hint, and neither have silent notes on both sides whose keys are unknown."""
     item, line = tied.item, tied.item.tokens
-    if not tune.times(item) or not tune.times(after):
+    if not tune.is_played(item) or not tune.is_played(after):
         return
     own = tones(tune, item, tied.own)
     common = tones(tune, item, line.notes(tied.at)) if tied.tie >= 0 else []
     following = tones(tune, after, after.tokens.notes(at))
     if all(any(tone.key is None for tone in side) for side in ([*own, *common], following)):
         return
-    keys = {tone.key for tone in following if tone.is_joined}
+    keys = {tone.key for tone in following if tone.joined}
     if all(tone.key in keys for tone in own) and (not common or any(tone.key in keys for tone in common)):
         return
     column = line.starts[tied.at if own else tied.tie]
@@ -80,16 +72,14 @@ def loose(tune: TuneText, tied: Tied, after: Item, at: int) -> Iterator[Hint]:
     yield Hint(item.line, column, "TieToOtherKey", f"{what} follows this tie, so it joins nothing; {instead}")
 
 
-def tones(tune: TuneText, item: Item, tokens: list[int]) -> list[Tone]:
-    """Returns the tones of notes of an item that are played."""
+def tones(tune: TuneText, item: Item, tokens: list[int]) -> list[Entry]:
+    """Returns the tones of notes of an item that are played. A silent one may be joined."""
     entries = [tune.played.get(tune.place(item.line, item.tokens.starts[at])) for at in tokens]
-    return [tone(tune, tune.play, entry) for entry in entries if tune.play and entry is not None]
+    found = [(entry, tune.play.entry(entry)) for entry in entries if tune.play and entry is not None]
+    return [tone if tone.key is not None else tone._replace(key=silent_key(tune, entry), joined=True) for entry, tone in found]
 
 
-def tone(tune: TuneText, play: PlayColumns, entry: int) -> Tone:
-    """Returns the tone of an entry. The key of one that is silent is that of the tune some octaves lower or higher."""
-    played = play.entry(entry)
-    if played.key is not None:
-        return Tone(played.key, played.joined)
-    keys = [(shift, other.entry(entry).key) for shift, other in tune.transposed]
-    return Tone(next((key - shift for shift, key in keys if key is not None), None), True)
+def silent_key(tune: TuneText, entry: int) -> Optional[int]:
+    """Returns the key of a silent tone, which is out of the range of MIDI: that of the tune some octaves lower or higher."""
+    keys = [(shift, play.entry(entry).key) for shift, play in tune.transposed]
+    return next((key - shift for shift, key in keys if key is not None), None)

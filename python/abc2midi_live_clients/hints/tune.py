@@ -18,6 +18,7 @@ REFUSED = {ENDING: "BadEnding", TUPLET: "BadTuplet"}  # signs, with the faults t
 BREAKS = frozenset((BAD_BYTE, UNCLOSED))
 ODD_LENGTHS = frozenset(("BadLength", "BadTuplet", "NestedTuplet", "BadBroken"))  # faults in the length of a note
 WHOLE = 1920  # ticks
+NEAR = 256  # entries of a play after which most repeats begin again
 OCTAVES = 108  # semitones by which silent notes come into the range of MIDI
 UNNAMED = b""  # the voice without a name
 
@@ -128,15 +129,23 @@ class TuneText:
         """Returns a place of the tune as a play has it."""
         return self.play.place(line + self.first, column) if self.play else 0
 
-    def times(self, item: Item) -> int:
-        """Returns how often music is played."""
-        return self._times[self.place(item.line, item.segment.start)]
+    def is_played(self, item: Item) -> bool:
+        """Returns whether music is played."""
+        return self.place(item.line, item.segment.start) in self.played
+
+    def is_played_once(self, item: Item) -> bool:
+        """Returns whether music is played just once. A look at the next entries spares most tunes the count of all."""
+        place, places = self.place(item.line, item.segment.start), self.play.places if self.play else []
+        after = self.played.get(place, 0) + 1
+        return place not in places[after : after + NEAR] and self._times[place] == 1
 
     def length(self, item: Item) -> Optional[int]:
         """Returns the length of music, if it is played."""
-        start = self.played.get(self.place(item.line, item.segment.start))
-        end = self.played.get(self.place(item.line, item.segment.end))
-        return self.play.off(end) - self.play.on(start) if self.play and start is not None and end is not None else None
+        play, line, segment = self.play, item.line + self.first, item.segment
+        if not play:
+            return None
+        start, end = self.played.get(play.place(line, segment.start)), self.played.get(play.place(line, segment.end))
+        return None if start is None or end is None else play.off(end) - play.on(start)
 
     @cached_property
     def transposed(self) -> list[tuple[int, PlayColumns]]:

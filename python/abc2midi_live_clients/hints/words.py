@@ -3,37 +3,35 @@
 from __future__ import annotations
 
 import re
+from collections import Counter
 from collections.abc import Iterator
 
 from .hint import Hint, counted
 from .line import DECORATION, GRACE, MUSIC, NO_EFFECT, NOTE, PART, QUOTED, UNCLOSED, Line, value
-from .tune import Place, TuneText
+from .tune import TuneText
 
 CHORD_NAME = re.compile(
     rb'"\(?[A-G](?:#|b|\xe2\x99\xaf|\xe2\x99\xad)?(?:maj|min|dim|aug|sus|add|M|m|[o+0-9#b()-]|\xc2\xb0)*'
     rb'(?:/[A-G](?:#|b|\xe2\x99\xaf|\xe2\x99\xad)?)?\)?"\Z'
 )
+UNPLAYED = {  # what nobody hears, in the order of the sentence: one, and more
+    "chord name": "chord names",
+    "group of grace notes": "groups of grace notes",
+    "decoration": "decorations",
+    "line of lyrics": "lines of lyrics",
+}
 CONTINUED = b" \t|:(-[]%"  # after a `.`: a blank, a comment, a dotted bar line, slur or tie, and no decoration
 
 
 def not_played(tune: TuneText) -> Iterator[Hint]:
     """Yields one hint for all chord names, grace notes, decorations and lyrics of a tune."""
-    places: list[Place] = []
-    counts = {"chord name": 0, "group of grace notes": 0, "decoration": 0, "line of lyrics": 0}
-    for n, at in tune.others:
-        line = tune.lines[n]
-        kind = kind_of_other(line, at)
-        if kind:
-            counts[kind] += 1
-            places.append((n, line.starts[at]))
-    for place, text in tune.fields:
-        if text.startswith(b"w:") and value(text):
-            counts["line of lyrics"] += 1
-            places.append(place)
-    if places:
-        plural = {"group of grace notes": "groups of grace notes", "line of lyrics": "lines of lyrics"}
-        parts = [counted(number, thing, plural.get(thing, "")) for thing, number in counts.items() if number]
-        yield Hint(*min(places), "NotPlayed", f"not played in this tune: {', '.join(parts)}")
+    lyrics = [("line of lyrics", place) for place, text in tune.fields if text.startswith(b"w:") and value(text)]
+    others = [(kind_of_other(tune.lines[n], at), (n, tune.lines[n].starts[at])) for n, at in tune.others]
+    found = [(kind, place) for kind, place in [*others, *lyrics] if kind]
+    if found:
+        counts = Counter(kind for kind, _ in found)
+        parts = [counted(counts[one], one, more) for one, more in UNPLAYED.items() if one in counts]
+        yield Hint(*min(place for _, place in found), "NotPlayed", f"not played in this tune: {', '.join(parts)}")
 
 
 def kind_of_other(line: Line, at: int) -> str:
@@ -69,10 +67,8 @@ def overlays(tune: TuneText) -> Iterator[Hint]:
 
 def lost_sharps(tune: TuneText) -> Iterator[Hint]:
     """Yields one hint for all signs `#` of a tune before or after a note, where they have no effect."""
-    places: list[Place] = []
-    for n, line in enumerate(tune.lines):
-        if b"#" in line.text and n not in tune.in_block:
-            places += [(n, line.starts[at]) for at in sharps_in(line)]
+    lines = ((n, line) for n, line in enumerate(tune.lines) if b"#" in line.text and n not in tune.in_block)
+    places = [(n, line.starts[at]) for n, line in lines for at in sharps_in(line)]
     if places:
         what = "this `#` has" if len(places) == 1 else f"this `#` and {len(places) - 1} more have"
         yield Hint(*places[0], "LostSharp", f"{what} no effect; write a sharp before its note, as `^F`, and a flat as `_B`")

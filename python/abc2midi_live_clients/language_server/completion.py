@@ -8,12 +8,11 @@ from .changes import position_of
 from .completed_values import TABLE, Item, decorations, programs, values_of
 from .document import Document
 from .messages import AS_SNIPPET, KEYWORD, SNIPPET, VALUE, Json
-from .names import VOICE, names_in
+from .names import BLANKS, VOICE, names_in
 from .workspace import Workspace
 
 TUNE = "X:{}\nT:${{1:title}}\nM:${{2:4/4}}\nL:${{3:1/8}}\nK:${{4:C}}\n$0"
 VOICE_SNIPPET = "V:${1:1} clef=${2|treble,bass,alto,tenor|}$0"
-BLANKS = " \t"
 IN_HEADER = (
     TokenKind.NUMBER_FIELD,
     TokenKind.TITLE_FIELD,

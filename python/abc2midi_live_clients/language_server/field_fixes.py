@@ -6,9 +6,8 @@ from typing import Optional
 from abc2midi_live import TokenKind
 
 from .fix import Fix, Known, LineChange
-from .names import PART, PARTS, VOICE, names_in
+from .names import BLANKS, PART, PARTS, VOICE
 
-BLANKS = " \t"
 NUMBERS = ("octave", "transpose")  # properties with a number
 USUAL_TEMPO = "1/4=120"
 MOST_DIGITS = 9
@@ -31,8 +30,7 @@ def known_order(known: Known) -> Optional[Fix]:
 
 def order_without_unknown(known: Known) -> Optional[Fix]:
     """Writes the order of parts of a tune without the letters that no part has."""
-    tune = known.tune()
-    names = [name for name in names_in(known.document, tune) if name.letter == PART] if tune else []
+    names = known.names(PART)
     orders = [name.token for name in names if name.is_in_header]
     order = order_of(orders[-1].text[2:], {name.text for name in names if not name.is_in_header}) if orders else ""
     if not order:
@@ -64,8 +62,7 @@ def voice(known: Known) -> Optional[Fix]:
     """Writes a number for a voice without a name, or 0 for a property without a number."""
     start, text = field(known)
     if not text[2:].strip(BLANKS):
-        tune = known.tune()
-        taken = {name.text for name in names_in(known.document, tune) if name.letter == VOICE} if tune else set()
+        taken = {name.text for name in known.names(VOICE)}
         number = next(number for number in range(1, len(taken) + 2) if str(number) not in taken)
         return Fix(f"Write V:{number}", (known.change(start + 2, start + len(text), str(number)),), is_preferred=False)
     words = [word for word in text[2:].split() if word.partition("=")[0] in NUMBERS and not has_number(word)]

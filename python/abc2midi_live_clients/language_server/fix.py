@@ -6,6 +6,7 @@ from typing import NamedTuple, Optional
 from abc2midi_live import TokenKind
 
 from .document import Document, TuneLines
+from .names import Name, names_in
 from .token_texts import TokenText
 from .remarks import Remark
 
@@ -66,10 +67,23 @@ class Known(NamedTuple):
         """The tune of the line."""
         return self.document.tune_lines_at(self.number)
 
+    def lines(self) -> range:
+        """The lines from the fault to the end of its tune."""
+        tune = self.tune()
+        return range(self.number, tune.end if tune else self.number + 1)
+
+    def names(self, letter: str) -> list[Name]:
+        """The names of the voices or of the parts of the tune, in the order of the text."""
+        tune = self.tune()
+        return [name for name in names_in(self.document, tune) if name.letter == letter] if tune else []
+
+    def tokens_of_line(self) -> list[TokenText]:
+        """The tokens of the line, but for the parts of chords."""
+        return [token for token in self.document.tokens(self.number) if not token.is_part]
+
     def tokens_from_here(self) -> Iterator[TokenText]:
         """Yields the tokens of the tune from the fault on, but for the parts of chords."""
-        tune = self.tune()
-        for line in range(self.number, tune.end if tune else self.number + 1):
+        for line in self.lines():
             for token in self.document.tokens(line):
                 if not token.is_part and (token.line, token.start) >= (self.number, self.remark.start):
                     yield token

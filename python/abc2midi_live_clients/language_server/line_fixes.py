@@ -1,13 +1,14 @@
 """Fixes of whole lines: numbers, keys, fields, directives, and lines outside tunes."""
 
 from collections.abc import Callable
+from itertools import takewhile
 from typing import Optional
 
 from abc2midi_live import TokenKind
 
 from .fix import Fix, Known, LineChange
+from .names import BLANKS
 
-BLANKS = " \t"
 LETTERS = frozenset("abcdefghijklmnopqrstuvwxyz")
 BLOCK_KINDS = (TokenKind.BLANK, TokenKind.COMMENT)
 FIELDS = (TokenKind.TITLE_FIELD, TokenKind.OTHER_FIELD, TokenKind.KEY_FIELD, TokenKind.DIRECTIVE, TokenKind.COMMENT)
@@ -26,8 +27,7 @@ def renumbering(known: Known) -> Optional[Fix]:
 
 def key_line(known: Known) -> Fix:
     """Writes a key after the other fields of the header."""
-    tune = known.tune()
-    at, end = known.number + 1, tune.end if tune else known.number + 1
+    at, end = known.number + 1, known.lines().stop
     while at < end and known.document.tokens(at) and known.document.tokens(at)[0].kind in FIELDS:
         at += 1
     return Fix("Write K:C", (known.insertion(at, "K:C"),))
@@ -111,12 +111,8 @@ def first_number(known: Known) -> Optional[Fix]:
 
 def text_block(known: Known) -> Fix:
     """Writes a `%` before each line of a text that is read as music."""
-    tune = known.tune()
-    end = known.number
-    while end < (tune.end if tune else end + 1) and not known.text(end).startswith("%%end"):
-        end += 1
-    lines = (line for line in range(known.number, end) if is_read(known, line))
-    return Fix("Write % before each line", tuple(LineChange(line, 0, 0, "%") for line in lines))
+    block = takewhile(lambda line: not known.text(line).startswith("%%end"), known.lines())
+    return Fix("Write % before each line", tuple(LineChange(line, 0, 0, "%") for line in block if is_read(known, line)))
 
 
 def is_read(known: Known, line: int) -> bool:

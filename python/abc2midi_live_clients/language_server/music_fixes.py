@@ -12,7 +12,6 @@ CLOSING = {'"': '"', "!": "!", "{": "}", "[": "]"}
 ENDS_OF_WORDS = frozenset(' \t\r|%"!{}[]')
 MARKS = frozenset("^_=")
 NOTE_LETTERS = frozenset("ABCDEFGabcdefg")
-BLANKS = " \t"
 
 
 def closing(known: Known) -> Optional[Fix]:
@@ -49,9 +48,7 @@ def deletion(known: Known) -> Optional[Fix]:
 
 def sharps(known: Known) -> Optional[Fix]:
     """Writes each sharp of a tune before its note."""
-    tune = known.tune()
-    lines = range(known.number, tune.end if tune else known.number + 1)
-    changes = tuple(change for line in lines for change in sharps_of(known.document.tokens(line)))
+    changes = tuple(change for line in known.lines() for change in sharps_of(known.document.tokens(line)))
     return Fix("Write each sharp before its note", changes) if changes else None
 
 
@@ -68,7 +65,7 @@ def sharps_of(tokens: list[TokenText]) -> Iterator[LineChange]:
 
 def tie(known: Known) -> Optional[Fix]:
     """Writes a tie directly after its note."""
-    tokens = [token for token in known.document.tokens(known.number) if token.end <= known.remark.start and not token.is_part]
+    tokens = [token for token in known.tokens_of_line() if token.end <= known.remark.start]
     while tokens and tokens[-1].kind == TokenKind.BLANK:
         tokens.pop()
     if not tokens or tokens[-1].kind not in (TokenKind.NOTE, TokenKind.CHORD) or tokens[-1].end == known.remark.start:

@@ -1,13 +1,13 @@
 """Fixes of notes: lengths, octaves, chords, tuplets, endings, ties, and music before a voice."""
 
-from collections.abc import Callable, Iterator
+from collections.abc import Callable
 from fractions import Fraction
 from typing import Optional
 
 from abc2midi_live import TokenKind
 
 from .fix import Fix, Known, LineChange
-from .names import VOICE, names_in
+from .names import VOICE
 from .token_texts import TokenText
 
 LENGTH = "0123456789/"
@@ -20,14 +20,9 @@ LAST_PASS = 32
 UNITS_OF_A_BAR = 8  # of 4/4, by the usual unit
 
 
-def top_tokens(known: Known) -> list[TokenText]:
-    """Returns the tokens of the line that are no parts of chords."""
-    return [token for token in known.document.tokens(known.number) if not token.is_part]
-
-
 def chord_here(known: Known) -> Optional[TokenText]:
     """Returns the chord that has the fault."""
-    chords = (token for token in top_tokens(known) if token.kind == TokenKind.CHORD)
+    chords = (token for token in known.tokens_of_line() if token.kind == TokenKind.CHORD)
     return next((chord for chord in chords if chord.start <= known.remark.start < chord.end), None)
 
 
@@ -91,7 +86,7 @@ def numbered_ending(known: Known) -> Optional[Fix]:
 def tuplet_of_notes(known: Known) -> Optional[Fix]:
     """Writes the mark of a tuplet for the notes up to a blank or a bar line."""
     token, count = known.token(), 0
-    for each in top_tokens(known):
+    for each in known.tokens_of_line():
         if token and each.start >= token.end:
             if each.kind not in TIMED:
                 break
@@ -101,7 +96,7 @@ def tuplet_of_notes(known: Known) -> Optional[Fix]:
 
 def counted_tuplet(known: Known) -> Optional[Fix]:
     """Writes into the mark of the tuplet before how many notes it has."""
-    before = [token for token in top_tokens(known) if token.end <= known.remark.start]
+    before = [token for token in known.tokens_of_line() if token.end <= known.remark.start]
     mark = next((token for token in reversed(before) if token.kind == TokenKind.TUPLET), None)
     count = sum(token.kind in TIMED for token in before if mark and token.start >= mark.end)
     notes, time = (*mark.text[1:].split(":"), "")[:2] if mark else ("", "")
@@ -128,7 +123,7 @@ def rests_of_tuplet(known: Known) -> Optional[Fix]:
 def broken_lengths(known: Known) -> Optional[Fix]:
     """Writes the lengths of the notes on both sides of a mark of broken rhythm."""
     mark = known.token()
-    near = [token for token in top_tokens(known) if token.kind in (*TIMED, *BETWEEN_BROKEN)]
+    near = [token for token in known.tokens_of_line() if token.kind in (*TIMED, *BETWEEN_BROKEN)]
     at = near.index(mark) if mark in near else 0
     around = [*near[at - 1 : at], *near[at + 1 : at + 2]] if at else []
     if not mark or [token.kind in TIMED for token in around] != [True, True]:
@@ -159,7 +154,7 @@ def no_tie(known: Known) -> Optional[Fix]:
     deleted = known.change(place, place + 1, "")
     if "delete it" in known.remark.text:
         return Fix("Delete the tie", (deleted,))
-    timed = [token for token in top_tokens(known) if token.kind in TIMED]
+    timed = [token for token in known.tokens_of_line() if token.kind in TIMED]
     before, after = [token for token in timed if token.end == place], [token for token in timed if token.start > place]
     if not before or not after:
         return None
@@ -169,11 +164,10 @@ def no_tie(known: Known) -> Optional[Fix]:
 
 def voice_of_music(known: Known) -> Optional[Fix]:
     """Begins the first voice of the tune before music that is in none."""
-    tune, place = known.tune(), known.remark.start
-    names: Iterator[str] = (name.text for name in names_in(known.document, tune) if name.letter == VOICE) if tune else iter(())
-    name = next(names, None)
-    if name is None:
+    place, names = known.remark.start, known.names(VOICE)
+    if not names:
         return None
+    name = names[0].text
     change = known.change(place, place, f"[V:{name}]") if place else known.insertion(known.number, f"V:{name}")
     return Fix(f"Write V:{name}", (change,), is_preferred=False)
 
