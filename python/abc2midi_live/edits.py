@@ -9,6 +9,7 @@ from typing import NamedTuple, Optional
 from .lines import MOST_LINES
 
 MOST_EDITS = 1_000  # for one change of the text
+SLICE = 256  # lines that are compared at once
 LONGEST_SEARCH = 2_000  # lines; longer runs without a unique line are replaced as a whole
 
 
@@ -55,8 +56,10 @@ def changes(old: list[bytes], new: list[bytes]) -> list[tuple[int, int, int, int
 
 
 def common_front(old: Sequence[object], new: Sequence[object]) -> int:
-    """How many items are the same at the front of both."""
-    return next((n for n, (a, b) in enumerate(zip(old, new)) if a != b), min(len(old), len(new)))
+    """How many items are the same at the front of both. Slices are compared faster than items."""
+    most = min(len(old), len(new))
+    start = next((n for n in range(0, most, SLICE) if old[n : n + SLICE] != new[n : n + SLICE]), most)
+    return next((n for n in range(start, most) if old[n] != new[n]), most)
 
 
 def anchors(old: list[bytes], new: list[bytes]) -> list[tuple[int, int]]:

@@ -65,12 +65,12 @@ class OpenBooks:
             return self.addresses[name]
 
     def begun(self, name: str) -> "tuple[subprocess.Popen[str], str]":
-        """Starts the server of a book, and returns it with its address."""
+        """Starts the server of a book, which ends with this process, and returns it with its address."""
         folders = [str(Path(file).resolve().parent.parent) for file in (abc2midi_live.__file__, __file__)]
-        start = f"import sys; sys.path[:0] = {folders!r}; from abc2midi_live_clients.page_server import main; sys.exit(main())"
+        start = f"import sys; sys.path[:0] = {folders!r}; from abc2midi_live_clients.page_server import main_of_a_folder; sys.exit(main_of_a_folder())"
         words = [sys.executable, "-I", "-B", "-c", start, *self.options, "--", str(self.folder / name)]
         try:
-            server = subprocess.Popen(words, stdout=subprocess.PIPE, stderr=subprocess.PIPE, stdin=subprocess.DEVNULL, text=True)
+            server = subprocess.Popen(words, stdin=subprocess.PIPE, stdout=subprocess.PIPE, stderr=subprocess.PIPE, text=True)
         except OSError as error:
             raise Refused(503, f"{name} cannot be opened: {error.strerror}.") from error
         limit = threading.Timer(SECONDS_TO_BEGIN, server.kill)

@@ -3,6 +3,7 @@
 from __future__ import annotations
 
 import hmac
+import io
 import json
 import re
 import select
@@ -38,7 +39,7 @@ class Request(BaseHTTPRequestHandler):
     protocol_version = "HTTP/1.1"
     server_version, sys_version = "abc2midi_live", ""
     timeout = 60
-    disable_nagle_algorithm = True  # an answer follows its headers at once
+    disable_nagle_algorithm = True
     is_last = True  # of its connection, if the sender has its way
 
     def do_GET(self) -> None:
@@ -186,7 +187,8 @@ class Request(BaseHTTPRequestHandler):
         return asked
 
     def send(self, data: bytes, kind: str, more: Optional[dict[str, str]] = None, status: int = 200) -> None:
-        """Sends an answer, with more headers where some are given."""
+        """Sends an answer, with more headers where some are given. It goes with its headers: else other threads run between the two."""
+        stream, self.wfile = self.wfile, io.BytesIO()
         self.send_response(status)
         headers = {"Content-Type": kind, "Content-Length": len(data), **SAFE, **(more or {})}
         for header, value in headers.items():
@@ -194,7 +196,8 @@ class Request(BaseHTTPRequestHandler):
         if self.close_connection:
             self.send_header("Connection", "close")
         self.end_headers()
-        self.wfile.write(data)
+        head, self.wfile = self.wfile.getvalue(), stream
+        self.wfile.write(head + data)
 
     def send_json(self, answer: Json, status: int = 200) -> None:
         """Sends an object."""
@@ -213,7 +216,7 @@ class Request(BaseHTTPRequestHandler):
             self.end_headers()
             last_state: Optional[Json] = None
             while True:
-                changes, state = book.news(seen, last_state, SECONDS_OF_SILENCE)
+                changes, state = book.news(seen, last_state, SECONDS_OF_SILENCE, name)
                 if self.is_closed():
                     return
                 seen = state["version"]

@@ -27,7 +27,7 @@ from .book_keys import book_key, proof
 from .score_pdf import PdfMaker
 from .scorer import Scorer
 from .shared_book import Refused, SharedBook
-from .signals import when_told_to_end
+from .signals import when_the_parent_ends, when_told_to_end
 from .sound_font import BadFont, find_font
 
 FILES = Path(__file__).resolve().parent / "page_files"
@@ -277,3 +277,9 @@ def main() -> int:
             keeper.close()
         if book:
             book.close()
+
+
+def main_of_a_folder() -> int:
+    """Serves a book of a folder, until the server of the folder ends; the exit status."""
+    when_the_parent_ends(interrupt)
+    return main()

@@ -61,13 +61,14 @@ export class Ancestry {
     this.tops = []; // texts that have more than the server's: this window's text has what they have
   }
 
-  /** The server's text became another one by an edit.
-   * @type {(edit: { start: number, stop: number, lines: string[] }, has: Edits) => void} */
-  edit({ start, stop, lines }, has) {
+  /** The server's text became another one by an edit. `now` has its lines, if a list of them is there already: a copy of those of a
+   * long book takes a while.
+   * @type {(edit: { start: number, stop: number, lines: string[] }, has: Edits, now?: string[]) => void} */
+  edit({ start, stop, lines }, has, now = replaced(this.lines, start, stop, lines)) {
     const taken = this.lines.slice(start, stop);
     this.steps.push({ has: this.has, start, count: lines.length, taken });
     this.characters += lengthOf(taken);
-    this.lines = replaced(this.lines, start, stop, lines);
+    this.lines = now;
     this.has = has;
     this.tops = this.tops.filter((top) => !hasAll(has, top.has));
     while (this.steps.length > MOST_STEPS || (this.characters > MOST_CHARACTERS && this.steps.length > 1)) {
@@ -79,8 +80,7 @@ export class Ancestry {
    * @type {(version: Version) => void} */
   become({ lines, has }) {
     const { start, stop, put } = difference(this.lines, lines) ?? { start: 0, stop: 0, put: [] };
-    this.edit({ start, stop, lines: put }, has);
-    this.lines = lines;
+    this.edit({ start, stop, lines: put }, has, lines);
   }
 
   /** The server may have had a text in which this edit is too. It counts as an older one.

@@ -111,7 +111,7 @@ export class Files {
     this.say(`Not ${what}: ${error.message}.`);
     if (questions.find("disk")) questions.focus("disk");
     else if (error.status && what === "saved") {
-      const words = `${book.name} is not saved: ${error.message}.`;
+      const words = `${book.name || "The text"} is not saved: ${error.message}.`;
       questions.ask({ name: "failed", about: words, words, answers: { "Download the text": () => this.download(), Close: () => {} }, focus: true });
     }
   }

@@ -5,6 +5,8 @@ import { placeOf, rowsIn, without } from "./rows.js";
 /** @typedef {import("./rows.js").FaultRow} FaultRow
  * @typedef {import("./rows.js").TuneRow} TuneRow */
 
+const MOST_RANGES = 8; // of lines, of which the remarks are remembered
+
 export class Findings {
   /** @param {import("./text.js").Text} text
    * @param {import("./link.js").Link} link
@@ -21,12 +23,16 @@ export class Findings {
     this.tunes = [];
     /** @type {{ tunes: TuneRow[], number: number | null, at: number }} */
     this.owner = { tunes: this.tunes, number: null, at: -1 }; // that was looked for last
+    /** @type {Map<string, FaultRow[]>} */
+    this.found = new Map(); // faults and hints together, by the lines that were asked for
   }
 
   /** Renews all places: the text or the book became another one. */
   renew() {
+    const { faults, hints } = this;
     this.faults = this.placed(this.book.faults);
     this.hints = this.placed(this.book.hints);
+    if (faults !== this.faults || hints !== this.hints) this.found.clear();
     this.tunes = this.placed(this.book.tunes);
   }
 
@@ -45,10 +51,15 @@ export class Findings {
     return [...(sent ? [{ ...sent, count: sent.lines.length }] : []), ...(pending ? [pending] : [])];
   }
 
-  /** Faults and hints of some lines, in order.
+  /** Faults and hints of some lines, in order: the same list until one in the book is another.
    * @type {(first: number, last: number) => FaultRow[]} */
   remarksIn(first, last) {
-    return rowsIn(this.faults, first, last).concat(rowsIn(this.hints, first, last)).sort((a, b) => a[0] - b[0] || a[1] - b[1]);
+    const key = `${first} ${last}`, known = this.found.get(key);
+    if (known) return known;
+    if (this.found.size === MOST_RANGES) this.found.clear();
+    const found = rowsIn(this.faults, first, last).concat(rowsIn(this.hints, first, last)).sort((a, b) => a[0] - b[0] || a[1] - b[1]);
+    this.found.set(key, found);
+    return found;
   }
 
   /** How many faults some lines have.

@@ -2,6 +2,7 @@
 // number, and a second ending has those of the first.
 
 import { secondOf } from "./midi.js";
+import { countBefore } from "./rows.js";
 import { isBefore } from "./tune_words.js";
 
 /** @typedef {import("./seen.js").Entry} Entry
@@ -36,16 +37,10 @@ export function playedBars(entries, words, meters) {
     bars.push({ tick: start, ...bar, meter, pass: 1 });
     before = { section, number: bar.number };
   }
-  bars.forEach((bar, n) => (bar.number += most.slice(0, spans[n].section).reduce((sum, number) => sum + (number ?? 0), 0)));
-  return withPasses(bars);
-}
-
-/** Counts how often each bar was played.
- * @type {(bars: Bar[]) => Bar[]} */
-function withPasses(bars) {
   /** @type {Map<string, number>} */
-  const passes = new Map(); // by number
-  for (const bar of bars) {
+  const passes = new Map(); // by number: how often the bar was played
+  for (const [n, bar] of bars.entries()) {
+    bar.number += most.slice(0, spans[n].section).reduce((sum, number) => sum + (number ?? 0), 0);
     const name = `${bar.number} ${bar.offset > 0}`;
     bar.pass = (passes.get(name) ?? 0) + 1;
     passes.set(name, bar.pass);
@@ -126,13 +121,7 @@ export class Grid {
   /** The place in the list of the bar at a tick.
    * @type {(tick: number) => number} */
   placeAt(tick) {
-    let low = 0, high = this.bars.length;
-    while (low < high) {
-      const middle = (low + high) >> 1;
-      if (this.bars[middle].tick <= tick) low = middle + 1;
-      else high = middle;
-    }
-    return Math.max(0, low - 1);
+    return Math.max(0, countBefore(this.bars, (bar) => bar.tick <= tick) - 1);
   }
 
   /** @type {(tick: number) => Bar | undefined} */

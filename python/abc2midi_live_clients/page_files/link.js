@@ -338,7 +338,7 @@ export class Link {
     this.has = joined(had, change.has);
     if (isSent && situation.name === "following") {
       situation.sent = null;
-      return texts.edit(edit, has);
+      return texts.edit(edit, has, this.text.pending ? undefined : this.text.lines);
     }
     this.giveBack(situation);
     if (isKnown || texts.tops.length) return this.rejoin({ lines: replaced(texts.lines, edit.start, edit.stop, edit.lines), has }, had);

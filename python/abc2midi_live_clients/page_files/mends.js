@@ -2,8 +2,8 @@
 
 import { freeNumber, nextNumber } from "./numbers.js";
 
-/** Lines of the text, from `start` on, which become others; `words` are those of the button.
- * @typedef {{ words: string, start: number, taken: string[], put: string[] }} Mend
+/** Lines of the text, from `start` on, which become others, and the columns from..to of a line that become others; `words` are those of the button.
+ * @typedef {{ words: string, start: number, taken: string[], put: string[], columns?: [from: number, to: number] }} Mend
  * What is known of a fault or a hint: its line, the text of that, its begin and its end there, its sentence if it is a hint, the lines
  * of the book, and the numbers of its tunes.
  * @typedef {{ line: number, text: string, start: number, end: number, hint: string, lines: string[], numbers: () => number[] }} Known */
@@ -35,14 +35,14 @@ export function mendOf([line, start, end, name, hint = ""], lines, numbers) {
 }
 
 /** The change of a line into another one.
- * @type {(known: Known, put: string, words?: string) => Mend} */
-function written({ line, text }, put, words = `Write ${put}`) {
-  return { words, start: line, taken: [text], put: [put] };
-}
+ * @type {(known: Known, put: string) => Mend} */
+const written = (known, put) => replacing(known, 0, known.text.length, put);
 
 /** The change of some characters of a line into others.
  * @type {(known: Known, from: number, to: number, put: string, words?: string) => Mend} */
-const replacing = (known, from, to, put, words = `Write ${put}`) => written(known, known.text.slice(0, from) + put + known.text.slice(to), words);
+function replacing({ line, text }, from, to, put, words = `Write ${put}`) {
+  return { words, start: line, taken: [text], put: [text.slice(0, from) + put + text.slice(to)], columns: [from, to] };
+}
 
 /** Closes what begins at a character: after the word there, as in `"Em DEFD`.
  * @type {(known: Known) => Mend | null} */

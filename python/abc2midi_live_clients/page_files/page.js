@@ -117,7 +117,7 @@ export class Application {
     };
     sheet.pointed = (under, event) => this.remarks.point(under, event);
     this.remarks.mendOf = (fault) => mendOf(fault, text.lines, () => findings.tunes.map(([, number]) => number));
-    this.remarks.mended = ({ start, taken, put }) => sheet.replace({ start, taken, put });
+    this.remarks.mended = ({ start, taken, put, columns }) => sheet.replace({ start, taken, put }, columns);
     sheet.moved = () => {
       this.tip.show([]);
       this.showTune();

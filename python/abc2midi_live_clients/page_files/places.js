@@ -2,6 +2,7 @@
 // when one of them is older, nothing has a place from the first difference on.
 
 import { Grid, playedBars } from "./grid.js";
+import { countBefore } from "./rows.js";
 
 /** @typedef {import("./midi.js").Score} Score
  * @typedef {import("./midi.js").Note} Note
@@ -30,22 +31,40 @@ export class Places {
     this.grid = this.gridOf();
   }
 
-  /** Compares what a voice plays with the notes of its track.
+  /** Compares what a voice plays with the notes of its track. A tone sounds in a note that begins with it, or with the tones that it is
+   * joined with.
    * @type {(entries: Entry[], track: number) => KnownVoice} */
   align(entries, track) {
-    const notes = new Waiting(this.score, this.score.tracks[track + 1].voice);
-    const moments = momentsOf(entries, track);
+    const moments = momentsOf(entries, track), waiting = this.notesOf(this.score.tracks[track + 1].voice);
+    /** @type {Map<number, { on: number, note: Note | null }>} */
+    const begun = new Map(); // by key: when the last sound began, and its note
     let until = Infinity;
     for (const { start, tones } of moments) {
       for (const tone of tones) {
-        tone.note = notes.take(tone.entry);
-        if (!tone.note && tone.entry.key !== null && start < tone.entry.off) until = Math.min(until, start);
+        const { on, off, key, joined } = tone.entry;
+        if (key === null) continue;
+        if (!joined) begun.set(key, { on, note: null });
+        const sound = begun.get(key);
+        if (sound && on < off) sound.note ??= waiting.get(`${sound.on} ${key}`)?.shift() ?? null;
+        tone.note = sound?.note ?? null;
+        if (!tone.note && start < off) until = Math.min(until, start);
       }
     }
-    until = Math.min(until, notes.first);
+    until = [...waiting.values()].flat().reduce((least, { start }) => Math.min(least, start), until);
     const known = moments.filter(({ line, end }) => line >= 0 && end <= until);
     for (const moment of known) for (const { note } of moment.tones) if (note) this.sounds.set(note, [...(this.sounds.get(note) ?? []), moment]);
     return { until, moments: known, entries };
+  }
+
+  /** The notes of a voice by start and key.
+   * @type {(voice: number | null) => Map<string, Note[]>} */
+  notesOf(voice) {
+    const found = new Map();
+    for (const note of this.score.notes) {
+      const name = `${note.start} ${note.key}`;
+      if (note.voice === voice) found.set(name, [...(found.get(name) ?? []), note]);
+    }
+    return found;
   }
 
   /** What is played in a line, by its columns.
@@ -74,16 +93,8 @@ export class Places {
   /** What is played at a tick.
    * @type {(tick: number) => Moment[]} */
   at(tick) {
-    return this.voices.flatMap(({ moments }) => {
-      let low = 0, high = moments.length;
-      while (low < high) {
-        const middle = (low + high) >> 1;
-        if (moments[middle].start <= tick) low = middle + 1;
-        else high = middle;
-      }
-      const moment = moments[low - 1];
-      return moment && tick < moment.end ? [moment] : [];
-    });
+    const last = this.voices.flatMap(({ moments }) => moments[countBefore(moments, ({ start }) => start <= tick) - 1] ?? []);
+    return last.filter(({ end }) => tick < end);
   }
 
   /** What is at a place of the text, one for each time that it is played: in the token that the place is in, else in the one that ends
@@ -157,37 +168,4 @@ function momentsOf(entries, track) {
     before = entry;
   }
   return moments;
-}
-
-/** The notes of a voice of a score that no tone has taken. */
-class Waiting {
-  /** @param {Score} score
-   * @param {number | null} voice */
-  constructor(score, voice) {
-    /** @type {Map<string, Note[]>} */
-    this.notes = new Map(); // by start and key
-    /** @type {Map<number, { on: number, note: Note | null }>} */
-    this.begun = new Map(); // by key: when the last sound began, and its note
-    for (const note of voice === null ? [] : score.notes) {
-      if (note.voice !== voice) continue;
-      const name = `${note.start} ${note.key}`;
-      this.notes.set(name, [...(this.notes.get(name) ?? []), note]);
-    }
-  }
-
-  /** The note that a tone sounds in: one that begins with it, or with the tones that it is joined with.
-   * @type {(entry: Entry) => Note | null} */
-  take({ on, off, key, joined }) {
-    if (key === null) return null;
-    if (!joined) this.begun.set(key, { on, note: null });
-    const sound = this.begun.get(key);
-    if (!sound) return null;
-    if (on < off) sound.note ??= this.notes.get(`${sound.on} ${key}`)?.shift() ?? null;
-    return sound.note;
-  }
-
-  /** The tick of the first note that no tone has taken, Infinity without one. */
-  get first() {
-    return [...this.notes.values()].flat().reduce((least, { start }) => Math.min(least, start), Infinity);
-  }
 }

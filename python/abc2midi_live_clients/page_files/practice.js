@@ -71,6 +71,7 @@ export class Practice {
    * @type {(score: Score | null, number: number | null | undefined) => void} */
   show(score, number) {
     const { roll, follower } = this, isOther = number !== this.number;
+    clearTimeout(this.timer); // all that it would renew is renewed here
     this.number = number;
     const grid = score && follower.places?.grid;
     this.isCounted = Boolean(grid);

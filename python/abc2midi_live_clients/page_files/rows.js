@@ -11,19 +11,23 @@
  * @template R
  * @typedef {{ at: number, out: number, put: R[] }} Difference */
 
-/** The place in rows of the first that is at a line or after it.
- * @template {[line: number, ...more: any[]]} R
- * @param {R[]} rows
- * @param {number} line */
-export function placeOf(rows, line) {
-  let low = 0, high = rows.length;
+/** How many of the first items of a sorted list are before something.
+ * @template T
+ * @param {T[]} list
+ * @param {(item: T) => boolean} isBefore */
+export function countBefore(list, isBefore) {
+  let low = 0, high = list.length;
   while (low < high) {
     const middle = (low + high) >> 1;
-    if (rows[middle][0] < line) low = middle + 1;
+    if (isBefore(list[middle])) low = middle + 1;
     else high = middle;
   }
   return low;
 }
+
+/** The place in rows of the first that is at a line or after it.
+ * @type {(rows: [line: number, ...more: any[]][], line: number) => number} */
+export const placeOf = (rows, line) => countBefore(rows, ([at]) => at < line);
 
 /** The rows of some lines.
  * @template {[line: number, ...more: any[]]} R

@@ -23,6 +23,13 @@ export function movedSelection(selection, edit) {
   return { ...selection, start, end: isCaret ? start : movedPlace(selection.end, edit, false) };
 }
 
+/** The caret after what replaces columns from..to of a line, as if it were typed there; null if the caret is not in them.
+ * @type {(selection: Selection, edit: Replacement, columns: [from: number, to: number]) => Selection | null} */
+export function selectionAfter({ start, end }, { start: line, taken, put }, [from, to]) {
+  const isInside = [start, end].every((place) => place.line === line && place.column === start.column) && from <= start.column && start.column <= to;
+  return isInside ? selectionAt({ line, column: to + put[0].length - taken[0].length }) : null;
+}
+
 /** A place that stays with its text; `isAfter` says whether what was put in at the place is before it.
  * @param {Place} place
  * @param {Replacement} edit

@@ -4,7 +4,7 @@
 import { onceAFrame } from "./frames.js";
 import { difference } from "./lines.js";
 import { onResize } from "./resizing.js";
-import { movedSelection } from "./selection.js";
+import { movedSelection, selectionAfter } from "./selection.js";
 
 /** @typedef {import("./selection.js").Place} Place
  * @typedef {import("./selection.js").Selection} Selection
@@ -13,7 +13,8 @@ import { movedSelection } from "./selection.js";
  * A mark in the text, with its fault.
  * @typedef {HTMLElement & { fault: FaultRow }} Mark */
 
-const MARGIN = 50; // lines above and below those that are seen
+const MARGIN = 25; // lines above and below those that are seen: the browser lays out all of them for each key
+const FAR = 100; // lines above and below a caret that leaves them
 const EDGE = 6; // lines that the caret keeps from the edge of the area
 const ROOM = 8; // pixels above the first line and below the last
 
@@ -40,7 +41,7 @@ export class Sheet {
     /** @type {Selection | null} */
     this.away = null; // the selection, while its lines are not in the area
     /** @type {(first: number, last: number) => FaultRow[]} */
-    this.faultsOf = () => []; // from a line, to a line
+    this.faultsOf = () => []; // from a line, to a line: the same list until one of them is another
     /** @type {(line: number) => void} */
     this.moved = () => {}; // the caret is in another line, or lines became others
     /** @type {(place: Place) => void} */
@@ -59,6 +60,8 @@ export class Sheet {
     this.high = this.scroller.clientHeight; // of the view, likewise
     this.numbered = ""; // what the numbers show
     this.marked = "[]"; // what the marks show
+    /** @type {{ faults: FaultRow[], lines: string[], first: number, last: number } | null} */
+    this.drawnFaults = null; // what was drawn last
     this.coverSoon = onceAFrame(() => this.cover());
     this.height = parseFloat(getComputedStyle(this.area).lineHeight);
     this.listen();
@@ -164,7 +167,7 @@ export class Sheet {
     const [first, last] = this.seen();
     const lacking = first < this.first || (last > this.last && this.last < this.text.lines.length);
     const { start, end } = this.selection();
-    const much = this.last - this.first > last - first + 4 * MARGIN && start.line === end.line;
+    const much = this.last - this.first > last - first + 2 * FAR && start.line === end.line;
     if ((lacking || much) && !this.composing) this.load(first - MARGIN, last + MARGIN);
     else if (first < this.drawn[0] || Math.min(last, this.last) > this.drawn[1]) this.drawLayers();
     this.cover();
@@ -223,10 +226,11 @@ export class Sheet {
     this.watch();
   }
 
-  /** Replaces lines in a step of its own. The caret stays with its text.
-   * @type {(edit: import("./lines.js").Replacement) => void} */
-  replace(edit) {
-    const before = this.selection(), after = movedSelection(before, edit);
+  /** Replaces lines, or columns from..to of a line, in a step of its own. A caret in those columns goes after what replaces them;
+   * else it stays with its text.
+   * @type {(edit: Replacement, columns?: [from: number, to: number]) => void} */
+  replace(edit, columns) {
+    const before = this.selection(), after = (columns && selectionAfter(before, edit, columns)) ?? movedSelection(before, edit);
     this.text.change([edit], before, after);
     this.refresh(after);
     this.area.focus({ preventScroll: true });
@@ -379,7 +383,7 @@ export class Sheet {
     const { line, column } = this.caret();
     this.placed({ line, column });
     const near = (line < this.first + EDGE && this.first > 0) || (line >= this.last - EDGE && this.last < this.text.lines.length);
-    if (near && !this.composing && document.activeElement === this.area) this.load(line - 2 * MARGIN, line + 2 * MARGIN);
+    if (near && !this.composing && document.activeElement === this.area) this.load(line - FAR, line + FAR);
     if (line === this.line && !this.changed) return;
     this.line = line;
     this.changed = false;
@@ -411,9 +415,11 @@ export class Sheet {
     for (const layer of this.layers) layer.draw(...this.drawn);
   }
 
-  /** Draws the marks of faults, and the numbers of the lines. */
+  /** Draws the marks of faults, and the numbers of the lines, if something of them is another. */
   drawFaults() {
-    const faults = this.faultsOf(this.first, this.last);
+    const { first, last, drawnFaults: drawn } = this, { lines } = this.text, faults = this.faultsOf(first, last);
+    if (drawn?.faults === faults && drawn.lines === lines && drawn.first === first && drawn.last === last) return;
+    this.drawnFaults = { faults, lines, first, last };
     this.drawNumbers(faults);
     this.drawMarks(faults);
   }

@@ -2,6 +2,8 @@
 
 import { scoreOf } from "./midi.js";
 
+const SOON = 50; // milliseconds after a change, so that the browser paints the answer to a key first
+
 export class ShownTune {
   /** @param {import("./book_host.js").BookHost} server
    * @param {import("./link.js").Link} link
@@ -17,6 +19,8 @@ export class ShownTune {
     /** @type {number | null} */
     this.owner = null; // the number of the score, while that of another number is read
     this.asked = 0; // how often a file was asked for
+    /** @type {ReturnType<typeof setTimeout> | undefined} */
+    this.timer = undefined; // until the file is read again
     /** @type {(isOther: boolean) => void} */
     this.asks = () => {}; // the file of a number is asked for, which may be another number
     this.came = () => {}; // a score is there, or there is none
@@ -26,6 +30,7 @@ export class ShownTune {
    * @type {(number: number | null) => Promise<void>} */
   async load(number) {
     const asked = (this.asked += 1);
+    this.stopTimer();
     const isOther = number !== this.number;
     this.number = number;
     this.asks(isOther);
@@ -44,14 +49,21 @@ export class ShownTune {
     this.came();
   }
 
-  /** Reads the file again if it is one of these numbers.
+  /** Reads the file again soon if it is one of these numbers. Changes that follow one another soon are one.
    * @type {(numbers: number[]) => void} */
   reload(numbers) {
-    if (typeof this.number === "number" && numbers.includes(this.number)) this.load(this.number);
+    const { number } = this;
+    if (typeof number === "number" && numbers.includes(number)) this.timer ??= setTimeout(() => this.load(number), SOON);
+  }
+
+  stopTimer() {
+    clearTimeout(this.timer);
+    this.timer = undefined;
   }
 
   /** Forgets which file it is: the next look at the tune reads it. */
   doubt() {
+    this.stopTimer();
     this.number = undefined;
   }
 

@@ -13,11 +13,12 @@ export class StatusBar {
     this.line.textContent = words;
   }
 
-  /** Shows that the server is away, or is there.
+  /** Shows that the server is away, or is there. A sentence on that may be longer than a row.
    * @type {(isAway: boolean) => void} */
   mark(isAway) {
     this.isAway = isAway;
     this.line.classList.toggle("away", isAway);
+    this.line.parentElement?.classList.toggle("tall", isAway);
   }
 
   /** Shows the place of the caret.

@@ -1,6 +1,8 @@
 // What the page reads in the text of a tune, because a play does not have it: where parts begin, the names of voices, and how a tone is
 // spelled. docs/architecture.md lists these expressions, with their reasons.
 
+import { countBefore } from "./rows.js";
+
 /** @typedef {{ line: number, from: number, to: number }} TextPlace
  * The letter of a tone, and its alteration in semitones.
  * @typedef {{ letter: string, alteration: number }} Spelling
@@ -46,9 +48,7 @@ export class TuneWords {
   /** In which section a place is, counted in the order of the text.
    * @type {(place: TextPlace) => number} */
   sectionOf(place) {
-    let section = 0;
-    while (section < this.parts.length && isBefore(this.parts[section], place)) section += 1;
-    return section;
+    return countBefore(this.parts, (part) => isBefore(part, place));
   }
 
   /** The name of the voice that plays at a place: that of the last `V:` of the music before it, else of the first `V:` of all.
