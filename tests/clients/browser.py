@@ -7,6 +7,9 @@ import time
 from typing import Any, Callable
 
 SECONDS = 300  # that a step may take, on a slow machine too
+FIRST_PAUSE, LONGEST_PAUSE = 0.02, 0.15  # seconds between two looks at the page, each of which takes time of the processor
+HEADLESS_SHELL = "/usr/lib/chromium/chromium-headless-shell"  # Debian's command waits for it, and would end without it
+FEWER_PROCESSES = ["in-process-gpu", "enable-features=NetworkServiceInProcess2"]
 OWN = """
 window.clock = 0;
 Object.defineProperty(BaseAudioContext.prototype, "currentTime", { get: () => window.clock });
@@ -47,27 +50,29 @@ class NotStarted(Exception):
     """No browser started."""
 
 
-def started() -> Any:
-    """A browser."""
+def started(*, is_light: bool = False) -> Any:
+    """A browser. A light one takes less time of the processor: it is the headless shell of Chromium if that is installed, which has the
+    same engine without the parts for windows, and it has fewer processes."""
     from selenium.common.exceptions import WebDriverException
     from urllib3.exceptions import HTTPError
 
     try:
-        return made_ready()
+        return made_ready([HEADLESS_SHELL, "chromium"], FEWER_PROCESSES) if is_light else made_ready(["chromium"], [])
     except (WebDriverException, HTTPError) as error:
         raise NotStarted(str(error)) from error
 
 
-def made_ready() -> Any:
-    """A browser whose windows are as large as the tests want, and whose pages begin with the script above."""
+def made_ready(programs: list[str], more: list[str]) -> Any:
+    """The first of some browsers that is installed, with more options. Its windows are as large as the tests want, and its pages begin
+    with the script above."""
     from selenium import webdriver
     from selenium.webdriver.chrome.service import Service
     from selenium.webdriver.remote.remote_connection import RemoteConnection
 
     RemoteConnection.set_timeout(2 * SECONDS)
     options = webdriver.ChromeOptions()
-    options.binary_location = shutil.which("chromium")
-    words = ["headless=new", "disable-gpu", "disable-dev-shm-usage", "autoplay-policy=no-user-gesture-required"]
+    options.binary_location = next(filter(None, map(shutil.which, programs)))
+    words = ["headless=new", "disable-gpu", "disable-dev-shm-usage", "autoplay-policy=no-user-gesture-required", *more]
     for word in words + (["no-sandbox"] if os.getuid() == 0 else []):
         options.add_argument(f"--{word}")
     options.set_capability("goog:loggingPrefs", {"browser": "ALL"})
@@ -81,11 +86,12 @@ def made_ready() -> Any:
 
 def wait(comes: Callable[[], Any]) -> Any:
     """Waits till something comes about, and gives it."""
-    until = time.monotonic() + SECONDS
+    until, pause = time.monotonic() + SECONDS, FIRST_PAUSE
     while not (found := comes()):
         if time.monotonic() > until:
             raise AssertionError(f"waited {SECONDS} seconds in vain")
-        time.sleep(0.05)
+        time.sleep(pause)
+        pause = min(1.5 * pause, LONGEST_PAUSE)
     return found
 
 

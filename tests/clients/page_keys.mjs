@@ -18,6 +18,7 @@ const { Roll } = await from("roll");
 const { drawRoll } = await from("roll_picture");
 const { KINDS, Seen } = await from("seen");
 const { Sheet } = await from("sheet");
+const { ShownTune } = await from("shown_tune");
 const { Text } = await from("text");
 const { Tunes } = await from("tunes");
 
@@ -177,6 +178,48 @@ const tests = {
     sheet.drawFaults();
     sheet.drawFaults();
     same(made.calls, 4);
+  },
+
+  "the same faults of the same text are drawn once"() {
+    const { sheet, area } = sheetOf(), faults = [[10002, 0, 1, "BadByte"]], made = calls(sheet, "drawMarks");
+    sheet.faultsOf = () => faults;
+    for (let n = 0; n < 3; n += 1) sheet.drawFaults();
+    same(made.calls, 1);
+    area.type("F");
+    sheet.drawFaults();
+    same(made.calls, 2);
+    sheet.load(sheet.first - 1, sheet.last);
+    same(made.calls, 3);
+  },
+
+  "faults and hints of lines are one list until they are others"() {
+    const book = { faults: [[2, 0, 1, "BadByte"]], hints: [[1, 0, 1, "Overlay", "Words."]], tunes: [] }, text = new Text();
+    const findings = new Findings(text, { sent: null }, book);
+    findings.renew();
+    const found = findings.remarksIn(0, 9);
+    findings.renew();
+    same([found, findings.remarksIn(0, 9) === found, findings.remarksIn(2, 9)], [[book.hints[0], book.faults[0]], true, book.faults]);
+    book.hints = [];
+    findings.renew();
+    same(findings.remarksIn(0, 9), book.faults);
+  },
+
+  async "the file of a tune is read some time after a key, and once for keys that follow soon"() {
+    const { setTimeout: set, clearTimeout: clear } = globalThis, asked = [], acts = new Map();
+    globalThis.setTimeout = (act) => (acts.set(acts.size + 1, act), acts.size);
+    globalThis.clearTimeout = (number) => acts.delete(number);
+    const shown = new ShownTune({ bytes: async (name) => void asked.push(name) }, { away: "" }, null);
+    const pass = async () => Promise.all([...acts.values()].map((act) => act()));
+    await shown.load(1);
+    for (const number of [1, 1, 2]) shown.reload([number]);
+    same(asked, ["midi/1"]);
+    await pass();
+    same(asked, ["midi/1", "midi/1"]);
+    shown.reload([1]);
+    await shown.load(2);
+    await pass();
+    Object.assign(globalThis, { setTimeout: set, clearTimeout: clear });
+    same(asked, ["midi/1", "midi/1", "midi/2"]);
   },
 
   "a mark that stays has the fault as it is now"() {

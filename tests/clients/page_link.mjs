@@ -164,6 +164,14 @@ const tests = {
     same([world.book.lines, window.offered.map(([line]) => line)], [BOOK, window.typed]);
   },
 
+  async "the lines of the book are copied once for a key"() {
+    const [window] = await opened(1, 30, 1);
+    window.goTo(2, 3);
+    window.type();
+    await agree([window]);
+    same(window.link.texts.lines === window.text.lines, true);
+  },
+
   async "a save beside keys: an edit that arrives before the save is there once"() {
     await each(async (seed) => {
       const [window] = await opened(seed, 30, 1);

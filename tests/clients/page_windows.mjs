@@ -12,6 +12,7 @@ const [folder, first, last] = process.argv.slice(2);
 const from = (name) => import(pathToFileURL(`${folder}/${name}.js`));
 const { Link } = await from("link");
 const { mergedLines, merging } = await from("merging");
+const { mendOf } = await from("mends");
 const { movedPlace, movedSelection } = await from("selection");
 const { Server } = await from("server");
 const { Sheet } = await from("sheet");
@@ -247,6 +248,29 @@ const tests = {
     sheet.history(true);
     same(text.lines[1], "K:C");
     await agree(window);
+  },
+
+  async "the caret goes after what a click writes at its place, as if it were typed"() {
+    for (const [line, name, sign, caret, column, mended] of [
+      ["C F# D", "BadByte", "#", 3, 4, "C ^F D"],
+      ["C F# D", "BadByte", "#", 4, 4, "C ^F D"],
+      ["C F# D", "BadByte", "#", 2, 4, "C ^F D"],
+      ["C F# D", "BadByte", "#", 1, 1, "C ^F D"],
+      ["C F# D", "BadByte", "#", 5, 5, "C ^F D"],
+      ["C #F D", "BadByte", "#", 2, 4, "C ^F D"],
+      ['C "Em DEF', "Unclosed", '"', 2, 6, 'C "Em" DEF'],
+      ["C2  -|C", "LooseTie", "-", 4, 3, "C2-|C"],
+      ["C é|", "BadByte", "é", 3, 2, "C |"],
+    ]) {
+      book = new Book("X:1", "K:C", line, "");
+      const window = await opened(), { sheet, text } = window, start = line.indexOf(sign);
+      goTo(window, 2, caret);
+      const { taken, put, columns } = mendOf([2, start, start + 1, name], text.lines, () => [1]);
+      sheet.replace({ start: 2, taken, put }, columns);
+      same([line, text.lines[2], sheet.caret()], [line, mended, at(2, column)]);
+      await agree(window);
+      close();
+    }
   },
 
   async "edits of two windows that touch keep both lines, the other's first"() {

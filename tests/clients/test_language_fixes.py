@@ -124,7 +124,8 @@ class Links(Editor):
         """A diagnostic has a link to the page about it."""
         found = self.open("X:1\nK:C\n|:C}|\n")
         pages = {each["code"]: each["codeDescription"]["href"] for each in found}
-        self.assertEqual(pages, {name: (trial.TOP / "docs" / page).as_uri() for name, page in (("BadByte", "faults.md"), ("OpenRepeat", "hints.md"))})
+        docs = trial.clients.parent / "share/doc/abc2midi_live/docs"
+        self.assertEqual(pages, {name: (docs / page).as_uri() for name, page in (("BadByte", "faults.md"), ("OpenRepeat", "hints.md"))})
         self.abilities = {}
         self.setUp()
         self.assertFalse(any("codeDescription" in each for each in self.open("X:1\nK:C\n|:C}|\n")))

@@ -36,7 +36,7 @@ class Editor(trial.Folder):
 
     def start(self, *words: str) -> None:
         """Starts the server, with a folder for what it leaves for a moment."""
-        command = [sys.executable, str(trial.CLIENTS / "language_server"), "--library", trial.library, *words]
+        command = [sys.executable, str(trial.clients / "language_server"), "--library", trial.library, *words]
         self.server = subprocess.Popen(
             command, stdin=subprocess.PIPE, stdout=subprocess.PIPE, stderr=subprocess.PIPE,
             env={**os.environ, "TMPDIR": str(self.files)},

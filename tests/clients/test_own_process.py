@@ -4,10 +4,9 @@ import os
 
 import trial
 from abc2midi_live_clients.hint_process import HintProcess, Question
-from abc2midi_live_clients.program import Tune
 from abc2midi_live_clients.texts import Text
 
-QUESTION = Question(Text.of(b"X:1\nK:C\nC&C\n"), [Tune(1, "", 1)], [])
+QUESTION = Question(Text.of(b"X:1\nK:C\nC&C\n"), [], [(0, 1, "", True)])
 
 
 class Processes(trial.Folder):

@@ -16,6 +16,7 @@ import subprocess
 import sys
 import threading
 import time
+import unittest
 import zipfile
 from collections.abc import Callable, Iterator
 from contextlib import contextmanager
@@ -25,9 +26,11 @@ from typing import Any, Optional, Union
 from unittest import mock
 
 import trial
-from abc2midi_live_clients import rows, saving, shared_book, texts
+from abc2midi_live_clients import hint_process, page_requests, rows, saving, shared_book, texts
 from abc2midi_live_clients.faults import meanings
+from abc2midi_live_clients.hints import Finder
 from abc2midi_live_clients.rows import Json
+from forked_server import ForkedServer
 
 BOOK = b"X:1\nT:Kesh\nK:G\nGABc &\n\nX:2\nK:C\nCDE -\n"
 BOOK_FAULTS = [[3, 5, 6, "BadByte"], [7, 4, 5, "LooseTie"]]
@@ -49,18 +52,22 @@ class Page(trial.Folder):
         """Starts it, with a folder for what it leaves, and a limit of descriptors. Without a SoundFont the sounds are plain."""
         options = [*(["--port", port] if port else []), *([] if hints else ["--no-hints"])]
         options += ["--sound-font", font] if font else ["--plain-sounds"]
-        self.server = subprocess.Popen(
-            [sys.executable, str(trial.CLIENTS / "page"), *words, *options, "--library", trial.library],
-            stdout=subprocess.PIPE, stderr=subprocess.PIPE,
-            env={**os.environ, "TMPDIR": str(self.files), "XDG_STATE_HOME": str(self.folder / "state")},
-            preexec_fn=lambda: resource.setrlimit(resource.RLIMIT_NOFILE, (descriptors, descriptors)),
-        )  # fmt: skip
+        environment = {"TMPDIR": str(self.files), "XDG_STATE_HOME": str(self.folder / "state")}
+        self.server = self.begun([*words, *options, "--library", trial.library], environment, descriptors)
         self.limit(self.server)
         assert self.server.stdout
         self.address = self.server.stdout.readline().decode().strip()
         found = re.fullmatch(r"http://127\.0\.0\.1:(\d+)/([\w-]{32})/", self.address)
         assert found, self.address
         self.port, self.token = int(found[1]), found[2]
+
+    def begun(self, words: list[str], environment: dict[str, str], descriptors: int) -> "Union[subprocess.Popen[bytes], ForkedServer]":
+        """The process of the command with these words."""
+        return subprocess.Popen(
+            [sys.executable, str(trial.clients / "page"), *words],
+            stdout=subprocess.PIPE, stderr=subprocess.PIPE, env={**os.environ, **environment},
+            preexec_fn=lambda: resource.setrlimit(resource.RLIMIT_NOFILE, (descriptors, descriptors)),
+        )  # fmt: skip
 
     def request(
         self, name: str, asked: Any = None, headers: Optional[dict[str, str]] = None, path: Optional[str] = None
@@ -248,7 +255,7 @@ class Requests(Page):
     def test_a_terminal_shows_what_to_do_with_the_address(self) -> None:
         self.finish()
         terminal, other = os.openpty()
-        words = [sys.executable, str(trial.CLIENTS / "page"), str(self.path), "--port", "0", "--no-hints", "--library", trial.library]
+        words = [sys.executable, str(trial.clients / "page"), str(self.path), "--port", "0", "--no-hints", "--library", trial.library]
         with os.fdopen(terminal, "rb") as shown, os.fdopen(other, "wb") as stream:
             self.server = subprocess.Popen(words, stdout=stream, stderr=subprocess.PIPE)
             self.limit(self.server)
@@ -556,7 +563,7 @@ class Files(Page):
 
     def test_a_book_in_a_folder_that_is_missing(self) -> None:
         missing = self.folder / "missing"
-        words = [sys.executable, str(trial.CLIENTS / "page"), str(missing / "book.abc"), "--library", trial.library]
+        words = [sys.executable, str(trial.clients / "page"), str(missing / "book.abc"), "--library", trial.library]
         ran = subprocess.run(words, capture_output=True, text=True, timeout=trial.SECONDS)
         said = f"page: {missing}: there is no such folder; make it first, or correct the name of the book\n"
         self.assertEqual((ran.returncode, ran.stdout, ran.stderr), (1, "", said))
@@ -658,7 +665,7 @@ class Strangers(Page):
             said = self.server.communicate(timeout=trial.SECONDS)[1].decode()
             before = ", perhaps by a page that you started before"
             self.assertEqual(said, f"page: port {port} of this book is taken{before}; this page is at port {self.port}\n")
-            words = [sys.executable, str(trial.CLIENTS / "page"), "--library", trial.library, "--port", str(port)]
+            words = [sys.executable, str(trial.clients / "page"), "--library", trial.library, "--port", str(port)]
             again = subprocess.run(words, capture_output=True, timeout=trial.SECONDS)
             remedy = "; name another one by --port, or leave out --port"
             self.assertEqual(again.stderr.decode(), f"page: port {port}: Address already in use{before}{remedy}\n")
@@ -666,14 +673,14 @@ class Strangers(Page):
 
     def test_no_port(self) -> None:
         for port in ("65536", "-1", "x"):
-            words = [sys.executable, str(trial.CLIENTS / "page"), "--library", trial.library, f"--port={port}"]
+            words = [sys.executable, str(trial.clients / "page"), "--library", trial.library, f"--port={port}"]
             said = subprocess.run(words, capture_output=True, timeout=trial.SECONDS)
             self.assertEqual((said.returncode, said.stderr.endswith(b"write a number from 0 to 65535\n")), (2, True))
         self.finish()
 
     def test_no_library(self) -> None:
         missing = self.folder / "missing"
-        words = [sys.executable, str(trial.CLIENTS / "page"), "--library", str(missing)]
+        words = [sys.executable, str(trial.clients / "page"), "--library", str(missing)]
         said = subprocess.run(words, capture_output=True, text=True, timeout=trial.SECONDS)
         self.assertEqual((said.returncode, said.stderr.startswith(f"page: {missing}: cannot open"), said.stderr.count("\n")), (127, True, 1))
         self.finish()
@@ -682,7 +689,7 @@ class Strangers(Page):
         """A pipe is no book, and a folder is none that a desktop opens."""
         pipe = self.folder / "pipe"
         os.mkfifo(pipe)
-        start = [sys.executable, str(trial.CLIENTS / "page"), "--library", trial.library]
+        start = [sys.executable, str(trial.clients / "page"), "--library", trial.library]
         refused: list[tuple[list[Union[str, Path]], int, str]]
         refused = [([pipe], 1, f"{pipe}: it is not a regular file"), (["--open", self.folder], 2, "--open needs a book; this is a folder")]
         for words, status, why in refused:
@@ -694,7 +701,7 @@ class Strangers(Page):
         """The key is in the user's home, and the tests have another one."""
         self.finish()
         self.assertNotEqual(Path.home(), Path(pwd.getpwuid(os.getuid()).pw_dir))
-        words = [sys.executable, str(trial.CLIENTS / "page"), "--library", trial.library]
+        words = [sys.executable, str(trial.clients / "page"), "--library", trial.library]
         server = subprocess.Popen(words, stdout=subprocess.PIPE)
         self.limit(server)
         assert server.stdout
@@ -750,7 +757,7 @@ class Strangers(Page):
         self.start(str(self.folder / "a\x1b[31m\nb\u202e.abc"))
         self.assertEqual(self.book()["name"], "a?[31m?b?.abc")
         self.finish(new=self.folder / "a?[31m?b?.abc")
-        words = [sys.executable, str(trial.CLIENTS / "page"), str(self.folder / "\x1b[31m" / "book"), "--library", str(self.folder / "\x1b[31m")]
+        words = [sys.executable, str(trial.clients / "page"), str(self.folder / "\x1b[31m" / "book"), "--library", str(self.folder / "\x1b[31m")]
         said = subprocess.run(words, capture_output=True, timeout=trial.SECONDS, env={**os.environ, "XDG_STATE_HOME": str(self.folder)}).stderr
         self.assertEqual((said.count(b"\x1b"), said.count(b"?[31m"), said.count(b"\n")), (0, 1, 1))
 
@@ -788,6 +795,22 @@ class Strangers(Page):
         self.finish()
 
 
+class Packets(unittest.TestCase):
+    """What is sent together."""
+
+    def test_an_answer_and_its_headers(self) -> None:
+        """They are sent together. Else other threads run between the two, and a key waits for them."""
+        ends = socket.socketpair(socket.AF_UNIX, socket.SOCK_SEQPACKET)
+        server = mock.Mock(hosts={"here"}, token="token", files={"page.css": (b"body {}", "text/css")})
+        ends[0].sendall(b"GET /token/page.css HTTP/1.1\r\nHost: here\r\nConnection: close\r\n\r\n")
+        with mock.patch.object(page_requests.Request, "disable_nagle_algorithm", False):  # these sockets have none
+            page_requests.Request(ends[1], ("", 0), server)
+        packet = ends[0].recv(65536)
+        self.assertEqual((packet[:15], packet.partition(b"\r\n\r\n")[2]), (b"HTTP/1.1 200 OK", b"body {}"))
+        for end in ends:
+            end.close()
+
+
 class Faults(trial.Folder):
     """Faults as windows see them."""
 
@@ -803,6 +826,19 @@ class Faults(trial.Folder):
         self.assertEqual(found[:4], [[2, 0, 1], [2, 1, 3], [2, 3, 4], [2, 4, 5]])
         self.assertEqual(found[4:1004], [[3, n, n + 1] for n in range(1000)])
         self.assertEqual(found[1004:], [[4, 0, 3], [4, 4, 6], [4, 7, 8], [5, 0, 1], [5, 1, 2], [5, 2, 3]])
+
+    def test_a_mark_ends_with_the_token(self) -> None:
+        """Faults and hints end with the token of the library that they are at, a field before its comment, and a note before that of
+        the next one. Those about a line end with it."""
+        lines = ["X:1", "M:9/0% or so", "K:C", "CE- [C-E]D [K:Q]C |^f''0C", "%%MIDI program 999 % none", "K:HP% pipes"]
+        path = self.folder / "book.abc"
+        path.write_text("\n".join(lines) + "\n")
+        book = shared_book.SharedBook(str(path), trial.library)
+        self.addCleanup(book.close)
+        hints = hint_process.hint_rows(Finder(trial.library), hint_process.Question(book.text, *book.rows))
+        marked = [(lines[line][start:end], name) for line, start, end, name, *_ in [*rows.shown_rows(book.text, book.rows.faults), *hints]]
+        faults = [("M:9/0", "BadMeter"), ("[K:Q]", "BadKey"), ("^f''0", "BadLength"), (lines[4], "BadProgram"), ("K:HP", "BadKey")]
+        self.assertEqual(marked, [*faults, ("[C-E]", "TieToOtherKey"), ("K:HP", "BagpipeKey")])
 
 
 def followed(rows: list[Any], change: Json, start: int, stop: int, count: int) -> list[Any]:

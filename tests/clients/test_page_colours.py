@@ -66,6 +66,8 @@ return { left, width, bottom: mark.parentNode.getBoundingClientRect().bottom };
 class Colours(test_page_in_browser.Browser):
     """The layers below the text."""
 
+    is_opened = False
+
     def emulate(self, scheme: str) -> None:
         feature = {"name": "prefers-color-scheme", "value": scheme}
         self.driver.execute_cdp_cmd("Emulation.setEmulatedMedia", {"features": [feature]})

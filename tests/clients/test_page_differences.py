@@ -34,7 +34,7 @@ class Texts(test_page.Page):
 
     def test_whoever_may_not(self) -> None:
         for name in ("saved", "disk"):
-            self.assertEqual(self.request(name, path=f"/{self.token[:-1]}x/{name}")[0], 403)
+            self.assertEqual(self.request(name, path=f"/{self.token.swapcase()}/{name}")[0], 403)
             self.assertEqual(self.request(name, {})[0], 404)
 
 

@@ -49,6 +49,7 @@ class Empty(test_page_in_browser.Browser):
         self.press("X:1")
         self.settled("X:1")
 
+    @test_page_in_browser.opens_the_page
     def test_a_new_book_says_that_there_is_no_file_yet(self) -> None:
         """Until the first save makes it."""
         says = "return document.querySelector('#starter p').textContent"
@@ -89,6 +90,7 @@ class Empty(test_page_in_browser.Browser):
             self.size(wide, high)
             self.wait(lambda: self.run_script(IN_THE_ROLL))
 
+    @test_page_in_browser.opens_the_page
     def test_the_first_tune_is_selected(self) -> None:
         self.edit(0, 1, "% a header", "I:linebreak $", "", "X:3", "T:First", "K:C", "CEG", "", "X:5", "K:C", "C")
         self.load()
@@ -168,6 +170,7 @@ class FaultList(test_page_in_browser.Browser):
         self.press(DOWN)
         self.wait(lambda: self.run_script(PLACE) == "Line 2, column 1")
 
+    @test_page_in_browser.opens_the_page
     def test_keys_of_a_mac(self) -> None:
         script = "Object.defineProperty(navigator, 'userAgentData', { value: { platform: 'macOS' } });"
         added = self.driver.execute_cdp_cmd("Page.addScriptToEvaluateOnNewDocument", {"source": script})

@@ -5,8 +5,12 @@ import json
 import os
 import re
 import signal
+import socket
 import tempfile
+import time
 import unittest
+import urllib.parse
+from contextlib import suppress
 from email.message import Message
 from pathlib import Path
 from typing import Any
@@ -32,6 +36,12 @@ def fill(folder: Path) -> None:
     os.mkfifo(folder / "pipe.abc")
     (folder / "link.abc").symlink_to(folder.parent / "secret.abc")
     (folder.parent / "secret.abc").write_bytes(b"X:1\nT:Kesh secret\nK:C\n")
+
+
+def kill(number: int) -> None:
+    """Kills a process if it is there."""
+    with suppress(ProcessLookupError):
+        os.kill(number, signal.SIGKILL)
 
 
 class Books(trial.Folder):
@@ -126,6 +136,30 @@ class Served(test_page.Page):
         for _, address in (first, second):
             with self.assertRaises(OSError):
                 self.book_at(address)
+
+    def test_a_server_that_is_killed(self) -> None:
+        """Those of its books end by themselves."""
+        addresses = [self.opened(name)[1] for name in ("reels.abc", "Latin%20%26%20%C3%A9.abc")]
+        children = Path(f"/proc/{self.server.pid}/task").glob("*/children")
+        servers = [int(number) for file in children for number in file.read_text().split()]
+        self.assertEqual(len(servers), 2)
+        for number in servers:
+            self.addCleanup(kill, number)
+        self.server.kill()
+        until = time.monotonic() + trial.SECONDS
+        for address in addresses:
+            while self.is_served(address):
+                self.assertLess(time.monotonic(), until)
+                time.sleep(0.05)
+
+    def is_served(self, address: str) -> bool:
+        """Returns whether the server of a book takes connections."""
+        place = urllib.parse.urlsplit(address)
+        try:
+            socket.create_connection((place.hostname or "", place.port or 0), trial.SECONDS).close()
+        except OSError:
+            return False
+        return True
 
     def test_what_does_not_open(self) -> None:
         """Names that the list does not have: paths, links, what vanished."""

@@ -9,11 +9,12 @@ import sys
 import unittest
 from collections.abc import Callable
 from contextlib import suppress
-from typing import Any, Optional
+from typing import Any, Optional, TypeVar
 
 import browser
 import test_page
 import trial
+from forked_server import ForkedServer
 
 AREA = "document.querySelector('textarea')"
 EDITS = """
@@ -95,6 +96,13 @@ with socket.create_server(("127.0.0.1", int(sys.argv[1]))) as server:
             connection.sendall(b'HTTP/1.1 200 OK\\r\\nContent-Length: 27\\r\\nConnection: close\\r\\n\\r\\n{"run":"0","proof":"0" }    ')
 """
 LACKING = browser.lacking()
+Test = TypeVar("Test", bound=Callable[..., None])
+
+
+def opens_the_page(test: Test) -> Test:
+    """Marks a test that opens the page itself, after it wrote the text of the book, so `setUp` does not open it before."""
+    setattr(test, "opens_the_page", True)
+    return test
 
 
 class Kept(unittest.TestResult):
@@ -180,15 +188,18 @@ class Browser(test_page.Page):
         if Browser.starts > 1:
             raise unittest.SkipTest("no browser starts")
         Browser.starts += 1
-        Browser.driver = browser.started()
+        Browser.driver = browser.started(is_light=True)
         Browser.starts = 0
         multiprocessing.util.Finalize(None, Browser.quit, exitpriority=0)
+
+    def begun(self, words: list[str], environment: dict[str, str], _: int) -> ForkedServer:
+        return ForkedServer(words, environment)
 
     def setUp(self) -> None:
         super().setUp()
         self.start_browser()
         self.driver.get_log("browser")
-        if self.is_opened:
+        if self.is_opened and not hasattr(getattr(self, self._testMethodName), "opens_the_page"):
             self.load()
 
     def tearDown(self) -> None:
@@ -343,6 +354,7 @@ class Editing(Browser):
         self.roll("3 bars, 0:18", "from C4 to G4")
         self.hear(13, 60, 62, 67)
 
+    @opens_the_page
     def test_the_mouse(self) -> None:
         """A click goes to the tune of a row: the first one after loading, a second one, and one in whose midst, far down the
         list, another window changes a tune and the list is scrolled a little."""
@@ -368,6 +380,7 @@ class Editing(Browser):
         """Waits till the text has the focus, and the caret is in this line."""
         self.wait(lambda: self.run_script(STANDING) == line)
 
+    @opens_the_page
     def test_the_next_fault(self) -> None:
         """A key goes there, to the side too where its line is longer than the view; another tune begins at the left again."""
         long = 200 * "C " + "&"
@@ -383,6 +396,7 @@ class Editing(Browser):
         self.stands_at("X:3")
         self.assertEqual(self.run_script("return document.querySelector('.scroller').scrollLeft"), 0)
 
+    @opens_the_page
     def test_hints(self) -> None:
         """They are marked in another colour than faults, and told beside them."""
         self.kill()
@@ -424,6 +438,7 @@ class Editing(Browser):
         self.turn_to(first)
         self.wait(lambda: self.run_script("return document.getElementById('windows').hidden"))
 
+    @opens_the_page
     def test_two_windows_in_one_line(self) -> None:
         """What each one types follows what it typed before."""
         self.edit(0, 1, "X:1", "K:C", "CDEF")
@@ -449,6 +464,7 @@ class Editing(Browser):
         self.turn_to(first)
         self.shows(f"X:1\nK:C\n{line}")
 
+    @opens_the_page
     def test_a_letter_that_is_composed(self) -> None:
         """An edit of another window waits for its end, and the composition goes on."""
         self.edit(0, 1, "X:1", "K:C", "T:")

@@ -43,7 +43,12 @@ class Letters(unittest.TestCase):
     def test_places(self) -> None:
         """A letter of Latin-1 is one byte, one of UTF-8 more."""
         text = Text.of(b"\xe9\xe8C-\n" + "éèC-".encode())
-        self.assertEqual([text.places(text.lines[0]).span(4, "LooseTie"), text.places(text.lines[1]).span(6, "LooseTie")], [[3, 4], [3, 4]])
+        self.assertEqual([text.places(text.lines[0]).span(4, 5), text.places(text.lines[1]).span(6, 7)], [[3, 4], [3, 4]])
+
+    def test_a_fault_has_one_character_at_least(self) -> None:
+        places = Text.of("é€C".encode()).places("é€C".encode())
+        ends = [places.span(column, end) for column, end in ((1, 2), (1, 3), (1, 4), (3, 4), (3, 7), (6, 8))]
+        self.assertEqual(ends, [[0, 1], [0, 1], [0, 2], [1, 2], [1, 3], [2, 3]])
 
     def test_edits_at_random(self) -> None:
         """Lines that nobody edits keep their bytes, and edited ones are shown as they were typed."""

@@ -4,7 +4,7 @@ import shutil
 import unittest
 
 import test_page_in_browser
-from browser_keys import CONTROL, F8
+from browser_keys import CONTROL, F8, SHIFT
 
 PARTS = ("tune", "time", "play", "practise", "midi", "count", "told", "filter", "list", "roll")
 REACHED = """
@@ -52,6 +52,13 @@ for (let shown = 0; shown < 2 ** parts.length; shown += 1) {
 parts.forEach((part, n) => Object.assign(part, before[n]));
 return wrong;
 """  # which buttons of the bar are alone in a row or cut off, whatever else is shown there
+BUTTONS = """
+document.getElementById("copy-over").hidden = !arguments[0];
+const shown = [...document.querySelectorAll("#copy :is(button, a)")].filter((one) => one.getClientRects().length);
+const { right } = document.getElementById("copy").getBoundingClientRect(), last = document.getElementById("copy-close").getBoundingClientRect();
+const row = shown.filter((one) => one.getBoundingClientRect().top === last.top).map(({ id }) => id);
+return [row.slice(-2), shown.every((one) => one.getBoundingClientRect().right <= right)];
+"""  # the last buttons of the row of 'Cancel', while a file may be replaced or not, and whether the dialog has room for all
 MARK = """
 const mark = document.querySelector("mark"), { left, right, top, bottom } = mark.getBoundingClientRect();
 return document.elementsFromPoint((left + right) / 2, (top + bottom) / 2).includes(mark);
@@ -125,6 +132,15 @@ class Narrow(test_page_in_browser.Browser):
         for wide, high in ((360, 740), (390, 844), (620, 900), (640, 900), (820, 1180), (1280, 900)):
             self.size(wide, high)
             self.assertEqual(self.run_script(BAR), [], wide)
+
+    def test_the_buttons_of_a_dialog(self) -> None:
+        """'Cancel' is in a row with others, whatever the dialog shows."""
+        self.press("s", CONTROL, SHIFT)
+        self.wait(lambda: self.run_script("return document.getElementById('copy').open"))
+        for wide in (360, 390, 1280):
+            self.size(wide, 844)
+            for replaces in (False, True):
+                self.assertEqual(self.run_script(BUTTONS, replaces), [["copy-download", "copy-close"], True], (wide, replaces))
 
     def test_while_practising(self) -> None:
         self.driver.find_element("id", "practise").click()

@@ -66,6 +66,8 @@ VALUE = f"return {AREA}.value"
 class Typing(test_page_in_browser.Browser):
     """Windows that type by themselves."""
 
+    is_slow = True
+
     def begin_again(self, pause: float) -> None:
         """Kills the server, and starts it a moment later."""
         self.kill()
@@ -165,6 +167,7 @@ class Restarts(Typing):
             self.wait_for_lines("X:1", "K:C", line, "", "X:2", "K:D", "DEFG", "")
         self.no_question(window)
 
+    @test_page_in_browser.opens_the_page
     def test_a_long_book(self) -> None:
         """Its text takes a while to come."""
         tunes = [line for number in range(1, 3601) for line in (f"X:{number}", f"T:Tune {number} of a long book", "K:C", "CDEF GABc|" * 11, "")]

@@ -34,6 +34,8 @@ return [seen("replace-words"), seen("faults"), seen("roll"), document.querySelec
 class Search(test_page_in_browser.Browser):
     """Finding and replacing by keys and by buttons."""
 
+    is_opened = False
+
     def click(self, identifier: str) -> None:
         self.run_script("document.getElementById(arguments[0]).click()", identifier)
 
@@ -123,6 +125,7 @@ class Search(test_page_in_browser.Browser):
 
     def test_a_regular_expression_after_a_restart(self) -> None:
         """The server has another token since then."""
+        self.load()
         self.put("X:1\nK:C\nCDEF\n")
         self.kill()
         self.start(str(self.path), port=str(self.port))

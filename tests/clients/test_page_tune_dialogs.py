@@ -97,6 +97,7 @@ class Changed(test_page_in_browser.Browser):
         self.press("-2\n")
         self.wait_for_lines(*TUNE[:4], '"G"GABc|[K:G]"D.C. al"^cd2/2e|[K:G]g4|')
 
+    @test_page_in_browser.opens_the_page
     def test_what_stays(self) -> None:
         """Chords of an own kind and notes that are too high are named with their lines."""
         self.edit(0, 5, *TUNE[:4], '"G;x"G|g\'\'\'\'|', "[K:HP]a|")

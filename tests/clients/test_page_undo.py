@@ -53,6 +53,7 @@ class Undo(test_page_in_browser.Browser):
         self.type("z", CONTROL)
         self.wait_for_lines("X:1", "K:C", "")
 
+    @test_page_in_browser.opens_the_page
     def test_another_window(self) -> None:
         """Its edits of other lines leave what can be undone, those of the same line do not."""
         self.edit(0, 1, "X:1", "K:C", "C", "", "X:2", "K:D", "D")

@@ -195,6 +195,7 @@ class Staves(test_page_in_browser.Browser):
         self.press("\ue013")
         self.here()
 
+    @test_page_in_browser.opens_the_page
     def test_a_line_of_playback(self) -> None:
         """It goes through the notes that sound, stays in view, and goes with the sound."""
         self.edit(0, 1, "X:1", "M:4/4", "L:1/4", "K:C", *(["CDEF|GABc|"] * 12))

@@ -4,6 +4,7 @@ LONG_LOOPS=1 in the environment tries four hundred timed saves."""
 
 import os
 import random
+import threading
 import time
 from collections.abc import Callable
 from concurrent.futures import ThreadPoolExecutor
@@ -14,12 +15,13 @@ from unittest import mock
 import trial
 from abc2midi_live import OutOfMemory, TokenKind
 from abc2midi_live_clients import saving, shared_book, views
-from abc2midi_live_clients.rows import Json
+from abc2midi_live_clients.rows import Json, moved
 from abc2midi_live_clients.saving import digest, save_book
 from abc2midi_live_clients.shared_book import SharedBook
 
 SAVES = 400 if os.environ.get("LONG_LOOPS") else 60
 SLOWEST = 0.008  # seconds that a call of the disk takes
+MOMENT = 0.1  # seconds
 SPREAD = 0.03  # seconds after the begin of a save in which keys, another program and a look at the file come
 
 
@@ -116,6 +118,50 @@ class Saves(OneWindow):
         self.assertEqual(self.book.hints_now(), {"version": known + 1, "hints": 0, "rows": []})
         self.book.know_hints(known + 1, [hint])
         self.assertEqual(self.book.hints_now(), {"version": known + 1, "hints": 1, "rows": [hint]})
+
+
+class News(OneWindow):
+    """What a window hears beside the answers to its edits."""
+
+    def waits(self, window: str, act: Callable[[], object] = bool) -> float:
+        """How long news wait for a window, while something happens a moment after their begin."""
+        timer = threading.Timer(MOMENT, act)
+        seen, state, since = self.book.version, self.book.now(), time.monotonic()
+        self.ask(self.book.edit, start=0, stop=1, lines=["X:2"], window="one")
+        timer.start()
+        changes, _ = self.book.news(seen, state, trial.SECONDS, window)
+        self.assertEqual([change["version"] for change in changes][:1], [seen + 1])
+        timer.join()
+        return time.monotonic() - since
+
+    @mock.patch.object(shared_book, "SECONDS_FOR_ANSWERS", 20 * MOMENT)
+    def test_edits_of_the_window(self) -> None:
+        """They come later than their answers, but for what other windows and other programs do meanwhile."""
+        self.assertGreater(self.waits("one"), 20 * MOMENT)
+        self.assertLess(self.waits("two"), 20 * MOMENT)
+        other = partial(self.ask, self.book.edit, start=1, stop=2, lines=["K:D"], window="two")
+        self.assertLess(self.waits("one", other), 20 * MOMENT)
+        self.assertLess(self.waits("one", partial(self.ask, self.book.save)), 20 * MOMENT)
+        self.assertLess(self.waits("one", partial(self.book.know, "another's")), 20 * MOMENT)
+
+
+class Questions(OneWindow):
+    """What hints are looked for on."""
+
+    def test_rows(self) -> None:
+        """They are those of the book: to make others of them would let a key wait in a long book."""
+        self.edit("X:2")
+        version, question = self.book.question(0, 0)
+        self.assertEqual((version, question.text.lines[0], question.tunes), (1, b"X:2", [(0, 2, "", True)]))
+        self.assertIs(question.tunes, self.book.rows.tunes)
+        self.assertIs(question.faults, self.book.rows.faults)
+
+    def test_an_edit_of_one_line(self) -> None:
+        """It leaves the rows of the tunes as they are, so nothing is compared."""
+        tunes = self.book.rows.tunes
+        self.ask(self.book.edit, start=2, stop=3, lines=["D"])
+        self.assertIs(self.book.rows.tunes, tunes)
+        self.assertIs(moved(tunes, {"start": 2, "stop": 3, "lines": ["D"]}), tunes)
 
 
 NOTE, REST, BAR, FREE = TokenKind.NOTE.value, TokenKind.REST.value, TokenKind.BAR_LINE.value, TokenKind.FREE_TEXT.value

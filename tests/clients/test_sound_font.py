@@ -76,7 +76,7 @@ class Answers(test_page.Page):
         for name in ("font/", "font/x", "font/1000", "samples/0", "samples/-1/2", "samples/../2"):
             self.assertEqual(self.request(name)[0], 404, name)
         for name in ("font", "font/5", "samples/0/2"):
-            self.assertEqual(self.request(name, path=f"/{self.token[:-1]}x/{name}")[0], 403)
+            self.assertEqual(self.request(name, path=f"/{self.token[:-1]}/{name}")[0], 403)
         self.finish()
 
     def test_plain_sounds(self) -> None:

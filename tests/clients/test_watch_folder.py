@@ -117,7 +117,7 @@ class Output(trial.Folder):
 
     def errors_over(self, output: TextIO) -> tuple[str, int]:
         """What the watcher prints on standard error, and its exit status."""
-        words = [sys.executable, str(trial.CLIENTS / "watch"), "book.abc", "--dir", str(self.folder / "new")]
+        words = [sys.executable, str(trial.clients / "watch"), "book.abc", "--dir", str(self.folder / "new")]
         ended = subprocess.run(words, stdout=output, stderr=subprocess.PIPE, text=True, timeout=trial.SECONDS)
         return ended.stderr, ended.returncode
 

@@ -1,7 +1,9 @@
 """What the tests of the clients share: the program that is tried, what a fresh run of it gives, and random tunes."""
 
+import compileall
 import os
 import random
+import shutil
 import signal
 import subprocess
 import sys
@@ -20,21 +22,39 @@ SECONDS = 300  # that a process may take, on a slow machine too
 sys.path[:0] = [str(PACKAGES)]
 
 program = ""
+clients = CLIENTS  # the folder of the commands that the tests start
 library = str(TOP / "out/c_library/lib/libabc2midi_live.so.1")  # that the page and the language server run over
 oracle: list[str] = []  # the command of the program whose answers are expected
 saves, tunes, changes, seed = 25, 20, 60, 1
 
 
 @contextmanager
-def home() -> Iterator[None]:
+def home() -> Iterator[Path]:
     """A home for the clients and the browser, so that the tests leave nothing in the user's."""
     with tempfile.TemporaryDirectory() as folder:
         before = dict(os.environ)
         for name in [name for name in before if name.startswith("XDG_")]:
             del os.environ[name]
         os.environ["HOME"] = folder
-        yield
+        yield Path(folder)
         os.environ.update(before)
+
+
+def installed_clients(folder: Path) -> Path:
+    """Copies the clients to a folder as an installation has them, with compiled modules, which tests import from then on, and links to
+    the library and the documents. Returns the folder of the commands. In a checkout each process of a client compiles its modules anew."""
+    commands, packages = folder / "bin", folder / "share/abc2midi_live"
+    shutil.copytree(CLIENTS, commands)
+    shutil.copytree(PACKAGES, packages)
+    version = subprocess.run([TOP / "scripts/build/version"], capture_output=True, text=True, check=True).stdout
+    (packages / "version").write_text(version)
+    compileall.compile_dir(packages, quiet=1)
+    (folder / "lib").mkdir()
+    (folder / "lib/libabc2midi_live.so.1").symlink_to(library)
+    (folder / "share/doc/abc2midi_live").mkdir(parents=True)
+    (folder / "share/doc/abc2midi_live/docs").symlink_to(TOP / "docs")
+    sys.path[sys.path.index(str(PACKAGES))] = str(packages)
+    return commands
 
 
 class Fresh(NamedTuple):
@@ -108,7 +128,7 @@ class Folder(unittest.TestCase):
         starter.write_text(f'#!/bin/sh\necho $$ >"{self.folder}/pid"\nexec "{program}" "$@"\n')
         starter.chmod(0o755)
 
-    def limit(self, process: "subprocess.Popen[Any]") -> None:
+    def limit(self, process: Any) -> None:
         """Ends a process with its test, and when it takes too long: then nothing more is read of it."""
         limit = threading.Timer(self.seconds + 3 * changes, process.kill)
         limit.start()

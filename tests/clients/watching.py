@@ -82,7 +82,7 @@ class Process(trial.Folder):
     def start(self, *words: str, files: Optional[Path] = None) -> None:
         """Starts it, with a program that tells its process. Behind a shell's `&` Ctrl-C is ignored; it is not here."""
         signal.signal(signal.SIGINT, signal.default_int_handler)
-        command = [sys.executable, str(trial.CLIENTS / "watch"), str(self.path), "--dir", str(files or self.files), *words]
+        command = [sys.executable, str(trial.clients / "watch"), str(self.path), "--dir", str(files or self.files), *words]
         self.process = subprocess.Popen(
             [*command, "--program", str(self.folder / "program")], stdout=subprocess.PIPE, stderr=subprocess.PIPE
         )
