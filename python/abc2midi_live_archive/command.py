@@ -123,6 +123,8 @@ def find_sources(words: argparse.Namespace) -> tuple[list[Source], bool]:
             print(f"{printable(source.name)}: cannot be read: {printable(source.why)}", file=sys.stderr)
         else:
             found.append(source)
+    if is_whole and not found:
+        tell("there is no book: in folders and archives the names of books end in .abc")
     return found, is_whole
 
 

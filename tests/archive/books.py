@@ -107,6 +107,12 @@ class Books(setting.Runs):
         self.assertIn("No such file", ran.err)
         self.assertIn("1 as before", ran.out)
 
+    def test_a_folder_without_books(self) -> None:
+        self.write("in/reels.txt", TUNE % (1, b"One"))
+        ran = self.run_archive(self.folder / "in")
+        self.assertEqual(ran.err, "archive: there is no book: in folders and archives the names of books end in .abc\n")
+        self.assertIn("0 books compiled", ran.out)
+
     def test_bad_books_leave_the_others(self) -> None:
         good = setting.random_book(1)
         latin, binary = "X:1\nT:Café\nK:C\nC é|\n".encode("latin-1"), bytes(range(256)) * 50
