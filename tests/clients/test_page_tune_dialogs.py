@@ -49,7 +49,7 @@ class Changed(test_page_in_browser.Browser):
         self.wait_for_lines(*moved)
         self.assertFalse(self.run_script(OPEN, "transpose"))
         self.wait(lambda: self.text("status") == "Transposed: 2 semitones down, from G to F. Ctrl-Z takes that back.")
-        self.type("z", CONTROL)
+        self.press("z", CONTROL)
         self.wait_for_lines(*TUNE)
 
     def test_to_a_key(self) -> None:

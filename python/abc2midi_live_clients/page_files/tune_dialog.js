@@ -126,6 +126,7 @@ export class TuneDialog {
     const after = range ? { start: at(range.start), end: at(range.end), direction: "forward" } : edits.reduce(movedSelection, before);
     if (edits.length) text.change(edits, before, after);
     this.selection = after;
+    this.before = sheet.area; // Ctrl-Z is for the text
     dialog.close();
     await link.flush().catch(() => {}); // its answer has a sentence too
     say(`${done} ${undoKey} takes that back.`);
