@@ -14,6 +14,7 @@ export class Book {
     this.edits = 0; // that were asked for
     this.lose = null; // "answer", "edit", or "late": it arrives when it was given up
     this.most = 500; // bytes of an edit
+    this.refusal = 413; // the status that answers a longer one
     this.key = KEY; // of whoever has the port
     this.port = PORT; // that its proofs name
     this.isFull = false;
@@ -84,7 +85,7 @@ export class Book {
     if (method !== "POST") throw new Error(name);
     const asked = JSON.parse(body);
     if (name === "edit") this.edits += 1;
-    if (body.length > this.most) return [413, { error: "too long" }];
+    if (body.length > this.most) return [this.refusal, { error: "too long" }];
     if (asked.run !== this.run) return [409, { error: "another run", ...this.state }];
     if (asked.version !== this.version) return [409, { error: "another", changes: this.changes.slice(asked.version), ...this.state }];
     if (name === "view") return [200, { view: this.viewOf(asked.sees) }];

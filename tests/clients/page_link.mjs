@@ -155,6 +155,19 @@ const tests = {
     });
   },
 
+  async "the first try after a loss comes soon, also if the server was away for long before"() {
+    const [window] = await opened(1, 3, 1), { clock } = world, waits = [];
+    for (const pause of [20_000, 100]) {
+      world.kill();
+      await clock.run(clock.now + pause);
+      world.restart();
+      const since = clock.now;
+      await clock.run(clock.now + QUIET, () => window.isQuiet);
+      waits.push(clock.now - since);
+    }
+    same([window.link.away, waits[1] < 1000], ["", true]);
+  },
+
   async "what is typed before the book came is asked about"() {
     world = new World(1, 30, ...BOOK);
     const window = new Window(0);

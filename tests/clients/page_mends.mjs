@@ -42,6 +42,7 @@ const tests = {
   "a number that is free"() {
     const rows = ["X:1", "K:C", "C", "", "X: 1 % again", "K:C"];
     same(mended(rows, [4, 0, 2, "SameNumber", "a hint"], 1, 2, 4), ["Write X:3", ...rows.slice(0, 4), "X: 3 % again", "K:C"]);
+    same(mended(["X:1% again"], [0, 0, 2, "SameNumber", "a hint"], 1), ["Write X:2", "X:2% again"]);
     same([mended(["X:"], [0, 0, 2, "BadReference"], 0), mended(["X:none"], [0, 0, 2, "BadReference"], 1, 0)], [["Write X:1", "X:1"], ["Write X:2", "X:2"]]);
     same(mended(["X:999999999"], [0, 0, 2, "SameNumber", "a hint"], 999999999), null);
   },

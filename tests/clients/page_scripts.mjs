@@ -143,16 +143,19 @@ const tests = {
   },
 
   async "an edit that is refused is sent no more till the text is another"() {
-    const [link, text] = await opened("a");
-    text.edit(0, 1, ["x".repeat(1000)], PLACE, PLACE);
-    await until(() => link.refusals);
-    await new Promise((done) => setTimeout(done, 1200));
-    same([server.edits, link.refusals, Boolean(link.away)], [1, 1, false]);
-    let why = "";
-    await link.file("save").catch((error) => (why = error.message));
-    same(why, "the server does not take the last edit");
-    text.undo();
-    await agree(link, text, "a");
+    for (const status of [413, 400]) {
+      const [link, text] = await opened("a");
+      server.refusal = status;
+      text.edit(0, 1, ["x".repeat(1000)], PLACE, PLACE);
+      await until(() => link.refusals || link.away);
+      await new Promise((done) => setTimeout(done, 1200));
+      same([status, server.edits, link.refusals, link.away], [status, 1, 1, ""]);
+      let why = "";
+      await link.file("save").catch((error) => (why = error.message));
+      same(why, "the server does not take the last edit");
+      text.undo();
+      await agree(link, text, "a");
+    }
   },
 
   async "text is unsaved while it is pending, and saved when the server says so"() {

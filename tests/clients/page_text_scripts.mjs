@@ -13,13 +13,14 @@ const { blobOf } = await from("blob");
 const { partsOf } = await from("colours");
 const { STARTER, whyBlank, whyNothing } = await from("empty");
 const { Filter, folded } = await from("filter");
+const { Findings } = await from("findings");
 const { Matches, matchesIn, matchesNothing, replacedIn, sought } = await from("find");
 const { inverse } = await from("history");
 const { keysOf, withKeys } = await from("keys");
 const { grouped } = await from("remarks");
 const { applyEdits } = await from("lines");
 const { changed, placeOf, without } = await from("rows");
-const { replacedWords } = await from("search");
+const { Search, replacedWords } = await from("search");
 const { bothChanged, changedOnDisk, firstDifference, goneFromDisk, keptByBrowser } = await from("situations");
 const { Text } = await from("text");
 const { Prints, UndoStore } = await from("undo_store");
@@ -119,6 +120,15 @@ const tests = {
     typed(text, 0, 0, "1", "2", "3");
     text.others(1, 2, []);
     same([text.lines.join(""), undone(text, 2)], ["13abC", "13abc"]);
+  },
+
+  "a key soon after a step was done again is a step of its own"() {
+    const text = opened("a");
+    typed(text, 0, 1, "ab");
+    text.undo();
+    text.redo();
+    typed(text, 0, 1, "abc");
+    same([undone(text), undone(text), text.undo()], ["ab", "a", null]);
   },
 
   "edits of others at other lines leave what can be done again"() {
@@ -368,6 +378,20 @@ const tests = {
       "1 replaced. Ctrl-Z takes it back.", "2 replaced. Ctrl-Z takes them back."]);
   },
 
+  "the search goes on after what replaced a match, also if that has several lines"() {
+    const found = [], expression = what("a", { isRegular: true }), text = opened("x a a");
+    const search = Object.assign(Object.create(Search.prototype), {
+      here: { ...matchesIn("x a a", expression)[0], line: 0 }, matches: { what: expression }, put: { value: "" }, sheet: { text }, isHere: () => true,
+      change: ([{ put }], place) => found.push([put, place]), seek: (place) => found.push(place),
+    });
+    for (const put of ["bc", "1\\n23"]) {
+      search.put.value = put;
+      search.replaceOne();
+    }
+    const [one, two] = [{ line: 0, column: 4 }, { line: 1, column: 2 }];
+    same(found, [[["x bc a"], one], one, [["x 1", "23 a"], two], two]);
+  },
+
   "a bad expression has a name"() {
     const wrongs = ["(", "[a", "*"].map((words) => {
       try {
@@ -433,6 +457,21 @@ const tests = {
     const sifted = (...words) => Object.assign(filter, { words }).rows(rows).map((row) => row[1]);
     same([sifted("suil"), sifted("12"), sifted("kesh", "the"), sifted("strasse"), sifted("bjorn"), sifted("1", "o"), sifted()], [[1], [12, 2], [12], [2], [31], [1], [1, 12, 2, 31]]);
     same(folded("ÉÈÖ"), "eeo");
+  },
+
+  "a line that is typed in has its faults until the server has other ones, and one that is taken out has none"() {
+    const faults = [[1, 0, 1, "BadByte"], [3, 0, 1, "Unclosed"]], text = opened("a", "b", "c", "d");
+    const findings = new Findings(text, { sent: null }, { faults, hints: [], tunes: [] });
+    const lines = () => {
+      findings.renew();
+      return findings.faults.map(([line]) => line);
+    };
+    text.edit(1, 2, ["b, and more"], PLACE, PLACE);
+    same(lines(), [1, 3]);
+    text.edit(1, 2, ["b", "and more"], PLACE, PLACE);
+    same(lines(), [1, 4]);
+    text.edit(1, 3, [], PLACE, PLACE);
+    same(lines(), [2]);
   },
 
   "equal remarks are one, with their count"() {

@@ -119,6 +119,14 @@ class Saves(OneWindow):
         self.book.know_hints(known + 1, [hint])
         self.assertEqual(self.book.hints_now(), {"version": known + 1, "hints": 1, "rows": [hint]})
 
+    def test_hints_move_with_their_lines(self) -> None:
+        """A window that opens the book sees them there until the hints on the new text are known."""
+        self.book.know_hints(self.book.version, [(0, 0, 1, "SameNumber", "Words."), (2, 0, 1, "Overlay", "Words.")])
+        self.ask(self.book.edit, start=1, stop=1, lines=["T:one", "T:two"])
+        self.assertEqual([row[0] for row in self.book.snapshot()["hintRows"]], [0, 4])
+        self.ask(self.book.edit, start=0, stop=1, lines=["X:2"])
+        self.assertEqual([row[0] for row in self.book.snapshot()["hintRows"]], [4])
+
 
 class News(OneWindow):
     """What a window hears beside the answers to its edits."""
