@@ -1,6 +1,7 @@
 // Tries the scripts of the page without a server that need no browser: its book over a stand-in for the compiler, its file, and links.
 // The first argument is the folder of the page. Each test prints a line, `ok` or `FAILED`, with its name.
 
+import { resolveObjectURL } from "node:buffer";
 import { pathToFileURL } from "node:url";
 
 import { run, same } from "../clients/testing.mjs";
@@ -37,12 +38,13 @@ Object.defineProperty(globalThis, "navigator", { value: { locks: new Locks() } }
 const folder = process.argv[2];
 const from = (name) => import(pathToFileURL(`${folder}/${name}.js`));
 const { BookLock } = await from("book_lock");
+const { BookStore, ChangedElsewhere } = await from("book_store");
 const { BookText } = await from("book_text");
 const { CompiledBook } = await from("compiled_book");
 const { Files } = await from("files");
 const { Keeper } = await from("keeper");
 const { Link } = await from("link");
-const { pickToOpen, pickToSave } = await from("picked_file");
+const { PickedFile, pickToOpen, pickToSave } = await from("picked_file");
 const { linkOf, textIn } = await from("share_link");
 const { Text } = await from("text");
 const { WorkerBook } = await from("worker_book");
@@ -50,6 +52,15 @@ const { WorkerBook } = await from("worker_book");
 const bytes = (text) => new TextEncoder().encode(text);
 const text = (data) => new TextDecoder().decode(data);
 const pause = () => new Promise((done) => setTimeout(done, 5));
+
+/** Waits till something comes about. */
+async function until(comes) {
+  const end = Date.now() + 60_000;
+  while (!comes()) {
+    if (Date.now() > end) throw new Error(`waited in vain for ${comes}`);
+    await pause();
+  }
+}
 
 /** What an act throws. */
 async function thrown(act) {
@@ -151,6 +162,65 @@ async function opened(content, { file = null, disk = null, picked = null, saving
   return { session, book, window, link, heard, type };
 }
 
+/** A stand-in for a file of the browser's dialog; `permissions` are the answers to the question for a permission, by its mode. */
+class Handle {
+  name = "a.abc";
+  happened = [];
+
+  constructor(permissions = {}) {
+    this.permissions = permissions;
+  }
+
+  async queryPermission({ mode }) {
+    return mode in this.permissions ? "prompt" : "granted";
+  }
+
+  async requestPermission({ mode }) {
+    this.happened.push(`ask to ${mode}`);
+    return this.permissions[mode];
+  }
+
+  async getFile() {
+    if (this.error) throw this.error;
+    return new Blob(["CDE"]);
+  }
+
+  async createWritable() {
+    const { happened } = this;
+    const write = async (data) => {
+      if (this.error) throw this.error;
+      happened.push(`write ${text(data)}`);
+    };
+    return { write, close: async () => happened.push("close"), abort: async () => happened.push("abort") };
+  }
+}
+
+/** A stand-in for the browser's database. It has room for writes, or `isFull`. */
+class Database {
+  kept = { books: new Map(), contents: new Map() };
+  isFull = false;
+
+  transaction() {
+    const puts = [], { isFull } = this;
+    const transaction = { error: null, abort: () => setTimeout(() => transaction.onabort()) };
+    transaction.objectStore = (name) => ({
+      put: (row) => puts.push([name, row]),
+      get: (id) => {
+        const request = { result: this.kept[name].get(id) };
+        setTimeout(() => {
+          request.onsuccess();
+          if (puts.length && isFull) transaction.error = new Error("no room");
+          if (puts.length && isFull) return transaction.onabort();
+          for (const [place, row] of puts) this.kept[place].set(row.id, row);
+          if (puts.length) transaction.oncomplete();
+        });
+        return request;
+      },
+    });
+    return transaction;
+  }
+}
+
 /** What a store keeps of a book, as the page has it keep the book: the name and whether it is unsaved, after each change. */
 function keptOf(book) {
   const kept = [];
@@ -189,6 +259,33 @@ await run({
     same((await other.ask("book")).faults.map((row) => row[3]), ["BadLine"]);
     const most = "C".repeat(65535), { session: third } = await opened(`X:1\n${most}\n`);
     same(third.lines, ["X:1", most]);
+  },
+
+  async "a tune that is too long has no file, and the next one of its number has it"() {
+    const { session, book } = await opened("X:1\nX:1\n");
+    Object.defineProperty(session, "faults", { get: () => Promise.resolve([{ line: 1, column: 1, utf16Column: 1, name: "TuneTooLong" }]) });
+    same((await book.ask("book")).tunes.map((row) => row[3]), [false, true]);
+  },
+
+  async "a line that is too long has no tokens, and a tune that plays too much has no play"() {
+    const { session, book } = await opened(`X:1\n${"C".repeat(65536)}\nDE\n`);
+    session.tokens = async (number) => [{ utf16From: 1, utf16To: 1 + number, kind: "Note", depth: 0 }];
+    const view = async (name) => {
+      session.play = () => Promise.reject(Object.assign(new Error("why"), { name }));
+      return (await book.ask("view", { version: book.version, sees: { from: 0, to: 3, tune: 1 } })).view;
+    };
+    const { tokens, play } = await view("PlayTooLong");
+    same([tokens, play], [[[0, 1, 1, 0], [], [0, 3, 1, 0]], null]);
+    same((await thrown(() => view("TrapError"))).name, "TrapError");
+  },
+
+  async "the file of a tune has an address till another file has one"() {
+    const { book } = await opened(`${TUNE}X:2\n`);
+    await book.bytes("midi/1");
+    const first = book.address("midi/1");
+    same(await resolveObjectURL(first).text(), "file 1");
+    await book.bytes("midi/2");
+    same([resolveObjectURL(first), book.address("midi/1"), await resolveObjectURL(book.address("midi/2")).text()], [undefined, "", "file 2"]);
   },
 
   async "a fault at each byte of a letter counts once"() {
@@ -335,6 +432,67 @@ await run({
     book.pick = async () => new File("b.abc", "");
     await link.file("save");
     same([kept, link.isUnsaved], [[["b.abc", false]], false]);
+  },
+
+  async "each change is kept a moment later"() {
+    const { type, book } = await opened(TUNE), kept = keptOf(book);
+    await type(2, 3, "D");
+    await until(() => kept.length === 1);
+    await type(2, 3, "E");
+    await until(() => kept.length === 2);
+  },
+
+  async "a text that the browser does not keep is reported"() {
+    const { book } = await opened(TUNE), why = [], keeper = new Keeper(book, { keep: () => Promise.reject(new Error("no room")) });
+    keeper.failed = (words) => why.push(words);
+    keeper.soon();
+    await keeper.finish();
+    same(why, ["no room"]);
+  },
+
+  async "a change that is not kept when another tab takes the book becomes a book of its own"() {
+    const { book } = await opened(TUNE);
+    for (const isChanged of [true, false]) {
+      const kept = [], keeper = new Keeper(book, { keep: async ({ id }, { data }) => kept.push([id === "one", text(data)]) });
+      if (isChanged) keeper.soon();
+      await keeper.giveUp();
+      keeper.soon();
+      await keeper.finish();
+      same(kept, isChanged ? [[false, TUNE]] : []);
+    }
+  },
+
+  async "a book for which there was no room is kept later, and one that another tab changed is not"() {
+    const database = new Database(), store = new BookStore(database), other = new BookStore(database);
+    const keep = (own, name) => own.keep({ id: "one", name }, { data: bytes(name) });
+    await keep(store, "first");
+    database.isFull = true;
+    same((await thrown(() => keep(store, "second"))).message, "no room");
+    database.isFull = false;
+    await keep(store, "third");
+    const error = await thrown(() => keep(other, "other"));
+    same([error instanceof ChangedElsewhere, database.kept.books.get("one").name, text(database.kept.contents.get("one").data)], [true, "third", "third"]);
+  },
+
+  async "a picked file is written in one step, with the user's permission"() {
+    const free = new Handle(), asked = new Handle({ read: "granted", readwrite: "granted" }), refused = new Handle({ read: "denied", readwrite: "denied" });
+    for (const handle of [free, asked]) await new PickedFile(handle).write(bytes("CDE"));
+    same([free.happened, asked.happened], [["write CDE", "close"], ["ask to readwrite", "write CDE", "close"]]);
+    for (const act of ["read", "write"]) same((await thrown(() => new PickedFile(refused)[act](bytes("CDE")))).message, "the browser does not permit it");
+    same(refused.happened, ["ask to read", "ask to readwrite"]);
+    same([await new PickedFile(free).isReadable(), await new PickedFile(asked).isReadable()], [true, false]);
+    free.happened = [];
+    free.error = new Error("no room");
+    same([(await thrown(() => new PickedFile(free).write(bytes("DEF")))).message, free.happened], ["no room", ["abort"]]);
+  },
+
+  async "a picked file that is gone is none, and another failure is one"() {
+    const handle = new Handle(), file = new PickedFile(handle);
+    same(text(await file.read()), "CDE");
+    handle.error = Object.assign(new Error("gone"), { name: "NotFoundError" });
+    same(await file.read(), null);
+    handle.error = new Error("why");
+    same((await thrown(() => file.read())).message, "why");
   },
 
   async "a download is over when the browser keeps it"() {
