@@ -57,6 +57,22 @@ class Keys(trial.Folder):
         key = book_key("book.abc")
         self.assertEqual((book_key("book.abc"), self.kept().read_text()), (key, key))
 
+    def test_a_link(self) -> None:
+        """It is not followed: whoever made it may read what it leads to. Nothing is written there."""
+        key = book_key("book.abc")
+        link, target = self.kept(), self.folder / "target"
+        link.rename(target)
+        link.symlink_to(target)
+        self.assertNotEqual(book_key("book.abc"), key)
+        target.write_bytes(b"")
+        self.assertRegex(book_key("book.abc"), KEY)
+        self.assertEqual(target.read_bytes(), b"")
+
+    def test_a_file_of_another_user(self) -> None:
+        key = book_key("book.abc")
+        with mock.patch("os.getuid", return_value=os.getuid() + 1):
+            self.assertNotEqual(book_key("book.abc"), key)
+
     def test_files_that_have_no_key(self) -> None:
         """Nothing is written into them, and each start has another key."""
         book_key("book.abc")

@@ -8,11 +8,16 @@ import stat
 import subprocess
 import sys
 import time
+import unittest
 import urllib.request
 from pathlib import Path
+from types import SimpleNamespace
+from typing import cast
+from unittest import mock
 from urllib.parse import unquote, urlsplit
 
 import trial
+from abc2midi_live_clients import page_server
 
 START = """import sys
 from abc2midi_live_clients import page_server
@@ -94,3 +99,18 @@ class Opening(trial.Folder):
     def test_it_ends_without_a_window(self) -> None:
         page = self.start(alone=1)
         self.assertEqual(page.wait(trial.SECONDS), 0, page.stderr and page.stderr.read())
+
+
+class Alone(unittest.TestCase):
+    """When a page that was opened on a desktop ends by itself."""
+
+    def is_left(self, windows: int, is_unsaved: bool, ends_alone: bool = True) -> bool:
+        """Whether it ends a long time after its start."""
+        book = SimpleNamespace(windows=SimpleNamespace(count=lambda: windows), now=lambda: {"unsaved": is_unsaved})
+        server = SimpleNamespace(ends_alone=ends_alone, book=book, seen=0.0)
+        with mock.patch("time.monotonic", return_value=10.0 * page_server.SECONDS_ALONE):
+            return page_server.Server.is_left(cast(page_server.Server, server))
+
+    def test_it_waits_for_windows_and_for_a_save(self) -> None:
+        found = [self.is_left(0, False), self.is_left(1, False), self.is_left(0, True), self.is_left(0, False, ends_alone=False)]
+        self.assertEqual(found, [True, False, False, False])

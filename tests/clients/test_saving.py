@@ -139,6 +139,18 @@ class Saving(trial.Folder):
             self.save(NEW)
         self.assert_is(NEW)
 
+    def test_attributes_that_only_the_new_file_has(self) -> None:
+        """A folder may give them to new files, as access lists. The book had none."""
+        new = self.folder / "new"
+        new.write_bytes(b"")
+        try:
+            os.setxattr(new, "user.colour", b"red")
+        except OSError as error:
+            self.skipTest(f"no extended attributes here: {error.strerror}")
+        with open(self.path, "rb") as old, open(new, "r+b") as file:
+            saving.keep_attributes(old.fileno(), file.fileno())
+        self.assertEqual(os.listxattr(new), os.listxattr(self.path))
+
     def test_the_owner(self) -> None:
         """It stays, or nothing is saved."""
         if os.getuid() != 0:

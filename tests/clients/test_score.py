@@ -20,7 +20,7 @@ from unittest import mock
 import page_in_node
 import trial
 from abc2midi_live_clients import score, score_limits, score_markup, score_text
-from abc2midi_live_clients.score import NoScore, Question
+from abc2midi_live_clients.score import Answer, NoScore, Question
 from abc2midi_live_clients.score_markup import NoDrawing, images_of
 from abc2midi_live_clients.scorer import INSTALL, MOST_KEPT, Scorer, found_program
 
@@ -702,6 +702,20 @@ class Limits(Harm):
             self.assertIn("images", self.ask(scorer, width))
         self.assertIn("images", self.ask(scorer))
         self.assertEqual(len(scorer.kept), MOST_KEPT)
+
+    def test_the_answer_that_was_asked_for_last_stays(self) -> None:
+        scorer = self.scorer()
+        asked: list[Optional[int]] = []
+        self.program("exit 1")
+
+        def answer(_: str, question: Question) -> Answer:
+            asked.append(question.width)
+            return Answer(b"{}", True)
+
+        with mock.patch.object(scorer, "ask_process", answer):
+            for width in [*range(MOST_KEPT), 0, MOST_KEPT, 0, 1]:
+                self.ask(scorer, width)
+        self.assertEqual(asked, [*range(MOST_KEPT), MOST_KEPT, 1])
 
     def test_a_process_that_ends(self) -> None:
         """The next question starts another one, and the tune is tried again."""

@@ -153,6 +153,20 @@ class News(OneWindow):
         self.assertLess(self.waits("one", partial(self.book.know, "another's")), 20 * MOMENT)
 
 
+class Counts(OneWindow):
+    """How many windows there are."""
+
+    def test_a_window_that_holds_a_connection_at_last(self) -> None:
+        """It asked for news again and again before, and counts once."""
+        for name in ("one", "two"):
+            self.book.news_for(0, name)
+        self.assertEqual(self.book.now()["windows"], 2)
+        self.book.begin_stream("one")
+        self.assertEqual(self.book.now()["windows"], 2)
+        self.book.end_stream()
+        self.assertEqual(self.book.now()["windows"], 1)
+
+
 class Questions(OneWindow):
     """What hints are looked for on."""
 
