@@ -103,8 +103,8 @@ class FolderRequest(Request):
 
     server: "FolderServer"  # type: ignore[assignment]
 
-    def is_proof(self) -> bool:
-        """No request is without a token."""
+    def needs_no_token(self) -> bool:
+        """No request is answered without a token."""
         return False
 
     def get(self, name: Optional[str]) -> None:

@@ -13,6 +13,7 @@ from http.server import BaseHTTPRequestHandler
 from typing import TYPE_CHECKING, Any, Optional
 
 from .rows import Json
+from .served_files import CACHED_FOR_A_YEAR
 from .shared_book import WINDOW, Refused
 
 if TYPE_CHECKING:
@@ -55,7 +56,7 @@ class Request(BaseHTTPRequestHandler):
             has_body = "Content-Length" in self.headers or "Transfer-Encoding" in self.headers
             self.close_connection = self.close_connection or has_body or self.command != "GET"
             self.check_sender()
-            if not self.is_proof():
+            if not self.needs_no_token():
                 answer(self.checked_path())
         except Refused as refused:
             self.refuse(refused)
@@ -84,11 +85,15 @@ class Request(BaseHTTPRequestHandler):
             if origin not in [f"http://{host}" for host in self.server.hosts]:
                 raise Refused(403, "This is another page's request.")
 
+    def needs_no_token(self) -> bool:
+        """Whether the request has no token, and is answered by a proof or by a file that the browser caches."""
+        return self.command == "GET" and (self.is_proof() or self.is_cached())
+
     def is_proof(self) -> bool:
-        """Whether the request has no token, and is answered by a proof: by that of the server; or, for a page that brings its own
+        """Whether the request is for a proof, and is answered by a proof: by that of the server; or, for a page that brings its own
         proof, by the token of this start."""
         asked = re.fullmatch("/proof/([0-9a-f]{32})(?:/([0-9a-f]{64}))?", self.path)
-        if not asked or self.command != "GET":
+        if not asked:
             return False
         self.close_connection = True
         server = self.server
@@ -100,14 +105,26 @@ class Request(BaseHTTPRequestHandler):
             raise Refused(403, "This is no page of this book.")
         return True
 
+    def is_cached(self) -> bool:
+        """Whether the request is for a file of the page, at an address that only a page of this book knows: then it is answered."""
+        file = self.server.files.cached(self.path)
+        if file:
+            self.welcome()
+            self.send(*file, CACHED_FOR_A_YEAR)
+        return bool(file)
+
     def checked_path(self) -> Optional[str]:
         """The part of the path after the token and its slash, None if the path ends with the token. Refuses another token."""
         path = re.fullmatch("/([^/]*)(?:/(.*))?", self.path)
         if not path or not hmac.compare_digest(path[1].encode(), self.server.token.encode()):
             raise Refused(403, "This address is not the one that the server printed at its present start. Open that one.")
+        self.welcome()
+        return path[2]
+
+    def welcome(self) -> None:
+        """Keeps the connection of someone who knows a secret. Refuses one too many."""
         if not self.server.connections.welcome(self.connection):
             raise Refused(503, "There are too many connections.")
-        return path[2]
 
     def get(self, name: Optional[str]) -> None:
         """Answers by a file of the page, the book, a MIDI file, or what happens to the book from now on."""
@@ -119,8 +136,8 @@ class Request(BaseHTTPRequestHandler):
         news = re.fullmatch(rf"(events|news)/([0-9]{{1,15}})/({WINDOW.pattern})", name, re.ASCII)
         book = self.server.book
         answers = {"saved": book.saved_lines, "disk": book.lines_on_disk, "state": book.now, "hints": book.hints_now}
-        if name in self.server.files:
-            self.send(*self.server.files[name])
+        if name in self.server.files.by_name:
+            self.send(*self.server.files.by_name[name])
         elif name in answers:
             self.send_json(answers[name]())
         elif name == "book":

@@ -26,13 +26,11 @@ from .program import add_version_option
 from .book_keys import book_key, proof
 from .score_pdf import PdfMaker
 from .scorer import Scorer
+from .served_files import ServedFiles
 from .shared_book import Refused, SharedBook
 from .signals import when_the_parent_ends, when_told_to_end
 from .sound_font import BadFont, find_font
 
-FILES = Path(__file__).resolve().parent / "page_files"
-KINDS = {".html": "text/html; charset=utf-8", ".css": "text/css; charset=utf-8", ".js": "text/javascript; charset=utf-8"}
-WORDS = Path(__file__).with_name("completion.json")  # that may be written
 SECONDS_BETWEEN_LOOKS = 0.5  # at the book on disk
 SECONDS_OF_REST = 0.3  # after an edit, before hints are looked for
 SECONDS_ALONE = 60  # without a window, after which a page that was opened on a desktop ends
@@ -84,10 +82,7 @@ class Server(GuardedServer):
         self.seen = time.monotonic()  # when there was a window last, or text that is not saved
         self.key = book_key(book.path)
         self.sentences = sentence_pairs()
-        self.files = {path.name: (path.read_bytes(), KINDS[path.suffix]) for path in FILES.iterdir() if path.suffix in KINDS}
-        self.files[WORDS.name] = WORDS.read_bytes(), "application/json"
-        page, kind = self.files.pop("index.html")
-        self.files[""] = page.replace(b"KEY OF THE BOOK", self.key.encode()), kind
+        self.files = ServedFiles(self.key)
 
     def proof(self, who: str, nonce: str) -> str:
         """The proof that the server, or the page, has the book's key."""

@@ -1,5 +1,6 @@
 """The server of the page as a fork of the tests' process, which has its modules: so a test in a browser does not wait till a Python
-imports them. The command itself is tried by `test_page`."""
+imports them. All of them have one folder of cached files, whatever the keys of their books, so a browser reads these files once. The
+command itself is tried by `test_page`, and the folder by `test_served_files`."""
 
 import multiprocessing
 import os
@@ -8,8 +9,11 @@ import subprocess
 import sys
 import tempfile
 from typing import Optional
+from unittest import mock
 
-from abc2midi_live_clients import page_server
+from abc2midi_live_clients import page_server, served_files
+
+KEY = "00" * 32
 
 
 def serve(words: list[str], environment: dict[str, str], output: int, errors: int) -> None:
@@ -19,7 +23,9 @@ def serve(words: list[str], environment: dict[str, str], output: int, errors: in
     os.environ.update(environment)
     tempfile.tempdir = None  # that of the environment
     sys.argv[1:] = words
-    sys.exit(page_server.main())
+    folder = served_files.cached_folder
+    with mock.patch.object(served_files, "cached_folder", lambda _, files: folder(KEY, files)):
+        sys.exit(page_server.main())
 
 
 class ForkedServer:

@@ -48,9 +48,14 @@ class Page(trial.Folder):
         self.path.write_bytes(self.opening)
         self.start(str(self.path))
 
-    def start(self, *words: str, port: Optional[str] = "0", descriptors: int = 1024, hints: bool = False, font: str = "") -> None:
-        """Starts it, with a folder for what it leaves, and a limit of descriptors. Without a SoundFont the sounds are plain."""
-        options = [*(["--port", port] if port else []), *([] if hints else ["--no-hints"])]
+    def free_port(self) -> int:
+        """The port of a server whose test names none: 0 is any free one."""
+        return 0
+
+    def start(self, *words: str, port: Optional[str] = "", descriptors: int = 1024, hints: bool = False, font: str = "") -> None:
+        """Starts it, with a folder for what it leaves, and a limit of descriptors. With None for a port it has that of its book. Without
+        a SoundFont the sounds are plain."""
+        options = [*([] if port is None else ["--port", port or str(self.free_port())]), *([] if hints else ["--no-hints"])]
         options += ["--sound-font", font] if font else ["--plain-sounds"]
         environment = {"TMPDIR": str(self.files), "XDG_STATE_HOME": str(self.folder / "state")}
         self.server = self.begun([*words, *options, "--library", trial.library], environment, descriptors)
@@ -801,7 +806,9 @@ class Packets(unittest.TestCase):
     def test_an_answer_and_its_headers(self) -> None:
         """They are sent together. Else other threads run between the two, and a key waits for them."""
         ends = socket.socketpair(socket.AF_UNIX, socket.SOCK_SEQPACKET)
-        server = mock.Mock(hosts={"here"}, token="token", files={"page.css": (b"body {}", "text/css")})
+        server = mock.Mock(hosts={"here"}, token="token")
+        server.files.cached.return_value = None
+        server.files.by_name = {"page.css": (b"body {}", "text/css")}
         ends[0].sendall(b"GET /token/page.css HTTP/1.1\r\nHost: here\r\nConnection: close\r\n\r\n")
         with mock.patch.object(page_requests.Request, "disable_nagle_algorithm", False):  # these sockets have none
             page_requests.Request(ends[1], ("", 0), server)

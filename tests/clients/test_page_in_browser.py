@@ -12,6 +12,7 @@ from contextlib import suppress
 from typing import Any, Optional, TypeVar
 
 import browser
+import ports
 import test_page
 import trial
 from forked_server import ForkedServer
@@ -145,8 +146,9 @@ class Browser(test_page.Page):
     opening = b""
     is_opened = True  # by `setUp`
     seconds = 10 * trial.SECONDS
-    driver: Any = None  # of `Browser` alone, as `starts`
+    driver: Any = None  # of `Browser` alone, as the next two
     starts = 0  # how often in a row no browser started
+    port_of_tests: Optional[ports.Reserved] = None
 
     def run(self, result: Optional[unittest.TestResult] = None) -> Optional[unittest.TestResult]:
         ended = self.tried()
@@ -195,12 +197,28 @@ class Browser(test_page.Page):
     def begun(self, words: list[str], environment: dict[str, str], _: int) -> ForkedServer:
         return ForkedServer(words, environment)
 
+    def free_port(self) -> int:
+        """The port of all tests of this process, if no server has it now. So the browser caches the files of the page."""
+        Browser.port_of_tests = Browser.port_of_tests or ports.Reserved()
+        return Browser.port_of_tests.free_number()
+
     def setUp(self) -> None:
         super().setUp()
         self.start_browser()
+        self.forget()
         self.driver.get_log("browser")
         if self.is_opened and not hasattr(getattr(self, self._testMethodName), "opens_the_page"):
             self.load()
+
+    def forget(self) -> None:
+        """Closes the windows of the last test, and removes what the browser stored for it. The cached files of the page stay. The
+        address without a token shows no page that could store something again."""
+        for window in self.driver.window_handles[1:]:
+            self.driver.switch_to.window(window)
+            self.driver.close()
+        self.driver.switch_to.window(self.driver.window_handles[0])
+        self.driver.get(f"http://127.0.0.1:{self.port}/")
+        self.run_script("localStorage.clear(); sessionStorage.clear()")
 
     def tearDown(self) -> None:
         """Nothing went wrong in the page, whatever the network did."""
