@@ -1,5 +1,7 @@
 """What the page says when there is nothing or something wrong, in a real browser."""
 
+from functools import partial
+
 import test_page_in_browser
 from browser_keys import BACKSPACE, CONTROL, DOWN, END, F8, HOME
 
@@ -150,13 +152,16 @@ class FaultList(test_page_in_browser.Browser):
         self.assertTrue(self.run_script("return document.getElementById('count').disabled"))
         self.edit(0, 1, "X:1", "K:C", "C - C", "", "X:2", "K:C", "C &")
         self.load()
-        places = []
-        for _ in range(3):
+        self.wait(lambda: self.text("count") == "2 faults")
+        for place in ("Line 3, column 3", "Line 7, column 3", "Line 3, column 3"):
             self.driver.find_element("id", "count").click()
-            places.append(self.run_script(PLACE))
-        self.assertEqual(places, ["Line 3, column 3", "Line 7, column 3", "Line 3, column 3"])
+            self.wait(partial(self.is_at, place))
         self.press(F8)
         self.wait(lambda: self.run_script(PLACE) == "Line 7, column 3")
+
+    def is_at(self, place: str) -> bool:
+        """Whether the page says that the caret is at this place."""
+        return bool(self.run_script(PLACE) == place)
 
     def test_the_line_at_the_bottom(self) -> None:
         """It has the keys, and the place of the caret."""

@@ -20,7 +20,8 @@ import trial
 from abc2midi_live_clients import page_server
 
 START = """import sys
-from abc2midi_live_clients import page_server
+from abc2midi_live_clients import opening_page, page_server
+opening_page.SECONDS_TO_ANSWER = {seconds}
 page_server.SECONDS_ALONE = {alone}
 sys.exit(page_server.main())
 """
@@ -46,7 +47,7 @@ class Opening(trial.Folder):
 
     def start(self, alone: float = 60) -> subprocess.Popen[str]:
         """Starts the page as a desktop does."""
-        words = [sys.executable, "-c", START.format(alone=alone), str(self.book), "--open", "--no-hints"]
+        words = [sys.executable, "-c", START.format(alone=alone, seconds=trial.SECONDS), str(self.book), "--open", "--no-hints"]
         words += ["--port", "0", "--library", trial.library]
         page = subprocess.Popen(words, env=self.environment, stdout=subprocess.PIPE, stderr=subprocess.PIPE, text=True)
         self.limit(page)

@@ -119,7 +119,7 @@ class Undo(test_page_in_browser.Browser):
         self.path.write_text("\n".join([*written, "A"]))
         self.answer("Load the book from disk")
         self.shows("\n".join([*written, "A"]))
-        self.assertIn("Ctrl-Z takes that back", self.text("status"))
+        self.wait(lambda: "Ctrl-Z takes that back" in self.text("status"))
         self.press("z", CONTROL)
         self.wait_for_lines(*lines[:-1], "DEgF")
         self.put("a")

@@ -307,7 +307,7 @@ class Staves(test_page_in_browser.Browser):
         self.assertEqual(self.run_script(BUSY), ["false", 1])
         self.run_script(ASKED)
         self.type("D")
-        self.assertEqual(self.run_script(BUSY)[0], "true")
+        self.wait(lambda: self.run_script(BUSY)[0] == "true")
         self.wait(lambda: self.run_script(BUSY)[1] < 0.5)
         self.assertEqual(self.run_script("return asked"), 0)
         self.start(str(self.path), port=str(self.port))
@@ -335,7 +335,7 @@ class OtherPrograms(Programs, test_page_in_browser.Browser):
 
     def test_typing_goes_on(self) -> None:
         """An `abcm2ps` that hangs holds nothing up."""
-        self.draw_by("while :; do :; done")
+        self.draw_by("exec sleep 1000")
         self.run_script(ASKED)
         self.type("X:1\nK:C\nC")
         self.wait(lambda: self.run_script("return asked") == 1)
