@@ -9,18 +9,22 @@ import re
 import select
 import socket
 from collections.abc import Callable
+from contextlib import suppress
 from http.server import BaseHTTPRequestHandler
-from typing import TYPE_CHECKING, Any, Optional
+from typing import TYPE_CHECKING, Any, Optional, Union
 
 from .rows import Json
 from .served_files import CACHED_FOR_A_YEAR
 from .shared_book import WINDOW, Refused
+from .web_socket import BadFrame, WebSocket, answering_headers, asks_for_socket
 
 if TYPE_CHECKING:
     from .page_server import Server
 
 MOST_BYTES = 1 << 25  # of an edit
+MOST_OF_A_MESSAGE = 1 << 17  # bytes; what is longer comes as a request
 SECONDS_OF_SILENCE = 3  # after which a window hears that the server is there; server.js waits longer
+MIDI_NAME = r"midi/([0-9]{1,9})"
 STORED = {"Content-Disposition": "attachment"}  # a name here would go before that of the link in the page
 SAFE = {
     "Cache-Control": "no-store",
@@ -131,7 +135,7 @@ class Request(BaseHTTPRequestHandler):
         if name is None:  # the page names its files from below the token
             self.send(b"", "text/plain", {"Location": f"/{self.server.token}/"}, 308)
             return
-        midi = re.fullmatch(r"midi/([0-9]{1,9})", name)
+        midi = re.fullmatch(MIDI_NAME, name)
         changes = re.fullmatch(r"changes/([0-9]{1,15})", name)
         news = re.fullmatch(rf"(events|news)/([0-9]{{1,15}})/({WINDOW.pattern})", name, re.ASCII)
         book = self.server.book
@@ -152,6 +156,8 @@ class Request(BaseHTTPRequestHandler):
             self.send_json(book.changes_after(int(changes[1])))
         elif news and news[1] == "events":
             self.send_events(int(news[2]), news[3])
+        elif name == "socket":
+            self.answer_messages()
         elif news:
             self.send_json(book.news_for(int(news[2]), news[3]))
         elif not self.is_sound(name):
@@ -195,13 +201,7 @@ class Request(BaseHTTPRequestHandler):
             raise Refused(413, f"an edit has at most {MOST_BYTES} bytes")
         data = self.rfile.read(int(length))
         self.close_connection = self.is_last or len(data) < int(length)
-        try:
-            asked = json.loads(data) if len(data) == int(length) else None
-        except (ValueError, RecursionError):
-            asked = None
-        if not isinstance(asked, dict):
-            raise Refused(400, "this is no whole request")
-        return asked
+        return object_in(data if len(data) == int(length) else b"")
 
     def send(self, data: bytes, kind: str, more: Optional[dict[str, str]] = None, status: int = 200) -> None:
         """Sends an answer, with more headers where some are given. It goes with its headers: else other threads run between the two."""
@@ -218,7 +218,7 @@ class Request(BaseHTTPRequestHandler):
 
     def send_json(self, answer: Json, status: int = 200) -> None:
         """Sends an object."""
-        self.send(json.dumps(answer, separators=(",", ":")).encode(), "application/json", status=status)
+        self.send(compact(answer).encode(), "application/json", status=status)
 
     def send_events(self, seen: int, name: str) -> None:
         """Sends each change after a version, and the state of the book, for as long as the window is open: an object a line, and
@@ -243,6 +243,35 @@ class Request(BaseHTTPRequestHandler):
         finally:
             book.end_stream()
 
+    def answer_messages(self) -> None:
+        """Answers the messages of a window for as long as it is open. A browser takes milliseconds less for a message than for a request."""
+        if not asks_for_socket(self.headers):
+            raise Refused(426, "This address is for a WebSocket.")
+        self.close_connection = True
+        self.send_response(101)
+        for header, value in answering_headers(self.headers).items():
+            self.send_header(header, value)
+        self.end_headers()
+        self.connection.settimeout(None)
+        messages = WebSocket(self.rfile, self.wfile, MOST_OF_A_MESSAGE)
+        with suppress(BadFrame):  # whoever sent it finds the end of the connection
+            for message in messages.messages():
+                messages.send(self.answer_to(message))
+
+    def answer_to(self, message: bytes) -> Union[str, bytes]:
+        """What answers a message: an object with the number of the message; or four bytes with that number, and a MIDI file."""
+        number, name, body = message_in(message)
+        midi = re.fullmatch(MIDI_NAME, name)
+        try:
+            if midi:
+                return number.to_bytes(4, "big") + self.server.book.midi(int(midi[1]))
+            follow = {"edit": self.server.book.edit, "view": self.server.book.view}.get(name)
+            if follow is None:
+                raise Refused(404, "There is nothing of that name.")
+            return compact({"number": number, "status": 200, "answer": follow(body)})
+        except Refused as refused:
+            return compact({"number": number, "status": refused.status, "answer": refused.answer})
+
     def is_closed(self) -> bool:
         """Whether the window was closed, which shows only in a connection that is looked at."""
         readable, _, _ = select.select([self.connection], [], [], 0)
@@ -250,3 +279,31 @@ class Request(BaseHTTPRequestHandler):
 
     def log_message(self, *_: Any) -> None:
         """Says nothing: an address has the token in it."""
+
+
+def object_in(data: bytes) -> Json:
+    """The object that bytes are."""
+    try:
+        asked = json.loads(data)
+    except (ValueError, RecursionError):
+        asked = None
+    if not isinstance(asked, dict):
+        raise Refused(400, "this is no whole request")
+    return asked
+
+
+def message_in(data: bytes) -> tuple[int, str, Json]:
+    """The number, the name and the body of a message. Raises BadFrame."""
+    try:
+        asked = object_in(data)
+    except Refused as error:
+        raise BadFrame(str(error)) from error
+    number, name, body = asked.get("number"), asked.get("name"), asked.get("body")
+    if type(number) is int and 0 <= number < 1 << 32 and isinstance(name, str) and isinstance(body, dict):
+        return number, name, body
+    raise BadFrame("a message has a number, a name and a body")
+
+
+def compact(answer: Json) -> str:
+    """An object as JSON, without blanks."""
+    return json.dumps(answer, separators=(",", ":"))

@@ -1,20 +1,29 @@
 // The server: how it is asked; and how it proves, after a loss, that it is the one of this book, before it is asked anything
 // else. Another program may have taken its port.
 
+import { Socket } from "./socket.js";
+
+/** @typedef {import("./socket.js").Answer} Answer */
+
 const PATIENCE = 5000; // milliseconds for a proof
 const SILENCE = 8000; // milliseconds without a word, after which the server counts as lost: it says one every three seconds
 /** @type {{ timeout: (milliseconds: number) => AbortSignal }} */
 const signals = /** @type {any} */ (AbortSignal); // the types of an older compiler lack `timeout`
 const NO_ANSWER = "it does not answer";
+const OK = 200; // a status
+const QUICK = /^(edit|view|midi\/\d+)$/; // what is asked through a socket: its answer takes milliseconds
 
 export class Server {
-  /** `key` is the secret of the book, which came with the page.
-   * @param {{ pathname: string, port: string }} location
+  /** `key` is the secret of the book, which came with the page. Without a `host` no socket is opened.
+   * @param {{ pathname: string, port: string, host?: string }} location
    * @param {string} key */
-  constructor({ pathname, port }, key) {
+  constructor({ pathname, port, host = "" }, key) {
     this.token = pathname.split("/")[1];
     this.port = port || "80";
+    this.host = host;
     this.key = key;
+    /** @type {Socket | null} */
+    this.socket = null; // while the window hears what happens to the book
     this.lost = new AbortController(); // ends what was asked of a server that was lost since
     this.renewed = () => {}; // the server was started again: it has another token
     this.called = "server";
@@ -37,6 +46,8 @@ export class Server {
    * @param {object} [body]
    * @returns {Promise<any>} */
   async ask(name, body) {
+    const message = body && this.message(name, body);
+    if (message) return answerIn(await message);
     const answer = await fetchOrFail(this.address(name), this.lost.signal, body && { method: "POST", body: JSON.stringify(body) });
     return objectOf(answer);
   }
@@ -44,8 +55,26 @@ export class Server {
   /** The bytes of a file, or null.
    * @type {(name: string) => Promise<ArrayBuffer | null>} */
   async bytes(name) {
+    const message = this.message(name, {});
+    if (message) return message.then(({ status, answer }) => (status === OK ? answer : null));
     const answer = await fetchOrFail(this.address(name), this.lost.signal);
     return answer.ok ? answer.arrayBuffer() : null;
+  }
+
+  /** Asks through the socket; null if none is open, if the name is none for it, or if there is too much to ask.
+   * @type {(name: string, body: object) => Promise<Answer> | null} */
+  message(name, body) {
+    return this.socket?.isOpen && QUICK.test(name) ? this.socket.ask(name, body) : null;
+  }
+
+  /** Opens a socket. A browser may refuse that: then all is asked by requests.
+   * @type {() => Socket | null} */
+  connect() {
+    try {
+      return this.host ? new Socket(`ws://${this.host}${this.address("socket")}`, NO_ANSWER) : null;
+    } catch {
+      return null;
+    }
   }
 
   /** Hears the objects that the server sends, one after another; throws when it says no more, which also aborts `control`.
@@ -58,10 +87,13 @@ export class Server {
       timer = setTimeout(() => control.abort(), SILENCE);
     };
     wait();
+    /** @type {Socket | null} */
+    let socket = null;
     try {
       const answer = await fetchOrFail(this.address(name), control.signal);
       if (!answer.ok) await objectOf(answer);
       if (!answer.body) throw new Error(NO_ANSWER);
+      socket = this.socket = this.connect();
       const reader = answer.body.pipeThrough(new TextDecoderStream()).getReader();
       for (let rest = ""; ; ) {
         const { done, value } = await reader.read();
@@ -76,11 +108,13 @@ export class Server {
     } finally {
       clearTimeout(timer);
       control.abort();
+      socket?.close();
     }
   }
 
   /** What was asked of the server is given up. */
   lose() {
+    this.socket?.close();
     this.lost.abort();
     this.lost = new AbortController();
   }
@@ -139,8 +173,22 @@ async function objectOf(answer) {
   const object = await answer.json().catch(() => {
     throw new Error(NO_ANSWER);
   });
-  if (!answer.ok) throw Object.assign(new Error(object.error), { status: answer.status, told: object });
+  if (!answer.ok) throw refusal(answer.status, object);
   return object;
+}
+
+/** What a message brought, or an error with its status.
+ * @type {(told: Answer) => any} */
+function answerIn({ status, answer }) {
+  if (status !== OK) throw refusal(status, answer);
+  return answer;
+}
+
+/** The error of an answer.
+ * @param {number} status
+ * @param {{ error: string }} told */
+function refusal(status, told) {
+  return Object.assign(new Error(told.error), { status, told });
 }
 
 /** @type {(numbers: Uint8Array) => string} */
