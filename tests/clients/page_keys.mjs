@@ -119,12 +119,13 @@ const tests = {
     same([text.lines[10002], sheet.caret(), asked.measures], ["CDEF", { line: 10002, column: 4 }, 0]);
   },
 
-  "what is typed can be sent before it is drawn"() {
+  "what is typed can be sent before the page looks at it, and before it is drawn"() {
     const { text, sheet, area } = sheetOf(), acts = [];
-    sheet.written = () => acts.push(text.lines[10002]);
+    text.pended = () => acts.push(text.take().lines);
+    text.edited = () => acts.push("edited");
     sheet.layers.push({ draw: () => acts.push("drawn") });
     area.type("F");
-    same(acts, ["CDEF", "drawn"]);
+    same(acts, [["CDEF"], "edited", "drawn"]);
   },
 
   "a list of tunes that is shown again asks for no measures, and writes only rows that changed"() {

@@ -107,10 +107,10 @@ export class Application {
 
   connectText() {
     const { text, sheet, findings, link, staves, music } = this;
+    text.pended = () => void link.send(); // first: the server works while the page draws
     text.edited = (...edit) => this.edited(...edit);
     sheet.faultsOf = (first, last) => findings.remarksIn(first, last);
     sheet.composed = (isComposing) => link.hold(isComposing);
-    sheet.written = () => void link.send();
     sheet.placed = (place) => {
       this.status.place(place);
       this.brackets.show(place);

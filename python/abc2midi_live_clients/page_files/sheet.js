@@ -46,7 +46,6 @@ export class Sheet {
     this.moved = () => {}; // the caret is in another line, or lines became others
     /** @type {(place: Place) => void} */
     this.placed = () => {}; // the place of the caret
-    this.written = () => {}; // what was typed is in the text, and not drawn yet
     /** @type {(faults: FaultRow[], event?: PointerEvent) => void} */
     this.pointed = () => {};
     /** @type {Selection | null} */
@@ -246,7 +245,6 @@ export class Sheet {
     this.last += edit.put.length - (edit.stop - edit.start);
     const from = this.first + edit.start;
     this.text.edit(from, this.first + edit.stop, edit.put, before, this.typed());
-    this.written();
     this.draw();
     this.watch();
   }

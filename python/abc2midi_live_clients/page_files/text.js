@@ -32,6 +32,7 @@ export class Text {
     this.history = new History();
     /** @type {Region | null} */
     this.pending = null; // the region that the server does not have
+    this.pended = () => {}; // an edit of this window is pending: called before `edited`
     /** @type {(start: number, stop: number, count: number) => void} */
     this.edited = () => {}; // start, stop, count: called after each edit
     /** @type {(edit: Replacement) => void} */
@@ -113,6 +114,7 @@ export class Text {
     const count = edits.reduce((sum, { taken, put }) => sum + put.length - taken.length, stop - start);
     this.pending = grown(this.pending, this.lines, { start, stop, count });
     this.lines = applyEdits(this.lines, edits);
+    this.pended();
     this.edited(start, stop, count);
     if (isElsewhere) edits.forEach((edit) => this.followed(edit));
   }
