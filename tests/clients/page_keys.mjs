@@ -11,7 +11,7 @@ const { Colours } = await from("colours");
 const { show, write } = await from("elements");
 const { Findings } = await from("findings");
 const { onceAFrame } = await from("frames");
-const { Layer } = await from("layer");
+const { Layer, rowOf } = await from("layer");
 const { replaced } = await from("lines");
 const { Remarks } = await from("remarks");
 const { Roll } = await from("roll");
@@ -25,7 +25,7 @@ const { Tunes } = await from("tunes");
 const MEASURES = ["scrollTop", "scrollLeft", "scrollWidth", "clientHeight", "clientWidth", "offsetWidth", "offsetHeight"];
 const BOOK = Array.from({ length: 5000 }, (_, n) => [`X:${n + 1}`, "K:C", "CDE", ""]).flat();
 const ROWS = Array.from({ length: 5000 }, (_, n) => [4 * n, n + 1, `Tune ${n + 1}`, true]);
-const NOTE = KINDS.indexOf("Note");
+const NOTE = KINDS.indexOf("Note"), BAR = KINDS.indexOf("BarLine");
 
 /** @type {(() => void)[]} */
 let frames = [];
@@ -88,20 +88,59 @@ function layerOf() {
   const count = { made: 0, removed: 0 }, children = [], layer = new Layer({ area: { before() {} }, first: 0, height: 20 }, "rows");
   const insertBefore = (row, next) => children.splice(next ? children.indexOf(next) : children.length, 0, row);
   layer.element = { style: {}, children, insertBefore };
-  const rowOf = (key) => {
+  const make = (key) => {
     count.made += 1;
     const remove = () => {
       count.removed += 1;
       children.splice(children.indexOf(row), 1);
     };
-    const row = { key, remove };
+    const row = { childNodes: [textNode(String(key))], remove };
     return row;
   };
   const draw = (keys) => {
-    layer.draw(0, keys, (n) => rowOf(keys[n]));
-    same(children.map(({ key }) => key).join(" "), keys.join(" "));
+    layer.draw(0, keys, (n) => make(keys[n]));
+    same(children.map(({ childNodes }) => childNodes[0].nodeValue).join(" "), keys.join(" "));
   };
   return { draw, count };
+}
+
+/** An element that has other nodes in it, or words. */
+class Part {
+  constructor() {
+    Object.assign(this, { nodeType: 1, className: "", textContent: "", style: {}, childNodes: [] });
+  }
+
+  get children() {
+    return this.childNodes;
+  }
+
+  append(...parts) {
+    this.childNodes.push(...parts.map((part) => (typeof part === "string" ? textNode(part) : part)));
+  }
+
+  removeChild(node) {
+    this.childNodes = this.childNodes.filter((one) => one !== node);
+  }
+
+  insertBefore(node, next) {
+    this.childNodes.splice(next ? this.childNodes.indexOf(next) : this.childNodes.length, 0, node);
+  }
+}
+
+/** A text in an element. */
+function textNode(words) {
+  return { nodeType: 3, nodeValue: words, get textContent() { return this.nodeValue; } };
+}
+
+/** Draws a line as the only row of a layer; the nodes of the row. */
+function rowsOfOneLine() {
+  document.createElement = () => new Part();
+  const layer = new Layer({ area: { before() {} }, first: 0, height: 20 }, "rows");
+  return (line, parts) => {
+    layer.draw(0, [`${parts} ${line}`], () => rowOf(line, parts));
+    same(layer.element.children.length, 1);
+    return [...layer.element.children[0].childNodes];
+  };
 }
 
 /** A roll of four octaves over an element that counts what it is asked. */
@@ -306,13 +345,22 @@ const tests = {
     const seen = new Seen(text, link, { ask: async () => ({}) });
     const colours = new Colours(sheet, seen), drawn = [];
     colours.layer.draw = (_, keys) => drawn.push(keys);
-    const view = (to) => ({ from: 10000, to: 10004, tokens: [[], [], [0, 1, NOTE, 0, 1, to, NOTE, 0], []], tune: null, play: null });
-    for (const to of [3, 3, 2]) {
-      seen.learn(view(to), 1);
+    const view = (to, kind) => ({ from: 10000, to: 10004, tokens: [[], [], [0, 1, NOTE, 0, 1, to, kind, 0], []], tune: null, play: null });
+    for (const [to, kind] of [[3, NOTE], [3, NOTE], [2, NOTE], [2, BAR]]) {
+      seen.learn(view(to, kind), 1);
       colours.show(10000, 10004);
     }
     clearTimeout(seen.timer);
-    same([2, 4].map((n) => drawn[n + 1].map((row, at) => row === drawn[1][at])), [[true, true, true, true], [true, true, false, true]]);
+    const kept = [2, 4, 6].map((n) => drawn[n + 1].map((row, at) => row === drawn[1][at]));
+    same(kept, [[true, true, true, true], [true, true, true, true], [true, true, false, true]]); // notes have no colour
+  },
+
+  "a row that becomes another one keeps the nodes that show the same"() {
+    const drawn = rowsOfOneLine(), first = drawn("CDE|", [[3, 4, "barline"]]), [text, bar] = first;
+    same([drawn("CDEF|", [[4, 5, "barline"]]).map((node, n) => node === first[n]), text.nodeValue, bar.textContent], [[true, true], "CDEF", "|"]);
+    const next = drawn("|CDEF|", [[0, 1, "barline"], [5, 6, "barline"]]);
+    same([next.map((node) => first.includes(node)), next.map(({ textContent }) => textContent)], [[false, true, true], ["|", "CDEF", "|"]]);
+    same([drawn("", []), drawn("C", []).length], [[], 1]);
   },
 
   "what is to be done in a frame is done once, and again in a later one"() {

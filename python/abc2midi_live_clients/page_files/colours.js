@@ -3,7 +3,9 @@
 
 import { Layer, rowOf } from "./layer.js";
 
-/** @typedef {[start: number, end: number, name: string]} Part */
+/** @typedef {[start: number, end: number, name: string]} Part
+ * A line with its parts. The key is the same if both are the same.
+ * @typedef {{ line: string, parts: Part[], key: string }} Row */
 
 const MOST = 5000; // characters of a line that is coloured
 /** @type {Record<string, string>} */
@@ -34,6 +36,12 @@ function partsOfToken(line, { from, to, kind }) {
   return !name || (kind === "NoEffect" && !SIGNS.includes(line[from])) ? [] : [[from, to, name]];
 }
 
+/** @type {(line: string, tokens: import("./seen.js").Token[]) => Row} */
+function coloured(line, tokens) {
+  const parts = partsOf(line, tokens);
+  return { line, parts, key: `${parts.join()} ${line}` };
+}
+
 export class Colours {
   /** @param {import("./sheet.js").Sheet} sheet
    * @param {import("./seen.js").Seen} seen */
@@ -41,7 +49,7 @@ export class Colours {
     this.sheet = sheet;
     this.seen = seen;
     this.layer = new Layer(sheet, "colours");
-    /** @type {WeakMap<import("./seen.js").Token[], { line: string, parts: Part[] }>} */
+    /** @type {WeakMap<import("./seen.js").Token[], Row>} */
     this.known = new WeakMap(); // by the tokens of a line
     sheet.layers.push(this);
     seen.hearers.push(() => this.show(...sheet.drawn));
@@ -57,14 +65,14 @@ export class Colours {
   /** @type {(first: number, last: number) => void} */
   show(first, last) {
     const rows = this.sheet.text.lines.slice(first, last).map((line, n) => this.coloured(line, this.seen.tokensOf(first + n) ?? NONE));
-    this.layer.draw(first, rows, (n) => rowOf(rows[n].line, rows[n].parts));
+    this.layer.draw(first, rows.map(({ key }) => key), (n) => rowOf(rows[n].line, rows[n].parts));
   }
 
-  /** A line with its parts: the same object as long as both are the same.
-   * @type {(line: string, tokens: import("./seen.js").Token[]) => { line: string, parts: Part[] }} */
+  /** A line with its parts.
+   * @type {(line: string, tokens: import("./seen.js").Token[]) => Row} */
   coloured(line, tokens) {
     let known = this.known.get(tokens);
-    if (known?.line !== line) this.known.set(tokens, (known = { line, parts: partsOf(line, tokens) }));
+    if (known?.line !== line) this.known.set(tokens, (known = coloured(line, tokens)));
     return known;
   }
 }

@@ -1,6 +1,8 @@
 // A layer below the text area, with a row for each line about those that are seen.
 
-import { difference } from "./lines.js";
+import { commonEnds, difference } from "./lines.js";
+
+const TEXT = 3; // the type of a node
 
 export class Layer {
   /** @param {import("./sheet.js").Sheet} sheet
@@ -26,6 +28,7 @@ export class Layer {
    * @type {(edit: { start: number, stop: number, put: unknown[] }, old: unknown[], make: (n: number) => Node) => void} */
   change({ start, stop, put }, old, make) {
     const rows = [...this.element.children], wanted = new Set(put);
+    if (put.length === 1 && stop - start === 1) return patch(rows[start], make(start));
     let at = start; // of the next row that is there
     for (const [n, key] of put.entries()) {
       while (at < stop && !wanted.has(old[at])) rows[at++].remove();
@@ -41,15 +44,33 @@ export class Layer {
   }
 }
 
+/** Makes a row show what another one shows. Nodes that show the same stay, so the browser lays out less.
+ * @type {(row: Node, next: Node) => void} */
+function patch(row, next) {
+  const old = [...row.childNodes], now = [...next.childNodes], { front, back } = commonEnds(old.map(wordsOf), now.map(wordsOf));
+  const gone = old.slice(front, old.length - back), come = now.slice(front, now.length - back);
+  if (gone.length === 1 && come.length === 1 && gone[0].nodeType === TEXT && come[0].nodeType === TEXT) {
+    gone[0].nodeValue = come[0].nodeValue;
+    return;
+  }
+  for (const node of gone) row.removeChild(node);
+  for (const node of come) row.insertBefore(node, old[old.length - back] ?? null);
+}
+
+/** What a node shows.
+ * @type {(node: Node) => string} */
+const wordsOf = (node) => `${"className" in node ? node.className : ""}|${node.textContent}`;
+
 /** A row of a line, with some parts of it in elements: [start, end, class].
  * @type {(line: string, parts: [start: number, end: number, className: string][]) => HTMLElement} */
 export function rowOf(line, parts) {
   const row = document.createElement("div");
   let at = 0;
   for (const [start, end, className] of parts) {
-    row.append(line.slice(at, start), Object.assign(document.createElement("span"), { className, textContent: line.slice(start, end) }));
+    if (at < start) row.append(line.slice(at, start));
+    row.append(Object.assign(document.createElement("span"), { className, textContent: line.slice(start, end) }));
     at = end;
   }
-  row.append(line.slice(at));
+  if (at < line.length) row.append(line.slice(at));
   return row;
 }

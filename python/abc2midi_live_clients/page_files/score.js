@@ -102,7 +102,7 @@ export class Score {
   /** @type {(place: Place) => void} */
   caret(place) {
     this.at = place;
-    this.markSoon();
+    if (this.noteAt(place, false) !== this.here) this.markSoon();
   }
 
   /** @type {(places: Place[], scroll?: boolean) => void} */
