@@ -16,7 +16,7 @@ from typing import TYPE_CHECKING, Any, Optional, Union
 from .rows import Json
 from .served_files import CACHED_FOR_A_YEAR
 from .shared_book import WINDOW, Refused
-from .web_socket import BadFrame, WebSocket, answering_headers, asks_for_socket
+from .web_socket import BadMessage, WebSocket, answering_headers, asks_for_socket, version
 
 if TYPE_CHECKING:
     from .page_server import Server
@@ -228,7 +228,7 @@ class Request(BaseHTTPRequestHandler):
         try:
             self.close_connection = True
             self.send_response(200)
-            for header, value in {"Content-Type": "application/x-ndjson", "Connection": "close", **SAFE}.items():
+            for header, value in {"Content-Type": "application/x-ndjson", "Connection": "close", **version(), **SAFE}.items():
                 self.send_header(header, value)
             self.end_headers()
             last_state: Optional[Json] = None
@@ -246,7 +246,7 @@ class Request(BaseHTTPRequestHandler):
     def answer_messages(self) -> None:
         """Answers the messages of a window for as long as it is open. A browser takes milliseconds less for a message than for a request."""
         if not asks_for_socket(self.headers):
-            raise Refused(426, "This address is for a WebSocket.")
+            raise Refused(426, "This address is for a WebSocket, if there is python3-wsproto.")
         self.close_connection = True
         self.send_response(101)
         for header, value in answering_headers(self.headers).items():
@@ -254,7 +254,7 @@ class Request(BaseHTTPRequestHandler):
         self.end_headers()
         self.connection.settimeout(None)
         messages = WebSocket(self.rfile, self.wfile, MOST_OF_A_MESSAGE)
-        with suppress(BadFrame):  # whoever sent it finds the end of the connection
+        with suppress(BadMessage):  # whoever sent it finds the end of the connection
             for message in messages.messages():
                 messages.send(self.answer_to(message))
 
@@ -293,15 +293,15 @@ def object_in(data: bytes) -> Json:
 
 
 def message_in(data: bytes) -> tuple[int, str, Json]:
-    """The number, the name and the body of a message. Raises BadFrame."""
+    """The number, the name and the body of a message. Raises BadMessage."""
     try:
         asked = object_in(data)
     except Refused as error:
-        raise BadFrame(str(error)) from error
+        raise BadMessage(str(error)) from error
     number, name, body = asked.get("number"), asked.get("name"), asked.get("body")
     if type(number) is int and 0 <= number < 1 << 32 and isinstance(name, str) and isinstance(body, dict):
         return number, name, body
-    raise BadFrame("a message has a number, a name and a body")
+    raise BadMessage("a message has a number, a name and a body")
 
 
 def compact(answer: Json) -> str:

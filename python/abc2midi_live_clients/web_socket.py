@@ -1,99 +1,79 @@
-"""Messages of a browser over one connection, as RFC 6455 has them. A message costs a tenth of a request."""
+"""The messages of a window over one connection, a WebSocket (RFC 6455): a browser takes milliseconds less for a message than for a request.
+Debian's `python3-wsproto` reads and writes the frames. Without it there is no WebSocket, and a page asks by requests alone."""
 
-import hashlib
-import struct
-from base64 import b64encode
+from __future__ import annotations
+
 from collections.abc import Iterator
 from email.message import Message
-from typing import IO, NamedTuple, Optional, Union
+from importlib.util import find_spec
+from typing import IO, TYPE_CHECKING, Any, Union, cast
 
-KEY_END = b"258EAFA5-E914-47DA-95CA-C5AB0DC85B11"  # by RFC 6455
-VERSION = "13"
-CONTINUATION, TEXT, BINARY, CLOSE, PING, PONG = 0, 1, 2, 8, 9, 10  # kinds of frames
-LAST, MASKED = 0x80, 0x80  # bits of the first byte and of the second one
-SHORT, LONG = 126, 127  # lengths that say how many bytes the length has
+if TYPE_CHECKING:
+    from io import BufferedIOBase
 
-
-class BadFrame(Exception):
-    """What came is no frame of a browser, or it is too long."""
+VERSION = {"Sec-WebSocket-Version": "13"}  # a header that tells a page that it may ask for a WebSocket
+PIECE = 1 << 16  # bytes that are read at once
 
 
-class Frame(NamedTuple):
-    """A frame: whether it ends its message, its kind, and its data."""
+class BadMessage(Exception):
+    """A message is too long, or it asks for nothing."""
 
-    is_last: bool
-    kind: int
-    data: bytes
+
+def version() -> dict[str, str]:
+    """The header of the version of WebSockets that there are here, or nothing."""
+    return VERSION if find_spec("wsproto") else {}
 
 
 def asks_for_socket(headers: Message) -> bool:
-    """Whether a request asks for a WebSocket."""
-    return headers.get("Upgrade", "").lower() == "websocket" and headers.get("Sec-WebSocket-Version") == VERSION and "Sec-WebSocket-Key" in headers
+    """Whether a request asks for a WebSocket of a version that there is here."""
+    is_upgrade = headers.get("Upgrade", "").lower() == "websocket" and "Sec-WebSocket-Key" in headers
+    return is_upgrade and headers.get("Sec-WebSocket-Version") in version().values()
 
 
 def answering_headers(headers: Message) -> dict[str, str]:
     """The headers that accept a WebSocket."""
-    key = headers["Sec-WebSocket-Key"].strip().encode("latin-1")
-    accepted = b64encode(hashlib.sha1(key + KEY_END).digest()).decode()
+    from wsproto.utilities import generate_accept_token
+
+    accepted = generate_accept_token(headers["Sec-WebSocket-Key"].strip().encode("latin-1")).decode()
     return {"Upgrade": "websocket", "Connection": "Upgrade", "Sec-WebSocket-Accept": accepted}
 
 
-def frame(kind: int, data: bytes) -> bytes:
-    """The bytes of a frame that is a whole message."""
-    first = LAST | kind
-    if len(data) < SHORT:
-        return bytes([first, len(data)]) + data
-    if len(data) < 1 << 16:
-        return struct.pack(">BBH", first, SHORT, len(data)) + data
-    return struct.pack(">BBQ", first, LONG, len(data)) + data
-
-
-def unmasked(data: bytes, mask: bytes) -> bytes:
-    """The data under a mask of four bytes, which are repeated."""
-    masks = (mask * (len(data) // len(mask) + 1))[: len(data)]
-    return (int.from_bytes(data, "big") ^ int.from_bytes(masks, "big")).to_bytes(len(data), "big")
-
-
 class WebSocket:
-    """The messages of a connection, none of which is longer than `most`."""
+    """The messages of a connection, none of which has more than `most` bytes."""
 
     def __init__(self, reader: IO[bytes], writer: IO[bytes], most: int):
-        self.reader = reader
+        from wsproto import connection, events
+
+        self.known = events
+        self.reader = cast("BufferedIOBase", reader)  # of http.server, which may return less than it is asked for
         self.writer = writer
         self.most = most
+        self.connection: Any = connection.Connection(connection.ConnectionType.SERVER)
 
     def messages(self) -> Iterator[bytes]:
-        """The messages that come, until the connection ends. Raises BadFrame."""
+        """The messages that come, until the connection ends. Raises BadMessage."""
         message = b""
-        while (got := self.read_frame(self.most - len(message))) and got.kind != CLOSE:
-            if got.kind == PING:
-                self.writer.write(frame(PONG, got.data))
-            elif got.kind in (TEXT, BINARY, CONTINUATION):
-                message += got.data
-                if got.is_last:
+        for event in self._events():
+            if isinstance(event, self.known.Message):
+                message += event.data.encode() if isinstance(event, self.known.TextMessage) else bytes(event.data)
+                if len(message) > self.most:
+                    raise BadMessage(f"a message has at most {self.most} bytes")
+                if event.message_finished:
                     yield message
                     message = b""
 
-    def read_frame(self, most: int) -> Optional[Frame]:
-        """The next frame, None if the connection ends. Raises BadFrame."""
-        head = self.reader.read(2)
-        if len(head) < 2:
-            return None
-        if not head[1] & MASKED:
-            raise BadFrame("a browser masks its frames")
-        length = self.read_length(head[1] & ~MASKED)
-        if length > most:
-            raise BadFrame("the message is too long")
-        rest = self.reader.read(4 + length)
-        if len(rest) < 4 + length:
-            return None
-        return Frame(bool(head[0] & LAST), head[0] & 0x0F, unmasked(rest[4:], rest[:4]))
-
-    def read_length(self, first: int) -> int:
-        """The length of a frame, from what its second byte has of it."""
-        size = {SHORT: 2, LONG: 8}.get(first)
-        return int.from_bytes(self.reader.read(size), "big") if size else first
+    def _events(self) -> Iterator[Any]:
+        """What comes. A ping and the end are answered."""
+        while piece := self.reader.read1(PIECE):
+            self.connection.receive_data(piece)
+            for event in self.connection.events():
+                if isinstance(event, (self.known.Ping, self.known.CloseConnection)):
+                    self.writer.write(self.connection.send(event.response()))
+                if isinstance(event, self.known.CloseConnection):
+                    return
+                yield event
 
     def send(self, message: Union[str, bytes]) -> None:
         """Sends a message: text, or bytes."""
-        self.writer.write(frame(TEXT, message.encode()) if isinstance(message, str) else frame(BINARY, message))
+        event = self.known.TextMessage(message) if isinstance(message, str) else self.known.BytesMessage(message)
+        self.writer.write(self.connection.send(event))

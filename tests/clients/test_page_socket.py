@@ -8,14 +8,20 @@ import unittest
 from collections.abc import Iterator
 from contextlib import contextmanager
 from email.message import Message
+from importlib.util import find_spec
 from typing import Any, Optional
+from unittest import mock
 
+import browser
 import test_page
 import test_page_in_browser
 import trial
-from abc2midi_live_clients.web_socket import BINARY, TEXT, BadFrame, Frame, WebSocket, answering_headers, frame
+from abc2midi_live_clients import web_socket
+from abc2midi_live_clients.web_socket import BadMessage, WebSocket, answering_headers, version
+from forked_server import ForkedServer
 
 KEY, ACCEPTED = "dGhlIHNhbXBsZSBub25jZQ==", "s3pPLMBiTxaQ9kYGzzhZRbK+xOo="  # the example of RFC 6455
+TEXT, BINARY, CLOSE, PING = 1, 2, 8, 9  # kinds of frames
 MASK = b"\x37\xfa\x21\x3d"  # likewise
 NAMES = "return performance.getEntriesByType('resource').map(({ name }) => name.replace(/.*[/]([a-z]+)([/]\\d+)?$/, '$1'))"
 WATCHED = "window.sockets = []; window.WebSocket = class extends WebSocket { constructor(address) { super(address); sockets.push(this); } };"
@@ -25,6 +31,13 @@ def masked(kind: int, data: bytes, is_last: bool = True) -> bytes:
     """A frame of a browser."""
     length = bytes([0x80 | len(data)]) if len(data) < 126 else bytes([0x80 | 126]) + struct.pack(">H", len(data))
     return bytes([0x80 * is_last | kind]) + length + MASK + bytes(byte ^ MASK[n % 4] for n, byte in enumerate(data))
+
+
+def setUpModule() -> None:
+    """Skips all if the package is missing. Debian's packages may be those of this Python."""
+    browser.lacking()
+    if not find_spec("wsproto"):
+        raise unittest.SkipTest("python3-wsproto is not installed, or not for this Python")
 
 
 class Frames(unittest.TestCase):
@@ -40,34 +53,52 @@ class Frames(unittest.TestCase):
         headers["Sec-WebSocket-Key"] = KEY
         self.assertEqual(answering_headers(headers)["Sec-WebSocket-Accept"], ACCEPTED)
 
-    def test_frames_that_come(self) -> None:
+    def test_messages_that_come(self) -> None:
+        """They have any length up to the most, come in several frames, and nothing is read after the end."""
         hello = bytes.fromhex("818537fa213d7f9f4d5158")
-        self.assertEqual(self.socket(hello)[0].read_frame(5), Frame(True, TEXT, b"Hello"))
-        for length in (0, 125, 126, 65_535):
+        self.assertEqual(list(self.socket(hello, 5)[0].messages()), [b"Hello"])
+        self.assertEqual(list(self.socket(hello[:-1])[0].messages()), [])
+        for length in (1, 125, 126, 65_535):
             data = bytes(n % 251 for n in range(length))
-            self.assertEqual(self.socket(masked(BINARY, data))[0].read_frame(length), Frame(True, BINARY, data), length)
-        self.assertIsNone(self.socket(hello[:-1])[0].read_frame(5))
+            self.assertEqual(list(self.socket(masked(BINARY, data), length)[0].messages()), [data], length)
+        parts = masked(TEXT, b"Hel", False) + masked(PING, b"Hello") + masked(0, b"lo")
+        messages, answers = self.socket(parts + masked(BINARY, b"\xff") + masked(CLOSE, b"\x03\xe8") + masked(TEXT, b"late"))
+        self.assertEqual((list(messages.messages()), answers.getvalue()), ([b"Hello", b"\xff"], b"\x8a\x05Hello\x88\x02\x03\xe8"))
 
-    def test_frames_that_go(self) -> None:
-        self.assertEqual(frame(TEXT, b"Hello"), b"\x81\x05Hello")
-        self.assertEqual(frame(BINARY, bytes(256))[:5], bytes.fromhex("827e010000"))
-        self.assertEqual(frame(BINARY, bytes(65_536))[:11], bytes.fromhex("827f000000000001000000"))
+    def test_messages_that_go(self) -> None:
+        for length, head in ((5, "8205"), (256, "827e0100"), (65_536, "827f0000000000010000")):
+            messages, answers = self.socket(b"")
+            messages.send(bytes(length))
+            self.assertEqual(answers.getvalue(), bytes.fromhex(head) + bytes(length))
+        messages, answers = self.socket(b"")
+        messages.send("Hello")
+        self.assertEqual(answers.getvalue(), b"\x81\x05Hello")
 
-    def test_messages(self) -> None:
-        """One may come in several frames, with a ping between them, which is answered. Nothing is read after the end."""
-        parts = masked(1, b"Hel", False) + masked(9, b"Hello") + masked(0, b"lo")
-        messages, answers = self.socket(parts + masked(2, b"\xff") + masked(8, b"") + masked(1, b"late"))
-        self.assertEqual((list(messages.messages()), answers.getvalue()), ([b"Hello", b"\xff"], b"\x8a\x05Hello"))
+    def test_without_the_package(self) -> None:
+        """A page does not ask for a socket."""
+        self.assertEqual(version(), {"Sec-WebSocket-Version": "13"})
+        with mock.patch.object(web_socket, "find_spec", lambda _: None):
+            self.assertEqual(version(), {})
 
-    def test_frames_that_are_refused(self) -> None:
-        """A message that is too long, also in parts, and one without a mask."""
-        for sent in (masked(1, b"12345"), masked(1, b"123", False) + masked(0, b"45"), b"\x81\x85"[:1] + b"\x05Hello"):
-            with self.assertRaises(BadFrame):
+    def test_what_is_too_long(self) -> None:
+        """A message, also in parts."""
+        for sent in (masked(TEXT, b"12345"), masked(TEXT, b"123", False) + masked(0, b"45")):
+            with self.assertRaises(BadMessage):
                 list(self.socket(sent, 4)[0].messages())
+
+    def test_frames_that_no_browser_sends(self) -> None:
+        """They end the connection, with a reason: one without a mask, and text that is not UTF-8."""
+        for sent, status in ((b"\x81\x05Hello", 1002), (masked(TEXT, b"\xff"), 1007)):
+            messages, answers = self.socket(sent + masked(TEXT, b"late"))
+            self.assertEqual(list(messages.messages()), [])
+            self.assertEqual((answers.getvalue()[:1], answers.getvalue()[2:4]), (b"\x88", struct.pack(">H", status)))
 
 
 class Messages(test_page.Page):
-    """What the server answers to messages."""
+    """What the server answers to messages. It is a fork, which has the packages of this process."""
+
+    def begun(self, words: list[str], environment: dict[str, str], _: int) -> ForkedServer:
+        return ForkedServer(words, environment)
 
     def head(self, **more: Optional[str]) -> bytes:
         """A request for a socket, with some headers otherwise."""
@@ -95,7 +126,7 @@ class Messages(test_page.Page):
         _, length = stream.read(2)
         return bytes(stream.read(int.from_bytes(stream.read(2), "big") if length == 126 else length))
 
-    def told(self, stream: Any, name: str, body: Any) -> Any:
+    def object_of(self, stream: Any, name: str, body: Any) -> Any:
         """The object that answers a message."""
         return json.loads(self.answer(stream, name, body))
 
@@ -104,15 +135,15 @@ class Messages(test_page.Page):
         known = {"run": self.ask("state")["run"], "version": 0}
         sight = {"from": 3, "to": 4, "tune": 1}
         with self.connected() as stream:
-            viewed = self.told(stream, "view", {**known, "sees": sight})
+            viewed = self.object_of(stream, "view", {**known, "sees": sight})
             self.assertEqual(viewed, {"number": 7, "status": 200, "answer": self.ask("view", {**known, "sees": sight})})
             self.assertEqual(self.answer(stream, "midi/1", {}, 258), b"\x00\x00\x01\x02" + self.request("midi/1")[2])
-            made = self.told(stream, "edit", {**known, "start": 3, "stop": 4, "lines": ["é"]})
+            made = self.object_of(stream, "edit", {**known, "start": 3, "stop": 4, "lines": ["é"]})
             self.assertEqual((made["status"], made["answer"]), (200, self.ask("news/0/window")["changes"][0]))
             self.assertEqual(self.book()["lines"][3], "é")
-            late = self.told(stream, "edit", {**known, "start": 3, "stop": 4, "lines": ["C"]})
+            late = self.object_of(stream, "edit", {**known, "start": 3, "stop": 4, "lines": ["C"]})
             self.assertEqual((late["status"], late["answer"]["version"]), (409, 1))
-            self.assertEqual([self.told(stream, name, {})["status"] for name in ("midi/3", "midi/x", "save", "book")], [404] * 4)
+            self.assertEqual([self.object_of(stream, name, {})["status"] for name in ("midi/3", "midi/x", "save", "book")], [404] * 4)
         self.finish()
 
     def test_messages_that_are_none(self) -> None:

@@ -93,7 +93,7 @@ export class Server {
       const answer = await fetchOrFail(this.address(name), control.signal);
       if (!answer.ok) await objectOf(answer);
       if (!answer.body) throw new Error(NO_ANSWER);
-      socket = this.socket = this.connect();
+      socket = this.socket = answer.headers.has("Sec-WebSocket-Version") ? this.connect() : null;
       const reader = answer.body.pipeThrough(new TextDecoderStream()).getReader();
       for (let rest = ""; ; ) {
         const { done, value } = await reader.read();
