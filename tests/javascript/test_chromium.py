@@ -12,6 +12,11 @@ import common
 from file_server import FileServer
 
 AT_ONCE = 50  # conversations in one call of the driver
+SLOW_TUNE = "X:1\nL:1/1\nQ:1/4=4\nK:C\nC -\u00e9"  # its note sounds for a minute
+SLOW_SPANS = ["X:1 NumberField", "L:1/1 OtherField", "Q:1/4=4 OtherField", "K:C KeyField", "C Note", "  Blank", "- Tie fault", "\u00e9 BadByte fault"]
+# On a machine without a loudspeaker the clock of sound does not run.
+CLOCK = "Object.defineProperty(AudioContext.prototype, 'currentTime', { get: () => performance.now() / 1000 });"
+SPANS = "return [...document.querySelectorAll('#colours span')].map((one) => `${one.textContent} ${one.className}`);"
 MEMORY = """
 const { Engine, Session } = await import("/package/index.js");
 const engine = await Engine.load();
@@ -102,6 +107,21 @@ class InChromium(common.Room):
         area.send_keys("%")
         browser.wait(lambda: not faults.text)
         self.assertIsNone(link.get_attribute("href"))  # an empty one would download the page itself
+
+    def test_the_example(self) -> None:
+        """The page javascript/example.html colours tokens, marks the faults of what is typed, and marks the note that sounds."""
+        shutil.copy(common.TOP / "javascript/example.html", self.folder)
+        shutil.copytree(common.package, self.folder / "abc2midi-live")
+        self.driver.get(f"{self.address}/example.html")
+        browser.wait(lambda: self.driver.execute_script(SPANS))
+        area, faults, play = (self.driver.find_element("id", name) for name in ("abc", "faults", "play"))
+        area.clear()
+        area.send_keys(SLOW_TUNE)
+        browser.wait(lambda: self.driver.execute_script(SPANS) == SLOW_SPANS)
+        self.assertEqual([row.partition(" ")[0] for row in faults.text.splitlines()], ["5:3", "5:4"])
+        self.driver.execute_script(CLOCK)
+        play.click()
+        browser.wait(lambda: "C Note now" in self.driver.execute_script(SPANS))
 
     def test_nothing_is_written_to_the_console(self) -> None:
         self.value_of('const { Session } = await import("/package/index.js"); (await Session.open()).setText(book);', "X:1\nK:C\nC\n")
