@@ -64,6 +64,10 @@ class Outline(Editor):
         found = self.of_book("documentSymbol")
         self.assertEqual(tree(found), [("1", ["section 1", "section 2"]), "2"])
         self.assertEqual([each["range"] for each in found[0]["children"]], [span(4, 0, 4, 8), span(5, 0, 5, 11)])
+        for bar in ("|]", "||", "[|", ":|"):
+            self.open(f"X:1\nK:C\nC|D{bar}\nE|\n")
+            found = self.of_book("documentSymbol")[0]["children"]
+            self.assertEqual([each["range"] for each in found], [span(2, 0, 2, 5), span(3, 0, 3, 1)], bar)
 
     def test_folding(self) -> None:
         self.open(SECTIONS)

@@ -45,6 +45,7 @@ MENDED = [
     ("NestedTuplet", "X:1\nK:C\n(5:4:5CDE(3EFG|\n", "X:1\nK:C\n(5:4:3CDE(3EFG|\n", False),
     ("BadBroken", "X:1\nK:C\nA2>|B|\n", "X:1\nK:C\nA3|B/2|\n", False),
     ("BadBroken", "X:1\nK:C\nA/<<|[CE]//|\n", "X:1\nK:C\nA/8|[CE]7/16|\n", False),
+    ("BadBroken", "X:1\nK:C\nA///>|B3/4|\n", "X:1\nK:C\nA3/16|B3/8|\n", False),
     ("BigChord", "X:1\nK:C\n[C,D,E,F,G,A,B,CDEFGABcde-f]2|\n", "X:1\nK:C\n[C,D,E,F,G,A,B,CDEFGABcd]2|\n", False),
     ("BadEnding", "X:1\nK:C\nC|3-1,0,5 D:|\n", "X:1\nK:C\nC|1-3,5 D:|\n", False),
     ("BadEnding", "X:1\nK:C\nC [2,33 D:|\n", "X:1\nK:C\nC [2 D:|\n", False),

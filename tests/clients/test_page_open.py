@@ -18,6 +18,7 @@ from urllib.parse import unquote, urlsplit
 
 import trial
 from abc2midi_live_clients import page_server
+from abc2midi_live_clients.opening_page import PageNote
 
 START = """import sys
 from abc2midi_live_clients import opening_page, page_server
@@ -115,3 +116,18 @@ class Alone(unittest.TestCase):
     def test_it_waits_for_windows_and_for_a_save(self) -> None:
         found = [self.is_left(0, False), self.is_left(1, False), self.is_left(0, True), self.is_left(0, False, ends_alone=False)]
         self.assertEqual(found, [True, False, False, False])
+
+
+class Notes(trial.Folder):
+    """The files that lead to the pages of a book."""
+
+    def test_a_later_start_has_the_note(self) -> None:
+        """The end of an earlier one leaves it there."""
+        with mock.patch.dict(os.environ, {"XDG_RUNTIME_DIR": str(self.files)}):
+            first, second = PageNote("book.abc"), PageNote("book.abc")
+        first.write("http://127.0.0.1:1/first/")
+        second.write("http://127.0.0.1:1/second/")
+        first.remove()
+        self.assertIn("/second/", second.path.read_text())
+        second.remove()
+        self.assertFalse(second.path.exists())

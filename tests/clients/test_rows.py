@@ -2,10 +2,13 @@
 
 import json
 import random
+import unittest
 
 import page_in_node
 import trial
-from abc2midi_live_clients.rows import Json, difference, moved
+from abc2midi_live import Fault
+from abc2midi_live_clients.program import Tune
+from abc2midi_live_clients.rows import Json, TuneRows, difference, moved
 
 LINES, TEXTS, CHANGES = 8, 300, 5
 
@@ -34,3 +37,14 @@ class Scripts(page_in_node.PageScripts):
     def rows(self, chance: random.Random, count: int, name: str) -> list[tuple[int, str]]:
         """Rows of a text of `count` lines: of some lines none, of some several."""
         return sorted((chance.randrange(count), f"{name} {number}") for number in range(chance.randrange(6)) if count)
+
+
+class Tunes(unittest.TestCase):
+    """The rows of the tunes of a book."""
+
+    def test_a_tune_that_becomes_too_long(self) -> None:
+        """The next tune of its number has the file, although no title and no place changed."""
+        tunes, rows = [Tune(1, "One", 1), Tune(1, "Two", 5)], TuneRows()
+        self.assertEqual(rows.of(tunes, []), [(0, 1, "One", True), (4, 1, "Two", False)])
+        self.assertEqual(rows.of(tunes, [Fault(1, 1, "TuneTooLong")]), [(0, 1, "One", False), (4, 1, "Two", True)])
+        self.assertEqual(rows.of(tunes, [Fault(2, 1, "BadByte")]), [(0, 1, "One", True), (4, 1, "Two", False)])

@@ -111,6 +111,20 @@ class Saves(OneWindow):
         moments.append(self.book.now()["moment"])
         self.assertEqual(moments, sorted(set(moments)))
 
+    def test_a_file_that_is_gone_for_a_moment(self) -> None:
+        """An editor may remove it before it writes it: it counts as gone at the second look."""
+        data = self.path.read_bytes()
+        self.path.unlink()
+        self.book.look()
+        self.assertEqual(self.book.now()["disk"], digest(data))
+        self.path.write_bytes(data)
+        self.book.look()
+        self.path.unlink()
+        self.book.look()
+        self.assertEqual((self.book.now()["disk"], self.book.now()["unsaved"]), (digest(data), False))
+        self.book.look()
+        self.assertEqual((self.book.now()["disk"], self.book.now()["unsaved"]), (None, True))
+
     def test_hints_of_an_older_text(self) -> None:
         """They come when the text is a newer one, and do not count."""
         known, hint = self.book.version, (2, 0, 1, "Overlay", "Words.")
