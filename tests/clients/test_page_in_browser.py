@@ -146,7 +146,8 @@ class Browser(test_page.Page):
     opening = b""
     is_opened = True  # by `setUp`
     seconds = 10 * trial.SECONDS
-    driver: Any = None  # of `Browser` alone, as the next two
+    driver: Any = None  # of `Browser` alone, as the next three
+    first_window = ""
     starts = 0  # how often in a row no browser started
     port_of_tests: Optional[ports.Reserved] = None
 
@@ -191,6 +192,7 @@ class Browser(test_page.Page):
             raise unittest.SkipTest("no browser starts")
         Browser.starts += 1
         Browser.driver = browser.started(is_light=True)
+        Browser.first_window = Browser.driver.current_window_handle
         Browser.starts = 0
         multiprocessing.util.Finalize(None, Browser.quit, exitpriority=0)
 
@@ -213,10 +215,10 @@ class Browser(test_page.Page):
     def forget(self) -> None:
         """Closes the windows of the last test, and removes what the browser stored for it. The cached files of the page stay. The
         address without a token shows no page that could store something again."""
-        for window in self.driver.window_handles[1:]:
+        for window in set(self.driver.window_handles) - {Browser.first_window}:
             self.driver.switch_to.window(window)
             self.driver.close()
-        self.driver.switch_to.window(self.driver.window_handles[0])
+        self.driver.switch_to.window(Browser.first_window)
         self.driver.get(f"http://127.0.0.1:{self.port}/")
         self.run_script("localStorage.clear(); sessionStorage.clear()")
 
