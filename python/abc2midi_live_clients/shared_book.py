@@ -5,7 +5,7 @@ import re
 import secrets
 import threading
 import time
-from collections.abc import Callable
+from collections.abc import Callable, Sequence
 from concurrent.futures import TimeoutError as TooLate
 from contextlib import suppress
 from typing import Any, NamedTuple, Optional, TypeVar
@@ -304,7 +304,7 @@ class SharedBook:
         with self.moved:
             self.text, self.rows = version.text, version.rows
             self.disk = version.disk or self.disk  # a save may have changed it since the edit began
-            self.is_unsaved = self.text.lines != self.disk.text.lines
+            self.is_unsaved = are_others(self.text.lines, self.disk.text.lines, made)
             took = round(1000 * (time.perf_counter() - since), 1)
             writing = f"{self.run} {self.version + 1}"
             for change in changes:
@@ -508,6 +508,16 @@ class SharedBook:
         except OSError as error:
             raise Refused(500, f"the copy cannot be saved: {error.strerror}") from error
         return self.now()
+
+
+def are_others(lines: Sequence[bytes], saved: Sequence[bytes], edits: Sequence[Json]) -> bool:
+    """Whether lines are others than those that were saved. Those that the last edit made are compared first: the others may be all of a
+    long book."""
+    if edits:
+        start, stop = edits[-1]["start"], edits[-1]["start"] + len(edits[-1]["lines"])
+        if lines[start:stop] != saved[start:stop]:
+            return True
+    return lines != saved
 
 
 def hand_over(book: SessionBook, edit: Edit, text: Text) -> None:

@@ -6,6 +6,7 @@ import os
 import random
 import threading
 import time
+import unittest
 from collections.abc import Callable
 from concurrent.futures import ThreadPoolExecutor
 from functools import partial
@@ -43,6 +44,36 @@ class OneWindow(trial.Folder):
     def edit(self, line: str) -> Json:
         """Replaces the first line."""
         return self.ask(self.book.edit, start=0, stop=1, lines=[line])
+
+
+class Line(bytes):
+    """A line that counts how often lines are compared."""
+
+    compared = 0
+
+    def __eq__(self, other: object) -> bool:
+        Line.compared += 1
+        return bytes.__eq__(self, other)
+
+    __hash__ = bytes.__hash__
+
+
+class Compared(unittest.TestCase):
+    """Whether a text is that of the file."""
+
+    def test_the_lines_of_an_edit_are_compared_first(self) -> None:
+        """So a key in a long book compares one line. Another edit may have changed the others."""
+        saved, lines = ([Line(b"C")] + [Line(b"D%d" % n) for n in range(999)] for _ in range(2))
+        edit = {"start": 900, "stop": 901, "lines": ["E"]}
+        self.assertFalse(shared_book.are_others(lines, saved, [edit]))
+        self.assertFalse(shared_book.are_others(lines, saved, []))
+        lines[0] = Line(b"E")
+        self.assertTrue(shared_book.are_others(lines, saved, [edit]))
+        lines[:1], lines[900] = [Line(b"C")], Line(b"E")
+        Line.compared = 0
+        self.assertTrue(shared_book.are_others(lines, saved, [edit]))
+        self.assertEqual(Line.compared, 1)
+        self.assertTrue(shared_book.are_others(lines[:-1], saved, [edit]))
 
 
 class Saves(OneWindow):

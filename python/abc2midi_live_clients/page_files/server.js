@@ -178,7 +178,7 @@ async function objectOf(answer) {
 }
 
 /** What a message brought, or an error with its status.
- * @type {(told: Answer) => any} */
+ * @type {(message: Answer) => any} */
 function answerIn({ status, answer }) {
   if (status !== OK) throw refusal(status, answer);
   return answer;
@@ -186,9 +186,9 @@ function answerIn({ status, answer }) {
 
 /** The error of an answer.
  * @param {number} status
- * @param {{ error: string }} told */
-function refusal(status, told) {
-  return Object.assign(new Error(told.error), { status, told });
+ * @param {{ error: string }} object */
+function refusal(status, object) {
+  return Object.assign(new Error(object.error), { status, told: object });
 }
 
 /** @type {(numbers: Uint8Array) => string} */
