@@ -4,6 +4,7 @@ import os
 import shutil
 import sys
 import time
+from collections.abc import Sequence
 from typing import Any, Callable
 
 SECONDS = 300  # that a step may take, on a slow machine too
@@ -50,14 +51,14 @@ class NotStarted(Exception):
     """No browser started."""
 
 
-def started(*, is_light: bool = False) -> Any:
-    """A browser. A light one takes less time of the processor: it is the headless shell of Chromium if that is installed, which has the
-    same engine without the parts for windows, and it has fewer processes."""
+def started(options: Sequence[str] = (), *, is_light: bool = False) -> Any:
+    """A browser with some options. A light one takes less time of the processor: it is the headless shell of Chromium if that is
+    installed, which has the same engine without the parts for windows, and it has fewer processes."""
     from selenium.common.exceptions import WebDriverException
     from urllib3.exceptions import HTTPError
 
     try:
-        return made_ready([HEADLESS_SHELL, "chromium"], FEWER_PROCESSES) if is_light else made_ready(["chromium"], [])
+        return made_ready([HEADLESS_SHELL, "chromium"], [*options, *FEWER_PROCESSES]) if is_light else made_ready(["chromium"], [*options])
     except (WebDriverException, HTTPError) as error:
         raise NotStarted(str(error)) from error
 

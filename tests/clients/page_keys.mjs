@@ -351,8 +351,8 @@ const tests = {
       colours.show(10000, 10004);
     }
     clearTimeout(seen.timer);
-    const kept = [2, 4, 6].map((n) => drawn[n + 1].map((row, at) => row === drawn[1][at]));
-    same(kept, [[true, true, true, true], [true, true, true, true], [true, true, false, true]]); // notes have no colour
+    const stays = [2, 4, 6].map((n) => drawn[n + 1].map((row, at) => row === drawn[1][at]));
+    same(stays, [[true, true, true, true], [true, true, true, true], [true, true, false, true]]); // notes have no colour
   },
 
   "a row that becomes another one keeps the nodes that show the same"() {
