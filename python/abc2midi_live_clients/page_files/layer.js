@@ -59,7 +59,7 @@ function patch(row, next) {
 
 /** What a node shows.
  * @type {(node: Node) => string} */
-const wordsOf = (node) => `${"className" in node ? node.className : ""}|${node.textContent}`;
+const wordsOf = (node) => `${/** @type {Element} */ (node).className ?? ""}|${node.textContent}`;
 
 /** A row of a line, with some parts of it in elements: [start, end, class].
  * @type {(line: string, parts: [start: number, end: number, className: string][]) => HTMLElement} */
