@@ -262,6 +262,19 @@ const tests = {
     same(asked, ["midi/1", "midi/1", "midi/2"]);
   },
 
+  async "a tune whose file cannot be read does not show the notes of another one"() {
+    const link = { away: "" }, shown = new ShownTune({ bytes: async () => null }, link, null), notes = {};
+    await shown.load(1);
+    shown.score = notes;
+    link.away = "it does not answer";
+    await shown.load(1);
+    same([shown.score === notes, shown.owner], [true, 1]);
+    let came = 0;
+    shown.came = () => (came += 1);
+    await shown.load(2);
+    same([shown.score, shown.owner, came], [null, null, 1]);
+  },
+
   "a mark that stays has the fault as it is now"() {
     const { sheet } = sheetOf(), mark = { fault: null }, faults = [[10002, 0, 1, "BadByte"], [10002, 0, 1, "LostSharp"]];
     sheet.faultsOf = () => [faults[0]];

@@ -40,12 +40,21 @@ export class ShownTune {
       const bytes = number === null ? null : await this.server.bytes(`midi/${number}`);
       if (bytes) score = scoreOf(bytes);
     } catch {
-      if (this.asked === asked) this.number = null;
+      if (this.asked === asked) this.fail(number);
       return;
     }
     if (this.asked !== asked) return;
     this.score = score;
     this.owner = number;
+    this.came();
+  }
+
+  /** The file of a number cannot be read. The notes of another number go, and those of this one stay.
+   * @type {(number: number | null) => void} */
+  fail(number) {
+    this.number = null;
+    if (number === this.owner) return;
+    this.score = this.owner = null;
     this.came();
   }
 

@@ -10,6 +10,8 @@ import { nameOf } from "./roll.js";
 /** @typedef {import("./midi.js").Score} Score
  * @typedef {import("./rows.js").TuneRow} TuneRow */
 
+const AWAY = "The notes of this tune are not here while the server is away.";
+
 export class TuneBar {
   /** @param {import("./shown_tune.js").ShownTune} shown
    * @param {import("./roll.js").Roll} roll
@@ -29,9 +31,10 @@ export class TuneBar {
   /** Says why the roll is empty while the caret is in this tune, or before all tunes.
    * @type {(row: TuneRow | null) => void} */
   explain(row) {
-    const { score, owner, findings } = this.shown;
+    const { score, owner, findings, link } = this.shown;
     const notes = row?.[3] && row[1] === owner && score ? score.notes.length : null;
-    const why = whyNothing({ lines: findings.text.lines, rows: findings.tunes, faults: findings.faults, row, notes });
+    const isAway = notes === null && !score && link.away;
+    const why = whyNothing({ lines: findings.text.lines, rows: findings.tunes, faults: findings.faults, row, notes }) || (isAway ? AWAY : "");
     write(find("empty"), why);
     show(find("empty"), Boolean(why));
   }
