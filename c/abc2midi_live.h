@@ -113,7 +113,7 @@ enum {
 
 /*
  * An entry of a play: a tone, a rest or a bar line that is played. Ticks count from the beginning of the tune, as in its MIDI file: 480
- * are a quarter note. Lines and columns count from 1, columns in bytes.
+ * are a quarter note. The tempos are in the first track of that file. Lines and columns count from 1, columns in bytes.
  */
 typedef struct abc_live_entry {
     uint64_t on;      /* The tick at which it begins. */
