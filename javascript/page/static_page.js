@@ -194,9 +194,8 @@ class StaticPage {
       return this.go(id);
     }
     find("books-close").click();
-    Object.assign(book, { name, file });
-    book.renamed();
-    page.link.take(new TextDecoder().decode(data).split("\n"));
+    await page.link.flush().catch(() => {});
+    await book.replace({ name, data, file });
   }
 
   /** Asks whether to load a newer page.

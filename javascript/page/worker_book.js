@@ -249,6 +249,19 @@ export class WorkerBook {
     });
   }
 
+  /** Goes on with another file, whose content is the text then. The window can take that back.
+   * @type {(opened: { name: string, data: Uint8Array, file: BookFile | null }) => Promise<void>} */
+  async replace({ name, data, file }) {
+    await this.inTurn(async () => {
+      Object.assign(this, { name, file });
+      this.renamed();
+      this.present = this.content(BookText.of(data));
+      await this.take(this.present);
+      this.moment += 1;
+      this.heard({ state: this.state });
+    });
+  }
+
   /** Makes a content of the file the text.
    * @type {(content: Content) => Promise<void>} */
   async take(content) {

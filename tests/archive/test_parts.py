@@ -2,9 +2,11 @@
 
 from __future__ import annotations
 
+import csv
 import io
 import itertools
 import os
+import stat
 import tarfile
 import unittest
 import zipfile
@@ -21,12 +23,13 @@ from abc2midi_live_archive.allocator import choose_allocator
 from abc2midi_live_archive.catalogue import BadCatalogue, Catalogue
 from abc2midi_live_archive.compiling import excerpt
 from abc2midi_live_archive.cutting import Part, cut_book
+from abc2midi_live_archive.exports import export
 from abc2midi_live_archive.music import Facts, facts_of
 from abc2midi_live_archive.names import MOST_CHARACTERS, Names
 from abc2midi_live_archive.progress import clock, line
 from abc2midi_live_archive.reading import Member, read_file, read_members
 from abc2midi_live_archive.sources import BadSource, Source, find_books
-from abc2midi_live_archive.units import Backend, Outcome, Result, Unit
+from abc2midi_live_archive.units import Backend, Outcome, Remark, Result, Unit
 
 
 class Sources(setting.Room):
@@ -238,6 +241,34 @@ class TheCatalogue(setting.Room):
                 catalogue.add(Source(f"book_{number}.abc", None, f"book_{number}"), f"book_{number}")
         self.assertFalse(catalogue.database.in_transaction)
         catalogue.close()
+
+
+    def test_a_book_with_a_problem_is_compiled_by_the_next_run(self) -> None:
+        """Also if it is as it was before: nothing else takes the problem back."""
+        catalogue, source = Catalogue(str(self.folder / "catalogue.sqlite")), Source("a.abc", None, "a")
+        catalogue.add(source, "a")
+        catalogue.keep(1, Result(Outcome.COMPILED, digest="one"), "options")
+        digests = [known.digest for known in [catalogue.find(source)] if known]
+        catalogue.keep_problem(1, "why")
+        digests += [known.digest for known in [catalogue.find(source)] if known]
+        self.assertEqual(digests, ["one", None])
+        catalogue.close()
+
+    def test_tables_are_in_order_and_for_all_readers(self) -> None:
+        catalogue = Catalogue(str(self.folder / "catalogue.sqlite"))
+        places = [(2, 3), (2, 1), (1, 5)]
+        for book, name in enumerate(("b", "a"), 1):
+            catalogue.add(Source(f"{name}.abc", None, name), name)
+            remarks = tuple(Remark("fault", line, column, "BadByte", None, "", 0) for line, column in places)
+            catalogue.keep(book, Result(Outcome.COMPILED, remarks=remarks), "options")
+        export(catalogue, str(self.folder), "csv")
+        catalogue.close()
+        with open(self.folder / "remarks.csv", encoding="utf-8", newline="") as file:
+            rows = [(row["book"], int(row["line"]), int(row["column"])) for row in csv.DictReader(file)]
+        self.assertEqual(rows, [(book, *place) for book in "ab" for place in sorted(places)])
+        mask = os.umask(0)
+        os.umask(mask)
+        self.assertEqual(stat.S_IMODE((self.folder / "remarks.csv").stat().st_mode), 0o666 & ~mask)
 
 
 class ThePool(unittest.TestCase):

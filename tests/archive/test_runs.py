@@ -37,6 +37,13 @@ class OverTheLibrary(books.Books):
     def backend(self) -> list[str]:
         return ["--library", str(setting.library)]
 
+    def test_more_faults_than_the_catalogue_has(self) -> None:
+        """All are counted."""
+        unit = Unit("book", "", b"X:1\nK:C\nC&&&&\n", None, Backend(library=str(setting.library)), False, None, frozenset())
+        with mock.patch.object(compiling, "MOST_REMARKS", 3):
+            result = compiling.do_unit(unit)
+        self.assertEqual((len(result.remarks), result.fault_count), (3, 4))
+
     def test_a_book_of_more_lines_than_a_session_takes(self) -> None:
         """The tunes are far apart in free text, so that the program can make their files of a shorter book."""
         free = b"\n" * 600_000

@@ -419,6 +419,21 @@ await run({
     same([link.isUnsaved, text(await book.bytes("text"))], [true, TUNE]);
   },
 
+  async "a file that is opened in place of the text keeps its bytes, is saved without a question, and can be taken back"() {
+    const { link, type, window, book } = await opened(TUNE), content = Uint8Array.from([...bytes("X:2\r\nT:caf"), 0xe9, 13, 10, ...bytes("C\r\n")]);
+    const file = { name: "b.abc", read: async () => file.content, write: async (data) => (file.content = data), content }, names = [];
+    book.renamed = () => names.push(book.name);
+    await book.replace({ name: file.name, data: content, file });
+    same([window.lines, link.isUnsaved, link.known.letters, names], [["X:2", "T:café", "C", ""], false, "latin-1", ["b.abc"]]);
+    await type(2, 3, "D");
+    await link.file("save");
+    same(Buffer.from(file.content).toString("hex"), Buffer.from("X:2\r\nT:caf\xe9\r\nD\r\n", "latin1").toString("hex"));
+    window.undo();
+    window.undo();
+    await link.flush();
+    same([window.lines, link.isUnsaved], [["X:1", "K:C", "C", ""], true]);
+  },
+
   async "a download is a save, if the browser writes no files"() {
     const { link, book } = await opened(TUNE, { saving: "downloads" });
     same(link.isUnsaved, true);

@@ -33,6 +33,7 @@ await new Promise((done) => setTimeout(done)); // the policy counts for what no 
 try { return new Function("return 1")(); } catch (error) { return error.name; }
 """
 INLINE = "const script = document.createElement('script'); script.textContent = 'window.inline = 1'; document.body.append(script);"
+NO_STORE = "Object.defineProperty(globalThis, 'indexedDB', { value: { open() { throw new Error('none'); } } })"
 NO_CLIPBOARD = "navigator.clipboard.writeText = async () => { throw new DOMException('refused', 'NotAllowedError'); }; document.activeElement.blur();"
 SELECTED = "const { id, value, selectionStart, selectionEnd } = document.activeElement; return [id, value?.slice(selectionStart, selectionEnd)]"
 ROOM_BESIDE_THE_ROLL = "return document.querySelector('.views').clientWidth - document.querySelector('.stage').offsetWidth"
@@ -217,6 +218,21 @@ class Files(StaticBrowser):
         self.assertFalse(self.is_seen("copy-save"))
         self.press("other" + ENTER)
         self.assertEqual(self.downloaded("other.abc"), book.replace(b"C\tD", b"EC\tD"))
+
+    def test_a_browser_that_keeps_nothing(self) -> None:
+        """A file that is opened keeps its bytes there too, and is saved. The text that it replaces can be taken back."""
+        self.driver.execute_cdp_cmd("Page.addScriptToEvaluateOnNewDocument", {"source": NO_STORE})
+        self.load("?downloads")
+        self.type("X:9\n")
+        book = b"X:1\r\nT:Caf\xe9\r\nK:C\r\nC|\r\n"
+        self.upload("old.abc", book)
+        self.lists("1Caf\u00e9")
+        self.wait(self.is_saved)
+        self.save_by_key()
+        self.assertEqual(self.downloaded("old.abc"), book)
+        self.caret(3, 0)
+        self.press("z", CONTROL)
+        self.shows("X:9\n")
 
     def test_a_picked_file(self) -> None:
         """A save writes it, after a reload too. What another program wrote is taken if nothing is unsaved; else the page asks, and
