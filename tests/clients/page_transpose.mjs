@@ -125,6 +125,8 @@ const tests = {
   "what reaches over the edge of a part is reported"() {
     const why = (...words) => transposed([key("C"), notes(...words)], { semitones: 2 }, part(1, words.join("").length - 1, 1, 9)).left.map((one) => one.why);
     same([why("^C", "C"), why("C", "-", "C"), why("C", "C")], [["an accidental reaches over the edge of the selection"], ["a tie reaches over the edge of the selection"], []]);
+    const after = (...lines) => transposed([key("C"), notes("^C"), ...lines, notes("C")], { semitones: 2 }, part(lines.length + 2, 0, lines.length + 2, 9)).left.length;
+    same([after(), after(line(["OtherField", "P:B"])), after(key("C")), after(line(["OtherField", "Q:60"]))], [1, 0, 0, 1]);
   },
 
   "the bars of a part"() {

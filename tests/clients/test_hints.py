@@ -99,6 +99,14 @@ class Examples(trial.Folder):
             self.assertEqual(found, Finder().hints(lines, *told), f"change {change}: {lines}")
             self.assertEqual(found, sorted(found))
 
+    def test_another_file_header(self) -> None:
+        """The hints on all tunes are looked for again, also if no tune changed."""
+        tune, finder = [b"L:1/4", b"K:C", b"CDEF|GABc|", b""], Finder()
+        for meter, places in ((b"M:4/4", []), (b"M:3/4", [(6, 1), (6, 6), (11, 1), (11, 6)]), (b"M:C", [])):
+            lines = [meter, b"", b"X:1", *tune, b"X:2", *tune]
+            found = finder.hints(lines, [Tune(1, "", 3), Tune(2, "", 8)], [])
+            self.assertEqual([(hint.line, hint.column) for hint in found if hint.name == "BarLength"], places, meter)
+
     def test_without_a_library(self) -> None:
         """The hints that need no reading of ABC are found without a library."""
         lines = [b"X:1", b"K:C", b"|:C|", b"T:Fr\xe8re", b"X:1"]
