@@ -181,5 +181,5 @@ export async function answerOf(server, path, options) {
     return JSON.parse(JSON.stringify(told));
   };
   const body = told === null ? server.stream(Number(path.split("/")[3]), options.signal) : null;
-  return { ok: status === 200, status, json, body };
+  return { ok: status === 200, status, headers: new Headers(), json, body };
 }
