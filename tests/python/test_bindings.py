@@ -7,6 +7,7 @@ from unittest import mock
 
 import setting
 from abc2midi_live import EntryKind, LibraryMissing, TokenKind, bindings
+from abc2midi_live.records import entry_of
 
 HEADER = setting.TOP / "c/abc2midi_live.h"
 TYPES = {
@@ -24,6 +25,16 @@ TYPES = {
     "size_t": c_size_t,
 }
 FIELDS = {"void *": c_void_p, "uint8_t ": c_uint8, "uint32_t ": c_uint32, "uint64_t ": c_uint64}
+
+
+class Entries(unittest.TestCase):
+    def test_a_silent_tone_that_is_joined(self) -> None:
+        """It has no key and no velocity, and all else that other tones have."""
+        kind = EntryKind.NOTE
+        for key, velocity, sound in ((bindings.NO_KEY, 0, (None, None)), (60, 80, (60, 80))):
+            for joined in (0, 1):
+                found = entry_of((480, 960, 3, 2, 4, kind.value, key, velocity, joined))
+                self.assertEqual(tuple(found), (480, 960, kind, *sound, joined == 1, 3, 2, 4))
 
 
 class Versions(unittest.TestCase):
