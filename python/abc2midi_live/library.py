@@ -146,13 +146,18 @@ class LibrarySession(Session):
         if copied is None:
             return None
         entries = entries_in(copied)
-        check(self._calls.abc_live_tracks(self._here, number, self._tracks, len(self._tracks), self._count_here))
-        return tuple(tuple(islice(entries, size)) for size in self._tracks[: self._count.value])
+        return tuple(tuple(islice(entries, size)) for size in self.track_sizes(number))
 
     def play_columns(self, number: int) -> Optional[PlayColumns]:
         """What is played of a number by columns. It is None, or raises, as `play` does."""
         copied = self._copied_play(number)
         return None if copied is None else PlayColumns(copied)
+
+    def track_sizes(self, number: int) -> list[int]:
+        """How many entries of a play each track has, for a number that has a file. The first track is the conductor's."""
+        self._check_open()
+        check(self._calls.abc_live_tracks(self._here, number, self._tracks, len(self._tracks), self._count_here))
+        return self._tracks[: self._count.value]
 
     def _copied_play(self, number: int) -> Optional[memoryview]:
         """The structs of all entries of a number, until the next call. None if no tune owns the number."""

@@ -7,6 +7,7 @@ from __future__ import annotations
 import sys
 from collections.abc import Iterator
 from ctypes import Structure, byref, sizeof
+from itertools import chain
 from struct import Struct
 from typing import NamedTuple
 
@@ -57,6 +58,10 @@ class PlayColumns:
     def off(self, index: int) -> int:
         """When an entry ends."""
         return self.words[4 * index + 1]
+
+    def numbers(self) -> list[int]:
+        """The nine fields of each entry in the order of the C library's struct: on, off, line, from, to, kind, key, velocity, joined."""
+        return list(chain.from_iterable(ENTRY.iter_unpack(self.copied)))
 
     def entry(self, index: int) -> Entry:
         """All fields of an entry."""

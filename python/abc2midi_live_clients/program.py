@@ -4,7 +4,7 @@ import argparse
 import os
 from bisect import bisect_left
 from collections.abc import Sequence
-from typing import Any, NamedTuple, Optional
+from typing import TYPE_CHECKING, Any, NamedTuple, Optional, cast
 
 import abc2midi_live
 from abc2midi_live import Built, Edit, Fault, LibraryMissing, ProcessSession, ProgramMissing, Report, Session, Title, Token
@@ -14,6 +14,10 @@ from abc2midi_live.opening import library_session
 from abc2midi_live.plays import Track
 
 from .places import end_of, is_inside_character, text_of
+
+if TYPE_CHECKING:
+    from abc2midi_live.library import LibrarySession
+    from abc2midi_live.records import PlayColumns, TokenColumns
 
 LEFT_OUT = b"%"  # sent instead of a longer line: a comment has no effect
 MOST_ENDS = 100_000  # of faults that are known
@@ -155,13 +159,25 @@ class SessionBook:
 
     def tokens(self, line: int) -> tuple[Token, ...]:
         """The tokens of a line, counted from 0. A line that is left out has none. Raises LibraryNeeded over a process."""
-        if line >= min(len(self.lines), MOST_LINES) or len(self.lines[line]) > MOST_BYTES:
-            return ()
-        return self.session.tokens(line + 1)
+        return self.session.tokens(line + 1) if self.has_tokens(line) else ()
+
+    def token_columns(self, line: int) -> "Optional[TokenColumns]":
+        """The tokens of a line by columns, over the library. A line that is left out has none."""
+        return cast("LibrarySession", self.session).token_columns(line + 1) if self.has_tokens(line) else None
+
+    def has_tokens(self, line: int) -> bool:
+        """Whether the session has a line, counted from 0, as it is."""
+        return line < min(len(self.lines), MOST_LINES) and len(self.lines[line]) <= MOST_BYTES
 
     def play(self, number: int) -> Optional[tuple[Track, ...]]:
         """What is played of a number, None if it has no file. Raises LibraryNeeded over a process, and PlayTooLong."""
         return self.session.play(number)
+
+    def play_columns(self, number: int) -> "Optional[tuple[PlayColumns, list[int]]]":
+        """The same by columns, over the library, and how many entries each track has."""
+        session = cast("LibrarySession", self.session)
+        play = session.play_columns(number)
+        return (play, session.track_sizes(number)) if play else None
 
 
 class LiveBook(SessionBook):

@@ -1,11 +1,11 @@
 """What a window sees of a book: the tokens of its lines and the play of its tune, as rows of numbers for `page_files/seen.js`."""
 
 from bisect import bisect_right
-from itertools import chain
+from itertools import accumulate
 from typing import Any, NamedTuple, Optional
 
-from abc2midi_live import PlayTooLong, Token
-from abc2midi_live.plays import Entry
+from abc2midi_live import PlayTooLong
+from abc2midi_live.records import TokenColumns
 
 from .program import SessionBook
 from .texts import Text
@@ -15,7 +15,8 @@ Json = dict[str, Any]
 MOST_LINES = 1_000  # of a window
 MOST_TOKENS = 50_000  # of its lines, after which no line has tokens
 MOST_ENTRIES = 50_000  # of a tune
-NO_KEY = 128
+NO_TOKENS = TokenColumns([], [], [], [])
+FIELDS = 9  # of an entry
 
 
 class Sight(NamedTuple):
@@ -40,6 +41,13 @@ class Columns:
             self.known[line] = None if content.isascii() else self.units(content)
         return self.known[line]
 
+    def of_places(self, lines: list[int], found: list[int]) -> list[int]:
+        """The columns in units of columns in bytes, each in a line."""
+        units = {line: self.of_line(line) for line in set(lines)}
+        if not any(units.values()):
+            return shifted(found, None)
+        return [shifted([column], units[line])[0] for line, column in zip(lines, found)]
+
     def units(self, line: bytes) -> list[int]:
         """The units before each byte of a line and before its end."""
         places = self.text.places(line)
@@ -63,36 +71,41 @@ def token_rows(book: SessionBook, columns: Columns, lines: range) -> list[list[i
     rows: list[list[int]] = []
     count = 0
     for line in lines:
-        tokens = book.tokens(line)
-        count += len(tokens)
+        tokens = book.token_columns(line) or NO_TOKENS
+        count += len(tokens.kinds)
         if count > MOST_TOKENS:
             break
         rows.append(token_row(tokens, columns.of_line(line)))
     return rows
 
 
-def token_row(tokens: tuple[Token, ...], units: Optional[list[int]]) -> list[int]:
+def token_row(tokens: TokenColumns, units: Optional[list[int]]) -> list[int]:
     """The numbers of the tokens of a line."""
-    if units is None:
-        return list(chain.from_iterable((start - 1, end - 1, kind._value_, depth) for start, end, kind, depth in tokens))
-    return list(chain.from_iterable((units[start - 1], units[end - 1], kind._value_, depth) for start, end, kind, depth in tokens))
+    row = [0] * (len(TokenColumns._fields) * len(tokens.kinds))
+    row[0::4], row[1::4] = shifted(tokens.from_columns, units), shifted(tokens.to_columns, units)
+    row[2::4], row[3::4] = tokens.kinds, tokens.depths
+    return row
+
+
+def shifted(columns: list[int], units: Optional[list[int]]) -> list[int]:
+    """Columns in bytes as those in units."""
+    return [column - 1 for column in columns] if units is None else [units[column - 1] for column in columns]
 
 
 def track_rows(book: SessionBook, columns: Columns, number: int) -> Optional[list[list[int]]]:
-    """The entries of the tracks of a number: of each entry nine numbers. None if the number has no file, or too many entries."""
+    """The entries of the tracks of a number: of each entry nine numbers, its ticks, its line and columns, its kind, its key and velocity,
+    and whether it is joined. None if the number has no file, or too many entries."""
     try:
-        tracks = book.play(number)
+        found = book.play_columns(number)
     except PlayTooLong:
         return None
-    if tracks is None or sum(map(len, tracks)) > MOST_ENTRIES:
+    if found is None or sum(found[1]) > MOST_ENTRIES:
         return None
-    return [list(chain.from_iterable(entry_row(entry, columns) for entry in track)) for track in tracks]
-
-
-def entry_row(entry: Entry, columns: Columns) -> tuple[int, ...]:
-    """The numbers of an entry: its ticks, its line and columns, its kind, its key and velocity, and whether it is joined."""
-    on, off, kind, key, velocity, joined, line, start, end = entry
-    units = columns.of_line(line - 1)
-    place = (start - 1, end - 1) if units is None else (units[start - 1], units[end - 1])
-    sound = (NO_KEY, 0) if key is None or velocity is None else (key, velocity)
-    return on, off, line - 1, *place, kind._value_, *sound, int(joined)
+    play, sizes = found
+    rows = play.numbers()
+    lines = [line - 1 for line in rows[2::FIELDS]]
+    rows[2::FIELDS] = lines
+    for field in (3, 4):
+        rows[field::FIELDS] = columns.of_places(lines, rows[field::FIELDS])
+    ends = list(accumulate(sizes, initial=0))
+    return [rows[FIELDS * start : FIELDS * end] for start, end in zip(ends, ends[1:])]

@@ -36,6 +36,12 @@ def rows_of(session: Session, number: int) -> list[str]:
     return sizes + [f"{number} {index} {row_of(entry)}" for index, track in enumerate(play) for entry in track]
 
 
+def numbers_of(entry: Entry) -> tuple[int, ...]:
+    """The fields of an entry as numbers, as the C library has them. An entry that does not sound has key 128 and velocity 0."""
+    on, off, kind, key, velocity, joined, line, start, end = entry
+    return on, off, line, start, end, kind.value, 128 if key is None else key, velocity or 0, int(joined)
+
+
 class OverTheLibrary(sessions.Sessions):
     def begin(self) -> LibrarySession:
         return LibrarySession(setting.library)
@@ -148,6 +154,8 @@ class OverTheLibrary(sessions.Sessions):
             self.assertEqual(columns.places, [columns.place(entry.line, entry.from_column) for entry in entries])
             self.assertEqual([(columns.on(n), columns.off(n)) for n in range(len(entries))], [entry[:2] for entry in entries])
             self.assertEqual(len(set(columns.places)), len({(entry.line, entry.from_column) for entry in entries}))
+            self.assertEqual(list(zip(*[iter(columns.numbers())] * 9)), [numbers_of(entry) for entry in entries])
+            self.assertEqual(session.track_sizes(number), [len(track) for track in play])
         last = session.play_columns(99_999)
         assert last
         self.assertGreater(len(last.places), 4096)
