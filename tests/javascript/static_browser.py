@@ -23,7 +23,22 @@ if (location.search === "?unable") WebAssembly.validate = () => false;
 """  # what the policy of the page refused; a browser that picks no files, or has no locks or memories, if the address asks for one
 KEPT = "indexeddb,local_storage,file_systems"  # what a browser keeps of a page, but for the page itself
 TUNE = "X:1\nT:Scale\nM:2/4\nL:1/4\nQ:1/4=60\nK:C\nCD|EF|\nGA|Bc|\n"
+KEEP = """
+const [book, done] = arguments;
+const keep = async () => {
+  const { BookStore, newName } = await import("./book_store.js");
+  const store = await BookStore.open(location.pathname), data = new TextEncoder().encode(book);
+  await store.keep({ id: newName(), name: "", title: "", tunes: 0, unsaved: true }, { data, disk: null, handle: null });
+};
+keep().then(done, (error) => done(String(error)));
+"""
 OFFLINE = "This page opens without a network from now on."
+
+
+def keep_book(driver: Any, book: str) -> None:
+    """Lets the page keep a book, which its next visit opens."""
+    wrong = driver.execute_async_script(KEEP, book)
+    assert wrong is None, wrong
 
 
 class StaticBrowser(common.Room):

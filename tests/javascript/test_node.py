@@ -35,6 +35,10 @@ class InNode(common.Room):
         words = [*common.node(), "--expose-gc", str(common.TESTS / "memory.mjs"), str(common.package)]
         self.assert_ok(words, 7)
 
+    def test_a_long_session_has_what_a_fresh_one_has(self) -> None:
+        lines = self.lines_of([str(common.TOP / "scripts/measure/long_session"), str(common.package), "--reels", "5", "--edits", "50"])
+        self.assertEqual(lines[-1], "files, titles and faults are those of a fresh run")
+
 
 @unittest.skipUnless(common.node(), "Node is not installed")
 class WithoutWebAssembly(common.Room):
