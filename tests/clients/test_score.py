@@ -502,6 +502,8 @@ KINDS = {
     "signal to all": lambda: os.kill(-1, 0),
     "limits of another process": lambda: resource.prlimit(victim, resource.RLIMIT_NOFILE, (64, 64)),
     "priority of another process": lambda: os.setpriority(os.PRIO_PROCESS, victim, 19),
+    "priority at the disk": lambda: call("syscall", {"x86_64": 251, "aarch64": 30}[os.uname().machine], 1, victim, 3 << 13),
+    "policy of another process": lambda: os.sched_setparam(victim, os.sched_param(0)),
     "shared memory": lambda: call("shmget", 0, 4096, 0o1600),
     "read": lambda: open(folder + "/secret").read(),
     "list": lambda: os.listdir(folder),
@@ -572,14 +574,14 @@ class Walls(Harm):
         path = self.bin / "abcm2ps"
         path.write_text(f"#!{PYTHON} -IS\n{self.attacks}\nprint({drawing!r}, escape(found), '</text></svg>')\n")
         path.chmod(0o755)
-        self.assertRegex(words(drawn("X:1", "K:C", "C")), r"^\s*(([a-z ]+) refused(; )?){19}\s*$")
+        self.assertRegex(words(drawn("X:1", "K:C", "C")), r"^\s*(([a-z ]+) refused(; )?){21}\s*$")
         self.assertEqual(sorted(os.listdir(self.mine)), ["secret", "socket"])
         self.assertEqual((self.mine / "secret").read_text(), "SECRET")
 
     def test_the_filter_alone(self) -> None:
         """It needs no Landlock."""
         reaching = ["tcp", "udp", "unix socket", "pair of sockets", "fork", "spawn", "group", "session", "signal", "signal to all"]
-        reaching += ["limits of another process", "priority of another process", "shared memory"]
+        reaching += ["limits of another process", "priority of another process", "priority at the disk", "policy of another process", "shared memory"]
         self.assertEqual(self.refused("assert score_limits.refuse_calls()"), set(reaching))
 
     @unittest.skipIf(score_limits.landlock_version() < 4, "Linux has no Landlock that refuses connections")
