@@ -55,7 +55,7 @@ def arguments() -> argparse.Namespace:
     parser.add_argument("book", metavar="BOOK", nargs="?", help=what)
     parser.add_argument("--port", metavar="N", type=port_number, help="the port; without it the port depends on the book's name")
     parser.add_argument("--no-hints", action="store_true", help="show no hints")
-    opening = "open the page in the browser; it ends a minute after its last window, or when everything in it is saved"
+    opening = "open the page in the browser; it ends a minute after its last window, if everything in it is saved"
     parser.add_argument("--open", action="store_true", help=opening)
     sound = parser.add_mutually_exclusive_group()
     sound.add_argument("--sound-font", metavar="FILE", help="play with the instruments of this SoundFont instead of an installed one")
