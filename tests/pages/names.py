@@ -17,7 +17,7 @@ WITH_CLAUSES = ("docs/promises.md", "docs/verification.md")  # in these a word i
 # Names of std, of the kit's crates, of the system and of languages, which the sources do not declare.
 OTHERS = frozenset(
     """Clone Debug Display Drop Err Global IfErr IfOk MatchResult None Ok OnErr Option Ord Rc Result Some Vec VecDeque
-    copy fields_with ptr split_once_str std std_alloc EDIT_SECONDS LD_PRELOAD RANDOM_EDITS""".split()
+    copy fields_with ptr split_once_str std std_alloc std_collections std_heap EDIT_SECONDS LD_PRELOAD RANDOM_EDITS""".split()
 )
 DECLARED = re.compile(r"\b(?:fn|struct|enum|trait|type|const|mod|data|record|abbrev|ghost|class|def)\s+(?:pub\s+)?(\w+)")
 VARIANT = re.compile(r"^ {4,}([A-Z]\w*)(?:[({,]| =|$)", re.M)

@@ -1,0 +1,37 @@
+"""Compares what the pages count or list of the sources with the sources."""
+
+from __future__ import annotations
+
+import re
+
+from .markdown import SPAN, TOP, text_of
+from .outcome import Outcome, Outcomes
+
+# The page, what begins the list of what is trusted, and what ends it.
+TRUSTED = (("README.md", "**[Trusted]", "\n## "), ("docs/verification.md", "## What you have to trust", "\n### "))
+LAYER = re.compile(r"^(\w+)(?: staticlib)?:((?: \w+)+)$", re.M)
+EXPORT = re.compile(r"^#\[unsafe\(no_mangle\)\]$", re.M)
+EXPORTS = re.compile(r"`#\[unsafe\(no_mangle\)\]` gives the names to ([\w-]+) functions")
+NUMBERS = {"twenty": 20, "twenty-one": 21, "twenty-two": 22, "twenty-three": 23, "twenty-four": 24, "twenty-five": 25}
+
+
+def toolkit_crates() -> set[str]:
+    """The crates of the toolkit that the crates of the repository use."""
+    uses = LAYER.findall((TOP / "crates.txt").read_text("utf-8"))
+    return {name for _, used in uses for name in used.split()} - {layer for layer, _ in uses}
+
+
+def trusted() -> Outcomes:
+    """Whether the pages that list what is trusted name each crate of the toolkit that is used."""
+    for page, start, end in TRUSTED:
+        part = text_of(TOP / page).partition(start)[2].partition(end)[0]
+        missing = sorted(toolkit_crates() - set(SPAN.findall(part)))
+        yield Outcome(f"{page}: what is trusted", f"it does not name {', '.join(missing)}" if missing else None)
+
+
+def exports() -> Outcomes:
+    """Whether the page on the proof counts the exports of the C library."""
+    found = sum(len(EXPORT.findall(path.read_text("utf-8"))) for path in TOP.glob("crates/c_library/src/*.rt"))
+    said = EXPORTS.search(text_of(TOP / "docs/verification.md"))
+    wrong = None if said and NUMBERS.get(said[1]) == found else f"there are {found}"
+    yield Outcome("docs/verification.md: exports of the C library", wrong)
