@@ -12,7 +12,9 @@ TRUSTED = (("README.md", "**[Trusted]", "\n## "), ("docs/verification.md", "## W
 LAYER = re.compile(r"^(\w+)(?: staticlib)?:((?: \w+)+)$", re.M)
 EXPORT = re.compile(r"^#\[unsafe\(no_mangle\)\]$", re.M)
 EXPORTS = re.compile(r"`#\[unsafe\(no_mangle\)\]` gives the names to ([\w-]+) functions")
-NUMBERS = {"twenty": 20, "twenty-one": 21, "twenty-two": 22, "twenty-three": 23, "twenty-four": 24, "twenty-five": 25}
+BLOCK = re.compile(r"\bunsafe \{")
+BLOCKS = re.compile(r"`grep -rn 'unsafe \{' crates --include='\*\.rt'` finds (\w+)\.")
+NUMBERS = {"four": 4, "five": 5, "six": 6, "seven": 7, "twenty": 20, "twenty-one": 21, "twenty-two": 22, "twenty-three": 23, "twenty-four": 24, "twenty-five": 25}
 
 
 def toolkit_crates() -> set[str]:
@@ -29,9 +31,11 @@ def trusted() -> Outcomes:
         yield Outcome(f"{page}: what is trusted", f"it does not name {', '.join(missing)}" if missing else None)
 
 
-def exports() -> Outcomes:
-    """Whether the page on the proof counts the exports of the C library."""
-    found = sum(len(EXPORT.findall(path.read_text("utf-8"))) for path in TOP.glob("crates/c_library/src/*.rt"))
-    said = EXPORTS.search(text_of(TOP / "docs/verification.md"))
-    wrong = None if said and NUMBERS.get(said[1]) == found else f"there are {found}"
-    yield Outcome("docs/verification.md: exports of the C library", wrong)
+def counts() -> Outcomes:
+    """Whether the page on the proof counts the exports of the C library and the `unsafe` blocks."""
+    page = text_of(TOP / "docs/verification.md")
+    for what, sentence, pattern, crates in (("exports", EXPORTS, EXPORT, "c_library"), ("`unsafe` blocks", BLOCKS, BLOCK, "*")):
+        found = sum(len(pattern.findall(path.read_text("utf-8"))) for path in TOP.glob(f"crates/{crates}/src/**/*.rt"))
+        said = sentence.search(page)
+        wrong = None if said and NUMBERS.get(said[1]) == found else f"there are {found}"
+        yield Outcome(f"docs/verification.md: the number of {what}", wrong)
