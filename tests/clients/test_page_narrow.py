@@ -64,6 +64,22 @@ const mark = document.querySelector("mark"), { left, right, top, bottom } = mark
 return document.elementsFromPoint((left + right) / 2, (top + bottom) / 2).includes(mark);
 """
 
+COVERED_NOTES = """
+const { top, bottom } = document.querySelector("#score .doubt").getBoundingClientRect(), view = document.getElementById("score").getBoundingClientRect();
+const notes = [...document.querySelectorAll(".score-place")].map((one) => one.getBoundingClientRect());
+return [notes.length, notes.filter((note) => note.bottom > Math.max(top, view.top) && note.top < Math.min(bottom, view.bottom)).length];
+"""  # how many notes the score has, and how many of them are below the sentence about its faults
+WARNING = """
+const found = document.getElementById("found");
+return [found.className, found.getBoundingClientRect().height / parseFloat(getComputedStyle(found).lineHeight), document.getElementById("search").scrollWidth <= document.getElementById("search").clientWidth];
+"""
+CHOICES = """
+const [one, other] = document.querySelectorAll("#transpose [name=transpose-what]"), words = document.createRange();
+words.selectNodeContents(one.parentElement);
+const end = words.getBoundingClientRect().right, accent = (id) => getComputedStyle(document.getElementById(id)).accentColor;
+return [other.getBoundingClientRect().left - end, other.parentElement.getBoundingClientRect().top === one.parentElement.getBoundingClientRect().top, ["transpose-by-key", "tidy-first"].map(accent), accent("tempo")];
+"""  # the room before the second choice, whether it is beside the first one, and the colours of chosen boxes
+
 WORDS = """
 const view = document.querySelector("#score svg")?.getBoundingClientRect();
 return !view ? [] : [...document.querySelectorAll("#score text")].filter((one) => /Tune|Trad/.test(one.textContent)).map((one) => {
@@ -167,6 +183,29 @@ class Narrow(test_page_in_browser.Browser):
         self.assertEqual([top for top, _ in answers], 4 * [answers[0][0]])
         self.assertLess(words[1], answers[0][0])
 
+    def test_an_expression_that_is_wrong(self) -> None:
+        """What is wrong with it has a row of its own on a tablet, and is no column of single words."""
+        self.press("f", CONTROL)
+        self.run_script("document.getElementById('regular').click(); document.getElementById('find-words').focus()")
+        self.press("(d")
+        for wide, most in ((900, 1.2), (820, 1.2), (621, 2.2), (390, 2.2)):
+            self.size(wide, 1100)
+            self.wait(lambda: self.run_script(WARNING)[0] == "bad")
+            _, lines, has_room = self.run_script(WARNING)
+            self.assertLess(lines, most, wide)
+            self.assertTrue(has_room, wide)
+
+    def test_the_choices_of_a_dialog(self) -> None:
+        """More room is between two of them than between one and its words. Their colour is that of all controls."""
+        self.run_script("document.getElementById('transpose-open').click()")
+        self.wait(lambda: self.text("transpose-words"))
+        for wide in (390, 820):
+            self.size(wide, 844)
+            room, is_beside, boxes, accent = self.run_script(CHOICES)
+            self.assertTrue(is_beside, wide)
+            self.assertGreater(room, 14, wide)
+            self.assertEqual(boxes, [accent, accent])
+
     def test_the_text_comes_into_view(self) -> None:
         """A key that goes to a fault shows it, however far down the page is."""
         self.driver.find_element("id", "practise").click()
@@ -183,6 +222,17 @@ class Narrow(test_page_in_browser.Browser):
         self.wait(lambda: self.run_script(REACHED, "print"))
         self.run_script("document.getElementById('score').scrollIntoView({ block: 'nearest' })")
         self.wait(lambda: self.run_script(STAVES))
+
+    @unittest.skipUnless(shutil.which("abcm2ps"), "abcm2ps is not installed")
+    def test_the_score_of_a_tune_with_faults(self) -> None:
+        """The sentence about the faults covers no notes."""
+        self.edit(5, 7, *["[V:1] GABc|dcBA|GABc|d4|", "[V:2] G2D2|G2D2|G2D2|G4 -|"] * 6)
+        self.wait(lambda: self.run_script("return document.querySelectorAll('#score svg .score-place').length > 60 && document.querySelector('#score .doubt') !== null"))
+        for top in (0, 60, 10_000):
+            self.run_script("document.getElementById('score').scrollTop = arguments[0]", top)
+            notes, covered = self.run_script(COVERED_NOTES)
+            self.assertGreater(notes, 60)
+            self.assertEqual(covered, 0, top)
 
     @unittest.skipUnless(shutil.which("abcm2ps"), "abcm2ps is not installed")
     def test_long_words_of_the_score(self) -> None:
