@@ -72,7 +72,7 @@ export class BooksDialog {
     const row = document.createElement("li"), title = document.createElement("b"), facts = document.createElement("small");
     const opens = Object.assign(document.createElement("button"), { type: "button", className: "book" });
     const forgets = Object.assign(document.createElement("button"), { type: "button", textContent: "Forget" });
-    title.textContent = book.name || book.title || "No title";
+    title.textContent = nameOf(book);
     facts.textContent = factsOf(book);
     opens.append(title, facts);
     opens.addEventListener("click", () => this.acts.opened(book.id));
@@ -84,17 +84,21 @@ export class BooksDialog {
 
   /** Forgets a book at the second click, if its text is in no file.
    * @type {(book: Summary, forgets: HTMLButtonElement) => Promise<void>} */
-  async forget({ id, unsaved }, forgets) {
-    if (unsaved && !forgets.classList.contains("sure")) {
+  async forget(book, forgets) {
+    if (book.unsaved && !forgets.classList.contains("sure")) {
       forgets.classList.add("sure");
       forgets.textContent = "It is in no file: forget";
+      forgets.setAttribute("aria-label", `${forgets.textContent} ${nameOf(book)}`);
       return;
     }
-    await this.acts.forgotten(id);
+    await this.acts.forgotten(book.id);
     await this.list();
     (button("open-file").disabled ? button("books-close") : button("open-file")).focus();
   }
 }
+
+/** @type {(book: Summary) => string} */
+const nameOf = ({ name, title }) => name || title || "No title";
 
 /** @type {(book: Summary) => string} */
 function factsOf({ name, title, tunes, unsaved, when }) {

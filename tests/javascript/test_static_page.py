@@ -28,6 +28,7 @@ CONTENT = "return (await (await (await navigator.storage.getDirectory()).getFile
 ELSEWHERE = "return document.getElementById('books').open && document.getElementById('elsewhere').textContent"
 BOOKS = "return [...document.querySelectorAll('#kept-books .book b')].map((row) => row.textContent)"
 FORGET = "document.querySelector('#kept-books button:not(.book)').click()"
+FORGETS = "const { textContent, ariaLabel } = document.querySelector('#kept-books button:not(.book)'); return [textContent, ariaLabel]"
 STRING = """
 await new Promise((done) => setTimeout(done)); // the policy counts for what no tool of the browser runs
 try { return new Function("return 1")(); } catch (error) { return error.name; }
@@ -280,7 +281,7 @@ class Files(StaticBrowser):
         self.assertEqual((self.value_of(CONTENT, "second.abc"), self.run_script("return suggested")), (TUNE, "first.abc"))
 
     def test_a_new_book_leaves_the_old_one_in_the_list(self) -> None:
-        """A book that is in no file is forgotten at the second click."""
+        """A book that is in no file is forgotten at the second click. Whoever hears the page hears why, too."""
         self.write()
         self.click("open")
         self.wait(lambda: self.run_script("return document.getElementById('books').open"))
@@ -296,8 +297,10 @@ class Files(StaticBrowser):
         self.ready()
         self.press("o", CONTROL)
         self.wait(lambda: self.run_script(BOOKS) == ["Other"])
+        self.assertEqual(self.run_script(FORGETS), ["Forget", "Forget Other"])
         self.run_script(FORGET)
         self.assertEqual(self.run_script(BOOKS), ["Other"])
+        self.assertEqual(self.run_script(FORGETS), ["It is in no file: forget", "It is in no file: forget Other"])
         self.run_script(FORGET)
         self.wait(lambda: self.run_script(BOOKS) == [])
         self.assertEqual(self.kept_texts(), [TUNE])
