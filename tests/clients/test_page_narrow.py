@@ -79,6 +79,12 @@ words.selectNodeContents(one.parentElement);
 const end = words.getBoundingClientRect().right, accent = (id) => getComputedStyle(document.getElementById(id)).accentColor;
 return [other.getBoundingClientRect().left - end, other.parentElement.getBoundingClientRect().top === one.parentElement.getBoundingClientRect().top, ["transpose-by-key", "tidy-first"].map(accent), accent("tempo")];
 """  # the room before the second choice, whether it is beside the first one, and the colours of chosen boxes
+MEND = """
+document.getElementById("count").textContent = "2 faults";
+document.getElementById("hinted").textContent = "6 hints";
+const [list, mend] = ["#told", "#told .mend"].map((one) => document.querySelector(one)?.getBoundingClientRect());
+return mend ? [list.top <= mend.top, mend.bottom <= list.bottom] : null;
+"""  # whether the button that mends the first fault is inside the list, while the bar above needs two rows
 
 WORDS = """
 const view = document.querySelector("#score svg")?.getBoundingClientRect();
@@ -124,6 +130,12 @@ class Narrow(test_page_in_browser.Browser):
             self.assertTrue(all(is_whole for _, is_whole in parts), (wide, parts))
             rows = [round(middle / 10) for middle, _ in parts]
             self.assertEqual((len(set(rows[:4])), len(set(rows[4:]))), (1, 1), (wide, rows))
+
+    def test_the_button_that_mends_a_fault(self) -> None:
+        """It is beside the first words of its fault, so it is seen also if the sentence is longer than the list is high."""
+        self.size(390, 800)
+        self.edit(6, 7, "[V:2] G2D2|G2 'D2|G2D2|G4|")
+        self.assertEqual(self.wait(lambda: self.run_script(MEND)), [True, True])
 
     def test_a_tablet(self) -> None:
         """A title has a row of its own with the time, the filter has room for some words, and what finds is one row."""
