@@ -41,7 +41,7 @@ export class ShareDialog {
   /** Copies the link. A page that did not come by https may not: then the link is selected. */
   async copy() {
     const isCopied = await navigator.clipboard?.writeText(this.link.value).then(() => true, () => false);
-    find("share-done").textContent = isCopied ? "The link is copied." : "This browser does not let a page copy: press Ctrl-C.";
+    find("share-done").textContent = isCopied ? "The link is copied." : "The browser does not let this page copy. The link is selected: copy it yourself.";
     if (isCopied) return;
     this.link.focus();
     this.link.select();

@@ -20,7 +20,7 @@ import { SENTENCES } from "./sentences.js";
  * A book as it begins: its text, and that of its file, null without one.
  * @typedef {{ id: string, name: string, data: Uint8Array, disk: Uint8Array | null, file: BookFile | null }} Opening */
 
-const NO_SCORE = "No score here: abcm2ps runs in no browser.";
+const NO_SCORE = "No score here: the program that draws it runs in no browser.";
 const GONE = "the file is gone";
 const PLAIN_SOUNDS = { name: "", isPlain: true };
 const EMPTY = new BookText(false, [""], false);
