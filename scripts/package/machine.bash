@@ -11,6 +11,7 @@ read_machine() {
         machine=${2-}
         words=("${@:3}")
     fi
+    refuse_other_options
     case $machine in
     x86-64)
         target=x86_64-unknown-linux-gnu
@@ -24,6 +25,18 @@ read_machine() {
         command -v "$cc" >/dev/null || refuse 'a Debian package is missing: install gcc-aarch64-linux-gnu'
         ;;
     *) refuse "the machine is x86-64 or arm64, and not '$machine'" ;;
+    esac
+}
+
+# Prints the usage if `words` begin with an option that asks for it, and refuses an option that no script has. The usage is in the second
+# line of each script.
+refuse_other_options() {
+    local usage
+    usage=$(sed -n '2s/.*usage: /usage: /p' "$0")
+    case ${words[0]-} in
+    --missing) ;;
+    -h | --help) printf '%s\n' "$usage" && exit ;;
+    -*) refuse "there is no option '${words[0]}'; $usage" ;;
     esac
 }
 
