@@ -41,6 +41,7 @@ SAME = [220, 120] * (KEYS_TYPED // 2)  # milliseconds between a frame and the ne
 CHANCE = random.Random(1)
 VARIED = [pause + CHANCE.uniform(0, 1000 / 60) for pause in SAME]  # up to a frame more
 DOWN = "\ue015"
+UNCLOCKED = "disable-frame-rate-limit", "disable-gpu-vsync"  # options of a browser that waits for no screen
 
 
 class Stroke(NamedTuple):
