@@ -6,7 +6,6 @@ from __future__ import annotations
 
 import os
 
-FOLDERS = ("/usr/lib/x86_64-linux-gnu", "/usr/lib64")
 NAMES = ("libmimalloc.so.2", "libjemalloc.so.2")
 LARGE_PAGES = {  # for mimalloc, jemalloc and the GNU C library from 2.35 on
     "MIMALLOC_LARGE_OS_PAGES": "1",
@@ -19,7 +18,8 @@ def choose_allocator() -> None:
     """Has the processes that this one starts from now on use another allocator, and large pages. Settings that are there stay."""
     if os.environ.get("ABC2MIDI_LIVE_ALLOCATOR") == "system":
         return
-    found = (f"{folder}/{name}" for name in NAMES for folder in FOLDERS if os.access(f"{folder}/{name}", os.R_OK))
+    folders = f"/usr/lib/{os.uname().machine}-linux-gnu", "/usr/lib64"  # Debian's, and that of others
+    found = (f"{folder}/{name}" for name in NAMES for folder in folders if os.access(f"{folder}/{name}", os.R_OK))
     library = next(found, None)
     if library:
         os.environ["LD_PRELOAD"] = ":".join(filter(None, (os.environ.get("LD_PRELOAD"), library)))

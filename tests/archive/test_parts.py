@@ -325,6 +325,14 @@ class TheAllocator(unittest.TestCase):
         self.assertIsNone(self.chosen("/usr/lib64/other.so"))
         self.assertIsNone(self.chosen(library, ABC2MIDI_LIVE_ALLOCATOR="system"))
 
+    def test_the_folder_of_debian_for_this_machine(self) -> None:
+        for machine in ("x86_64", "aarch64"):  # the names that Debian has for 64-bit processors of Intel and ARM
+            library = f"/usr/lib/{machine}-linux-gnu/libmimalloc.so.2"
+            with mock.patch("os.uname", return_value=mock.Mock(machine=machine)):
+                self.assertEqual(self.chosen(library), library)
+            with mock.patch("os.uname", return_value=mock.Mock(machine="other")):
+                self.assertIsNone(self.chosen(library))
+
 
 class TheProgress(unittest.TestCase):
     def test_a_line_has_the_rate_and_the_time_left(self) -> None:
