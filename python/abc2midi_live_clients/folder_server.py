@@ -12,10 +12,10 @@ from typing import Optional
 
 import abc2midi_live
 
+from .asked import Refused
 from .book_folder import Book, Found, books_in, search
 from .guarded_server import GuardedServer
 from .page_requests import Request
-from .shared_book import Refused
 
 MOST_OPEN = 20  # books at the same time
 SECONDS_TO_BEGIN, SECONDS_TO_END = 60, 5  # of the server of a book

@@ -13,9 +13,9 @@ from contextlib import suppress
 from http.server import BaseHTTPRequestHandler
 from typing import TYPE_CHECKING, Any, Optional, Union
 
+from .asked import WINDOW, Refused
 from .rows import Json
 from .served_files import CACHED_FOR_A_YEAR
-from .shared_book import WINDOW, Refused
 from .web_socket import BadMessage, WebSocket, answering_headers, asks_for_socket, version
 
 if TYPE_CHECKING:

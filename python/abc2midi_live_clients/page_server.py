@@ -14,6 +14,8 @@ from typing import Any
 
 from abc2midi_live import LibraryMissing
 
+from .asked import Refused
+from .book_keys import book_key, proof
 from .faults import sentence_pairs
 from .folder_server import FolderServer
 from .guarded_server import GuardedServer
@@ -23,11 +25,10 @@ from .own_process import ENDED
 from .page_requests import Request
 from .printing import printable
 from .program import add_version_option
-from .book_keys import book_key, proof
 from .score_pdf import PdfMaker
 from .scorer import Scorer
 from .served_files import ServedFiles
-from .shared_book import Refused, SharedBook
+from .shared_book import SharedBook
 from .signals import when_the_parent_ends, when_told_to_end
 from .sound_font import BadFont, find_font
 

@@ -6,13 +6,13 @@ import tempfile
 import threading
 from typing import NamedTuple
 
+from .asked import Refused
 from .own_process import ENDED, OwnProcess, answer_all
 from .rows import Json
 from .score import ENVIRONMENT, LIMITS, MOST_CHARACTERS, MOST_LINES, NICENESS, NO_FILTER
 from .score_limits import CONVERTING, DRAWING_PAGES
 from .score_text import header_lines, tune_lines
 from .scorer import INSTALL, found_program
-from .shared_book import Refused
 from .walled_program import Killed, TooLarge, TooLate, output_of
 
 GHOSTSCRIPT = "gs"  # which the command ps2pdf starts

@@ -7,10 +7,10 @@ import threading
 from collections import OrderedDict
 from typing import Optional
 
+from .asked import Refused
 from .own_process import ENDED, OwnProcess
 from .rows import Json
 from .score import Answer, Question, refusal_json
-from .shared_book import Refused
 
 PROGRAM = "abcm2ps"
 INSTALL = "To see the score, install abcm2ps: sudo apt install abcm2ps"

@@ -15,7 +15,8 @@ from unittest import mock
 
 import trial
 from abc2midi_live import OutOfMemory, TokenKind
-from abc2midi_live_clients import saving, shared_book, views
+from abc2midi_live_clients import saving, shared_book, shared_text, views
+from abc2midi_live_clients.asked import Refused
 from abc2midi_live_clients.rows import Json, moved
 from abc2midi_live_clients.saving import digest, save_book
 from abc2midi_live_clients.shared_book import SharedBook
@@ -65,15 +66,15 @@ class Compared(unittest.TestCase):
         """So a key in a long book compares one line. Another edit may have changed the others."""
         saved, lines = ([Line(b"C")] + [Line(b"D%d" % n) for n in range(999)] for _ in range(2))
         edit = {"start": 900, "stop": 901, "lines": ["E"]}
-        self.assertFalse(shared_book.are_others(lines, saved, [edit]))
-        self.assertFalse(shared_book.are_others(lines, saved, []))
+        self.assertFalse(shared_text.are_others(lines, saved, [edit]))
+        self.assertFalse(shared_text.are_others(lines, saved, []))
         lines[0] = Line(b"E")
-        self.assertTrue(shared_book.are_others(lines, saved, [edit]))
+        self.assertTrue(shared_text.are_others(lines, saved, [edit]))
         lines[:1], lines[900] = [Line(b"C")], Line(b"E")
         Line.compared = 0
-        self.assertTrue(shared_book.are_others(lines, saved, [edit]))
+        self.assertTrue(shared_text.are_others(lines, saved, [edit]))
         self.assertEqual(Line.compared, 1)
-        self.assertTrue(shared_book.are_others(lines[:-1], saved, [edit]))
+        self.assertTrue(shared_text.are_others(lines[:-1], saved, [edit]))
 
 
 class Saves(OneWindow):
@@ -126,7 +127,7 @@ class Saves(OneWindow):
         self.assertEqual((self.book.snapshot()["has"][run], self.book.version), (4, 4))
         bad: list[Any] = [["one"], "one", {"one": -1}, {"one": "1"}, {"a b": 1}, {"": 1}, {"one": True}]
         for has in bad:
-            with self.assertRaises(shared_book.Refused):
+            with self.assertRaises(Refused):
                 self.ask(self.book.edit, start=0, stop=1, lines=["X:5"], has=has)
         self.assertEqual(self.book.version, 4)
 
@@ -188,7 +189,7 @@ class News(OneWindow):
         timer.join()
         return time.monotonic() - since
 
-    @mock.patch.object(shared_book, "SECONDS_FOR_ANSWERS", LATE)
+    @mock.patch.object(shared_text, "SECONDS_FOR_ANSWERS", LATE)
     def test_edits_of_the_window(self) -> None:
         """They come later than their answers, but for what other windows and other programs do meanwhile."""
         self.assertGreater(self.waits("one"), LATE)
@@ -280,7 +281,7 @@ class TimedSaves(OneWindow):
             try:
                 self.ask(call, **more)
                 return True
-            except shared_book.Refused as refused:
+            except Refused as refused:
                 if "changes" not in refused.answer:
                     return False
         raise AssertionError("the window never has all changes")
@@ -371,9 +372,9 @@ class Views(trial.Folder):
     def test_what_is_no_view(self) -> None:
         bad: list[Any] = [None, [], {"from": -1, "to": 1}, {"from": 0}, {"from": 0, "to": True, "tune": None}, {"from": 0, "to": 1, "tune": "1"}]
         for seen in bad:
-            with self.assertRaises(shared_book.Refused):
+            with self.assertRaises(Refused):
                 self.book.view({"run": self.book.run, "version": self.book.version, "sees": seen})
-        with self.assertRaises(shared_book.Refused):
+        with self.assertRaises(Refused):
             self.book.view({"run": self.book.run, "version": 7, "sees": {"from": 0, "to": 1, "tune": None}})
 
     def test_limits(self) -> None:
@@ -385,11 +386,11 @@ class Views(trial.Folder):
 
     def test_an_allocation_that_fails(self) -> None:
         """The edit is refused, and the next one finds another session with the text that is there."""
-        before = self.book.session_book
+        before = self.book.session.book
         assert before
         with mock.patch.object(before.session, "apply", side_effect=OutOfMemory("an allocation failed")):
-            with self.assertRaises(shared_book.Refused) as caught:
+            with self.assertRaises(Refused) as caught:
                 self.ask(self.book.edit, 3, 4, None, start=4, stop=5, lines=["D"])
         self.assertEqual((caught.exception.status, self.book.version), (413, 0))
         self.assertEqual(self.ask(self.book.edit, 4, 5, None, start=4, stop=5, lines=["z"])["tokens"], [[0, 1, REST, 0]])
-        self.assertIsNot(self.book.session_book, before)
+        self.assertIsNot(self.book.session.book, before)
