@@ -159,6 +159,8 @@ export class Session {
   readonly numbers: number[];
   /** The tunes, in the order of the text. */
   readonly titles: Title[];
+  /** Some of the tunes, as `titles.slice(start, stop)`. In a large book it takes less time than all of them. */
+  titlesIn(start?: number, stop?: number): Title[];
   /** The faults, in the order of their places. */
   readonly faults: Fault[];
   /**

@@ -147,8 +147,12 @@ export class Session {
   }
 
   get titles() {
+    return this.titlesIn(0);
+  }
+
+  titlesIn(start, stop) {
     this.#checkOpen();
-    return Array.from({ length: this.#titleCount() }, (_, index) => {
+    return [...Array(this.#titleCount()).keys()].slice(start, stop).map((index) => {
       const bytes = this.#copied(1, (it, ...buffer) => it.abc_live_title(this.#block, BigInt(index), this.#places.number, ...buffer));
       return { number: this.#number(), text: textOf(bytes), bytes };
     });

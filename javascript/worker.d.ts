@@ -18,6 +18,7 @@ export class WorkerSession {
   output(number: number): Promise<Uint8Array | null>;
   readonly numbers: Promise<number[]>;
   readonly titles: Promise<Title[]>;
+  titlesIn(start?: number, stop?: number): Promise<Title[]>;
   readonly faults: Promise<Fault[]>;
   tokens(number: number): Promise<Token[]>;
   play(number: number): Promise<Entry[][] | null>;

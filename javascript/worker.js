@@ -4,7 +4,7 @@ import { isSupported } from "./engine.js";
 import { ClosedError, NotSupportedError, WorkerError, errorOf, refusal } from "./errors.js";
 
 const THREADS = "node:worker_threads"; // a name that bundlers for browsers do not look for
-const METHODS = ["insert", "replace", "delete", "setText", "output", "tokens", "play", "line", "lineBytes", "utf16Column", "byteColumn"];
+const METHODS = ["insert", "replace", "delete", "setText", "output", "titlesIn", "tokens", "play", "line", "lineBytes", "utf16Column", "byteColumn"];
 const GETTERS = ["report", "numbers", "titles", "faults", "lineCount", "lines", "work"];
 
 /** A worker of the package. Node has workers of its own kind. */

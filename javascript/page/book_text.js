@@ -1,6 +1,6 @@
 // The text of a tune book: bytes in a file, lines in the page. A line that nobody edits keeps its bytes.
 
-import { commonEnds } from "./lines.js";
+import { commonEnds, replaced } from "./lines.js";
 
 /** A line of the file: a string if its bytes are UTF-8, else the bytes.
  * @typedef {string | Uint8Array} Line
@@ -31,6 +31,12 @@ function latin1(bytes) {
   return text;
 }
 
+/** How many lines are not UTF-8.
+ * @type {(lines: Line[]) => number} */
+function oddLines(lines) {
+  return lines.reduce((sum, line) => sum + Number(typeof line !== "string"), 0);
+}
+
 /** The bytes of a line.
  * @type {(line: Line) => Uint8Array} */
 export function bytesOf(line) {
@@ -54,15 +60,18 @@ function linesOf(bytes) {
 }
 
 export class BookText {
-  /** `returns` is whether the lines end in carriage returns. The last line is empty if the text ends with a line feed.
+  /** `returns` is whether the lines end in carriage returns. The last line is empty if the text ends with a line feed. `odd` is how many lines
+   * are not UTF-8.
    * @param {boolean} mark
    * @param {Line[]} lines
    * @param {boolean} returns */
-  constructor(mark, lines, returns) {
+  constructor(mark, lines, returns, odd = oddLines(lines)) {
     this.mark = mark;
     this.lines = lines;
     this.returns = returns;
-    this.odd = lines.reduce((sum, line) => sum + Number(typeof line !== "string"), 0); // lines that are not UTF-8
+    this.odd = odd;
+    /** @type {Uint8Array | null} */
+    this.known = null; // its bytes, if they were asked for
   }
 
   /** The text of a file.
@@ -72,8 +81,13 @@ export class BookText {
     return new BookText(mark, lines, lines.length > 1 && bytesOf(lines[0]).at(-1) === 13);
   }
 
-  /** The bytes of the file. */
+  /** The bytes of the file: those of a long book are made once. */
   get bytes() {
+    return (this.known ??= this.encoded());
+  }
+
+  /** @type {() => Uint8Array} */
+  encoded() {
     const mark = this.mark ? "\ufeff" : "";
     if (!this.odd) return encoder.encode(mark + this.lines.join("\n"));
     const parts = this.lines.map(bytesOf), front = encoder.encode(mark);
@@ -137,7 +151,8 @@ export class BookText {
   /** The text after an edit.
    * @type {(edit: LineEdit) => BookText} */
   edited({ start, stop, lines }) {
-    return new BookText(this.mark, [...this.lines.slice(0, start), ...lines, ...this.lines.slice(stop)], this.returns);
+    const odd = this.odd - oddLines(this.lines.slice(start, stop)) + oddLines(lines);
+    return new BookText(this.mark, replaced(this.lines, start, stop, lines), this.returns, odd);
   }
 
   /** The same letters in UTF-8. */
@@ -145,10 +160,14 @@ export class BookText {
     return new BookText(this.mark, this.lines.map((line) => (typeof line === "string" ? line : latin1(line))), this.returns);
   }
 
-  /** Whether it has the bytes of another text.
-   * @type {(other: BookText) => boolean} */
-  isSame(other) {
-    return this.mark === other.mark && this.lines.length === other.lines.length && this.lines.every((line, n) => isSame(line, other.lines[n]));
+  /** Whether it has the bytes of another text. A line at a place is compared first, as the one that an edit made: the others may be all of a
+   * long book.
+   * @type {(other: BookText, place?: number) => boolean} */
+  isSame(other, place = 0) {
+    const { lines, mark } = this;
+    if (mark !== other.mark || lines.length !== other.lines.length) return false;
+    if (place < lines.length && !isSame(lines[place], other.lines[place])) return false;
+    return lines.every((line, n) => isSame(line, other.lines[n]));
   }
 }
 

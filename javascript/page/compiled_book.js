@@ -2,8 +2,10 @@
 
 import { WorkerSession } from "./abc2midi-live/worker.js";
 import { bytesOf } from "./book_text.js";
+import { BookTunes } from "./book_tunes.js";
 import { spanOf } from "./fault_spans.js";
 import { difference } from "./lines.js";
+import { MarkedLines } from "./marked_lines.js";
 import { ENTRY_KINDS, KINDS } from "./seen.js";
 
 /** @typedef {import("./book_text.js").Line} Line
@@ -28,10 +30,10 @@ function isTooLong(line) {
   return line.length * MOST_BYTES_OF_A_UNIT > MOST_BYTES && bytesOf(line).length > MOST_BYTES;
 }
 
-/** The lines that count: an empty one at the end does not.
- * @type {(text: BookText) => Line[]} */
-function countedLines({ lines }) {
-  return lines.at(-1)?.length === 0 ? lines.slice(0, -1) : lines;
+/** How many lines count: an empty one at the end does not.
+ * @type {(text: BookText) => number} */
+function countLines({ lines }) {
+  return lines.length - Number(lines.at(-1)?.length === 0);
 }
 
 export class CompiledBook {
@@ -42,7 +44,9 @@ export class CompiledBook {
     /** @type {WorkerSession | null} */
     this.session = null;
     /** @type {Line[]} */
-    this.lines = []; // that the session has
+    this.lines = []; // that the session has, but for those that are too long
+    this.tunes = new BookTunes();
+    this.long = new MarkedLines(isTooLong);
     /** @type {Map<string, [start: number, end: number]>} */
     this.spans = new Map(); // of faults, by their names, places and lines
   }
@@ -50,7 +54,7 @@ export class CompiledBook {
   /** Makes a text that of the session: what it changed. A session that fails is started again, once.
    * @type {(text: BookText) => Promise<Report>} */
   async become(text) {
-    const lines = countedLines(text).slice(0, MOST_LINES);
+    const lines = text.lines.slice(0, Math.min(countLines(text), MOST_LINES));
     try {
       return await this.edit(lines);
     } catch (error) {
@@ -67,6 +71,8 @@ export class CompiledBook {
     if (!edit) return { written: [], removed: [] };
     const { start, stop } = edit, put = /** @type {Line[]} */ (edit.put).map((line) => (isTooLong(line) ? LEFT_OUT : line));
     const report = await (put.length === 0 ? session.delete(start + 1, stop) : start === stop ? session.insert(start + 1, put) : session.replace(start + 1, stop, put));
+    this.tunes.follow(start, stop, put);
+    this.long.follow(start, stop, edit.put);
     this.lines = lines;
     return report;
   }
@@ -77,6 +83,8 @@ export class CompiledBook {
     const { session } = this;
     this.session = null;
     this.lines = [];
+    this.tunes = new BookTunes();
+    this.long = new MarkedLines(isTooLong);
     await session?.close();
   }
 
@@ -84,14 +92,14 @@ export class CompiledBook {
    * @type {(text: BookText) => Promise<Rows>} */
   async rows(text) {
     const session = (this.session ??= await this.start());
-    const [faults, titles] = await Promise.all([session.faults, session.titles]);
-    const long = this.lines.flatMap((line, n) => (isTooLong(line) ? [{ line: n, at: MOST_BYTES, name: "BadLine" }] : []));
-    const large = countedLines(text).length > MOST_LINES ? [{ line: MOST_LINES, at: 0, name: "TooLarge" }] : [];
+    const [faults] = await Promise.all([session.faults, this.tunes.read(session)]);
+    const long = this.long.places.map((line) => ({ line, at: MOST_BYTES, name: "BadLine" }));
+    const large = countLines(text) > MOST_LINES ? [{ line: MOST_LINES, at: 0, name: "TooLarge" }] : [];
     const found = faults.filter((fault) => !this.isInside(fault)).map(({ line, utf16Column, name }) => ({ line: line - 1, at: utf16Column - 1, name }));
     const all = [...long, ...large, ...found].sort((one, other) => one.line - other.line || one.at - other.at);
     const spans = await Promise.all(all.map((fault) => this.span(text.shown(text.lines[fault.line]), fault)));
     const rows = all.map(({ line, name }, n) => /** @type {FaultRow} */ ([line, ...spans[n], name]));
-    return { faults: rows, tunes: this.tunes(titles, faults) };
+    return { faults: rows, tunes: this.tunes.rows(faults) };
   }
 
   /** The begin and the end of a fault in its line, as it is shown.
@@ -110,19 +118,6 @@ export class CompiledBook {
   isInside({ line, column, name }) {
     const content = this.lines[line - 1];
     return name === "BadByte" && typeof content === "string" && (bytesOf(content)[column - 1] & 0xc0) === 0x80;
-  }
-
-  /** The tunes: each `X:` line begins one. The first one of a number that is not too long has the file.
-   * @type {(titles: { number: number, text: string }[], faults: { line: number, name: string }[]) => TuneRow[]} */
-  tunes(titles, faults) {
-    const tooLong = new Set(faults.filter(({ name }) => name === "TuneTooLong").map(({ line }) => line - 1));
-    const starts = this.lines.flatMap((line, n) => (begins(line) && !isTooLong(line) ? [n] : []));
-    const owned = new Set();
-    return titles.map(({ number, text }, n) => {
-      const line = starts[n], owns = !owned.has(number) && !tooLong.has(line);
-      if (owns) owned.add(number);
-      return [line, number, text, owns];
-    });
   }
 
   /** What is seen of the session's text: the tokens of lines, and the play of a number, as rows of numbers.
@@ -162,10 +157,4 @@ export class CompiledBook {
  * @type {(entry: Entry) => number[]} */
 function numbersOf({ on, off, line, utf16From, utf16To, kind, key, velocity, joined }) {
   return [on, off, line - 1, utf16From - 1, utf16To - 1, ENTRY_KINDS.indexOf(kind), key ?? NO_KEY, velocity ?? 0, Number(joined)];
-}
-
-/** Whether a line begins a tune.
- * @type {(line: Line) => boolean} */
-function begins(line) {
-  return typeof line === "string" ? line.startsWith("X:") : line[0] === 0x58 && line[1] === 0x3a;
 }

@@ -4,6 +4,7 @@ import { joined } from "./ancestry.js";
 import { BookText } from "./book_text.js";
 import { CompiledBook } from "./compiled_book.js";
 import { difference } from "./lines.js";
+import { difference as rowsDifference, without } from "./rows.js";
 import { SENTENCES } from "./sentences.js";
 
 /** @typedef {import("./rows.js").Edit} Edit
@@ -24,7 +25,6 @@ const NO_SCORE = "No score here: the program that draws it runs in no browser.";
 const GONE = "the file is gone";
 const PLAIN_SOUNDS = { name: "", isPlain: true };
 const EMPTY = new BookText(false, [""], false);
-const ALL = { at: 0, out: Infinity }; // rows: all of them become others
 
 export class WorkerBook {
   /** `saving` is how text becomes a file, `pick` lets the user pick a file to save into; it gets a name to propose.
@@ -186,13 +186,14 @@ export class WorkerBook {
       throw error.name === "OutOfMemory" ? refusal(413, error.message) : error;
     });
     const rows = await this.compiled.rows(text);
+    const faults = found(this.rows.faults, edit, rows.faults), tunes = found(this.rows.tunes, edit, rows.tunes);
     this.moment += 1;
-    Object.assign(this, { text, rows, version: this.version + 1, has: joined(this.has, has), isUnsaved: !text.isSame(this.saved.text) });
+    Object.assign(this, { text, rows, version: this.version + 1, has: joined(this.has, has), isUnsaved: !text.isSame(this.saved.text, edit.start) });
     const milliseconds = Math.round(10 * (performance.now() - since)) / 10;
     this.changed();
     const { version, moment, isUnsaved: unsaved } = this;
     const writing = String(version); // a name of its own for each change
-    return { version, moment, window, writing, has, edit, unsaved, written, removed, milliseconds, faults: { ...ALL, put: rows.faults }, tunes: { ...ALL, put: rows.tunes } };
+    return { version, moment, window, writing, has, edit, unsaved, written, removed, milliseconds, faults, tunes };
   }
 
   /** Makes another text that of the book, which the window did not type.
@@ -326,6 +327,15 @@ export class WorkerBook {
   async downloaded() {
     this.heard({ state: await this.settle() });
   }
+}
+
+/** What an edit changed of rows that moved with their lines.
+ * @template {[line: number, ...more: any[]]} R
+ * @param {R[]} old
+ * @param {Edit} edit
+ * @param {R[]} now */
+function found(old, { start, stop, lines }, now) {
+  return rowsDifference(without(old, start, stop, lines.length - (stop - start)), now);
 }
 
 /** An error as a server answers one.

@@ -2,19 +2,9 @@
 // started again. The same seed gives the same events.
 
 import { Book } from "./book_server.mjs";
+import { chances } from "./testing.mjs";
 
 const NO_ANSWER = "it does not answer";
-
-/** Numbers from 0 to below a limit, the same ones for a seed. */
-export function chances(seed) {
-  let state = Math.imul(seed + 1, 2654435761) >>> 0;
-  return (below) => {
-    state = (state + 0x6d2b79f5) >>> 0;
-    let mixed = Math.imul(state ^ (state >>> 15), state | 1);
-    mixed ^= mixed + Math.imul(mixed ^ (mixed >>> 7), mixed | 61);
-    return Math.floor((((mixed ^ (mixed >>> 14)) >>> 0) / 2 ** 32) * below);
-  };
-}
 
 /** A clock that goes from one act to the next. */
 export class Clock {

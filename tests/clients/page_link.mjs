@@ -4,9 +4,9 @@
 
 import { pathToFileURL } from "node:url";
 
-import { World, chances } from "./link_world.mjs";
+import { World } from "./link_world.mjs";
 import { sheetRoot } from "./stub_document.mjs";
-import { run, same } from "./testing.mjs";
+import { chances, run, same } from "./testing.mjs";
 
 const [folder, first, last] = process.argv.slice(2);
 const from = (name) => import(pathToFileURL(`${folder}/${name}.js`));

@@ -5,7 +5,7 @@ import { readFileSync } from "node:fs";
 import { pathToFileURL } from "node:url";
 import { runInNewContext } from "node:vm";
 
-import { run, same } from "./testing.mjs";
+import { chances, run, same } from "./testing.mjs";
 
 const folder = process.argv[2];
 const from = (name) => import(pathToFileURL(`${folder}/${name}.js`));
@@ -27,15 +27,6 @@ const { Prints, UndoStore } = await from("undo_store");
 
 const again = readFileSync(`${folder}/again.js`, "utf8");
 const PLACE = { start: { line: 0, column: 0 }, end: { line: 0, column: 0 }, direction: "forward" };
-
-/** Numbers below a limit, the same ones in each run. */
-function chances(seed) {
-  let state = seed;
-  return (below) => {
-    state = (Math.imul(state, 1664525) + 1013904223) >>> 0;
-    return Math.floor((state / 2 ** 32) * below);
-  };
-}
 
 /** A text of these lines, which the server has. */
 function opened(...lines) {

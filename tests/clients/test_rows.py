@@ -1,4 +1,4 @@
-"""The rows of a text, which the server and the windows move by two pieces of code: both get the same rows."""
+"""The rows of a text, which the server and the windows move by two pieces of code: both get the same rows, and the same differences."""
 
 import json
 import random
@@ -15,7 +15,8 @@ LINES, TEXTS, CHANGES = 8, 300, 5
 
 class Scripts(page_in_node.PageScripts):
     def test_edits_at_random(self) -> None:
-        """After each edit the server has rows of its own making. It sends what is different from the moved ones."""
+        """After each edit the server has rows of its own making. It sends what is different from the moved ones. The page without a server
+        finds the same differences."""
         chance = random.Random(trial.seed)
         asked: list[Json] = []
         wanted = []
@@ -31,7 +32,7 @@ class Scripts(page_in_node.PageScripts):
                 before = moved(rows, edit)
                 rows = sorted(chance.sample(before, len(before) // 2) + self.rows(chance, count, f"{text}.{number}"))
                 asked[-1]["changes"].append({"edit": edit, "difference": difference(before, rows)})
-            wanted.append(json.dumps(rows, separators=(",", ":")))
+            wanted.append(json.dumps([rows, [change["difference"] for change in asked[-1]["changes"]]], separators=(",", ":")))
         self.assertEqual(self.node("page_rows.mjs", json.dumps(asked)), wanted)
 
     def rows(self, chance: random.Random, count: int, name: str) -> list[tuple[int, str]]:

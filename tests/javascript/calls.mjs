@@ -211,6 +211,12 @@ await run({
     same([session.line(2), session.lineBytes(2)], ["T:caf\u00e9", title]);
     session.close();
   },
+  "titles of some tunes are a slice of all": async () => {
+    const session = await sessionOf(...[1, 2, 3, 4].map((number) => `X:${number}\nT:Tune ${number}\nK:C\n\n`));
+    for (const [start, stop] of [[0, 4], [1, 3], [3, 9], [2], [4, 4], [3, 1], [-2, 4], [0, -1], [undefined, 2]]) same(session.titlesIn(start, stop), session.titles.slice(start, stop));
+    same(session.titlesIn(1, 2), [{ number: 2, text: "Tune 2", bytes: bytes("Tune 2") }]);
+    session.close();
+  },
   "a string of an edit becomes the same bytes, short or long, and after the memory grew": async () => {
     const engine = await Engine.load(readFileSync(`${folder}/abc2midi_live.wasm`)), session = await Session.open({ engine });
     const before = engine.memoryBytes, euro = "\u20ac";
@@ -261,7 +267,7 @@ await run({
     session.close();
     session.close();
     const calls = [() => session.insert(1, ""), () => session.setText(""), () => session.output(1), () => session.numbers, () => session.titles];
-    calls.push(() => session.tokens(1), () => session.play(1));
+    calls.push(() => session.tokens(1), () => session.play(1), () => session.titlesIn(0, 1));
     calls.push(() => session.faults, () => session.lines, () => session.line(1), () => session.report, () => session.work, () => session.lineCount);
     for (const call of calls) same(await thrown(call), "ClosedError");
   },
@@ -332,7 +338,7 @@ await run({
     const calls = [(it) => it.setText(given), (it) => it.insert(5, ["X:2", "K:C", "D?"]), (it) => it.replace(4, 4, "E|"), (it) => it.delete(1, 1)];
     calls.push((it) => it.report, (it) => it.output(2), (it) => it.output(1), (it) => it.numbers, (it) => it.titles, (it) => it.faults);
     calls.push((it) => it.lineCount, (it) => it.lines, (it) => it.line(2), (it) => it.lineBytes(2), (it) => it.utf16Column(2, 3));
-    calls.push((it) => it.byteColumn(2, 3), (it) => it.work);
+    calls.push((it) => it.byteColumn(2, 3), (it) => it.work, (it) => it.titlesIn(0, 1), (it) => it.titlesIn(1));
     for (const call of calls) same(await call(worker), await call(session));
     const wrong = [(it) => it.delete(0, 0), (it) => it.insert(1, "C".repeat(65536)), (it) => it.line(99), (it) => it.insert("1", "")];
     for (const call of wrong) same(await thrown(() => call(worker)), await thrown(() => call(session)));

@@ -1,6 +1,6 @@
 // Tries the scripts of the package that need no module. Each test prints a line, `ok` or `FAILED`, with its name.
 
-import { run, same } from "../clients/testing.mjs";
+import { chances, run, same } from "../clients/testing.mjs";
 import { fewEdits } from "../../javascript/edits.js";
 import { errorOf, BadRange } from "../../javascript/errors.js";
 import { byteColumnOf, bytesOfBook, bytesOfLines, countLines, hasLongLine, numberFor, textOf, utf16ColumnOf } from "../../javascript/lines.js";
@@ -9,15 +9,6 @@ const bytes = (text) => new TextEncoder().encode(text);
 const text = (of) => new TextDecoder("utf-8", { ignoreBOM: true }).decode(of);
 const lines = (of) => of.split("\n").slice(0, -1);
 const WORDS = ["X:1", "X:2", "CDEF|", "GABc|", "", "% words"];
-
-/** A source of numbers below a limit: the same ones for a seed. */
-function chance(seed) {
-  let state = seed;
-  return (limit) => {
-    state = (Math.imul(state, 1664525) + 1013904223) >>> 0;
-    return Math.floor((state / 2 ** 32) * limit);
-  };
-}
 
 const randomLines = (next, most) => Array.from({ length: next(most) }, () => WORDS[next(WORDS.length)]);
 
@@ -40,7 +31,7 @@ function thrown(call) {
 
 await run({
   "edits make one text of another, for random texts": () => {
-    const next = chance(1);
+    const next = chances(1);
     for (let n = 0; n < 5000; n += 1) {
       const old = randomLines(next, 14);
       const now = next(3) ? [...old] : randomLines(next, 14);

@@ -4,7 +4,7 @@
 import { resolveObjectURL } from "node:buffer";
 import { pathToFileURL } from "node:url";
 
-import { run, same } from "../clients/testing.mjs";
+import { chances, run, same } from "../clients/testing.mjs";
 
 /** A stand-in for the browser's locks. */
 class Locks {
@@ -45,6 +45,7 @@ const { Files } = await from("files");
 const { Keeper } = await from("keeper");
 const { Link } = await from("link");
 const { PickedFile, pickToOpen, pickToSave } = await from("picked_file");
+const { changed } = await from("rows");
 const { linkOf, textIn } = await from("share_link");
 const { Text } = await from("text");
 const { WorkerBook } = await from("worker_book");
@@ -72,12 +73,14 @@ async function thrown(act) {
   throw new Error("nothing was thrown");
 }
 
-/** A stand-in for a session: each line that begins `X:` is a tune, each with `&` has a fault. */
+/** A stand-in for a session: each line that begins `X:` is a tune with the title of its first `T:` line, or of
+ * the first one before all tunes; each line with `&` has a fault. */
 class Session {
   constructor() {
     this.lines = [];
     this.fails = 0; // how many calls fail
     this.refuses = false;
+    this.read = 0; // titles
   }
 
   put(start, stop, lines) {
@@ -103,8 +106,13 @@ class Session {
     return this.lines.filter((line) => line.startsWith("X:")).map((line) => Number(line.slice(2)));
   }
 
-  get titles() {
-    return Promise.resolve(this.numbers.map((number) => ({ number, text: `title ${number}` })));
+  async titlesIn(start, stop) {
+    const starts = this.lines.flatMap((line, n) => (line.startsWith("X:") ? [n] : []));
+    const titleOf = (from, to) => this.lines.slice(from, to).find((line) => line.startsWith("T:"))?.slice(2);
+    const titles = starts.map((at, n) => ({ number: this.numbers[n], text: titleOf(at, starts[n + 1]) ?? titleOf(0, starts[0]) ?? "" }));
+    const read = titles.slice(start, stop);
+    this.read += read.length;
+    return read;
   }
 
   get faults() {
@@ -236,14 +244,51 @@ function keptOf(book) {
 
 const TUNE = "X:1\nK:C\nC\n";
 
+const rowsOf = ({ faults, tunes }) => ({ faults, tunes });
+
+/** The rows of a window after a change. */
+const rowsAfter = ({ faults, tunes }, change) => ({
+  faults: changed(faults, change.edit, change.faults),
+  tunes: changed(tunes, change.edit, change.tunes),
+});
+
 await run({
   async "an edit reaches the compiler, and what it finds comes back"() {
     const { session, heard, type, book } = await opened(TUNE);
     await type(2, 3, "C & D", "E");
     same(session.lines, ["X:1", "K:C", "C & D", "E"]);
-    const { faults, tunes, written, unsaved } = heard[0];
-    same([faults.put, tunes.put, written, unsaved], [[[2, 2, 3, "BadByte"]], [[0, 1, "title 1", true]], [1], true]);
+    const { faults, tunes, written, unsaved } = heard[0], none = { at: 1, out: 0, put: [] };
+    same([faults, tunes, written, unsaved], [{ at: 0, out: 0, put: [[2, 2, 3, "BadByte"]] }, none, [1], true]);
     same(text(await book.bytes("text")), "X:1\nK:C\nC & D\nE\n");
+  },
+
+  async "after edits at random a window has the rows that a new compiler finds"() {
+    const lines = ["X:1", "X:2", "T:one", "T:two", "C", "C &", "", "z".repeat(66_000)], chance = chances(1);
+    const some = () => Array.from({ length: chance(4) }, () => lines[chance(lines.length)]);
+    for (let n = 0; n < 60; n += 1) {
+      const { book } = await opened([...some(), ...some(), ...some()].join("\n"));
+      let window = await book.ask("book");
+      for (let edits = 0; edits < 12; edits += 1) {
+        const start = chance(window.lines.length), stop = Math.min(window.lines.length, start + chance(4));
+        const edit = { start, stop, lines: [...some(), "C"] };
+        const change = await book.ask("edit", { version: window.version, window: "w", ...edit });
+        const now = [...window.lines.slice(0, start), ...edit.lines, ...window.lines.slice(stop)];
+        window = { version: change.version, lines: now, ...rowsAfter(window, change) };
+        const { book: other } = await opened(now.join("\n"));
+        same(rowsOf(window), rowsOf(await other.ask("book")));
+      }
+    }
+  },
+
+  async "an edit has the titles of the tunes read again that it may have changed"() {
+    const { book, session } = await opened("T:all\nX:1\nC\nX:2\nC\nX:3\nC\nX:4\nC\n");
+    let { version } = await book.ask("book");
+    const read = async (start, stop, ...lines) => {
+      session.read = 0;
+      ({ version } = await book.ask("edit", { version, window: "w", start, stop, lines }));
+      return session.read;
+    };
+    same([await read(4, 5, "T:two"), await read(6, 7, "X:5"), await read(6, 7), await read(0, 1, "T:any")], [1, 2, 1, 4]);
   },
 
   async "the second tune of a number has no file"() {

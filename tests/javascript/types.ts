@@ -16,7 +16,7 @@ async function edit(session: Session): Promise<void> {
   const play: Entry[][] | null = session.play(numbers[0] ?? 1);
   const keys: (number | null)[] = (play ?? []).flat().map((entry) => (entry.on < entry.off && !entry.joined ? entry.key : entry.velocity));
   const entries: EntryKind[] = (play ?? []).flat().map((entry) => entry.kind);
-  const titles: Title[] = session.titles;
+  const titles: Title[] = [...session.titles, ...session.titlesIn(0, 1)];
   const bytes: Uint8Array[] = [...titles.map((title) => title.bytes), session.lineBytes(1)];
   const lines: string[] = [...session.lines, session.line(1), titles[0]?.text ?? "", ...words];
   const places: number[] = [session.lineCount, session.utf16Column(1, 2), session.byteColumn(1, 2), bytes.length, lines.length];

@@ -1,5 +1,5 @@
 // Rows of what the server finds in the text: sorted lists of [line, ..] that move with their lines. The server has the same in
-// rows.py, which mirrors `without` and `changed`: tests/clients/test_rows.py compares the two.
+// rows.py, which mirrors `without`, `difference` and `changed`: tests/clients/test_rows.py compares the two.
 
 /** A fault or a hint: its line, where it begins and ends there, its name, and the sentence of a hint.
  * @typedef {[line: number, start: number, end: number, name: string, hint?: string]} FaultRow */
@@ -61,6 +61,25 @@ function movedRow(row, more) {
   const now = row.slice();
   now[0] += more;
   return /** @type {R} */ (now);
+}
+
+/** How rows become others: at a place some of them go, and others come.
+ * @template {unknown[]} R
+ * @param {R[]} old
+ * @param {R[]} now
+ * @returns {Difference<R>} */
+export function difference(old, now) {
+  const least = Math.min(old.length, now.length);
+  let front = 0, back = 0;
+  while (front < least && isSame(old[front], now[front])) front += 1;
+  while (back < least - front && isSame(old[old.length - 1 - back], now[now.length - 1 - back])) back += 1;
+  return { at: front, out: old.length - front - back, put: now.slice(front, now.length - back) };
+}
+
+/** Whether two rows have the same parts.
+ * @type {(row: unknown[], other: unknown[]) => boolean} */
+function isSame(row, other) {
+  return row === other || (row.length === other.length && row.every((part, n) => part === other[n]));
 }
 
 /** Rows after a change of the text: those of new lines are put in, at a place.
