@@ -122,6 +122,18 @@ class Catalogue:
     # ---- what a run found
 
     def keep(self, book: int, result: Result, options: str) -> None:
+        """Replaces what is known of a book by a result. If that is interrupted, all of it is as it was before."""
+        self.ask("SAVEPOINT change")
+        try:
+            self.replace(book, result, options)
+        except BaseException:
+            if self.database.in_transaction:
+                self.ask("ROLLBACK TO change")
+            raise
+        self.ask("RELEASE change")
+        self.commit_sometimes()
+
+    def replace(self, book: int, result: Result, options: str) -> None:
         """Replaces what is known of a book by a result."""
         self.ask("DELETE FROM tunes WHERE book = ?", book)
         self.ask("DELETE FROM remarks WHERE book = ?", book)
@@ -131,7 +143,6 @@ class Catalogue:
         counts = len(result.tunes), files, result.fault_count, result.hint_count
         sizes = result.size, result.lines, result.parts
         self.ask(BOOK, result.digest, options, *sizes, *counts, result.seconds, book)
-        self.commit_sometimes()
 
     def keep_problem(self, book: int, problem: str) -> None:
         """Notes why a book is not compiled. What earlier runs found stays, and the next run tries it again."""
@@ -156,17 +167,21 @@ class Catalogue:
 
     def commit(self) -> None:
         """Commits what is kept."""
-        self.ask("COMMIT")
+        self.end_transaction()
         self.ask("BEGIN")
         self.committed = time.monotonic()
 
     def close(self) -> None:
         """Commits what is kept, and closes the catalogue. Raises BadCatalogue."""
         try:
-            if self.database.in_transaction:  # a full disk ends the transaction
-                self.ask("COMMIT")
+            self.end_transaction()
         finally:
             self.database.close()
+
+    def end_transaction(self) -> None:
+        """Commits what is kept. A full disk ends the transaction, and so does an interrupt after the COMMIT of `commit`."""
+        if self.database.in_transaction:
+            self.ask("COMMIT")
 
     def ask(self, question: str, *values: Any) -> Iterator[Any]:
         """Asks the database. Raises BadCatalogue."""

@@ -180,7 +180,7 @@ def main() -> int:
     try:
         return run_command(words)
     except KeyboardInterrupt:
-        tell("stopped before the first book")
+        tell("stopped")
     except ProgramMissing as error:
         tell(str(error))
         return NOTHING_COMPILES

@@ -6,15 +6,17 @@ import csv
 import io
 import itertools
 import os
+import sqlite3
 import stat
 import tarfile
 import unittest
 import zipfile
+from collections.abc import Callable, Iterator
 from concurrent.futures import Future
 from concurrent.futures.process import BrokenProcessPool
-from contextlib import nullcontext
+from contextlib import closing, nullcontext
 from pathlib import Path
-from typing import Optional
+from typing import Any, Optional
 from unittest import mock
 
 import setting
@@ -29,7 +31,7 @@ from abc2midi_live_archive.names import MOST_CHARACTERS, Names
 from abc2midi_live_archive.progress import clock, line
 from abc2midi_live_archive.reading import Member, read_file, read_members
 from abc2midi_live_archive.sources import BadSource, Source, find_books
-from abc2midi_live_archive.units import Backend, Outcome, Remark, Result, Unit
+from abc2midi_live_archive.units import Backend, Outcome, Remark, Result, TuneRow, Unit
 
 
 class Sources(setting.Room):
@@ -242,7 +244,6 @@ class TheCatalogue(setting.Room):
         self.assertFalse(catalogue.database.in_transaction)
         catalogue.close()
 
-
     def test_a_book_with_a_problem_is_compiled_by_the_next_run(self) -> None:
         """Also if it is as it was before: nothing else takes the problem back."""
         catalogue, source = Catalogue(str(self.folder / "catalogue.sqlite")), Source("a.abc", None, "a")
@@ -252,6 +253,35 @@ class TheCatalogue(setting.Room):
         catalogue.keep_problem(1, "why")
         digests += [known.digest for known in [catalogue.find(source)] if known]
         self.assertEqual(digests, ["one", None])
+        catalogue.close()
+
+    def test_a_change_that_is_interrupted_leaves_the_book_as_it_was(self) -> None:
+        path, source = str(self.folder / "catalogue.sqlite"), Source("a.abc", None, "a")
+        catalogue = Catalogue(path)
+        catalogue.add(source, "a")
+        remarks = tuple(Remark("fault", line, 1, "BadByte", None, "", 0) for line in (1, 2))
+        catalogue.keep(1, Result(Outcome.COMPILED, digest="one", tunes=(TuneRow(7, "Air", 1),), remarks=remarks), "options")
+        tables = "SELECT digest, number, title, (SELECT count(*) FROM remarks) FROM books JOIN tunes ON tunes.book = books.id"
+        for at in range(4):  # the statements before the change is there
+            with self.subTest(at):
+                with mock.patch.object(catalogue, "ask", interrupted_after(at, catalogue.ask)), self.assertRaises(KeyboardInterrupt):
+                    catalogue.keep(1, Result(Outcome.COMPILED, digest="two", tunes=(TuneRow(8, "Reel", 1),)), "options")
+                self.assertEqual(list(catalogue.ask(tables)), [("one", 7, "Air", 2)])
+        catalogue.close()
+        with closing(sqlite3.connect(path)) as database:
+            self.assertEqual(database.execute(tables).fetchall(), [("one", 7, "Air", 2)])
+
+    def test_a_commit_that_is_interrupted_is_made_up_for_by_the_next(self) -> None:
+        path = str(self.folder / "catalogue.sqlite")
+        catalogue = Catalogue(path)
+        for at in range(2):
+            catalogue.add(Source(f"{at}.abc", None, f"{at}"), f"{at}")
+            with mock.patch.object(catalogue, "ask", interrupted_after(at, catalogue.ask)), self.assertRaises(KeyboardInterrupt):
+                catalogue.commit()
+            catalogue.add(Source(f"{at}b.abc", None, f"{at}b"), f"{at}b")
+            catalogue.commit()
+            with closing(sqlite3.connect(path)) as database:
+                self.assertEqual(database.execute("SELECT count(*) FROM books").fetchall(), [(2 * at + 2,)])
         catalogue.close()
 
     def test_tables_are_in_order_and_for_all_readers(self) -> None:
@@ -269,6 +299,19 @@ class TheCatalogue(setting.Room):
         mask = os.umask(0)
         os.umask(mask)
         self.assertEqual(stat.S_IMODE((self.folder / "remarks.csv").stat().st_mode), 0o666 & ~mask)
+
+
+def interrupted_after(at: int, ask: Callable[..., Iterator[Any]]) -> Callable[..., Iterator[Any]]:
+    """Asks as `ask` does, but the user types Ctrl-C while question number `at` is answered, from 0."""
+    questions = itertools.count()
+
+    def interrupted(*words: Any) -> Iterator[Any]:
+        answer = ask(*words)
+        if next(questions) == at:
+            raise KeyboardInterrupt
+        return answer
+
+    return interrupted
 
 
 class ThePool(unittest.TestCase):

@@ -10,13 +10,14 @@ import random
 import shlex
 import shutil
 import signal
+import sqlite3
 import subprocess
 import sys
 import time
 import unittest
-from contextlib import suppress
+from contextlib import closing, suppress
 from pathlib import Path
-from typing import Any
+from typing import Any, Optional
 from unittest import mock
 
 import books
@@ -163,6 +164,9 @@ class Failures(setting.Runs):
         return ran
 
 
+STOPPED = r"books? compiled, .* not done; \d+:\d\d; stopped\n$"  # the end of the summary
+
+
 class Slow(setting.Runs):
     """Runs over forty books, by a program that takes its time and that a test can hold."""
 
@@ -177,8 +181,9 @@ class Slow(setting.Runs):
 
     def hold(self, turns: int) -> None:
         """Lets this number of programs go on, and the others wait: so no run ends by itself, however slow the test is."""
+        self.turns.mkdir(exist_ok=True)
         for number in range(turns):
-            (self.turns / str(number)).mkdir(parents=True)
+            (self.turns / str(number)).mkdir()
 
     def release(self) -> None:
         """Lets all programs go on."""
@@ -204,13 +209,41 @@ class Stops(Slow):
         os.killpg(process.pid, signal.SIGINT)  # as a terminal does
         out, err = process.communicate(timeout=setting.SECONDS)
         self.assertEqual((process.returncode, b"Traceback" in err), (1, False), err)
-        self.assertRegex(out.decode(), r"books? compiled, .* not done; \d+:\d\d; stopped\n$")
+        self.assertRegex(out.decode(), STOPPED, err)
         self.assertTrue(workers)
         wait_for(lambda: not any(Path(f"/proc/{worker}").exists() for worker in workers))
         self.assertEqual([path for path in setting.tree(self.to) if not path.endswith(".mid")], [])
         self.release()
         self.run_archive(self.folder / "in")
         self.assert_as_fresh(self.books)
+
+    def test_ctrl_c_while_the_catalogue_is_written_ends_with_a_summary(self) -> None:
+        """The catalogue waits for a reader, so that the signal comes in the middle of a commit."""
+        self.hold(0)
+        process = self.start(self.folder / "in", "--jobs", "2")
+        wait_for(lambda: self.count_books() == len(self.books))  # the first commit is over
+        words = [sys.executable, "-c", READER, self.to / "catalogue.sqlite"]
+        with subprocess.Popen(words, stdin=subprocess.PIPE, stdout=subprocess.PIPE) as reader:
+            self.assertEqual(reader.stdout and reader.stdout.readline(), b"reading\n")
+            self.hold(20)
+            wait_for(lambda: self.count_books() is None)  # a commit waits, and no other reader may come
+            os.killpg(process.pid, signal.SIGINT)
+            reader.communicate()
+        out, err = process.communicate(timeout=setting.SECONDS)
+        self.assertEqual(process.returncode, 1, err)
+        self.assertRegex(out.decode(), STOPPED, err)
+        self.release()
+        self.run_archive(self.folder / "in")
+        self.assert_as_fresh(self.books)
+
+    def count_books(self) -> Optional[int]:
+        """Returns how many books the catalogue has, or None if it cannot be read now."""
+        try:
+            with closing(sqlite3.connect(f"file:{self.to}/catalogue.sqlite?mode=ro", 0, uri=True)) as database:
+                count: int = database.execute("SELECT count(*) FROM books").fetchone()[0]
+                return count
+        except sqlite3.OperationalError:
+            return None
 
     def test_a_run_that_is_killed_leaves_no_half_file_and_no_worker(self) -> None:
         self.hold(20)
@@ -269,6 +302,15 @@ while [ -d {0} ]; do
     sleep 0.1
 done
 exec {1} "$@"
+"""
+
+# A reader of a catalogue, until its standard input ends. It is a process: those of one process share their locks.
+READER = """import sqlite3, sys
+database = sqlite3.connect(sys.argv[1])
+database.execute("BEGIN")
+database.execute("SELECT count(*) FROM books").fetchone()
+print("reading", flush=True)
+sys.stdin.read()
 """
 
 # A program that kills the worker that started it if it is asked for a certain line.
