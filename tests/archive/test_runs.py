@@ -222,7 +222,7 @@ class Stops(Slow):
         self.hold(0)
         process = self.start(self.folder / "in", "--jobs", "2")
         wait_for(lambda: self.count_books() == len(self.books))  # the first commit is over
-        words = [sys.executable, "-c", READER, self.to / "catalogue.sqlite"]
+        words = [sys.executable, "-c", READER, str(self.to / "catalogue.sqlite")]
         with subprocess.Popen(words, stdin=subprocess.PIPE, stdout=subprocess.PIPE) as reader:
             self.assertEqual(reader.stdout and reader.stdout.readline(), b"reading\n")
             self.hold(20)
