@@ -7,7 +7,7 @@ import os
 import signal
 import threading
 from collections import Counter, deque
-from collections.abc import Generator, Iterator
+from collections.abc import Collection, Generator, Iterator
 from concurrent.futures import FIRST_COMPLETED, Future, ProcessPoolExecutor, wait
 from concurrent.futures.process import BrokenProcessPool
 from contextlib import contextmanager
@@ -21,6 +21,7 @@ from .workers import MOST_DEATHS, Done, Workers, died
 
 AHEAD = 3  # units for each process that it has or that wait for it
 FEW_DEATHS = 3  # of workers beside others, before a unit is done alone
+SECONDS_OF_A_WAIT = 0.5
 
 
 class Pool(Workers):
@@ -64,7 +65,7 @@ class Pool(Workers):
 
     def take_done(self, futures: dict[Future[Result], Unit]) -> Iterator[Done]:
         """Yields the units that are done, at least one. Raises BrokenProcessPool."""
-        for future in wait(futures, return_when=FIRST_COMPLETED).done:
+        for future in first_done(futures):
             result = future.result()
             unit = futures.pop(future)
             del self.under_way[unit.book]
@@ -88,7 +89,8 @@ class Pool(Workers):
         for _ in range(MOST_DEATHS):
             with executor(1) as pool:
                 try:
-                    done = Done(unit, submit(pool, unit).result())
+                    (future,) = first_done([submit(pool, unit)])
+                    done = Done(unit, future.result())
                     break
                 except BrokenProcessPool:
                     continue
@@ -130,6 +132,14 @@ def submit(pool: ProcessPoolExecutor, unit: Unit) -> Future[Result]:
         return pool.submit(do_unit, unit)
     finally:
         signal.pthread_sigmask(signal.SIG_SETMASK, before)
+
+
+def first_done(futures: Collection[Future[Result]]) -> set[Future[Result]]:
+    """Waits until some units are done or have failed. Python hears a signal that comes just before a wait only after it, so each wait is short."""
+    done: set[Future[Result]] = set()
+    while not done:
+        done = wait(futures, SECONDS_OF_A_WAIT, FIRST_COMPLETED).done
+    return done
 
 
 def prepare_worker() -> None:

@@ -6,9 +6,12 @@ import csv
 import io
 import itertools
 import os
+import signal
 import sqlite3
 import stat
 import tarfile
+import threading
+import time
 import unittest
 import zipfile
 from collections.abc import Callable, Iterator
@@ -315,6 +318,21 @@ def interrupted_after(at: int, ask: Callable[..., Iterator[Any]]) -> Callable[..
 
 
 class ThePool(unittest.TestCase):
+    def test_a_signal_that_comes_just_before_a_wait_ends_it(self) -> None:
+        """As one that comes in the middle of it to another thread: neither ends the wait of the system."""
+        unit: Future[Result] = Future()
+
+        def interrupt() -> None:
+            time.sleep(0.2)
+            signal.pthread_kill(threading.get_ident(), signal.SIGINT)
+            time.sleep(30)
+            unit.set_result(Result(Outcome.COMPILED))
+
+        threading.Thread(target=interrupt, daemon=True).start()
+        with self.assertRaises(KeyboardInterrupt):
+            pool.first_done([unit])
+        self.assertFalse(unit.done())
+
     def test_units_that_a_broken_pool_refuses_are_done_by_the_next(self) -> None:
         units = [Unit(f"book_{number}", "", b"", None, Backend(), False, None, frozenset()) for number in range(8)]
         trials = itertools.count(1)

@@ -176,7 +176,7 @@ class Slow(setting.Runs):
         for name, book in self.books.items():
             self.write(f"in/{name}.abc", book)
         self.turns = self.folder / "turns"
-        slow = self.write("slow", SLOW.format(shlex.quote(str(self.turns)), shlex.quote(str(setting.program))).encode())
+        slow = self.write("slow", SLOW.format(python=sys.executable, turns=str(self.turns), program=str(setting.program)).encode())
         slow.chmod(0o755)
 
     def hold(self, turns: int) -> None:
@@ -291,17 +291,25 @@ class Stops(Slow):
         self.assert_as_fresh(self.books)
 
 
-# A program that takes its time. While there is a folder for turns, it needs one of them to go on. It ends if its worker was killed.
-SLOW = """#!/bin/sh
-sleep 0.1
-for turn in {0}/*; do
-    if rmdir "$turn" 2>/dev/null; then exec {1} "$@"; fi
-done
-while [ -d {0} ]; do
-    kill -0 "$PPID" || exit
-    sleep 0.1
-done
-exec {1} "$@"
+# A program that takes its time. While there is a folder for turns, it needs one of them to go on. Its standard input ends with its worker, and
+# so does it then.
+SLOW = """#!{python} -IS
+import glob, os, select, sys, time
+
+def took(turn):
+    try:
+        os.rmdir(turn)
+    except OSError:
+        return False
+    return True
+
+worker = select.poll()
+worker.register(0, 0)
+time.sleep(0.1)
+while os.path.isdir({turns!r}) and not any(map(took, glob.glob({turns!r} + "/*"))):
+    if worker.poll(100):
+        sys.exit()
+os.execv({program!r}, [{program!r}, *sys.argv[1:]])
 """
 
 # A reader of a catalogue, until its standard input ends. It is a process: those of one process share their locks.
