@@ -321,10 +321,10 @@ print("reading", flush=True)
 sys.stdin.read()
 """
 
-# A program that kills the worker that started it if it is asked for a certain line.
+# A program that kills the worker that started it, if it is still its parent, when it is asked for a certain line.
 DEADLY = """#!/bin/bash
 while IFS= read -r line; do
-    case $line in *'kill the worker'*) kill -9 $PPID ;; esac
+    case $line in *'kill the worker'*) grep -q spawn_main "/proc/$PPID/cmdline" && kill -9 "$PPID" ;; esac
     printf '%s\\n' "$line"
 done | {} "$@"
 """
