@@ -86,6 +86,11 @@ const [list, mend] = ["#told", "#told .mend"].map((one) => document.querySelecto
 return mend ? [list.top <= mend.top, mend.bottom <= list.bottom] : null;
 """  # whether the button that mends the first fault is inside the list, while the bar above needs two rows
 
+SENTENCE = """
+const one = document.getElementById("status"), { left, right, top, bottom } = one.getBoundingClientRect();
+return [one.classList.contains("away"), one.scrollHeight <= one.clientHeight, left >= 0 && right <= innerWidth && top >= 0 && bottom <= innerHeight];
+"""  # whether the sentence at the bottom says that the server is away, and is there whole
+
 WORDS = """
 const view = document.querySelector("#score svg")?.getBoundingClientRect();
 return !view ? [] : [...document.querySelectorAll("#score text")].filter((one) => /Tune|Trad/.test(one.textContent)).map((one) => {
@@ -136,6 +141,14 @@ class Narrow(test_page_in_browser.Browser):
         self.size(390, 800)
         self.edit(6, 7, "[V:2] G2D2|G2 'D2|G2D2|G4|")
         self.assertEqual(self.wait(lambda: self.run_script(MEND)), [True, True])
+
+    def test_a_server_that_is_away(self) -> None:
+        """The sentence on it is longer than others, and is there whole."""
+        self.kill()
+        for wide in (390, 360):
+            self.size(wide, 844)
+            self.assertEqual(self.wait(lambda: (shown := self.run_script(SENTENCE))[0] and shown), [True, True, True], wide)
+        self.assertTrue(self.has_lines(6))
 
     def test_a_tablet(self) -> None:
         """A title has a row of its own with the time, the filter has room for some words, and what finds is one row."""
