@@ -2,18 +2,34 @@
 
 import importlib
 import os
+import signal
 import sys
-
-from abc2midi_live.finding import version
+from collections.abc import Callable
 
 
 def start(module: str) -> int:
-    """Runs the function `main` of a module, or prints the version; the exit status."""
+    """Runs the function `main` of a module, or prints the version; the exit status. Ctrl-C while modules are imported ends the process as
+    it ends any other one: Python would print where it was, or drop the exception."""
+    is_heard = signal.getsignal(signal.SIGINT) is signal.default_int_handler  # a shell's background job ignores it
+    if is_heard:
+        signal.signal(signal.SIGINT, signal.SIG_DFL)
     if sys.argv[1:] == ["--version"]:
-        print(f"{os.path.basename(sys.argv[0])} {version()}")
+        print(f"{os.path.basename(sys.argv[0])} {importlib.import_module('abc2midi_live.finding').version()}")
         return 0
-    status: int = importlib.import_module(module).main()
-    return status
+    main = importlib.import_module(module).main
+    if is_heard:
+        signal.signal(signal.SIGINT, signal.default_int_handler)
+    return status_of(main)
+
+
+def status_of(main: Callable[[], int]) -> int:
+    """Runs a client; its exit status. Ctrl-C that it does not hear, as while it reads its arguments, ends the process."""
+    try:
+        return main()
+    except KeyboardInterrupt:
+        signal.signal(signal.SIGINT, signal.SIG_DFL)
+        os.kill(os.getpid(), signal.SIGINT)
+        raise
 
 
 def watch() -> int:

@@ -1,6 +1,7 @@
 """What the clients import when they start, which takes most of the time until their first answer."""
 
 import json
+import signal
 import subprocess
 import sys
 
@@ -10,6 +11,20 @@ COMMANDS = ["watch", "page", "language_server", "archive"]
 OURS = ("abc2midi_live", "abc2midi_live_clients", "abc2midi_live_archive")
 SLOW = {"asyncio", "concurrent", "email", "html", "http", "importlib.metadata", "multiprocessing", "ssl", "unittest", "zipfile"}
 MOST_FOR_VERSION, MOST_FOR_ANSWER = 70, 150  # modules
+
+# Runs a command, and sends it Ctrl-C when it imports a module, or when it reads its arguments.
+INTERRUPTED = """
+import argparse, os, runpy, signal, sys
+_, place, *sys.argv = sys.argv
+class Interrupt:
+    def find_spec(self, name, *_):
+        if name == place:
+            os.kill(os.getpid(), signal.SIGINT)
+sys.meta_path.insert(0, Interrupt())
+if place == "arguments":
+    argparse.ArgumentParser.parse_args = lambda _: os.kill(os.getpid(), signal.SIGINT)
+runpy.run_path(sys.argv[0], run_name="__main__")
+"""
 
 # Runs a command, and prints on standard error the modules that it imported.
 RUN = """
@@ -54,6 +69,15 @@ class Imports(Starts):
                 ours = {module for module in modules if module.startswith(OURS) and not module.startswith("abc2midi_live.")}
                 self.assertEqual(ours, {"abc2midi_live", "abc2midi_live_clients", "abc2midi_live_clients.starting"})
                 self.assert_quick(modules, MOST_FOR_VERSION)
+
+    def test_ctrl_c(self) -> None:
+        """It ends the command, which prints nothing."""
+        for name, module in zip(COMMANDS, ("watcher", "page_server", "language_server", "faults")):
+            for place in ("abc2midi_live", f"abc2midi_live_clients.{module}", "arguments"):
+                with self.subTest(name, place=place):
+                    words = [sys.executable, "-c", INTERRUPTED, place, str(trial.CLIENTS / name)]
+                    ran = subprocess.run(words, capture_output=True, timeout=trial.SECONDS)
+                    self.assertEqual((ran.returncode, ran.stdout, ran.stderr), (-signal.SIGINT, b"", b""))
 
     def test_the_version_beside_another_option(self) -> None:
         printed = self.imported("watch", "--no-hints", "--version")[1]
